@@ -1,0 +1,10 @@
+pub mod AddFault
+pub mod Condition
+pub mod Evaluation
+pub mod Expression
+pub mod ExpressionCode
+pub mod ExprKind
+pub mod Parts
+pub mod PolicyIds
+pub mod PolicyTree
+pub mod Response

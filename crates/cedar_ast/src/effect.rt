@@ -1,0 +1,10 @@
+//! What a policy does where it is satisfied.
+
+/// What a policy does where it is satisfied (Cedar language reference, policies).
+#[derive(Clone, Copy, Debug, PartialEq, Eq)]
+pub enum Effect {
+    /// The request is allowed, unless another policy forbids it.
+    Permit,
+    /// The request is denied.
+    Forbid,
+}

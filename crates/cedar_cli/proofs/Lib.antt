@@ -1,0 +1,13 @@
+pub mod Answerable
+pub mod Cuts
+pub mod Steps
+pub mod MemberCounts
+pub mod Pairs
+pub mod PolicyFiles
+pub mod Readings
+pub mod Requests
+pub mod Responses
+pub mod Serving
+pub mod Tallies
+pub mod Texts
+pub mod Whole

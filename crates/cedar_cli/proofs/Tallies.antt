@@ -1,0 +1,94 @@
+-- Lemmas on what the policies gather.
+use Rattle.std.proofs.Common.{◌≡◌, ℕ, ◌+◌, ◌<◌, Bool, true, false, not, ◌&&◌, if◌then◌else◌, List, [], ◌∷◌, ◌++◌, length, map, filter, take, Some, Ok, Err, refl, sym, ap, ap₂, option_map, ◌∙◌, add-one, append-nil, get_or}
+use Rattle.std.specs.List.{slice_get, cons_option}
+use Rattle.std.proofs.Math.Seq.{take-suc}
+use Rattle.std.proofs.lemmas.List.{map-append}
+use Rattle.std.proofs.lemmas.List.Elements.{filter-append, filter_map-append}
+use Rattle.std.proofs.lemmas.Option.{slice_get_within, get_or_from_slice_get, slice_get_read, slice_get-map}
+use Rattle.cedar_value.specs.Datum.{boolean}
+use Rattle.cedar_value.specs.declared.request.Request.{Request}
+use Rattle.cedar_ast.specs.declared.effect.Effect.{Effect}
+use Rattle.cedar_ast.specs.declared.effect.Effect.TheVariants.{Permit, Forbid}
+use Rattle.cedar_ast.specs.Evaluation.{Answer}
+use Rattle.cedar_ast.specs.PolicyTree.{PolicyTree}
+use Rattle.cedar_ast.specs.Response.{ErringTree, meaning, is_true, is_permit, permits, forbids, erring_by, erring_of}
+use Rattle.cedar_machine.specs.declared.instruction.Instruction.{Instruction}
+use Rattle.cedar_machine.specs.CodeView.{CodeView}
+use Rattle.cedar_cli.specs.Codes.{policy_code, AreCodesOf}
+use Rattle.cedar_cli.specs.Tally.{TallyTree, ids_where, tally_of, Verdict, verdict_of, entered}
+
+-- one more element of a list
+pub take-next : {X : Type 0} (xs : List X) (i : ℕ) (x : X) → slice_get xs i ≡ Some x → take (i + 1) xs ≡ take i xs ++ x ∷ []
+take-next xs i x e =
+    rw add-one (take-suc xs i x (slice_get_within xs i x e) ∙ ap (λ y. take i xs ++ y ∷ []) (get_or_from_slice_get xs i x x e))
+
+one_id : (b : Bool) (p : PolicyTree) → map (λ (p : PolicyTree). p.id) (if b then p ∷ [] else []) ≡ (if b then p.id ∷ [] else [])
+one_id true p = refl
+one_id false p = refl
+
+ids_where-append : (test : PolicyTree → Bool) (ps : List PolicyTree) (p : PolicyTree)
+    → ids_where test (ps ++ p ∷ []) ≡ ids_where test ps ++ (if test p then p.id ∷ [] else [])
+ids_where-append test ps p =
+    ap (map (λ (p : PolicyTree). p.id)) (filter-append test ps (p ∷ []))
+    ∙ map-append (λ (p : PolicyTree). p.id) (filter test ps) (filter test (p ∷ []))
+    ∙ ap (λ (ids : List (List ℕ)). ids_where test ps ++ ids) (one_id (test p) p)
+
+tally : List (List ℕ) → List (List ℕ) → List ErringTree → TallyTree
+tally permits forbids erring = record { permits = permits; forbids = forbids; erring = erring }
+
+same_tally : (a b c d : List (List ℕ)) (e f : List ErringTree) → a ≡ b → c ≡ d → e ≡ f → tally a c e ≡ tally b d f
+same_tally a b c d e f p q r = cc
+
+-- the tally with one more policy, part by part
+entered_by : (t : TallyTree) (id : List ℕ) (effect : Effect) (a : Answer)
+    → tally (t.permits ++ (if is_permit effect && is_true a then id ∷ [] else []))
+    (t.forbids ++ (if not (is_permit effect) && is_true a then id ∷ [] else [])) (t.erring ++ cons_option (erring_by a id) [])
+    ≡ entered t id effect (verdict_of a)
+unfolding tally
+entered_by t id Permit (Err e) = simp append-nil
+entered_by t id Permit (Ok (boolean true)) = simp append-nil
+entered_by t id Permit (Ok (boolean false)) = simp append-nil
+entered_by t id Permit (Ok _) = simp append-nil
+entered_by t id Forbid (Err e) = simp append-nil
+entered_by t id Forbid (Ok (boolean true)) = simp append-nil
+entered_by t id Forbid (Ok (boolean false)) = simp append-nil
+entered_by t id Forbid (Ok _) = simp append-nil
+
+-- one more policy is run
+tally_of-append : (q : Request) (ps : List PolicyTree) (p : PolicyTree)
+    → tally_of q (ps ++ p ∷ []) ≡ entered (tally_of q ps) p.id p.effect (verdict_of (meaning q p))
+unfolding tally
+tally_of-append q ps p =
+    same_tally _ _ _ _ _ _ (ids_where-append (permits q) ps p) (ids_where-append (forbids q) ps p) (filter_map-append (erring_of q) ps (p ∷ []))
+    ∙ entered_by (tally_of q ps) p.id p.effect (meaning q p)
+
+pub tally_of-next : (q : Request) (ps : List PolicyTree) (i : ℕ) (p : PolicyTree) (t t' : TallyTree) (id : List ℕ) (effect : Effect) (v : Verdict)
+    → Some p ≡ slice_get ps i → t ≡ tally_of q (take i ps) → t' ≡ entered t id effect v → id ≡ p.id → effect ≡ p.effect → v ≡ verdict_of (meaning q p)
+    → t' ≡ tally_of q (take (i + 1) ps)
+tally_of-next q ps i p t t' id effect v at was is same_id same_effect same_verdict =
+    is
+    ∙ rw (was, same_id, same_effect, same_verdict) refl
+    ∙ sym (tally_of-append q (take i ps) p)
+    ∙ ap (tally_of q) (sym (take-next ps i p (sym at)))
+
+-- the code at a policy's place is the policy's
+pub code_at_place : (ps : List PolicyTree) (cs : List CodeView) (i : ℕ) (p : PolicyTree) (c : CodeView)
+    → AreCodesOf ps cs → Some p ≡ slice_get ps i → i < length cs → c ≡ get_or cs i c → c.instructions ≡ policy_code p
+code_at_place ps cs i p c h at low is =
+    let here : slice_get cs i ≡ Some c = slice_get_read cs (length cs) i c refl low is in
+    let code : Some c.instructions ≡ slice_get (map (λ (c : CodeView). c.instructions) cs) i =
+    sym (slice_get-map (λ (c : CodeView). c.instructions) cs i ∙ ap (option_map (λ (c : CodeView). c.instructions)) here) in
+    let policy : slice_get (map policy_code ps) i ≡ Some (policy_code p) =
+    slice_get-map policy_code ps i ∙ ap (option_map policy_code) (sym at) in
+    let both : Some c.instructions ≡ Some (policy_code p) = code ∙ ap (λ (codes : List (List Instruction)). slice_get codes i) h ∙ policy in
+    cc both
+
+-- one more code
+pub AreCodesOf-next : (ps : List PolicyTree) (i : ℕ) (p : PolicyTree) (cs cs' : List CodeView) (c : CodeView)
+    → AreCodesOf (take i ps) cs → Some p ≡ slice_get ps i → cs' ≡ cs ++ c ∷ [] → c.instructions ≡ policy_code p → AreCodesOf (take (i + 1) ps) cs'
+AreCodesOf-next ps i p cs cs' c h at is same =
+    ap (map (λ (c : CodeView). c.instructions)) is
+    ∙ map-append (λ (c : CodeView). c.instructions) cs (c ∷ [])
+    ∙ ap₂ (λ (xs ys : List (List Instruction)). xs ++ ys) h (ap (λ (code : List Instruction). code ∷ []) same)
+    ∙ sym (map-append policy_code (take i ps) (p ∷ []))
+    ∙ ap (map policy_code) (sym (take-next ps i p (sym at)))

@@ -1,0 +1,16 @@
+-- What the words of a command line say, by `clap`'s definition of the matches.
+use Rattle.std.specs.Prelude.{◌≡◌, List, codes, Some, option_map}
+use Rattle.clap.specs.Words.{Row, Text, first_of, subcommand_of}
+use Rattle.cedar_cli.specs.CommandLine.{program}
+use Rattle.cedar_cli.specs.declared.options.Subcommand.{Subcommand}
+use Rattle.cedar_cli.specs.declared.options.Subcommand.TheVariants.{Authorize}
+use Rattle.cedar_cli.specs.declared.options.Words.{Words}
+
+abbrev pub subcommand_name : Subcommand → Text
+subcommand_name Authorize = codes "authorize"
+
+-- the words name this subcommand, and these files in its options
+pub record AreGiven (words : List Text) (w : Words) : Type 0 where
+  pub rows : List Row
+  pub subcommand : subcommand_of program words ≡ Some (subcommand_name w.subcommand, rows)
+  pub policies : first_of (codes "policies") rows ≡ option_map (λ s. s.now) w.policies

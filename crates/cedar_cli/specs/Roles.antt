@@ -1,0 +1,10 @@
+-- Files by their roles.
+use Rattle.cedar_cli.specs.declared.files.Role.{Role}
+use Rattle.cedar_cli.specs.declared.files.Role.TheVariants.{Schema, Policies, Links, Entities}
+
+-- one of four, by its role
+abbrev pub by_role : {X : Type 0} → X → X → X → X → Role → X
+by_role s p l e Schema = s
+by_role s p l e Policies = p
+by_role s p l e Links = l
+by_role s p l e Entities = e

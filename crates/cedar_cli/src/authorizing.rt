@@ -1,0 +1,125 @@
+//! The subcommand `authorize`.
+ghost use Rattle.std.specs.Prelude.{◌≡◌, ℕ, List, ◌-◌, ◌<◌, ◌^◌, ◌++◌, [], ◌∷◌, IfOk, IfErr, IfSome};
+ghost use Rattle.serde_json.specs.Written.{compact_text};
+ghost use Rattle.cedar_ast.specs.PolicyTree.{PolicyTree};
+ghost use Rattle.cedar_cli.specs.Answers.{Answers};
+ghost use Rattle.cedar_cli.specs.AnswerText.{IsAnswerText, Writes};
+ghost use Rattle.cedar_cli.specs.Lines.{line_feed};
+ghost use Rattle.cedar_cli.specs.PolicyFile.{HasRefusal, HoldsPolicies};
+ghost use Rattle.cedar_cli.specs.Refusal.{refusal_data};
+ghost use Rattle.cedar_cli.specs.Unread.{IfRefused};
+
+use crate::ending::End;
+use crate::files::{FileFault, Files, Role};
+use crate::first::fault::ServeFault;
+use crate::first::output::flush;
+use crate::first::reading::ReadFault;
+use crate::first::sink::Sink;
+use crate::first::source::Source;
+use crate::first::{Ready, read, serve};
+use crate::refusal::refusal_line;
+use cedar_ast::PolicySet;
+use cedar_machine::CodeFault;
+use std::alloc::Global;
+
+/// 105: a policy file that is no UTF-8.
+const NO_UTF8: u16 = 105;
+
+/// 201: a policy file that is no policy text.
+const NO_POLICY_TEXT: u16 = 201;
+
+/// Why the policy file gives no policies.
+enum Unread {
+    /// It is refused, by this number.
+    Refused(u16),
+    /// The command line names none.
+    Unnamed,
+    /// It can't be read.
+    Device,
+    /// Memory ran out.
+    Memory,
+}
+
+/// The policies of the policy file.
+fn read_policies<F: Files>(alloc: Global, files: &F) -> Result<PolicySet, Unread>
+    ensures found { IfOk result (λ policies. IfSome (F.holds files.now Role.Policies) (λ held. HoldsPolicies held policies)) }
+    ensures refused { IfErr result (λ unread. IfRefused unread (λ number.
+        IfSome (F.holds files.now Role.Policies) (λ held. HasRefusal held number))) }
+{
+    let bytes = match files.read(alloc, Role::Policies) {
+        Ok(Some(bytes)) => bytes,
+        Ok(None) => return Err(Unread::Unnamed),
+        Err(FileFault::Device) => return Err(Unread::Device),
+        Err(FileFault::Memory) => return Err(Unread::Memory),
+    };
+    let Ok(text) = str::from_utf8(&bytes) else {
+        return Err(Unread::Refused(NO_UTF8));
+    };
+    match read(alloc, text) {
+        Ok(policies) => Ok(policies),
+        Err(ReadFault::OutOfMemory) => Err(Unread::Memory),
+        Err(ReadFault::Syntax) => Err(Unread::Refused(NO_POLICY_TEXT)),
+    }
+}
+
+/// Tells that a file is refused.
+fn refuse<K: Sink>(alloc: Global, role: Role, number: u16, sink: &mut K) -> End
+    requires { K.failed sink.old < 2 ^ 64 - 1 }
+    ensures refused { result ≡ End.Refused → Writes (K.written sink.old) (K.written sink.new)
+        (λ text. text ≡ compact_text (refusal_data role number) ++ line_feed ∷ []) }
+    ensures device { result ≡ End.Device → K.failed sink.old < K.failed sink.new }
+    ensures others { (result ≡ End.Done → ⊥) × (result ≡ End.Faults → ⊥) × (result ≡ End.CommandLine → ⊥) }
+{
+    let Ok(mut line) = refusal_line(alloc, role, number) else {
+        return End::Memory;
+    };
+    match flush(&mut line, sink) {
+        Ok(()) => End::Refused,
+        Err(_) => End::Device,
+    }
+}
+
+/// Reads the policies and answers each request line of the source by an answer line to the sink.
+///
+/// `Done` where all lines were answered. `Refused` where the policy file is refused: one line, as
+/// `{"file":"policies","refused":201}`, tells by which number (105 where it is no UTF-8, 701 where the code of a policy
+/// is too long). `CommandLine` where no policy file is named. `Device` where it can't be read, or where the source or
+/// the sink failed; `Memory` where memory ran out. What was answered before stays written.
+pub fn authorize<F: Files, S: Source, K: Sink>(
+    alloc: Global,
+    files: &F,
+    source: &mut S,
+    sink: &mut K,
+) -> End
+    requires source_count { S.failed source.old < 2 ^ 64 - 1 }
+    requires sink_count { K.failed sink.old < 2 ^ 64 - 1 }
+
+    ensures done { result ≡ End.Done → (policies : List PolicyTree)
+        × IfSome (F.holds files.now Role.Policies) (λ held. HoldsPolicies held policies) × IfSome (S.left source.old) (λ input.
+        Writes (K.written sink.old) (K.written sink.new) (IsAnswerText (Answers policies) input)) }
+    ensures refused { result ≡ End.Refused → (number : ℕ)
+        × IfSome (F.holds files.now Role.Policies) (λ held. HasRefusal held number)
+        × Writes (K.written sink.old) (K.written sink.new) (λ text. text ≡ compact_text (refusal_data Role.Policies number) ++ line_feed ∷ []) }
+    ensures no_faults { result ≡ End.Faults → ⊥ }
+{
+    let policies = match read_policies(alloc, files) {
+        Ok(policies) => policies,
+        Err(Unread::Refused(number)) => return refuse(alloc, Role::Policies, number, sink),
+        Err(Unread::Unnamed) => return End::CommandLine,
+        Err(Unread::Device) => return End::Device,
+        Err(Unread::Memory) => return End::Memory,
+    };
+    let ready = match Ready::new(alloc, &policies) {
+        Ok(ready) => ready,
+        Err(CodeFault::OutOfMemory) => return End::Memory,
+        Err(CodeFault::TooLong) => {
+            return refuse(alloc, Role::Policies, CodeFault::TooLong.number(), sink);
+        }
+    };
+    match serve(alloc, &ready, source, sink) {
+        Ok(()) => End::Done,
+        Err(ServeFault::OutOfMemory) => End::Memory,
+        Err(ServeFault::ReadFailed) => End::Device,
+        Err(ServeFault::WriteFailed) => End::Device,
+    }
+}

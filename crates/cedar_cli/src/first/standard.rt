@@ -1,0 +1,117 @@
+//! A source and a sink over the readers and writers of `std`.
+ghost use Rattle.std.specs.Prelude.{◌≡◌, ◌-◌, ◌^◌};
+
+use crate::first::sink::{Sink, WriteFailed};
+use crate::first::source::{ReadFailed, Source};
+use std::io::{Read, Write};
+use std::marker::Model;
+
+/// So many bytes a [`StdSource`] gives at most.
+const MOST_BYTES: u64 = 9223372036854775807;
+
+/// Reads from a reader of `std`. Its bytes are not known, its failures are counted. Contracts see how many bytes it
+/// can still give and how often a read failed.
+#[derive(Drop)]
+pub struct StdSource<R> {
+    reader: R,
+    can_give: u64,
+    failures: u64,
+}
+
+impl<R> Model for StdSource<R> {
+    ghost use Rattle.cedar_cli.specs.Counted.{Given};
+
+    ghost Value = { Given };
+
+    ghost view = { λ s. record { can_give = s.can_give; failures = s.failures } };
+}
+
+impl<R: Read> StdSource<R> {
+    /// A source that gives 9,223,372,036,854,775,807 bytes of the reader at most, and then the end of the input.
+    pub fn new(reader: R) -> StdSource<R>
+        ensures whole { result.can_give ≡ 2 ^ 63 - 1 }
+        ensures none { result.failures ≡ 0 }
+    {
+        StdSource {
+            reader,
+            can_give: MOST_BYTES,
+            failures: 0,
+        }
+    }
+}
+
+impl<R: Read> Source for StdSource<R> {
+    ghost can_give = { λ s. s.can_give };
+
+    ghost failed = { λ s. s.failures };
+
+    fn read(&mut self, buf: &mut [u8]) -> Result<usize, ReadFailed> {
+        let room = buf.len().min(self.can_give as usize);
+        if room == 0 {
+            return Ok(0);
+        }
+        match self.reader.read(&mut buf[..room]) {
+            Ok(count) => {
+                self.can_give -= count as u64;
+                Ok(count)
+            }
+            Err(_) => {
+                self.failures += 1;
+                Err(ReadFailed)
+            }
+        }
+    }
+
+    fn failures(&self) -> u64 {
+        self.failures
+    }
+}
+
+/// Writes to a writer of `std`. What reaches it is not known, its failures are counted. It doesn't flush: what the
+/// writer keeps back waits there. Contracts see how often a write failed.
+#[derive(Drop)]
+pub struct StdSink<W> {
+    writer: W,
+    failures: u64,
+}
+
+impl<W> Model for StdSink<W> {
+    ghost use Rattle.std.specs.Prelude.{ℕ};
+
+    ghost Value = { ℕ };
+
+    ghost view = { λ s. s.failures };
+}
+
+impl<W: Write> StdSink<W> {
+    /// A sink over the writer.
+    pub fn new(writer: W) -> StdSink<W>
+        ensures { result ≡ 0 }
+    {
+        StdSink {
+            writer,
+            failures: 0,
+        }
+    }
+}
+
+impl<W: Write> Sink for StdSink<W> {
+    ghost failed = { λ failures. failures };
+
+    fn write(&mut self, bytes: &[u8]) -> Result<usize, WriteFailed> {
+        if bytes.is_empty() {
+            return Ok(0);
+        }
+        match self.writer.write(bytes) {
+            Ok(count) if count != 0 => Ok(count),
+            _ => {
+                self.failures += 1;
+                Err(WriteFailed)
+            }
+        }
+    }
+
+    fn failures(&self) -> u64 {
+        self.failures
+    }
+}

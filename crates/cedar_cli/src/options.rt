@@ -1,0 +1,18 @@
+//! What a command line says.
+
+/// What the program is asked to do.
+#[derive(Clone, Copy, Debug, PartialEq, Eq)]
+pub enum Subcommand {
+    /// Answer the request lines of standard input.
+    Authorize,
+}
+
+/// What a command line says: the subcommand, and the name of each file as the text given, or none where its option
+/// isn't used.
+#[derive(Clone, Copy, Debug)]
+pub struct Words<'a> {
+    /// What the program is asked to do.
+    pub subcommand: Subcommand,
+    /// The file of the policies, after `--policies`.
+    pub policies: Option<&'a str>,
+}

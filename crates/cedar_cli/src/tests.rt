@@ -1,0 +1,214 @@
+//! What no contract says: worked rows through `authorize` over memory, failing devices, hostile input, the command line.
+use crate::authorizing::authorize;
+use crate::command_line::words;
+use crate::ending::End;
+use crate::files::MemoryFiles;
+use crate::first::memory::{SliceSource, VecSink};
+use crate::first::piecewise::{PiecewiseSink, PiecewiseSource};
+use crate::first::sink::Sink;
+use crate::options::Subcommand;
+use std::alloc::Global;
+use std::process::Abort;
+use std::test::Fail;
+
+/// A request line.
+const Q0: &[u8] =
+    br#"{"principal":"User::\"ann\"","action":"Action::\"delete\"","resource":"Doc::\"d\""}"#;
+
+/// A policy that permits all.
+const ALL: &[u8] = b"permit(principal, action, resource);";
+
+const ALLOWED: &[u8] = b"{\"decision\":\"allow\",\"determining\":[\"policy0\"],\"erring\":[]}\n";
+
+const DENIED: &[u8] = b"{\"decision\":\"deny\",\"determining\":[],\"erring\":[]}\n";
+
+fn policies(text: &[u8]) -> MemoryFiles<'_> {
+    MemoryFiles {
+        schema: None,
+        policies: Some(text),
+        links: None,
+        entities: None,
+    }
+}
+
+/// What the program does with these policies and this input, and what it writes.
+fn authorized(alloc: Global, files: &MemoryFiles, input: &[u8]) -> (End, VecSink) {
+    let mut source = SliceSource::new(input);
+    let mut sink = VecSink::new(alloc);
+    let end = authorize(alloc, files, &mut source, &mut sink);
+    (end, sink)
+}
+
+/// These policies answer this input by this text.
+fn assert_answers(rt: &impl Abort, alloc: Global, text: &[u8], input: &[u8], wanted: &[u8]) {
+    let (end, sink) = authorized(alloc, &policies(text), input);
+    assert_eq!(rt; end, End::Done);
+    assert_eq!(rt; sink.bytes(), wanted);
+}
+
+#[test]
+fn answers_as_the_rows_say(rt: HostRuntime) {
+    let rows: [(&[u8], &[u8], &[u8]); 9] = [
+        (ALL, Q0, ALLOWED),
+        (b"", Q0, DENIED),
+        (
+            b"permit(principal, action, resource); forbid(principal, action, resource);",
+            Q0,
+            b"{\"decision\":\"deny\",\"determining\":[\"policy1\"],\"erring\":[]}\n",
+        ),
+        (
+            b"permit(principal, action, resource) when { 9223372036854775806 + 1 == 9223372036854775807 };",
+            Q0,
+            ALLOWED,
+        ),
+        (
+            b"permit(principal, action, resource); forbid(principal, action, resource) when { 9223372036854775807 + 1 < 0 };",
+            Q0,
+            b"{\"decision\":\"allow\",\"determining\":[\"policy0\"],\"erring\":[{\"error\":\"overflow\",\"policy\":\"policy1\"}]}\n",
+        ),
+        (
+            b"permit(principal, action, resource) when { true && 1 };",
+            Q0,
+            b"{\"decision\":\"deny\",\"determining\":[],\"erring\":[{\"error\":\"type\",\"policy\":\"policy0\"}]}\n",
+        ),
+        (
+            b"permit(principal, action, resource) unless { false || !(1 < 2) };",
+            Q0,
+            ALLOWED,
+        ),
+        (ALL, b"{", b"{\"refused\":501}\n"),
+        (
+            ALL,
+            br#"{"principal":"User::\"ann\"","action":"Action::\"view\"","resource":"Doc::\"d\"","context":{"n":1}}"#,
+            b"{\"refused\":502}\n",
+        ),
+    ];
+    for (text, line, wanted) in rows {
+        assert_answers(&rt, rt.alloc(), text, line, wanted);
+    }
+}
+
+#[test]
+fn cuts_lines_at_line_feeds(rt: HostRuntime) -> Result<(), Fail> {
+    let alloc = rt.alloc();
+    let refused: &[u8] = b"{\"refused\":501}\n";
+    let mut input = Vec::from_slice(alloc, b"{\"principal\":\n\n")?;
+    input.extend_from_slice(Q0)?;
+    let mut wanted = Vec::from_slice(alloc, refused)?;
+    wanted.extend_from_slice(refused)?;
+    wanted.extend_from_slice(ALLOWED)?;
+    assert_answers(&rt, alloc, ALL, &input, &wanted);
+    assert_answers(&rt, alloc, ALL, b"", b"");
+    Ok(())
+}
+
+#[test]
+fn refuses_policy_files(rt: HostRuntime) {
+    let rows: [(&[u8], &[u8]); 2] = [
+        (
+            b"permit(principal, action, resource)",
+            b"{\"file\":\"policies\",\"refused\":201}\n",
+        ),
+        (b"\xff", b"{\"file\":\"policies\",\"refused\":105}\n"),
+    ];
+    for (text, wanted) in rows {
+        let (end, sink) = authorized(rt.alloc(), &policies(text), Q0);
+        assert_eq!(rt; end, End::Refused);
+        assert_eq!(rt; sink.bytes(), wanted);
+    }
+    let none = MemoryFiles {
+        schema: None,
+        policies: None,
+        links: None,
+        entities: None,
+    };
+    let (end, sink) = authorized(rt.alloc(), &none, Q0);
+    assert_eq!(rt; end, End::CommandLine);
+    assert!(rt; sink.bytes().is_empty());
+}
+
+#[test]
+fn each_read_and_each_write_may_fail(rt: HostRuntime) -> Result<(), Fail> {
+    let files = policies(ALL);
+    let mut input = Vec::from_slice(rt.alloc(), b"{}\n\n{\n")?;
+    input.extend_from_slice(Q0)?;
+    let (_, whole) = authorized(rt.alloc(), &files, &input);
+    for k in 1..40u64 {
+        let mut source = PiecewiseSource::new(&input, 7, k);
+        let mut sink = PiecewiseSink::new(rt.alloc(), 5, 0);
+        let end = authorize(rt.alloc(), &files, &mut source, &mut sink);
+        let failed = end == End::Device;
+        assert!(rt;
+            failed || (end == End::Done && sink.bytes() == whole.bytes()),
+            "read {k}"
+        );
+        assert!(rt; whole.bytes().starts_with(sink.bytes()), "read {k}");
+        // 90 bytes in pieces of 7, and the end: 14 reads.
+        assert_eq!(rt; failed, k <= 14, "read {k}");
+
+        let mut source = PiecewiseSource::new(&input, 7, 0);
+        let mut sink = PiecewiseSink::new(rt.alloc(), 5, k);
+        let end = authorize(rt.alloc(), &files, &mut source, &mut sink);
+        assert!(rt;
+            end == End::Device || (end == End::Done && sink.bytes() == whole.bytes()),
+            "write {k}"
+        );
+        assert_eq!(rt; sink.failures() == 1, end == End::Device, "write {k}");
+        assert!(rt; whole.bytes().starts_with(sink.bytes()), "write {k}");
+    }
+    let mut source = SliceSource::new(&input);
+    let mut sink = PiecewiseSink::new(rt.alloc(), 0, 0);
+    assert_eq!(rt;
+        authorize(rt.alloc(), &files, &mut source, &mut sink),
+        End::Device
+    );
+    Ok(())
+}
+
+#[test]
+fn answers_hostile_lines(rt: HostRuntime) -> Result<(), Fail> {
+    let alloc = rt.alloc();
+    let refused: &[u8] = b"{\"refused\":501}\n";
+    assert_answers(&rt, alloc, ALL, b"\xff\xfe", refused);
+    let letters = vec![in alloc; b'a'; 1_000_000]?;
+    assert_answers(&rt, alloc, ALL, &letters, refused);
+    let brackets = vec![in alloc; b'['; 100_000]?;
+    assert_answers(&rt, alloc, ALL, &brackets, refused);
+    let mut long_id = Vec::from_slice(alloc, b"{\"principal\":\"User::\\\"")?;
+    long_id.extend_from_slice(&letters)?;
+    long_id.extend_from_slice(
+        b"\\\"\",\"action\":\"Action::\\\"a\\\"\",\"resource\":\"Doc::\\\"d\\\"\"}",
+    )?;
+    assert_answers(&rt, alloc, ALL, &long_id, ALLOWED);
+    Ok(())
+}
+
+#[test]
+fn reads_a_policy_text_of_spaces(rt: HostRuntime) -> Result<(), Fail> {
+    let alloc = rt.alloc();
+    let spaces = vec![in alloc; b' '; 10_000_000]?;
+    assert_answers(&rt, alloc, &spaces, Q0, DENIED);
+    Ok(())
+}
+
+#[test]
+fn reads_the_command_line(rt: HostRuntime) -> Result<(), Fail> {
+    let given = ["cedar", "authorize", "--policies", "policies.cedar"];
+    let Ok(read) = words(rt.alloc(), &given) else {
+        return Err("refused".into());
+    };
+    assert_eq!(rt; read.subcommand, Subcommand::Authorize);
+    assert!(rt; read.policies == Some("policies.cedar"));
+    let refused: [&[&str]; 4] = [
+        &["cedar"],
+        &["cedar", "authorize"],
+        &["cedar", "authorise", "--policies", "p"],
+        &["cedar", "authorize", "--policies", "p", "--offset"],
+    ];
+    for given in refused {
+        assert!(rt; words(rt.alloc(), given).is_err_and(|error| error.use_stderr()));
+    }
+    let help = ["cedar", "--help"];
+    assert!(rt; words(rt.alloc(), &help).is_err_and(|error| !error.use_stderr()));
+    Ok(())
+}

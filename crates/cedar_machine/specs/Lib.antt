@@ -1,0 +1,9 @@
+pub mod Code
+pub mod CodeView
+pub mod Held
+pub mod Machine
+pub mod StackView
+pub mod State
+pub mod MachineView
+pub mod Progress
+pub mod CodeFault

@@ -1,0 +1,10 @@
+//! The law of the compiler.
+ghost use Rattle.cedar_value.specs.declared.request.Request.{Request};
+ghost use Rattle.cedar_ast.specs.Expression.{Expression};
+ghost use Rattle.cedar_machine.specs.Machine.{RunsAsEvaluated};
+
+/// The execution of an expression's code meets no stack fault and ends as the expression evaluates, in no more steps
+/// than it has instructions, and never stands higher than stated, whatever the expression and the request.
+pub fn execution_is_evaluation()
+    ensures { (e : Expression) (q : Request) → RunsAsEvaluated e q }
+{}

@@ -1,0 +1,150 @@
+//! The machine.
+ghost use Rattle.std.specs.Prelude.{◌≡◌, ◌+◌, ◌<◌, ◌≤◌, IfOk, IsOk, OnOk, OnErr, length, IsTrue, MatchOption};
+ghost use Rattle.cedar_machine.specs.Machine.{start, Step, Steps, Executes, going, ended, outcome_of};
+ghost use Rattle.cedar_machine.specs.MachineView.{Moves, CameBySteps};
+ghost use Rattle.cedar_machine.specs.Progress.{progress_of, outcome_reached, EndsPlain, EachEndIsPlain};
+ghost use Rattle.cedar_machine.specs.Code.{code_of};
+ghost use Rattle.cedar_ast.specs.Evaluation.{eval};
+ghost use Rattle.cedar_ast.specs.Expression.{Expression};
+
+use crate::code::Code;
+use crate::outcome::{Outcome, Run};
+use crate::stack::Stack;
+use crate::state::{State, perform};
+use cedar_value::Request;
+use std::alloc::{AllocError, Global};
+use std::marker::Model;
+
+/// Whether a machine has ended.
+#[derive(Clone, Copy, Debug, PartialEq, Eq)]
+pub enum Progress {
+    /// There is another instruction.
+    Going,
+    /// There is an outcome.
+    Ended,
+}
+
+/// An execution of a code for a request: where it is, and how many instructions it has executed. It borrows both.
+#[derive(Drop)]
+pub struct Machine<'a> {
+    code: &'a Code,
+    request: &'a Request,
+    stack: Stack<'a>,
+    state: State,
+    executed: u32,
+}
+
+impl<'a> Model for Machine<'a> {
+    ghost use Rattle.cedar_machine.specs.MachineView.{MachineView};
+    ghost use Rattle.std.specs.Coded.{codes};
+    ghost use Rattle.cedar_value.specs.DatumCode.{datum_code};
+
+    ghost Value = { MachineView };
+
+    ghost coded = { Prim.hlevel (codes, datum_code) };
+
+    ghost use Rattle.cedar_machine.specs.Machine.{Steps, start};
+    ghost use Rattle.cedar_machine.specs.State.{configuration_of};
+    ghost use Rattle.cedar_machine.specs.MachineView.{IsSound};
+
+    ghost view = { λ m. record {
+      code = m.code.now;
+      request = m.request.now;
+      configuration = configuration_of m.state m.stack.values;
+      executed = m.executed;
+    } };
+
+    ghost invariant = { λ m. IsSound m.code.now m.request.now m.stack.values m.stack.capacity (configuration_of m.state m.stack.values) m.executed };
+}
+
+impl<'a> Machine<'a> {
+    /// A machine at the first place, with room for the code's height. 1: memory was refused; a code of height at most 16
+    /// takes none.
+    pub fn new(alloc: Global, code: &'a Code, request: &'a Request) -> Result<Self, AllocError>
+        ensures code { IfOk result (λ m. m.code ≡ code.now) }
+        ensures request { IfOk result (λ m. m.request ≡ request.now) }
+        ensures configuration { IfOk result (λ m. m.configuration ≡ start) }
+        ensures executed { IfOk result (λ m. m.executed ≡ 0) }
+        ensures came { IfOk result CameBySteps }
+        ensures succeeds { code.now.height ≤ 16 → IsOk result }
+    {
+        let stack = Stack::with_room(alloc, code.height())?;
+        Ok(Machine {
+            code,
+            request,
+            stack,
+            state: State::Going(0),
+            executed: 0,
+        })
+    }
+
+    /// Executes one instruction. A machine that has ended stays as it is. 1: memory was refused; the machine is as it
+    /// was, and nothing is counted. No instruction takes memory so far.
+    pub fn step(&mut self) -> Result<Progress, AllocError>
+        ensures moves { OnOk result (Moves self.old self.new) }
+        ensures progress { IfOk result (λ p. p ≡ progress_of self.new.configuration) }
+        ensures refused { OnErr result (self.new ≡ self.old) }
+        ensures succeeds { IsOk result }
+        ensures came { CameBySteps self.new }
+    {
+        let State::Going(place) = self.state else {
+            return Ok(Progress::Ended);
+        };
+        self.state = perform(
+            self.code.instructions(),
+            self.request,
+            place,
+            &mut self.stack,
+        );
+        self.executed += 1;
+        match self.state {
+            State::Going(_) => Ok(Progress::Going),
+            _ => Ok(Progress::Ended),
+        }
+    }
+
+    /// How many instructions have been executed.
+    pub fn executed(&self) -> u32
+        ensures value { result ≡ self.now.executed }
+        ensures came { CameBySteps self.now }
+    {
+        self.executed
+    }
+
+    /// A copy of the end, or none before it. 1: memory was refused; of a Boolean, a number or an error it takes none.
+    pub fn outcome(&self, alloc: Global) -> Result<Option<Outcome>, AllocError>
+        ensures outcome { IfOk result (λ o. o ≡ outcome_reached self.now.configuration) }
+        ensures succeeds { EndsPlain self.now.configuration → IsOk result }
+    {
+        let outcome = match self.state {
+            State::Going(_) => return Ok(None),
+            State::Finished => match self.stack.top() {
+                Some(top) => Outcome::Value(top.to_value(alloc)?),
+                None => Outcome::StackFault,
+            },
+            State::Failed(error) => Outcome::Error(error),
+            State::Faulted => Outcome::StackFault,
+        };
+        Ok(Some(outcome))
+    }
+}
+
+/// The whole execution of a code for a request: how it ends, and how many instructions it executed. 1: memory was
+/// refused. Of a code of height at most 16 whose execution ends with a Boolean, a number or an error it takes none.
+pub fn run(alloc: Global, code: &Code, request: &Request) -> Result<Run, AllocError>
+    ensures executes { IfOk result (λ r. Executes code.now.instructions request.now r.executed r.outcome) }
+    ensures evaluates { IfOk result (λ r. (e : Expression) → code.now.instructions ≡ code_of e → r.outcome ≡ outcome_of (eval e request.now)) }
+    ensures few { IfOk result (λ r. r.executed ≤ length code.now.instructions) }
+    ensures succeeds { code.now.height ≤ 16 → EachEndIsPlain code.now.instructions request.now → IsOk result }
+{
+    let mut machine = Machine::new(alloc, code, request)?;
+    let mut progress = Progress::Going;
+    'steps: while progress == Progress::Going {
+        progress = machine.step()?;
+    }
+    let executed = machine.executed();
+    match machine.outcome(alloc)? {
+        Some(outcome) => Ok(Run { outcome, executed }),
+        None => unreachable!(),
+    }
+}

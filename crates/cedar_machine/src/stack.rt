@@ -1,0 +1,75 @@
+//! The operand stack.
+ghost use Rattle.std.specs.Prelude.{◌≡◌, ◌+◌, ◌<◌, ◌≤◌, ◌↔◌, max, [], ◌∷◌, length, IsSome, IfSome, IfNone, IfOk, IsOk, MatchOption, IsTrue};
+ghost use Rattle.std.specs.Prelude.{List};
+ghost use Rattle.cedar_value.specs.Datum.{Datum};
+
+use crate::entry::Entry;
+use smallvec::SmallVec;
+use std::alloc::{AllocError, Global};
+use std::marker::Model;
+
+/// How many entries lie in the machine itself.
+pub const INLINE_PLACES: usize = 16;
+
+/// Operands, which contracts see as their values, the top first.
+#[derive(Drop)]
+pub struct Stack<'a> {
+    entries: SmallVec<Entry<'a>, INLINE_PLACES>,
+}
+
+impl<'a> Model for Stack<'a> {
+    ghost use Rattle.std.specs.Prelude.{reverse};
+    ghost use Rattle.cedar_machine.specs.StackView.{StackView};
+    ghost use Rattle.std.specs.Coded.{codes};
+    ghost use Rattle.cedar_value.specs.DatumCode.{datum_code};
+
+    ghost Value = { StackView };
+
+    ghost coded = { Prim.hlevel (codes, datum_code) };
+
+    ghost view = { λ s. record { values = reverse s.entries.items; capacity = s.entries.capacity } };
+}
+
+impl<'a> Stack<'a> {
+    /// An empty stack with room for so many entries.
+    pub fn with_room(alloc: Global, room: usize) -> Result<Self, AllocError>
+        ensures values { IfOk result (λ s. s.values ≡ []) }
+        ensures capacity { IfOk result (λ s. room ≤ s.capacity) }
+        ensures succeeds { room ≤ INLINE_PLACES → IsOk result }
+    {
+        Ok(Stack {
+            entries: SmallVec::with_capacity(alloc, room)?,
+        })
+    }
+
+    /// Puts an entry on top, for which there is room.
+    pub fn push(&mut self, entry: Entry<'a>)
+        requires { length self.old.values < self.old.capacity }
+        ensures values { self.new.values ≡ entry.entry ∷ self.old.values }
+        ensures capacity { self.new.capacity ≡ self.old.capacity }
+    {
+        self.entries.push_reserved(entry);
+    }
+
+    /// Takes the top, if there is one.
+    pub fn pop(&mut self) -> Option<Entry<'a>>
+        ensures value { MatchOption result ((self.old.values ≡ []) × (self.new.values ≡ [])) (λ e. self.old.values ≡ e ∷ self.new.values) }
+        ensures capacity { self.new.capacity ≡ self.old.capacity }
+    {
+        self.entries.pop()
+    }
+
+    /// How many entries there are.
+    pub fn len(&self) -> usize
+        ensures value { result ≡ length self.now.values }
+    {
+        self.entries.len()
+    }
+
+    /// The top, if there is one.
+    pub fn top(&self) -> Option<&Entry<'a>>
+        ensures { MatchOption result (self.now.values ≡ []) (λ e. (rest : List Datum) × (self.now.values ≡ e.now ∷ rest)) }
+    {
+        self.entries.as_slice().last()
+    }
+}

@@ -1,0 +1,12 @@
+pub mod Turns
+pub mod Contents
+pub mod LinkLemmas
+pub mod Outcomes
+pub mod Moves
+pub mod Sound
+pub mod StatementsSound
+pub mod TextLemmas
+pub mod Binds
+pub mod Complete
+pub mod StatementsComplete
+pub mod Refusals

@@ -1,0 +1,32 @@
+-- The refusals' numbers and places.
+use Rattle.std.specs.Prelude.{ℕ, Option, Some, None}
+use Rattle.cedar_text.specs.declared.text_fault.TextFault.{TextFault}
+use Rattle.cedar_text.specs.declared.text_fault.TextFault.TheVariants as t
+use Rattle.cedar_text.specs.Faults as lexer
+use Rattle.cedar_parser.specs.declared.parse_fault.ParseFault.{ParseFault}
+use Rattle.cedar_parser.specs.declared.parse_fault.ParseFault.TheVariants as f
+
+abbrev pub number_of : ParseFault → ℕ
+number_of f.OutOfMemory = 1
+number_of (f.Text fault) = lexer.number_of fault
+number_of (f.NumberTooLarge at) = 104
+number_of (f.Syntax at) = 201
+number_of (f.TooDeep at) = 202
+number_of (f.TooHigh at) = 202
+number_of (f.DuplicateId at) = 204
+number_of (f.TooLarge at) = 209
+
+abbrev pub offset_of : ParseFault → Option ℕ
+offset_of f.OutOfMemory = None
+offset_of (f.Text fault) = lexer.offset_of fault
+offset_of (f.NumberTooLarge at) = Some at
+offset_of (f.Syntax at) = Some at
+offset_of (f.TooDeep at) = Some at
+offset_of (f.TooHigh at) = Some at
+offset_of (f.DuplicateId at) = Some at
+offset_of (f.TooLarge at) = Some at
+
+-- the refusal of a text that has no tokens
+abbrev pub of_text : TextFault → ParseFault
+of_text t.OutOfMemory = f.OutOfMemory
+of_text fault = f.Text fault

@@ -1,0 +1,17 @@
+pub mod Written
+pub mod WrittenCode
+pub mod WrittenKind
+pub mod WrittenParts
+pub mod Grammar
+pub mod Reading
+pub mod Faults
+pub mod StatementTree
+pub mod Statements
+pub mod StatementReading
+pub mod Meaning
+pub mod Limits
+pub mod Capped
+pub mod Nesting
+pub mod PolicyText
+pub mod Contract
+pub mod Nests

@@ -1,0 +1,130 @@
+//! The tokens that are left.
+ghost use Rattle.std.specs.Prelude.{◌≡◌, length, option_map};
+ghost use Rattle.cedar_text.specs.Lexeme.{lexeme, lexemes};
+ghost use Rattle.cedar_parser.specs.Reading as spec;
+ghost use Rattle.cedar_parser.specs.Contract.{TakesToken};
+
+use crate::parse_fault::ParseFault;
+use cedar_text::{Token, TokenKind};
+use std::marker::Model;
+
+/// A place in a list of tokens. Contracts see the tokens that are left.
+#[derive(Drop)]
+pub struct Cursor<'t> {
+    rest: &'t [Token<'t>],
+    /// Where the token that was taken last begins, and where the text ends, in bytes from 0.
+    taken: usize,
+    end: usize,
+}
+
+impl<'t> Model for Cursor<'t> {
+    ghost use Rattle.std.specs.Prelude.{List};
+    ghost use Rattle.cedar_text.specs.Lexeme.{Lexeme, lexemes};
+
+    ghost Value = { List Lexeme };
+
+    ghost view = { λ c. lexemes c.rest.now };
+}
+
+impl<'t> Cursor<'t> {
+    /// The beginning of the tokens of a text that ends at the byte `end`.
+    pub fn new(tokens: &'t [Token<'t>], end: usize) -> Cursor<'t>
+        ensures { result ≡ lexemes tokens.now }
+    {
+        Cursor {
+            rest: tokens,
+            taken: 0,
+            end,
+        }
+    }
+
+    /// How many tokens are left.
+    pub fn left(&self) -> usize
+        ensures { result ≡ length self.now }
+    {
+        self.rest.len()
+    }
+
+    /// What the next token is.
+    #[tactic(auto, unfolding(crate::specs::Reading::kind_at))]
+    pub fn kind(&self) -> Option<TokenKind>
+        ensures { result ≡ spec.kind_at self.now }
+    {
+        match self.rest {
+            [] => None,
+            [token, ..] => Some(token.kind),
+        }
+    }
+
+    /// The next token.
+    #[tactic(auto, unfolding(crate::specs::Reading::first))]
+    pub fn peek(&self) -> Option<Token<'t>>
+        ensures { option_map lexeme result ≡ spec.first self.now }
+    {
+        match self.rest {
+            [] => None,
+            [token, ..] => Some(*token),
+        }
+    }
+
+    /// Whether the next token is of this kind.
+    #[tactic(auto, unfolding(crate::specs::Reading::sees))]
+    pub fn sees(&self, kind: TokenKind) -> bool
+        ensures { result ≡ spec.sees kind self.now }
+    {
+        match self.rest {
+            [] => false,
+            [token, ..] => token.kind == kind,
+        }
+    }
+
+    /// Whether the token after the next is of this kind.
+    #[tactic(auto, unfolding(crate::specs::Reading::sees, crate::specs::Reading::next))]
+    pub fn sees_behind(&self, kind: TokenKind) -> bool
+        ensures { result ≡ spec.sees kind (spec.next self.now) }
+    {
+        match self.rest {
+            [_, token, ..] => token.kind == kind,
+            _ => false,
+        }
+    }
+
+    /// Goes past the next token, if there is one.
+    #[tactic(auto, unfolding(crate::specs::Reading::next))]
+    pub fn skip(&mut self)
+        ensures { self.new ≡ spec.next self.old }
+    {
+        if let [token, rest @ ..] = self.rest {
+            self.taken = token.start;
+            self.rest = rest;
+        }
+    }
+
+    /// Goes past the next token, which is to be of this kind; another is no syntax.
+    #[tactic(auto, unfolding(crate::specs::Reading::expect))]
+    pub fn expect(&mut self, kind: TokenKind) -> Result<Token<'t>, ParseFault>
+        ensures { TakesToken (spec.expect kind self.old) result self.new }
+    {
+        match self.rest {
+            [token, rest @ ..] if token.kind == kind => {
+                self.taken = token.start;
+                self.rest = rest;
+                Ok(*token)
+            }
+            _ => Err(ParseFault::Syntax(self.offset())),
+        }
+    }
+
+    /// Where the next token begins, or the text ends.
+    pub fn offset(&self) -> usize {
+        match self.rest {
+            [] => self.end,
+            [token, ..] => token.start,
+        }
+    }
+
+    /// Where the token that was taken last begins.
+    pub fn taken(&self) -> usize {
+        self.taken
+    }
+}

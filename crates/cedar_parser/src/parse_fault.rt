@@ -1,0 +1,105 @@
+//! Why a policy text or a uid is not read.
+use cedar_text::TextFault;
+use std::alloc::{AllocError, AllocFailed};
+use thiserror::Error;
+
+/// Why a text is not read, with the place of the fault in bytes from 0.
+#[derive(Clone, Copy, Debug, PartialEq, Eq, Error)]
+pub enum ParseFault {
+    /// 1: memory ran out; it says nothing of the text.
+    #[error("out of memory")]
+    OutOfMemory,
+    /// 101 to 104: the text has no tokens.
+    #[error("{0}")]
+    Text(TextFault),
+    /// 104: the digits that begin there are above 9223372036854775807.
+    #[error("the number at {0} is too large")]
+    NumberTooLarge(usize),
+    /// 201: no text of the grammar goes on with what stands there.
+    #[error("no text goes on with what stands at {0}")]
+    Syntax(usize),
+    /// 202: with the bracket there more than 100 are open in a condition.
+    #[error("the bracket at {0} nests too deep")]
+    TooDeep(usize),
+    /// 202: the condition of the statement that begins there is higher than 2,000 nodes.
+    #[error("the condition of the statement at {0} is too high")]
+    TooHigh(usize),
+    /// 204: a statement before the one that begins there has the same id.
+    #[error("a statement before the one at {0} has its id")]
+    DuplicateId(usize),
+    /// 209: the condition of the statement that begins there has more than 100,000 nodes.
+    #[error("the condition of the statement at {0} is too large")]
+    TooLarge(usize),
+}
+
+impl ParseFault {
+    ghost use Rattle.std.specs.Prelude.{◌≡◌};
+    ghost use Rattle.cedar_parser.specs.Faults.{number_of, offset_of};
+
+    /// The number of the refusal, as the program prints it.
+    pub fn number(self) -> u16
+        ensures { result ≡ number_of self }
+    {
+        match self {
+            ParseFault::OutOfMemory => 1,
+            ParseFault::Text(fault) => fault.number(),
+            ParseFault::NumberTooLarge(_) => 104,
+            ParseFault::Syntax(_) => 201,
+            ParseFault::TooDeep(_) | ParseFault::TooHigh(_) => 202,
+            ParseFault::DuplicateId(_) => 204,
+            ParseFault::TooLarge(_) => 209,
+        }
+    }
+
+    /// Where the fault is, in bytes from 0; want of memory is nowhere.
+    pub fn offset(self) -> Option<usize>
+        ensures { result ≡ offset_of self }
+    {
+        match self {
+            ParseFault::OutOfMemory => None,
+            ParseFault::Text(fault) => fault.offset(),
+            ParseFault::NumberTooLarge(at)
+            | ParseFault::Syntax(at)
+            | ParseFault::TooDeep(at)
+            | ParseFault::TooHigh(at)
+            | ParseFault::DuplicateId(at)
+            | ParseFault::TooLarge(at) => Some(at),
+        }
+    }
+}
+
+impl From<AllocError> for ParseFault {
+    ghost use Rattle.std.specs.Prelude.{◌≡◌};
+    ghost use Rattle.cedar_parser.specs.declared.parse_fault.ParseFault.TheVariants.{OutOfMemory};
+
+    ghost from_gives = { λ _ e. e ≡ OutOfMemory };
+
+    fn from(_: AllocError) -> ParseFault {
+        ParseFault::OutOfMemory
+    }
+}
+
+impl<T: Drop> From<AllocFailed<T>> for ParseFault {
+    ghost use Rattle.std.specs.Prelude.{◌≡◌};
+    ghost use Rattle.cedar_parser.specs.declared.parse_fault.ParseFault.TheVariants.{OutOfMemory};
+
+    ghost from_gives = { λ _ e. e ≡ OutOfMemory };
+
+    fn from(_: AllocFailed<T>) -> ParseFault {
+        ParseFault::OutOfMemory
+    }
+}
+
+impl From<TextFault> for ParseFault {
+    ghost use Rattle.std.specs.Prelude.{◌≡◌};
+    ghost use Rattle.cedar_parser.specs.Faults.{of_text};
+
+    ghost from_gives = { λ fault e. e ≡ of_text fault };
+
+    fn from(fault: TextFault) -> ParseFault {
+        match fault {
+            TextFault::OutOfMemory => ParseFault::OutOfMemory,
+            _ => ParseFault::Text(fault),
+        }
+    }
+}

@@ -1,0 +1,4 @@
+mod Empty
+pub mod Places
+pub mod Rows
+pub mod Search

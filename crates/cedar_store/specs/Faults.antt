@@ -1,0 +1,17 @@
+-- What a refusal says of the entities.
+use Rattle.std.specs.Prelude.{ℕ}
+use Rattle.cedar_value.specs.World.{World, Below}
+use Rattle.cedar_store.specs.Entities.{StandsTwice}
+use Rattle.cedar_store.specs.declared.store_fault.StoreFault.{StoreFault}
+use Rattle.cedar_store.specs.declared.store_fault.StoreFault.TheVariants.{OutOfMemory, DuplicateEntity, Cycle}
+
+-- the uid of a duplicate stands twice, that of a cycle is below itself
+abbrev pub IsThere : World → StoreFault → Type 0
+IsThere w OutOfMemory = Unit {0}
+IsThere w (DuplicateEntity u) = StandsTwice w u
+IsThere w (Cycle u) = Below w u u
+
+abbrev pub number_of : StoreFault → ℕ
+number_of OutOfMemory = 1
+number_of (DuplicateEntity u) = 401
+number_of (Cycle u) = 402

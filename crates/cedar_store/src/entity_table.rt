@@ -1,0 +1,99 @@
+//! Entities that are found by their uids.
+ghost use Rattle.std.specs.Prelude.{◌≡◌, ◌↔◌, ℕ, Some, IfOk, IfErr, OnOk, option_copied};
+ghost use Rattle.std.specs.List.{slice_get};
+ghost use Rattle.cedar_value.specs.World.{entry_of, parents_of};
+ghost use Rattle.cedar_store.specs.Entities.{uids_of, AreUidsDistinct};
+ghost use Rattle.cedar_store.specs.Faults.{IsThere};
+ghost use Rattle.cedar_store.specs.Kept.{ArePlaces};
+
+use crate::entity::Entity;
+use crate::store_fault::StoreFault;
+use cedar_value::Uid;
+use std::alloc::Global;
+use std::collections::BTreeMap;
+use std::marker::Model;
+
+/// Entities whose uids are distinct, in the order in which they came, and the place of each.
+#[derive(Drop)]
+pub(crate) struct EntityTable {
+    entities: Vec<Entity>,
+    places: BTreeMap<Uid, usize>,
+}
+
+impl Model for EntityTable {
+    ghost use Rattle.std.specs.Coded.{codes};
+    ghost use Rattle.cedar_value.specs.DatumCode.{datum_code};
+    ghost use Rattle.cedar_value.specs.World.{World};
+    ghost use Rattle.cedar_store.specs.Entities.{uids_of};
+    ghost use Rattle.cedar_store.specs.Kept.{ArePlaces};
+
+    ghost Value = { World };
+
+    ghost coded = { Prim.hlevel (codes, datum_code) };
+
+    ghost view = { λ t. t.entities.items };
+
+    ghost invariant = { λ t. ArePlaces t.places (uids_of t.entities.items) };
+}
+
+impl EntityTable {
+    /// The table of these entities, or 401 where a uid stands twice.
+    pub(crate) fn new(alloc: Global, entities: Vec<Entity>) -> Result<Self, StoreFault>
+        ensures world { IfOk result (λ t. t ≡ entities.items) }
+        ensures distinct { OnOk result (AreUidsDistinct entities.items) }
+        ensures refused { IfErr result (IsThere entities.items) }
+    {
+        let places = places_of(alloc, &entities)?;
+        Ok(EntityTable { entities, places })
+    }
+
+    /// The entities, in the order in which they came.
+    pub(crate) fn entities(&self) -> &[Entity]
+        ensures { result.now ≡ self.now }
+    {
+        &self.entities
+    }
+
+    /// The place of an entity, counted from 0.
+    pub(crate) fn place(&self, uid: &Uid) -> Option<usize>
+        ensures { (k : ℕ) → (result ≡ Some k) ↔ (slice_get (uids_of self.now) k ≡ Some uid.now) }
+    {
+        self.places.get(uid).copied()
+    }
+
+    /// The entity with this uid.
+    pub(crate) fn get(&self, uid: &Uid) -> Option<&Entity>
+        ensures { option_copied result ≡ entry_of self.now uid.now }
+    {
+        match self.place(uid) {
+            Some(place) => self.entities.get(place),
+            None => None,
+        }
+    }
+
+    /// The direct parents of an entity, none of what the table lacks.
+    pub(crate) fn parents(&self, uid: &Uid) -> &[Uid]
+        ensures { result.now ≡ parents_of self.now uid.now }
+    {
+        match self.get(uid) {
+            Some(entity) => &entity.parents,
+            None => &[],
+        }
+    }
+}
+
+// The place of each entity, by its uid.
+fn places_of(alloc: Global, entities: &[Entity]) -> Result<BTreeMap<Uid, usize>, StoreFault>
+    ensures places { IfOk result (λ m. ArePlaces m (uids_of entities.now)) }
+    ensures refused { IfErr result (IsThere entities.now) }
+{
+    let mut places = BTreeMap::new(alloc);
+    for (place, entity) in entities.iter().enumerate() {
+        let uid = &entity.uid;
+        let earlier = places.insert(uid.try_clone(alloc)?, place)?;
+        if earlier.is_some() {
+            return Err(StoreFault::DuplicateEntity(uid.try_clone(alloc)?));
+        }
+    }
+    Ok(places)
+}

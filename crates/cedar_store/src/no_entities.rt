@@ -1,0 +1,29 @@
+//! The world without entities.
+use crate::hierarchy::Hierarchy;
+use cedar_value::{Record, Uid, ValueSet};
+
+/// The world without entities.
+#[derive(Clone, Copy, Debug)]
+pub struct NoEntities;
+
+impl Hierarchy for NoEntities {
+    ghost use Rattle.std.specs.Prelude.{[]};
+
+    ghost world = { λ _. [] };
+
+    fn has(&self, _entity: &Uid) -> bool {
+        false
+    }
+
+    fn attributes(&self, _entity: &Uid) -> Option<&Record> {
+        None
+    }
+
+    fn is_below(&self, _low: &Uid, _high: &Uid) -> bool {
+        false
+    }
+
+    fn is_below_any(&self, _low: &Uid, _highs: &ValueSet) -> bool {
+        false
+    }
+}

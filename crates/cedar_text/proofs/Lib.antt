@@ -1,0 +1,16 @@
+pub mod Runs
+pub mod Digits
+pub mod Escapes
+pub mod Passing
+pub mod Strings
+pub mod White
+pub mod Signs
+pub mod Pieces
+pub mod Boundaries
+pub mod Whole
+pub mod Places
+pub mod Spelled
+pub mod Firsts
+pub mod Unescaping
+pub mod EveryString
+pub mod Turns

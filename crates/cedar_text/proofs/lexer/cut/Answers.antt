@@ -1,0 +1,5 @@
+use Rattle.cedar_text.proofs.Boundaries.{cut_boundary}
+use Rattle.cedar_text.proofs.lexer.cut.Goals as goal
+
+pub split_at-requires : goal.split_at-requires
+split_at-requires c = cut_boundary c.args.source.now c.in_ok-piece.piece c.requires (rw c.as_bytes.ensures.value at c.in_ok-piece.ensures) c.utf8.source

@@ -1,0 +1,65 @@
+-- What a string token stands for (Cedar language reference, "Grammar": STR; "Operators": like).
+-- Of the bytes, 34 is the quote, 92 the backslash, 42 the star.
+use Rattle.std.specs.Prelude.{◌≡◌, ◌≢◌, ℕ, Bool, true, false, List, [], ◌∷◌, ◌++◌, Result, Ok, Err, String, encode_utf8}
+use Rattle.std.specs.Char.{IsScalar}
+use Rattle.std.specs.Global.{Vec, Global}
+use Rattle.std.specs.List.{list_all}
+use Rattle.std.specs.String.{string_bytes}
+use Rattle.cedar_text.specs.declared.letter.Letter.{Letter}
+use Rattle.cedar_text.specs.declared.letter.Letter.TheVariants.{Character, Star, EscapedStar}
+use Rattle.cedar_text.specs.declared.text_fault.TextFault.{TextFault}
+use Rattle.cedar_text.specs.declared.text_fault.TextFault.TheVariants as f
+use Rattle.cedar_text.specs.Strings.{IsEscape}
+
+-- how a string writes one letter, in UTF-8
+pub data IsWritten : List ℕ → Letter → Type 0 where
+  plain : {c : ℕ} → IsScalar c → c ≢ 34 → c ≢ 92 → c ≢ 42 → IsWritten (encode_utf8 c) (Character c)
+  bare_star : IsWritten (42 ∷ []) Star
+  escaped : {front : List ℕ} {letter : Letter} → IsEscape front letter → IsWritten (92 ∷ front) letter
+
+pub data AreWritten : List ℕ → List Letter → Type 0 where
+  nothing : AreWritten [] []
+  more : {front rest : List ℕ} {letter : Letter} {letters : List Letter} → IsWritten front letter → AreWritten rest letters → AreWritten (front ++ rest) (letter ∷ letters)
+
+-- the text, with its quotes, writes these letters
+abbrev pub IsSpelled : List ℕ → List Letter → Type 0
+IsSpelled text letters = (inner : List ℕ) × (text ≡ 34 ∷ inner ++ 34 ∷ []) × AreWritten inner letters
+
+-- whether a string may hold the letter
+abbrev pub is_plain : Letter → Bool
+is_plain (Character c) = true
+is_plain Star = true
+is_plain EscapedStar = false
+
+-- the character of a letter
+abbrev pub character_of : Letter → ℕ
+character_of (Character c) = c
+character_of Star = 42
+character_of EscapedStar = 42
+
+-- the characters of letters, in UTF-8
+abbrev pub utf8_of : List Letter → List ℕ
+utf8_of [] = []
+utf8_of (letter ∷ letters) = encode_utf8 (character_of letter) ++ utf8_of letters
+
+-- the string that the text stands for, in UTF-8
+abbrev pub StandsFor : List ℕ → List ℕ → Type 0
+StandsFor text bytes = (letters : List Letter) × IsSpelled text letters × (list_all is_plain letters ≡ true) × (bytes ≡ utf8_of letters)
+
+-- the answer is these letters, or memory ran out
+abbrev pub HasLetters : List Letter → Result (Vec Letter) TextFault → Type 0
+HasLetters letters (Ok v) = v.items ≡ letters
+HasLetters letters (Err f.OutOfMemory) = Unit {0}
+HasLetters letters (Err (f.BadCharacter at)) = ⊥
+HasLetters letters (Err (f.UnclosedString at)) = ⊥
+HasLetters letters (Err (f.BadEscape at)) = ⊥
+HasLetters letters (Err (f.NumberTooLarge at)) = ⊥
+
+-- the answer is this string, or memory ran out
+abbrev pub HasString : List ℕ → Result (String Global) TextFault → Type 0
+HasString bytes (Ok s) = string_bytes s ≡ bytes
+HasString bytes (Err f.OutOfMemory) = Unit {0}
+HasString bytes (Err (f.BadCharacter at)) = ⊥
+HasString bytes (Err (f.UnclosedString at)) = ⊥
+HasString bytes (Err (f.BadEscape at)) = ⊥
+HasString bytes (Err (f.NumberTooLarge at)) = ⊥

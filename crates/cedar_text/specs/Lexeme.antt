@@ -1,0 +1,23 @@
+-- A token as contracts see it.
+use Rattle.std.specs.Prelude.{ℕ, ◌+◌, List, map, length}
+use Rattle.cedar_text.specs.declared.token_kind.TokenKind.{TokenKind}
+use Rattle.cedar_text.specs.declared.token.Token.{Token}
+
+pub record Lexeme : Type 0 where
+  pub kind : TokenKind
+  pub start : ℕ
+  pub text : List ℕ
+  pub number : ℕ
+
+abbrev pub Lexemes : Type 0
+Lexemes = List Lexeme
+
+abbrev pub lexeme : Token → Lexeme
+lexeme t = record { kind = t.kind; start = t.start; text = t.text.now; number = t.number }
+
+abbrev pub lexemes : List Token → Lexemes
+lexemes ts = map lexeme ts
+
+-- the place right behind it
+abbrev pub end_of : Lexeme → ℕ
+end_of t = t.start + length t.text

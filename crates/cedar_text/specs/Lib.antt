@@ -1,0 +1,14 @@
+pub mod Lexeme
+pub mod Bytes
+pub mod Blanks
+pub mod Words
+pub mod Numbers
+pub mod Strings
+pub mod Signs
+pub mod Tokens
+pub mod Spans
+pub mod Faults
+pub mod Letters
+pub mod FirstLetter
+pub mod Lexing
+pub mod Outcomes

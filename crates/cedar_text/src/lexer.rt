@@ -1,0 +1,95 @@
+//! All tokens of a text.
+
+ghost use Rattle.std.specs.Prelude.{◌≡◌, ◌<◌, ◌≤◌, length, take, drop, IfOk, IfErr, OnOk, All, List, ℕ};
+ghost use Rattle.std.specs.Str.{IsUtf8};
+ghost use Rattle.cedar_text.specs.Lexeme.{Lexemes, lexemes};
+ghost use Rattle.cedar_text.specs.Lexing as spec;
+ghost use Rattle.cedar_text.specs.Outcomes.{Gives};
+ghost use Rattle.cedar_text.specs.Faults.{HasTokens, HasFault};
+ghost use Rattle.cedar_text.specs.Spans.{AreInOrder, IsSliceOf};
+ghost use Rattle.cedar_text.specs.Tokens.{AreTokens};
+
+use crate::piece::{Piece, first_piece};
+use crate::text_fault::TextFault;
+use crate::token::Token;
+use std::alloc::{AllocError, Global};
+
+/// The first piece, its slice of the text, and the rest.
+fn cut(source: &str, at: usize) -> Result<(Piece, &str, &str), TextFault>
+    requires { 0 < length source.now }
+    ensures piece { Gives (λ x. x.0) (spec.piece source.now) result }
+    ensures front { IfOk result (λ x. x.1.now ≡ take x.0.len source.now) }
+    ensures rest { IfOk result (λ x. x.2.now ≡ drop x.0.len source.now) }
+    ensures within { IfOk result (λ x. x.0.len ≤ length source.now) }
+    ensures utf8 { IfOk result (λ x. IsUtf8 x.2.now) }
+{
+    let piece = first_piece(source.as_bytes(), at)?;
+    let (front, rest) = source.split_at(piece.len);
+    Ok((piece, front, rest))
+}
+
+/// Adds the token of a piece.
+fn push<'a>(
+    found: &mut Vec<Token<'a>>,
+    piece: Piece,
+    start: usize,
+    text: &'a str,
+) -> Result<(), AllocError>
+    ensures { OnOk result (lexemes found.new.items ≡ spec.found_with piece.kind start text.now piece.len piece.number (lexemes found.old.items)) }
+{
+    if let Some(kind) = piece.kind {
+        found.push(Token {
+            kind,
+            start,
+            text,
+            number: piece.number,
+        })?;
+    }
+    Ok(())
+}
+
+/// The tokens from left to right.
+fn lex(alloc: Global, source: &str) -> Result<Vec<Token<'_>>, TextFault>
+    ensures { Gives (λ v. lexemes v.items) (spec.lex (length source.now) 0 source.now) result }
+{
+    let mut found = Vec::new(alloc);
+    let mut at = 0;
+    let mut rest = source;
+    for _turn in 0..source.len() {
+        if rest.is_empty() {
+            return Ok(found);
+        }
+        let (piece, text, after) = cut(rest, at)?;
+        push(&mut found, piece, at, text)?;
+        at += piece.len;
+        rest = after;
+    }
+    Ok(found)
+}
+
+/// The tokens of a policy text, each with the slice of the text that it is (Cedar language reference, "Grammar").
+///
+/// Of each token as much is taken as the whole text allows. Refused, with the byte from 0 where the fault lies, are
+/// [`TextFault::BadCharacter`] with the character at which no token begins, [`TextFault::UnclosedString`] with the
+/// opening quote of a string that is not closed, [`TextFault::BadEscape`] with the backslash at which no escape
+/// begins, and [`TextFault::NumberTooLarge`] with the first digit of a number above 9223372036854775808; and
+/// [`TextFault::OutOfMemory`]. The time is linear in the text, and the list is all that takes memory.
+pub fn tokens(alloc: Global, source: &str) -> Result<Vec<Token<'_>>, TextFault>
+    // What is answered are the tokens of the text.
+    ensures found { IfOk result (λ v. AreTokens source.now (lexemes v.items)) }
+    // The tokens of the text are what is answered, unless memory runs out.
+    ensures only { (ts : Lexemes) → AreTokens source.now ts → HasTokens ts result }
+    // Each fault comes only where it stands.
+    ensures fault { IfErr result (HasFault source.now) }
+
+    // The tokens lie one behind the other, each between characters, and its text is what stands there.
+    ensures order { IfOk result (λ v. AreInOrder 0 (lexemes v.items)) }
+    ensures slices { IfOk result (λ v. All (IsSliceOf source.now) (lexemes v.items)) }
+{
+    lex(alloc, source)
+}
+
+/// The law that no text has two lists of tokens. It does nothing.
+pub fn one_list()
+    ensures { (source : List ℕ) (ts us : Lexemes) → AreTokens source ts → AreTokens source us → ts ≡ us }
+{}

@@ -1,0 +1,25 @@
+//! The lexer: the tokens of a policy text (Cedar language reference, "Grammar").
+#![tactic(auto)]
+
+mod blank;
+mod bytes;
+mod escape;
+mod letter;
+mod lexer;
+mod number;
+mod piece;
+mod sign;
+mod spelling;
+#[cfg(test)]
+mod tests;
+mod text_fault;
+mod token;
+mod token_kind;
+mod word;
+
+pub use letter::Letter;
+pub use lexer::{one_list, tokens};
+pub use spelling::{every_string_is_spelled, letters, one_spelling, unescape};
+pub use text_fault::TextFault;
+pub use token::Token;
+pub use token_kind::TokenKind;

@@ -1,0 +1,184 @@
+//! What a string token stands for.
+
+ghost use Rattle.std.specs.Prelude.{◌≡◌, ◌<◌, ◌≤◌, [], ◌∷◌, ◌++◌, List, ℕ, length, IfOk, IfSome, IfNone, IsSome};
+ghost use Rattle.std.specs.String.{string_bytes};
+ghost use Rattle.std.specs.Char.{IsScalar};
+ghost use Rattle.std.specs.Str.{IsUtf8};
+ghost use Rattle.cedar_text.specs.declared.letter.Letter.{Letter as Letters};
+ghost use Rattle.cedar_text.specs.Strings.{IsString};
+ghost use Rattle.cedar_text.specs.Letters.{IsSpelled, StandsFor, HasLetters, HasString};
+ghost use Rattle.cedar_text.specs.FirstLetter.{BeginsWith, BeginsNone, StartsEscape, StartsNoEscape, IsFirst, IsQuoted};
+ghost use Rattle.cedar_text.specs.Lexing as spec;
+
+use crate::bytes::{byte_at, hex_len};
+use crate::escape::escape_len;
+use crate::letter::Letter;
+use crate::number::hexadecimal_value;
+use crate::text_fault::TextFault;
+use std::alloc::Global;
+
+fn first_char(text: &str) -> Option<char>
+    ensures some { 0 < length text.now → IsSome result }
+    ensures first { IfSome result (λ c. BeginsWith text.now c) }
+    ensures scalar { IfSome result IsScalar }
+{
+    text.chars().next()
+}
+
+fn short_value(b: u8) -> char
+    ensures { result ≡ spec.short_value b }
+{
+    match b {
+        b'n' => '\n',
+        b'r' => '\r',
+        b't' => '\t',
+        b'0' => '\0',
+        _ => char::from(b),
+    }
+}
+
+fn code_letter(code: u32) -> Option<Letter>
+    ensures { result ≡ spec.code_letter code }
+{
+    match char::from_u32(code) {
+        Some(c) => Some(Letter::Character(c)),
+        None => None,
+    }
+}
+
+/// The letter of an escape, of which these are the bytes behind the backslash.
+#[tactic(auto, unfolding(crate::specs::Lexing::escaped_letter))]
+fn escaped_letter(front: &[u8]) -> Option<Letter>
+    requires { 0 < length front.now }
+    ensures { result ≡ spec.escaped_letter front.now }
+{
+    let b = byte_at(front, 0);
+    if b == b'*' {
+        Some(Letter::EscapedStar)
+    } else if b == b'x' {
+        code_letter(hexadecimal_value(&front[1..]))
+    } else if b == b'u' {
+        let digits = &front[front.len().min(2)..];
+        code_letter(hexadecimal_value(&digits[..hex_len(digits)]))
+    } else {
+        Some(Letter::Character(short_value(b)))
+    }
+}
+
+/// The letter of the escape that stands first, behind its backslash, and how many bytes it has.
+fn first_escape(bytes: &[u8]) -> Option<(Letter, usize)>
+    ensures found { IfSome result (λ x. StartsEscape bytes.now x.0 x.1) }
+    ensures none { IfNone result (StartsNoEscape bytes.now) }
+    ensures within { IfSome result (λ x. x.1 ≤ length bytes.now) }
+{
+    let Some(len) = escape_len(bytes) else {
+        return None;
+    };
+    match escaped_letter(&bytes[..len]) {
+        Some(letter) => Some((letter, len)),
+        None => None,
+    }
+}
+
+/// The letter that stands first, and how many bytes it has.
+fn first_letter(text: &str) -> Option<(Letter, usize)>
+    requires { 0 < length text.now }
+    ensures found { IfSome result (λ x. IsFirst text.now x.0 x.1) }
+    ensures none { IfNone result (BeginsNone text.now) }
+{
+    let Some(c) = first_char(text) else {
+        return None;
+    };
+    match c {
+        '"' => None,
+        '*' => Some((Letter::Star, 1)),
+        '\\' => match first_escape(&text.as_bytes()[1..]) {
+            Some((letter, len)) => Some((letter, len + 1)),
+            None => None,
+        },
+        _ => Some((Letter::Character(c), c.len_utf8())),
+    }
+}
+
+/// What stands between the quotes.
+fn between_quotes(text: &str) -> Option<&str>
+    ensures found { IfSome result (λ inner. IsQuoted text.now inner.now) }
+    ensures none { IfNone result ((inner : List ℕ) → IsQuoted text.now inner → ⊥) }
+    ensures utf8 { IfSome result (λ inner. IsUtf8 inner.now) }
+{
+    let bytes = text.as_bytes();
+    let len = bytes.len();
+    if len < 2 || bytes[0] != b'"' || bytes[len - 1] != b'"' {
+        return None;
+    }
+    Some(&text[1..len - 1])
+}
+
+/// The letters of a string token, of which this is the text with its quotes: for a pattern.
+///
+/// Refused are [`TextFault::UnclosedString`] where the text has no quotes round it, [`TextFault::BadEscape`] with the
+/// byte from 0 where no letter begins, and [`TextFault::OutOfMemory`]; of a string token of [`crate::tokens`] only the
+/// last. Each letter takes memory once.
+pub fn letters(alloc: Global, text: &str) -> Result<Vec<Letter>, TextFault>
+    // What is answered are the letters that the text writes.
+    ensures found { IfOk result (λ v. IsSpelled text.now v.items) }
+    // The letters that the text writes are what is answered, unless memory runs out.
+    ensures only { (letters : List Letters) → IsSpelled text.now letters → HasLetters letters result }
+{
+    let Some(inner) = between_quotes(text) else {
+        return Err(TextFault::UnclosedString(0));
+    };
+    let mut found = Vec::new(alloc);
+    let mut rest = inner;
+    while !rest.is_empty() {
+        let Some((letter, len)) = first_letter(rest) else {
+            return Err(TextFault::BadEscape(text.len().saturating_sub(rest.len() + 1)));
+        };
+        found.push(letter)?;
+        rest = &rest[len..];
+    }
+    Ok(found)
+}
+
+/// The string that a string token stands for, of which this is the text with its quotes.
+///
+/// Refused are [`TextFault::BadEscape`] with the byte from 0 of the backslash of the first `\*`, which only a pattern
+/// may hold, and [`TextFault::OutOfMemory`]; of a text that is no string token also what [`letters`] refuses.
+pub fn unescape(alloc: Global, text: &str) -> Result<String, TextFault>
+    // What is answered is the string that the text stands for.
+    ensures found { IfOk result (λ s. StandsFor text.now (string_bytes s)) }
+    // The string that the text stands for is what is answered, unless memory runs out.
+    ensures only { (bytes : List ℕ) → StandsFor text.now bytes → HasString bytes result }
+{
+    let spelled = letters(alloc, text)?;
+    let mut value = String::new(alloc);
+    for letter in &spelled {
+        let Some(c) = letter.plain() else {
+            return Err(TextFault::BadEscape(escaped_star(text)));
+        };
+        value.push(c)?;
+    }
+    Ok(value)
+}
+
+/// Where the first `\*` of a string token begins, in bytes from 0.
+fn escaped_star(text: &str) -> usize {
+    let mut behind = false;
+    for (i, &b) in text.as_bytes().iter().enumerate() {
+        if behind && b == b'*' {
+            return i.saturating_sub(1);
+        }
+        behind = b == b'\\' && !behind;
+    }
+    0
+}
+
+/// The law that no text writes two lists of letters. It does nothing.
+pub fn one_spelling()
+    ensures { (text : List ℕ) (letters others : List Letters) → IsSpelled text letters → IsSpelled text others → letters ≡ others }
+{}
+
+/// The law that what stands between the quotes of a string token always writes letters. It does nothing.
+pub fn every_string_is_spelled()
+    ensures { (inner : List ℕ) → IsUtf8 inner → IsString inner → (letters : List Letters) × IsSpelled (34 ∷ inner ++ 34 ∷ []) letters }
+{}

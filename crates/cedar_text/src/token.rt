@@ -1,0 +1,25 @@
+ghost use Rattle.std.specs.Prelude.{◌≡◌, ◌+◌, ◌<◌, ◌^◌, length};
+
+use crate::token_kind::TokenKind;
+
+/// A token of a policy text.
+#[derive(Clone, Copy, Debug)]
+pub struct Token<'a> {
+    /// What it is.
+    pub kind: TokenKind,
+    /// Where it begins in the source, in bytes from 0.
+    pub start: usize,
+    /// The slice of the source that it is: of a string with its quotes and escapes, of a slot with its `?`.
+    pub text: &'a str,
+    /// The value of a number's digits, 0 at every other kind.
+    pub number: u64,
+}
+
+impl Token<'_> {
+    /// Where it ends in the source: the place right behind its last byte, in bytes from 0.
+    pub fn end(&self) -> usize
+        ensures { self.now.start + length self.now.text.now < 2 ^ 64 → result ≡ self.now.start + length self.now.text.now }
+    {
+        self.start.saturating_add(self.text.len())
+    }
+}

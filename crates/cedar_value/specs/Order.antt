@@ -1,0 +1,42 @@
+-- The order of values: that of their rows of numbers, a beginning first.
+use Rattle.std.specs.Prelude.{ℕ, ℤ, List, [], map}
+use Rattle.std.specs.declared.cmp.Ordering.{Ordering}
+use Rattle.std.specs.Ordering.{int_cmp, nat_cmp, on, ordering_then}
+use Rattle.std.specs.List.Sorted.{IsStrictlySortedBy}
+use Rattle.std.specs.Cmp.Lexicographic.{slice_cmp}
+use Rattle.cedar_value.specs.Datum.{Datum}
+use Rattle.cedar_value.specs.Rows.{row}
+use Rattle.cedar_value.specs.declared.uid.Uid.{Uid}
+
+abbrev pub numbers_of : Datum → List ℤ
+numbers_of d = row d []
+
+unfoldable pub datum_cmp : Datum → Datum → Ordering
+datum_cmp = on numbers_of (slice_cmp int_cmp)
+
+-- texts byte by byte, a beginning first
+abbrev pub text_cmp : List ℕ → List ℕ → Ordering
+text_cmp = slice_cmp nat_cmp
+
+-- uids by the text of the type, and then by the id
+abbrev pub uid_cmp : Uid → Uid → Ordering
+uid_cmp u v = ordering_then (text_cmp u.ty v.ty) (text_cmp u.id v.id)
+
+-- pairs by their keys, and then by their values
+abbrev pub pair_cmp : List ℕ × Datum → List ℕ × Datum → Ordering
+pair_cmp p q = ordering_then (text_cmp p.0 q.0) (datum_cmp p.1 q.1)
+
+-- sets and records as lists, a beginning first
+abbrev pub members_cmp : List Datum → List Datum → Ordering
+members_cmp = slice_cmp datum_cmp
+
+abbrev pub pairs_cmp : List (List ℕ × Datum) → List (List ℕ × Datum) → Ordering
+pairs_cmp = slice_cmp pair_cmp
+
+-- each member is below those after it
+abbrev pub IsAscending : List Datum → Type 0
+IsAscending = IsStrictlySortedBy datum_cmp
+
+-- each key is below those after it
+abbrev pub AreKeysAscending : List (List ℕ × Datum) → Type 0
+AreKeysAscending ps = IsStrictlySortedBy text_cmp (map (λ p. p.0) ps)

@@ -1,0 +1,34 @@
+-- The row of numbers by which values are ordered: the number of the kind, and then what it holds.
+use Rattle.std.specs.Prelude.{ℕ, ◌+◌, ℤ, pos, ◌+ℤ◌, Bool, true, false, List, [], ◌∷◌}
+use Rattle.cedar_value.specs.Datum.{Datum, boolean, long, text, uid, set, record_of, decimal, Members, no_members, member, Fields, no_fields, field}
+
+-- Each row goes before a rest, which is empty behind a whole value.
+
+-- a text: each byte plus 1, then 0
+abbrev pub text_row : List ℕ → List ℤ → List ℤ
+text_row [] rest = pos 0 ∷ rest
+text_row (b ∷ bs) rest = pos (b + 1) ∷ text_row bs rest
+
+abbrev pub truth_number : Bool → ℤ
+truth_number false = pos 0
+truth_number true = pos 1
+
+-- a long or a decimal: its number plus 9223372036854775808; a uid: its type's text, then its id
+-- a set: the rows of its members, then 0; a record: for each pair 1, the key and the value, then 0
+abbrev mutual
+  pub row : Datum → List ℤ → List ℤ
+  row (boolean b) rest = pos 1 ∷ truth_number b ∷ rest
+  row (long z) rest = pos 2 ∷ (z +ℤ pos 9223372036854775808) ∷ rest
+  row (text s) rest = pos 3 ∷ text_row s rest
+  row (uid u) rest = pos 4 ∷ text_row u.ty (text_row u.id rest)
+  row (set ms) rest = pos 5 ∷ members_row ms rest
+  row (record_of fs) rest = pos 6 ∷ fields_row fs rest
+  row (decimal z) rest = pos 7 ∷ (z +ℤ pos 9223372036854775808) ∷ rest
+
+  pub members_row : Members → List ℤ → List ℤ
+  members_row no_members rest = pos 0 ∷ rest
+  members_row (member d ms) rest = row d (members_row ms rest)
+
+  pub fields_row : Fields → List ℤ → List ℤ
+  fields_row no_fields rest = pos 0 ∷ rest
+  fields_row (field k d fs) rest = pos 1 ∷ text_row k (row d (fields_row fs rest))

@@ -1,0 +1,13 @@
+-- The value that a kind stands for.
+use Rattle.cedar_value.specs.Datum.{Datum, boolean, long, text, uid, set, record_of, decimal, members_of, fields_of}
+use Rattle.cedar_value.specs.declared.value.ValueKind.{ValueKind}
+use Rattle.cedar_value.specs.declared.value.ValueKind.TheVariants.{Boolean, Long, String, Uid, Set, Record, Decimal}
+
+abbrev pub datum_of : ValueKind → Datum
+datum_of (Boolean b) = boolean b
+datum_of (Long n) = long n
+datum_of (String t) = text t
+datum_of (Uid u) = uid u
+datum_of (Set ds) = set (members_of ds)
+datum_of (Record ps) = record_of (fields_of ps)
+datum_of (Decimal z) = decimal z

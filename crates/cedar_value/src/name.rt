@@ -1,0 +1,179 @@
+//! Names of entity types.
+ghost use Rattle.std.specs.Prelude.{◌≡◌, ◌↔◌, IfOk, IfSome, IsSome, IsTrue};
+ghost use Rattle.std.specs.List.{list_all};
+ghost use Rattle.cedar_value.specs.Names.{IsName, is_identifier, is_reserved, is_word, is_word_byte, is_word_start};
+ghost use Rattle.std.specs.Str.{bytes_eq};
+
+use crate::text::Text;
+use std::alloc::{AllocError, Global};
+use std::cmp::Ordering;
+use std::marker::Model;
+
+/// A path of identifiers, as `Photos::Album`, which contracts see as the bytes of its text
+/// (Cedar language reference, entity types and namespaces).
+#[derive(Drop)]
+pub struct Name {
+    path: Text,
+}
+
+impl Model for Name {
+    ghost use Rattle.std.specs.Prelude.{ℕ, List};
+
+    ghost Value = { List ℕ };
+
+    ghost view = { λ n. n.path };
+}
+
+impl Name {
+    /// The name whose text this is, for a caller that knows that it is one; `read` tests a text.
+    pub fn new(path: Text) -> Self
+        ensures { result ≡ path }
+    {
+        Name { path }
+    }
+
+    /// The name that the text writes: one or more identifiers, none of them reserved, with `::` between
+    /// them and nothing else (Cedar language reference, policy grammar: Path). None for another text.
+    pub fn read(alloc: Global, text: &str) -> Result<Option<Self>, AllocError>
+        ensures given { IfOk result (λ name. IsSome name ↔ IsName text.now) }
+        ensures path { IfOk result (λ name. IfSome name (λ n. n ≡ text.now)) }
+    {
+        if !is_path(text) {
+            return Ok(None);
+        }
+        Ok(Some(Name {
+            path: Text::read(alloc, text)?,
+        }))
+    }
+
+    /// The text of the name, lent.
+    pub fn as_str(&self) -> &str
+        ensures { result.now ≡ self.now }
+    {
+        self.path.as_str()
+    }
+
+    /// A copy, equal to the original.
+    pub fn try_clone(&self, alloc: Global) -> Result<Self, AllocError>
+        ensures { IfOk result (λ n. n ≡ self.now) }
+    {
+        Ok(Name {
+            path: self.path.try_clone(alloc)?,
+        })
+    }
+}
+
+// The words that are no identifiers.
+const RESERVED: [&str; 9] = [
+    "true", "false", "if", "then", "else", "in", "is", "like", "has",
+];
+
+// Whether the text is one or more identifiers with `::` between them.
+fn is_path(text: &str) -> bool
+    ensures { IsTrue result ↔ IsName text.now }
+{
+    let mut rest = text;
+    'walk: while let Some((word, others)) = rest.split_once("::") {
+        if !is_identifier(word) {
+            return false;
+        }
+        rest = others;
+    }
+    is_identifier(rest)
+}
+
+// Whether the word is an identifier that is not reserved.
+fn is_identifier(word: &str) -> bool
+    ensures { result ≡ is_identifier word.now }
+{
+    is_word(word.as_bytes()) && !is_reserved(word)
+}
+
+fn is_reserved(word: &str) -> bool
+    ensures { result ≡ is_reserved word.now }
+{
+    RESERVED.contains(&word)
+}
+
+fn is_word(bytes: &[u8]) -> bool
+    ensures { result ≡ is_word bytes.now }
+{
+    match bytes.split_first() {
+        Some((first, later)) => is_word_start(*first) && are_word_bytes(later),
+        None => false,
+    }
+}
+
+fn are_word_bytes(bytes: &[u8]) -> bool
+    ensures { result ≡ list_all is_word_byte bytes.now }
+{
+    bytes.iter().all(|byte| is_word_byte(*byte))
+}
+
+fn is_word_start(byte: u8) -> bool
+    ensures { result ≡ is_word_start byte }
+{
+    byte.is_ascii_alphabetic() || byte == b'_'
+}
+
+fn is_word_byte(byte: u8) -> bool
+    ensures { result ≡ is_word_byte byte }
+{
+    is_word_start(byte) || byte.is_ascii_digit()
+}
+
+impl PartialEq for Name {
+    ghost use Rattle.std.specs.Str.{bytes_eq};
+    ghost use Rattle.cedar_value.specs.Equality.{text_equivalence};
+    ghost use Rattle.std.specs.Cmp.{partial_equiv_from_equiv};
+
+    ghost eq = { bytes_eq };
+
+    ghost laws = { partial_equiv_from_equiv text_equivalence };
+
+    fn eq(&self, other: &Self) -> bool
+        ensures gives { result ≡ bytes_eq self.now other.now }
+        ensures equal { IsTrue result ↔ (self.now ≡ other.now) }
+    {
+        self.path == other.path
+    }
+}
+
+impl Eq for Name {
+    ghost use Rattle.cedar_value.specs.Equality.{text_equivalence};
+
+    ghost laws = { text_equivalence };
+}
+
+impl PartialOrd for Name {
+    ghost use Rattle.std.specs.Ordering.{as_partial_cmp};
+    ghost use Rattle.cedar_value.specs.Order.{text_cmp};
+    ghost use Rattle.cedar_value.specs.Laws.{text_partial_order};
+
+    ghost partial_cmp = { as_partial_cmp text_cmp };
+
+    ghost laws = { text_partial_order };
+
+    fn partial_cmp(&self, other: &Self) -> Option<Ordering> {
+        Some(self.cmp(other))
+    }
+}
+
+impl Ord for Name {
+    ghost use Rattle.std.specs.Prelude.{refl};
+    ghost use Rattle.cedar_value.specs.Order.{text_cmp};
+    ghost use Rattle.std.proofs.lemmas.Cmp.{nat_list_cmp_total};
+    ghost use Rattle.cedar_value.specs.Laws.{text_ties};
+
+    ghost cmp = { text_cmp };
+
+    ghost total = { nat_list_cmp_total };
+
+    ghost matches_partial_cmp = { λ x y. refl };
+
+    ghost matches_eq = { text_ties };
+
+    fn cmp(&self, other: &Self) -> Ordering {
+        self.path.cmp(&other.path)
+    }
+}

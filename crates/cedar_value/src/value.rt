@@ -1,0 +1,219 @@
+//! Values, which contracts see as a `Datum`.
+ghost use Rattle.std.specs.Prelude.{◌≡◌, IsOk, IfOk, ◌↔◌, IsTrue};
+ghost use Rattle.cedar_value.specs.Datum.{boolean, long, text, uid, set, record_of, decimal, members_of, fields_of, IsPlain};
+ghost use Rattle.cedar_value.specs.ValueKind.{datum_of};
+ghost use Rattle.cedar_value.specs.Glance.{datum_seen};
+ghost use Rattle.cedar_value.specs.Datum.{same};
+
+use crate::glance::Glance;
+use crate::order::order_values;
+use crate::text::Text;
+use crate::uid::Uid;
+use crate::value_record::Record;
+use crate::value_set::ValueSet;
+use cedar_ext::Decimal;
+use std::alloc::{AllocError, Global};
+use std::cmp::Ordering;
+use std::marker::Model;
+
+/// What a value is made of (Cedar language reference, data types).
+#[cycle(value)]
+#[derive(Drop)]
+pub enum ValueKind {
+    /// A Boolean.
+    Boolean(bool),
+    /// A whole number of 64 bits.
+    Long(i64),
+    /// A text.
+    String(Text),
+    /// A reference to an entity.
+    Uid(Uid),
+    /// A set of values.
+    Set(ValueSet),
+    /// A record: values by keys.
+    Record(Record),
+    /// A number of ten-thousandths.
+    Decimal(Decimal),
+}
+
+/// A value, which contracts see as a `Datum`. At every level of it the members of a set ascend in the
+/// order of values, and the keys of a record ascend by their bytes.
+#[cycle(value)]
+#[derive(Drop)]
+pub struct Value {
+    kind: ValueKind,
+}
+
+impl Model for Value {
+    ghost use Rattle.cedar_value.specs.Datum.{Datum};
+    ghost use Rattle.cedar_value.specs.DatumCode.{datum_code};
+
+    ghost Value = { Datum };
+
+    ghost coded = { datum_code };
+
+    ghost use Rattle.cedar_value.specs.ValueKind.{datum_of};
+    ghost use Rattle.cedar_value.specs.Weight.{weight};
+
+    ghost view = { λ v. datum_of v.kind };
+
+    ghost size = { weight };
+
+    ghost use Rattle.cedar_value.specs.KindFalls.{deep_le-weight};
+
+    ghost size_decreases = { λ v _. deep_le-weight v.kind };
+}
+
+impl Value {
+    /// The value of this kind.
+    pub fn new(kind: ValueKind) -> Self
+        ensures { result ≡ datum_of kind }
+    {
+        Value { kind }
+    }
+
+    /// A Boolean.
+    pub fn boolean(truth: bool) -> Self
+        ensures { result ≡ boolean truth }
+    {
+        Value::new(ValueKind::Boolean(truth))
+    }
+
+    /// A whole number.
+    pub fn long(number: i64) -> Self
+        ensures { result ≡ long number }
+    {
+        Value::new(ValueKind::Long(number))
+    }
+
+    /// A text.
+    pub fn string(content: Text) -> Self
+        ensures { result ≡ text content }
+    {
+        Value::new(ValueKind::String(content))
+    }
+
+    /// A reference to an entity.
+    pub fn uid(entity: Uid) -> Self
+        ensures { result ≡ uid entity }
+    {
+        Value::new(ValueKind::Uid(entity))
+    }
+
+    /// A set.
+    pub fn set(members: ValueSet) -> Self
+        ensures { result ≡ set (members_of members) }
+    {
+        Value::new(ValueKind::Set(members))
+    }
+
+    /// A record.
+    pub fn record(pairs: Record) -> Self
+        ensures { result ≡ record_of (fields_of pairs) }
+    {
+        Value::new(ValueKind::Record(pairs))
+    }
+
+    /// A decimal.
+    pub fn decimal(number: Decimal) -> Self
+        ensures { result ≡ decimal number }
+    {
+        Value::new(ValueKind::Decimal(number))
+    }
+
+    /// The kind, with what it holds.
+    pub fn kind(&self) -> &ValueKind
+        ensures { datum_of result.now ≡ self.now }
+    {
+        &self.kind
+    }
+
+    /// A look at the value, which is `Copy`.
+    pub fn glance(&self) -> Glance<'_>
+        ensures { datum_seen result ≡ self.now }
+    {
+        match &self.kind {
+            ValueKind::Boolean(truth) => Glance::Boolean(*truth),
+            ValueKind::Long(number) => Glance::Long(*number),
+            ValueKind::String(text) => Glance::String(text),
+            ValueKind::Uid(uid) => Glance::Uid(uid),
+            ValueKind::Set(members) => Glance::Set(members),
+            ValueKind::Record(pairs) => Glance::Record(pairs),
+            ValueKind::Decimal(decimal) => Glance::Decimal(decimal),
+        }
+    }
+
+    /// A copy, equal to the original. Of a Boolean, a number or a decimal it takes no memory.
+    #[cycle(copy)]
+    pub fn try_clone(&self, alloc: Global) -> Result<Self, AllocError>
+        ensures copy { IfOk result (λ v. v ≡ self.now) }
+        ensures succeeds { IsPlain self.now → IsOk result }
+    {
+        let kind = match &self.kind {
+            ValueKind::Boolean(truth) => ValueKind::Boolean(*truth),
+            ValueKind::Long(number) => ValueKind::Long(*number),
+            ValueKind::String(text) => ValueKind::String(text.try_clone(alloc)?),
+            ValueKind::Uid(uid) => ValueKind::Uid(uid.try_clone(alloc)?),
+            ValueKind::Set(members) => ValueKind::Set(members.try_clone(alloc)?),
+            ValueKind::Record(pairs) => ValueKind::Record(pairs.try_clone(alloc)?),
+            ValueKind::Decimal(decimal) => ValueKind::Decimal(*decimal),
+        };
+        Ok(Value { kind })
+    }
+}
+
+impl PartialEq for Value {
+    ghost use Rattle.std.specs.Cmp.{partial_equiv_from_equiv};
+    ghost use Rattle.cedar_value.specs.Datum.{same};
+    ghost use Rattle.cedar_value.specs.Equality.{same_equivalence};
+
+    ghost eq = { same };
+
+    ghost laws = { partial_equiv_from_equiv same_equivalence };
+
+    fn eq(&self, other: &Self) -> bool
+        ensures gives { result ≡ same self.now other.now }
+        ensures equal { IsTrue result ↔ (self.now ≡ other.now) }
+    {
+        self.cmp(other).is_eq()
+    }
+}
+
+impl Eq for Value {
+    ghost use Rattle.cedar_value.specs.Equality.{same_equivalence};
+
+    ghost laws = { same_equivalence };
+}
+
+impl PartialOrd for Value {
+    ghost use Rattle.std.specs.Ordering.{as_partial_cmp};
+    ghost use Rattle.cedar_value.specs.Order.{datum_cmp};
+    ghost use Rattle.cedar_value.specs.Laws.{datum_partial_order};
+
+    ghost partial_cmp = { as_partial_cmp datum_cmp };
+
+    ghost laws = { datum_partial_order };
+
+    fn partial_cmp(&self, other: &Self) -> Option<Ordering> {
+        Some(self.cmp(other))
+    }
+}
+
+impl Ord for Value {
+    ghost use Rattle.std.specs.Prelude.{refl};
+    ghost use Rattle.cedar_value.specs.Order.{datum_cmp};
+    ghost use Rattle.cedar_value.specs.Same.{datum_cmp_total};
+    ghost use Rattle.cedar_value.specs.Laws.{datum_ties};
+
+    ghost cmp = { datum_cmp };
+
+    ghost total = { datum_cmp_total };
+
+    ghost matches_partial_cmp = { λ x y. refl };
+
+    ghost matches_eq = { datum_ties };
+
+    fn cmp(&self, other: &Self) -> Ordering {
+        order_values(self, other)
+    }
+}

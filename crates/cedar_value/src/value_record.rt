@@ -1,0 +1,197 @@
+//! Records of values.
+ghost use Rattle.std.specs.Prelude.{◌≡◌, ◌↔◌, [], IfOk, IfSome, IsSome, IsTrue, option_copied};
+ghost use Rattle.std.specs.Slice.Iter.{iter_rest};
+ghost use Rattle.cedar_value.specs.Order.{AreKeysAscending};
+ghost use Rattle.cedar_value.specs.Records.{value_at, AreKeysDistinct, SamePairs, record_from};
+ghost use Rattle.cedar_value.specs.Datum.{same_as_records};
+
+use crate::order::order_pairs;
+use crate::text::Text;
+use crate::value::Value;
+use std::alloc::{AllocError, Global};
+use std::cmp::Ordering;
+use std::marker::Model;
+use std::slice;
+
+/// A record, which contracts see as the list of its keys with their values, ascending by the bytes of
+/// the keys, each of which stands once.
+#[cycle(value)]
+#[derive(Drop)]
+pub struct Record {
+    pairs: Vec<(Text, Value)>,
+}
+
+impl Model for Record {
+    ghost use Rattle.std.specs.Prelude.{List, ℕ};
+    ghost use Rattle.std.specs.Coded.{coded_list, coded×, coded_ℕ};
+    ghost use Rattle.cedar_value.specs.Datum.{Datum};
+    ghost use Rattle.cedar_value.specs.DatumCode.{datum_code};
+
+    ghost Value = { List (List ℕ × Datum) };
+
+    ghost coded = { coded_list (coded× (coded_list coded_ℕ) datum_code) };
+
+    ghost use Rattle.cedar_value.specs.Order.{AreKeysAscending};
+    ghost use Rattle.cedar_value.specs.Weight.{weight, pairs_weight};
+
+    ghost view = { λ r. r.pairs.items };
+
+    ghost invariant = { λ r. AreKeysAscending r.pairs.items };
+
+    ghost size = { pairs_weight };
+
+    ghost use Rattle.std.specs.Prelude.{◌+◌, max};
+    ghost use Rattle.std.proofs.Common.{arith};
+    ghost use Rattle.cedar_value.specs.Falls.{most_fields};
+
+    ghost size_decreases = { λ r _. omega (arith, most_fields (λ f. max 0 (max (weight f.1 + 1) 0)) (λ f. omega arith) r.pairs.items) };
+}
+
+impl Record {
+    /// The record without keys.
+    pub fn new(alloc: Global) -> Self
+        ensures { result ≡ [] }
+    {
+        Record {
+            pairs: Vec::new(alloc),
+        }
+    }
+
+    /// The record of these pairs, in whatever order they come. None where a key stands twice
+    /// (Cedar language reference, records).
+    pub fn from_pairs(mut pairs: Vec<(Text, Value)>) -> Result<Option<Self>, AllocError>
+        ensures distinct { IfOk result (λ o. IsSome o ↔ AreKeysDistinct pairs.items) }
+        ensures pairs { IfOk result (λ o. IfSome o (λ r. SamePairs r pairs.items)) }
+        ensures ascending { IfOk result (λ o. IfSome o AreKeysAscending) }
+        ensures gives { IfOk result (λ o. IfSome o (λ r. r ≡ record_from pairs.items)) }
+    {
+        pairs.sort()?;
+        if keys_ascend(&pairs) {
+            Ok(Some(Record { pairs }))
+        } else {
+            Ok(None)
+        }
+    }
+
+    /// The value at a key. Takes no memory, and comparisons by the logarithm of the record's size.
+    pub fn get(&self, key: &str) -> Option<&Value>
+        ensures { option_copied result ≡ value_at key.now self.now }
+    {
+        match self.pairs.binary_search_by(|pair| pair.0.as_str().cmp(key)) {
+            Ok(place) => Some(&self.pairs[place].1),
+            Err(_) => None,
+        }
+    }
+
+    /// The keys with their values, ascending by the keys. Takes no memory.
+    pub fn iter(&self) -> slice::Iter<'_, (Text, Value)>
+        ensures pairs { iter_rest result ≡ self.now }
+        ensures ascending { AreKeysAscending self.now }
+    {
+        self.pairs.iter()
+    }
+
+    /// The keys with their values, ascending by the keys, as a slice. Takes no memory.
+    pub fn pairs(&self) -> &[(Text, Value)]
+        ensures pairs { result.now ≡ self.now }
+        ensures ascending { AreKeysAscending self.now }
+    {
+        &self.pairs
+    }
+
+    /// A copy, equal to the original.
+    #[cycle(copy)]
+    pub fn try_clone(&self, alloc: Global) -> Result<Self, AllocError>
+        ensures { IfOk result (λ r. r ≡ self.now) }
+    {
+        Ok(Record {
+            pairs: clone_pairs(alloc, &self.pairs)?,
+        })
+    }
+}
+
+#[cycle(copy)]
+fn clone_pairs(alloc: Global, pairs: &[(Text, Value)]) -> Result<Vec<(Text, Value)>, AllocError>
+    ensures { IfOk result (λ v. v.items ≡ pairs.now) }
+{
+    let mut copies = Vec::new(alloc);
+    for pair in pairs {
+        copies.push((pair.0.try_clone(alloc)?, pair.1.try_clone(alloc)?))?;
+    }
+    Ok(copies)
+}
+
+// Whether each key is below the next.
+fn keys_ascend(pairs: &[(Text, Value)]) -> bool
+    ensures { IsTrue result ↔ AreKeysAscending pairs.now }
+{
+    let Some((first, others)) = pairs.split_first() else {
+        return true;
+    };
+    let mut last = first;
+    let mut later = others;
+    'walk: while let Some((pair, others)) = later.split_first() {
+        if last.0 >= pair.0 {
+            return false;
+        }
+        last = pair;
+        later = others;
+    }
+    true
+}
+
+impl PartialEq for Record {
+    ghost use Rattle.std.specs.Cmp.{partial_equiv_from_equiv};
+    ghost use Rattle.cedar_value.specs.Equality.{pairs_equivalence};
+    ghost use Rattle.cedar_value.specs.Datum.{same_as_records};
+
+    ghost eq = { same_as_records };
+
+    ghost laws = { partial_equiv_from_equiv pairs_equivalence };
+
+    fn eq(&self, other: &Self) -> bool
+        ensures gives { result ≡ same_as_records self.now other.now }
+        ensures equal { IsTrue result ↔ (self.now ≡ other.now) }
+    {
+        self.cmp(other).is_eq()
+    }
+}
+
+impl Eq for Record {
+    ghost use Rattle.cedar_value.specs.Equality.{pairs_equivalence};
+
+    ghost laws = { pairs_equivalence };
+}
+
+impl PartialOrd for Record {
+    ghost use Rattle.std.specs.Ordering.{as_partial_cmp};
+    ghost use Rattle.cedar_value.specs.Order.{pairs_cmp};
+    ghost use Rattle.cedar_value.specs.Laws.{pairs_partial_order};
+
+    ghost partial_cmp = { as_partial_cmp pairs_cmp };
+
+    ghost laws = { pairs_partial_order };
+
+    fn partial_cmp(&self, other: &Self) -> Option<Ordering> {
+        Some(self.cmp(other))
+    }
+}
+
+impl Ord for Record {
+    ghost use Rattle.std.specs.Prelude.{refl};
+    ghost use Rattle.cedar_value.specs.Order.{pairs_cmp};
+    ghost use Rattle.cedar_value.specs.Laws.{pairs_total};
+    ghost use Rattle.cedar_value.specs.Laws.{pairs_ties};
+
+    ghost cmp = { pairs_cmp };
+
+    ghost total = { pairs_total };
+
+    ghost matches_partial_cmp = { λ x y. refl };
+
+    ghost matches_eq = { pairs_ties };
+
+    fn cmp(&self, other: &Self) -> Ordering {
+        order_pairs(&self.pairs, &other.pairs)
+    }
+}

@@ -1,4 +1,4 @@
-//! What no contract says: worked rows through `authorize` over memory, failing devices, hostile input, the command line.
+//! What no contract says: worked examples through `authorize` over memory, failing devices, hostile input, the command line.
 use crate::authorizing::authorize;
 use crate::command_line::words;
 use crate::ending::End;
@@ -47,7 +47,7 @@ fn assert_answers(rt: &impl Abort, alloc: Global, text: &[u8], input: &[u8], wan
 }
 
 #[test]
-fn answers_as_the_rows_say(rt: HostRuntime) {
+fn answers_worked_examples(rt: HostRuntime) {
     let rows: [(&[u8], &[u8], &[u8]); 9] = [
         (ALL, Q0, ALLOWED),
         (b"", Q0, DENIED),

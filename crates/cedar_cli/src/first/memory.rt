@@ -54,7 +54,7 @@ impl Source for SliceSource<'_> {
 #[derive(Drop)]
 pub struct VecSink {
     bytes: Vec<u8>,
-    failures: u64,
+    failed_writes: u64,
 }
 
 impl Model for VecSink {
@@ -62,7 +62,7 @@ impl Model for VecSink {
 
     ghost Value = { Counted };
 
-    ghost view = { λ s. record { bytes = s.bytes.items; failures = s.failures } };
+    ghost view = { λ s. record { bytes = s.bytes.items; failures = s.failed_writes } };
 }
 
 impl VecSink {
@@ -73,7 +73,7 @@ impl VecSink {
     {
         VecSink {
             bytes: Vec::new(alloc),
-            failures: 0,
+            failed_writes: 0,
         }
     }
 
@@ -94,13 +94,13 @@ impl Sink for VecSink {
         match self.bytes.extend_from_slice(bytes) {
             Ok(()) => Ok(bytes.len()),
             Err(_) => {
-                self.failures += 1;
+                self.failed_writes += 1;
                 Err(WriteFailed)
             }
         }
     }
 
     fn failures(&self) -> u64 {
-        self.failures
+        self.failed_writes
     }
 }

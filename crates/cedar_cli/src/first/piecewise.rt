@@ -26,7 +26,7 @@ pub struct PiecewiseSource<'a> {
     bytes: &'a [u8],
     piece: usize,
     countdown: Countdown,
-    failures: u64,
+    failed_reads: u64,
 }
 
 impl<'a> Model for PiecewiseSource<'a> {
@@ -35,7 +35,7 @@ impl<'a> Model for PiecewiseSource<'a> {
 
     ghost Value = { Counted };
 
-    ghost view = { λ s. record { bytes = s.bytes.now; failures = s.failures } };
+    ghost view = { λ s. record { bytes = s.bytes.now; failures = s.failed_reads } };
 
     ghost invariant = { λ s. 0 < s.piece };
 }
@@ -51,7 +51,7 @@ impl<'a> PiecewiseSource<'a> {
             bytes,
             piece,
             countdown: Countdown(fail_at),
-            failures: 0,
+            failed_reads: 0,
         }
     }
 }
@@ -65,7 +65,7 @@ impl Source for PiecewiseSource<'_> {
 
     fn read(&mut self, buf: &mut [u8]) -> Result<usize, ReadFailed> {
         if self.countdown.ends() {
-            self.failures += 1;
+            self.failed_reads += 1;
             return Err(ReadFailed);
         }
         let count = buf.len().min(self.piece).min(self.bytes.len());
@@ -76,7 +76,7 @@ impl Source for PiecewiseSource<'_> {
     }
 
     fn failures(&self) -> u64 {
-        self.failures
+        self.failed_reads
     }
 }
 
@@ -87,7 +87,7 @@ pub struct PiecewiseSink {
     bytes: Vec<u8>,
     piece: usize,
     countdown: Countdown,
-    failures: u64,
+    failed_writes: u64,
 }
 
 impl Model for PiecewiseSink {
@@ -95,7 +95,7 @@ impl Model for PiecewiseSink {
 
     ghost Value = { Counted };
 
-    ghost view = { λ s. record { bytes = s.bytes.items; failures = s.failures } };
+    ghost view = { λ s. record { bytes = s.bytes.items; failures = s.failed_writes } };
 }
 
 impl PiecewiseSink {
@@ -108,7 +108,7 @@ impl PiecewiseSink {
             bytes: Vec::new(alloc),
             piece,
             countdown: Countdown(fail_at),
-            failures: 0,
+            failed_writes: 0,
         }
     }
 
@@ -132,13 +132,13 @@ impl Sink for PiecewiseSink {
             || (count == 0 && !bytes.is_empty())
             || self.bytes.extend_from_slice(front).is_err()
         {
-            self.failures += 1;
+            self.failed_writes += 1;
             return Err(WriteFailed);
         }
         Ok(count)
     }
 
     fn failures(&self) -> u64 {
-        self.failures
+        self.failed_writes
     }
 }

@@ -15,7 +15,7 @@ const MOST_BYTES: u64 = 9223372036854775807;
 pub struct StdSource<R> {
     reader: R,
     can_give: u64,
-    failures: u64,
+    failed_reads: u64,
 }
 
 impl<R> Model for StdSource<R> {
@@ -23,7 +23,7 @@ impl<R> Model for StdSource<R> {
 
     ghost Value = { Given };
 
-    ghost view = { λ s. record { can_give = s.can_give; failures = s.failures } };
+    ghost view = { λ s. record { can_give = s.can_give; failures = s.failed_reads } };
 }
 
 impl<R: Read> StdSource<R> {
@@ -35,7 +35,7 @@ impl<R: Read> StdSource<R> {
         StdSource {
             reader,
             can_give: MOST_BYTES,
-            failures: 0,
+            failed_reads: 0,
         }
     }
 }
@@ -56,14 +56,14 @@ impl<R: Read> Source for StdSource<R> {
                 Ok(count)
             }
             Err(_) => {
-                self.failures += 1;
+                self.failed_reads += 1;
                 Err(ReadFailed)
             }
         }
     }
 
     fn failures(&self) -> u64 {
-        self.failures
+        self.failed_reads
     }
 }
 
@@ -72,7 +72,7 @@ impl<R: Read> Source for StdSource<R> {
 #[derive(Drop)]
 pub struct StdSink<W> {
     writer: W,
-    failures: u64,
+    failed_writes: u64,
 }
 
 impl<W> Model for StdSink<W> {
@@ -80,7 +80,7 @@ impl<W> Model for StdSink<W> {
 
     ghost Value = { ℕ };
 
-    ghost view = { λ s. s.failures };
+    ghost view = { λ s. s.failed_writes };
 }
 
 impl<W: Write> StdSink<W> {
@@ -90,7 +90,7 @@ impl<W: Write> StdSink<W> {
     {
         StdSink {
             writer,
-            failures: 0,
+            failed_writes: 0,
         }
     }
 }
@@ -105,13 +105,13 @@ impl<W: Write> Sink for StdSink<W> {
         match self.writer.write(bytes) {
             Ok(count) if count != 0 => Ok(count),
             _ => {
-                self.failures += 1;
+                self.failed_writes += 1;
                 Err(WriteFailed)
             }
         }
     }
 
     fn failures(&self) -> u64 {
-        self.failures
+        self.failed_writes
     }
 }

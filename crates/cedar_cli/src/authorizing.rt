@@ -1,5 +1,5 @@
 //! The subcommand `authorize`.
-ghost use Rattle.std.specs.Prelude.{◌≡◌, ℕ, List, ◌-◌, ◌<◌, ◌^◌, ◌++◌, [], ◌∷◌, IfOk, IfErr, IfSome};
+ghost use Rattle.std.specs.Prelude.{◌≡◌, ◌⊎◌, ℕ, List, ◌-◌, ◌<◌, ◌^◌, ◌++◌, [], ◌∷◌, None, IfOk, IfErr, IfSome, IsErrOf};
 ghost use Rattle.serde_json.specs.Written.{compact_text};
 ghost use Rattle.cedar_ast.specs.PolicyTree.{PolicyTree};
 ghost use Rattle.cedar_cli.specs.Answers.{Answers};
@@ -45,6 +45,8 @@ fn read_policies<F: Files>(alloc: Global, files: &F) -> Result<PolicySet, Unread
     ensures found { IfOk result (λ policies. IfSome (F.holds files.now Role.Policies) (λ held. HoldsPolicies held policies)) }
     ensures refused { IfErr result (λ unread. IfRefused unread (λ number.
         IfSome (F.holds files.now Role.Policies) (λ held. HasRefusal held number))) }
+    ensures unnamed { IsErrOf result Unread.Unnamed → IfSome (F.holds files.now Role.Policies) (λ held. held ≡ None) }
+    ensures device { IsErrOf result Unread.Device → F.holds files.now Role.Policies ≡ None }
 {
     let bytes = match files.read(alloc, Role::Policies) {
         Ok(Some(bytes)) => bytes,
@@ -100,6 +102,9 @@ pub fn authorize<F: Files, S: Source, K: Sink>(
     ensures refused { result ≡ End.Refused → (number : ℕ)
         × IfSome (F.holds files.now Role.Policies) (λ held. HasRefusal held number)
         × Writes (K.written sink.old) (K.written sink.new) (λ text. text ≡ compact_text (refusal_data Role.Policies number) ++ line_feed ∷ []) }
+    ensures unnamed { result ≡ End.CommandLine → IfSome (F.holds files.now Role.Policies) (λ held. held ≡ None) }
+    ensures device { result ≡ End.Device → (F.holds files.now Role.Policies ≡ None)
+        ⊎ (S.failed source.old < S.failed source.new) ⊎ (K.failed sink.old < K.failed sink.new) }
     ensures no_faults { result ≡ End.Faults → ⊥ }
 {
     let policies = match read_policies(alloc, files) {

@@ -31,13 +31,15 @@ pub enum FileFault {
 
 /// Reads the files that a command line names.
 pub trait Files {
-    ghost use Rattle.std.specs.Prelude.{◌≡◌, List, ℕ, Option, IfOk, IfSome, None, option_map};
+    ghost use Rattle.std.specs.Prelude.{◌≡◌, List, ℕ, Option, IfOk, IfSome, None, option_map, IsErrOf};
     ghost use Rattle.cedar_cli.specs.declared.files.Role.{Role};
 
     // The bytes of each file, or none where none is named; where that is known.
     ghost holds: { Self → Role → Option (Option (List ℕ)) } = { λ _ _. None };
 
-    /// The bytes of the file, or none where the command line names no such file.
+    /// The bytes of the file, or none where the command line names no such file. `Device` only where it isn't known what
+    /// the file holds.
     fn read(&self, alloc: Global, role: Role) -> Result<Option<Vec<u8>>, FileFault>
-        ensures { IfOk result (λ o. IfSome (holds self.now role) (λ held. option_map (λ v. v.items) o ≡ held)) };
+        ensures held { IfOk result (λ o. IfSome (holds self.now role) (λ held. option_map (λ v. v.items) o ≡ held)) }
+        ensures device { IsErrOf result FileFault.Device → holds self.now role ≡ None };
 }

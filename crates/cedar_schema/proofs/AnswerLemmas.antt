@@ -1,0 +1,71 @@
+-- What parts of a schema answer, the whole answers.
+use Rattle.std.proofs.Common.{◌≡◌, ◌≢◌, ℕ, List, [], ◌++◌, Result, Ok, Err, inl, inr, sym, ap, ◌∙◌, subst}
+use Rattle.std.proofs.lemmas.List.Elements.{Contains-append_right}
+use Rattle.serde_json.specs.Data.{Members}
+use Rattle.cedar_value.specs.declared.uid.Uid.{Uid}
+use Rattle.cedar_schema.specs.declared.schema_fault.SchemaFault.{SchemaFault}
+use Rattle.cedar_schema.specs.declared.schema_fault.SchemaFault.TheVariants.{OutOfMemory}
+use Rattle.cedar_schema.specs.Faults.{Told}
+use Rattle.cedar_schema.specs.Entries.{EntryTree, names_of, root_faults}
+use Rattle.cedar_schema.specs.SchemaTree.{SchemaTree, EntityTypeTree, ActionTree}
+use Rattle.cedar_schema.specs.Each.{each_faults, each_onto}
+use Rattle.cedar_schema.specs.Schemas.{Setting, Sections, sections_of, setting_of, schema_in, schema_of, setting_faults, sections_faults, written_faults, common_faults, expansion_faults, entity_faults, one_action_faults, add_entity, add_action, forms_of, uids_onto}
+use Rattle.cedar_schema.specs.Denotes.{IsThere, Answers}
+use Rattle.cedar_schema.proofs.FormLemmas.{told_first, told_then}
+
+abbrev pub Refuses : List SchemaFault → SchemaTree → SchemaFault → Type 0
+Refuses faults tree e = e ≢ OutOfMemory → IsThere faults tree e
+
+pub refuses : (fs : List SchemaFault) (tree : SchemaTree) (e : SchemaFault) → Told fs e → Refuses fs tree e
+refuses fs tree e h n = inl (h n)
+
+-- without faults before, the rest answers
+pub answers_then : (r : Result SchemaTree SchemaFault) (fs gs : List SchemaFault) (tree : SchemaTree) → fs ≡ [] → Answers r gs tree → Answers r (fs ++ gs) tree
+answers_then (Ok s) fs gs tree none a = record { fine = ap (λ (l : List SchemaFault). l ++ gs) none ∙ a.fine; acyclic = a.acyclic; is = a.is }
+answers_then (Err e) fs gs tree none a = λ n. elim (a n) [ inl h ↦ inl (Contains-append_right fs gs e h) | inr h ↦ inr h ]
+
+-- ---- what entries declare
+module _ (s : Setting) (es as' : List EntryTree) where
+  pub setting_table : (e : SchemaFault) → Told (each_faults (expansion_faults s.table) s.table) e → Refuses (setting_faults s es as') (schema_in s es as') e
+  unfolding setting_faults
+  setting_table e h = refuses (setting_faults s es as') (schema_in s es as') e (told_first (each_faults (expansion_faults s.table) s.table) _ e h)
+
+  pub setting_entities : (e : SchemaFault) → Told (each_faults (entity_faults s) es) e → Refuses (setting_faults s es as') (schema_in s es as') e
+  unfolding setting_faults
+  setting_entities e h = refuses (setting_faults s es as') (schema_in s es as') e (told_then (each_faults (expansion_faults s.table) s.table) _ e (told_first (each_faults (entity_faults s) es) _ e h))
+
+  pub setting_actions : (e : SchemaFault) → Told (each_faults (one_action_faults s) as') e → Refuses (setting_faults s es as') (schema_in s es as') e
+  unfolding setting_faults
+  setting_actions e h = refuses (setting_faults s es as') (schema_in s es as') e (told_then (each_faults (expansion_faults s.table) s.table) _ e (told_then (each_faults (entity_faults s) es) _ e h))
+
+  pub setting_all : (r : Result SchemaTree SchemaFault) (en : List (List ℕ × EntityTypeTree)) (ac : List (Uid × ActionTree)) → each_faults (expansion_faults s.table) s.table ≡ [] → (each_faults (entity_faults s) es ≡ []) × (en ≡ each_onto (add_entity s) [] es)
+      → (each_faults (one_action_faults s) as' ≡ []) × (ac ≡ each_onto (add_action s) [] as') → Answers r [] (record { entities = en; actions = ac }) → Answers r (setting_faults s es as') (schema_in s es as')
+  unfolding setting_faults schema_in
+  setting_all r en ac table entities actions a =
+      let tree : SchemaTree = record { entities = each_onto (add_entity s) [] es; actions = each_onto (add_action s) [] as' } in
+      let made : Answers r [] tree = subst (λ (t : SchemaTree). Answers r [] t) (λ i. record { entities = entities.1 i; actions = actions.1 i }) a in
+      let none : setting_faults s es as' ≡ [] = λ i. table i ++ (entities.0 i ++ actions.0 i) in
+      subst (λ (fs : List SchemaFault). Answers r fs tree) (sym none) made
+
+pub sections_forms : (x : Sections) (es cs : List (List ℕ)) (e : SchemaFault) → es ≡ names_of x.entities → cs ≡ names_of x.commons → Told (each_faults (common_faults es cs) x.commons) e → Refuses (sections_faults x) (schema_in (setting_of x) x.entities x.actions) e
+unfolding sections_faults
+sections_forms x es cs e p q h =
+    refuses (sections_faults x) (schema_in (setting_of x) x.entities x.actions) e (told_first _ (setting_faults (setting_of x) x.entities x.actions) e (subst (λ n. Told (each_faults (common_faults n (names_of x.commons)) x.commons) e) p (subst (λ n. Told (each_faults (common_faults es n) x.commons) e) q h)))
+
+pub sections_all : (x : Sections) (s : Setting) (r : Result SchemaTree SchemaFault) → s.entities ≡ names_of x.entities → s.commons ≡ names_of x.commons → (each_faults (common_faults s.entities s.commons) x.commons ≡ []) × (s.table ≡ forms_of s.entities s.commons x.commons)
+    → s.uids ≡ uids_onto [] x.actions → Answers r (setting_faults s x.entities x.actions) (schema_in s x.entities x.actions) → Answers r (sections_faults x) (schema_in (setting_of x) x.entities x.actions)
+unfolding sections_faults
+sections_all x s r p q forms u a =
+    let table : s.table ≡ forms_of (names_of x.entities) (names_of x.commons) x.commons = forms.1 ∙ (λ i. forms_of (p i) (q i) x.commons) in
+    let same : s ≡ setting_of x = λ i. record { entities = p i; commons = q i; table = table i; uids = u i } in
+    let none : each_faults (common_faults (names_of x.entities) (names_of x.commons)) x.commons ≡ [] = sym (λ i. each_faults (common_faults (p i) (q i)) x.commons) ∙ forms.0 in
+    answers_then r _ _ _ none (subst (λ (t : Setting). Answers r (setting_faults t x.entities x.actions) (schema_in t x.entities x.actions)) same a)
+
+pub root_spaces : (root : Members) (e : SchemaFault) → Told (root_faults root) e → Refuses (written_faults root) (schema_of root) e
+unfolding written_faults
+root_spaces root e h = refuses (written_faults root) (schema_of root) e (told_first (root_faults root) _ e h)
+
+pub root_all : (root : Members) (x : Sections) (r : Result SchemaTree SchemaFault) → root_faults root ≡ [] → x ≡ sections_of root → Answers r (sections_faults x) (schema_in (setting_of x) x.entities x.actions) → Answers r (written_faults root) (schema_of root)
+unfolding written_faults
+root_all root x r none same a =
+    answers_then r (root_faults root) (sections_faults (sections_of root)) (schema_of root) none (subst (λ (y : Sections). Answers r (sections_faults y) (schema_in (setting_of y) y.entities y.actions)) same a)

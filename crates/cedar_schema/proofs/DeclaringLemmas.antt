@@ -1,0 +1,114 @@
+-- The faults of what is read part by part are those of its parts.
+use Rattle.std.proofs.Common.{◌≡◌, ℕ, codes, List, [], ◌∷◌, ◌++◌, Option, Some, sym, ap, ◌∙◌, subst}
+use Rattle.serde_json.specs.Data.{Data}
+use Rattle.serde_json.specs.Find.{get}
+use Rattle.cedar_value.specs.declared.uid.Uid.{Uid}
+use Rattle.cedar_schema.specs.declared.schema_fault.SchemaFault.{SchemaFault}
+use Rattle.cedar_schema.specs.declared.schema_fault.SchemaFault.TheVariants.{Unspecified}
+use Rattle.cedar_schema.specs.declared.part.Part.TheVariants.{EntityType, Action, AppliesTo}
+use Rattle.cedar_schema.specs.declared.action.AppliesTo.{AppliesTo as CodeApplies}
+use Rattle.cedar_schema.specs.Faults.{Told}
+use Rattle.cedar_schema.specs.Types.{TypeTree}
+use Rattle.cedar_schema.specs.Entries.{EntryTree, part_faults, entity_key_faults}
+use Rattle.cedar_schema.specs.Reading.{Scope}
+use Rattle.cedar_schema.specs.Expansion.{Table}
+use Rattle.cedar_schema.specs.ReadsApplies.{IsApplies}
+use Rattle.cedar_schema.specs.Declaring.{unless_null, record_type, names_at, list_at, member_read, set_onto, empty_faults, entity_type_of, entity_type_faults, applies_read, Applies, action_of, action_faults}
+use Rattle.cedar_schema.proofs.FormLemmas.{told_first, told_then}
+
+module _ (sc : Scope) (t : Table) (e : EntryTree) where
+  pub entity_key : (f : SchemaFault) → Told (entity_key_faults e.key) f → Told (entity_type_faults sc t e) f
+  unfolding entity_type_faults
+  entity_key f h = told_first (entity_key_faults e.key) _ f h
+
+  pub entity_part : (f : SchemaFault) → Told (part_faults EntityType e.body) f → Told (entity_type_faults sc t e) f
+  unfolding entity_type_faults
+  entity_part f h = told_then (entity_key_faults e.key) _ f (told_first (part_faults EntityType e.body) _ f h)
+
+  pub entity_members : (o : Option Data) (f : SchemaFault) → o ≡ get (codes "memberOfTypes") e.body → Told ((names_at sc [] o).faults) f → Told (entity_type_faults sc t e) f
+  unfolding entity_type_faults
+  entity_members o f is h = told_then (entity_key_faults e.key) _ f (told_then (part_faults EntityType e.body) _ f (told_first ((names_at sc [] (get (codes "memberOfTypes") e.body)).faults) _ f (subst (λ (x : Option Data). Told ((names_at sc [] x).faults) f) is h)))
+
+  pub entity_shape : (o : Option Data) (f : SchemaFault) → o ≡ get (codes "shape") e.body → Told ((record_type sc t o).faults) f → Told (entity_type_faults sc t e) f
+  unfolding entity_type_faults
+  entity_shape o f is h = told_then (entity_key_faults e.key) _ f (told_then (part_faults EntityType e.body) _ f (told_then ((names_at sc [] (get (codes "memberOfTypes") e.body)).faults) _ f (told_first ((record_type sc t (get (codes "shape") e.body)).faults) _ f (subst (λ (x : Option Data). Told ((record_type sc t x).faults) f) is h))))
+
+  pub entity_tags : (o : Option Data) (f : SchemaFault) → o ≡ get (codes "tags") e.body → Told (empty_faults o) f → Told (entity_type_faults sc t e) f
+  unfolding entity_type_faults
+  entity_tags o f is h = told_then (entity_key_faults e.key) _ f (told_then (part_faults EntityType e.body) _ f (told_then ((names_at sc [] (get (codes "memberOfTypes") e.body)).faults) _ f (told_then ((record_type sc t (get (codes "shape") e.body)).faults) _ f ((subst (λ (x : Option Data). Told (empty_faults x) f) is h)))))
+
+  pub entity_fine : (m s g : Option Data) (parents : List (List ℕ)) (shape : TypeTree) → m ≡ get (codes "memberOfTypes") e.body → s ≡ get (codes "shape") e.body → g ≡ get (codes "tags") e.body
+      → entity_key_faults e.key ≡ [] → part_faults EntityType e.body ≡ [] → ((names_at sc [] m).faults ≡ []) × (parents ≡ (names_at sc [] m).items) → ((record_type sc t s).faults ≡ []) × (shape ≡ (record_type sc t s).ty) → empty_faults g ≡ []
+      → (entity_type_faults sc t e ≡ []) × (record { parents = parents; shape = shape } ≡ entity_type_of sc t e)
+  unfolding entity_type_faults entity_type_of
+  entity_fine m s g parents shape mi si gi key part names made tags =
+      let n = ap (λ (x : Option Data). (names_at sc [] x).faults) (sym mi) ∙ names.0 in
+      let r = ap (λ (x : Option Data). (record_type sc t x).faults) (sym si) ∙ made.0 in
+      let w = ap empty_faults (sym gi) ∙ tags in
+      let p = names.1 ∙ ap (λ (x : Option Data). (names_at sc [] x).items) mi in
+      let q = made.1 ∙ ap (λ (x : Option Data). (record_type sc t x).ty) si in
+      ((λ i. key i ++ (part i ++ (n i ++ (r i ++ w i)))), (λ i. record { parents = p i; shape = q i }))
+
+module _ (sc : Scope) (t : Table) (d : Data) where
+  pub applies_part : (f : SchemaFault) → Told (part_faults AppliesTo d) f → Told ((applies_read sc t (Some d)).faults) f
+  unfolding applies_read
+  applies_part f h = told_first (part_faults AppliesTo d) _ f h
+
+  pub applies_principals : (o : Option Data) (f : SchemaFault) → o ≡ get (codes "principalTypes") d → Told ((names_at sc (Unspecified ∷ []) o).faults) f → Told ((applies_read sc t (Some d)).faults) f
+  unfolding applies_read
+  applies_principals o f is h = told_then (part_faults AppliesTo d) _ f (told_first ((names_at sc (Unspecified ∷ []) (get (codes "principalTypes") d)).faults) _ f (subst (λ (x : Option Data). Told ((names_at sc (Unspecified ∷ []) x).faults) f) is h))
+
+  pub applies_resources : (o : Option Data) (f : SchemaFault) → o ≡ get (codes "resourceTypes") d → Told ((names_at sc (Unspecified ∷ []) o).faults) f → Told ((applies_read sc t (Some d)).faults) f
+  unfolding applies_read
+  applies_resources o f is h = told_then (part_faults AppliesTo d) _ f (told_then ((names_at sc (Unspecified ∷ []) (get (codes "principalTypes") d)).faults) _ f (told_first ((names_at sc (Unspecified ∷ []) (get (codes "resourceTypes") d)).faults) _ f (subst (λ (x : Option Data). Told ((names_at sc (Unspecified ∷ []) x).faults) f) is h)))
+
+  pub applies_context : (o : Option Data) (f : SchemaFault) → o ≡ get (codes "context") d → Told ((record_type sc t o).faults) f → Told ((applies_read sc t (Some d)).faults) f
+  unfolding applies_read
+  applies_context o f is h = told_then (part_faults AppliesTo d) _ f (told_then ((names_at sc (Unspecified ∷ []) (get (codes "principalTypes") d)).faults) _ f (told_then ((names_at sc (Unspecified ∷ []) (get (codes "resourceTypes") d)).faults) _ f ((subst (λ (x : Option Data). Told ((record_type sc t x).faults) f) is h))))
+
+  pub applies_fine : (m s g : Option Data) (a : CodeApplies) (ps rs : List (List ℕ)) → m ≡ get (codes "principalTypes") d → s ≡ get (codes "resourceTypes") d → g ≡ get (codes "context") d
+      → part_faults AppliesTo d ≡ [] → ((names_at sc (Unspecified ∷ []) m).faults ≡ []) × (ps ≡ (names_at sc (Unspecified ∷ []) m).items) → ((names_at sc (Unspecified ∷ []) s).faults ≡ []) × (rs ≡ (names_at sc (Unspecified ∷ []) s).items)
+      → ((record_type sc t g).faults ≡ []) × (a.context ≡ (record_type sc t g).ty) → a.principals.keys ≡ set_onto [] ps → a.resources.keys ≡ set_onto [] rs → IsApplies a (applies_read sc t (Some d))
+  unfolding applies_read
+  applies_fine m s g a ps rs mi si gi part one two made pset rset =
+      let n = ap (λ (x : Option Data). (names_at sc (Unspecified ∷ []) x).faults) (sym mi) ∙ one.0 in
+      let r = ap (λ (x : Option Data). (names_at sc (Unspecified ∷ []) x).faults) (sym si) ∙ two.0 in
+      let w = ap (λ (x : Option Data). (record_type sc t x).faults) (sym gi) ∙ made.0 in
+      record {
+        faults = λ i. part i ++ (n i ++ (r i ++ w i));
+        principals = pset ∙ ap (set_onto []) (one.1 ∙ ap (λ (x : Option Data). (names_at sc (Unspecified ∷ []) x).items) mi);
+        resources = rset ∙ ap (set_onto []) (two.1 ∙ ap (λ (x : Option Data). (names_at sc (Unspecified ∷ []) x).items) si);
+        context = made.1 ∙ ap (λ (x : Option Data). (record_type sc t x).ty) gi;
+      }
+
+module _ (sc : Scope) (t : Table) (uids : List Uid) (e : EntryTree) where
+  pub action_part : (f : SchemaFault) → Told (part_faults Action e.body) f → Told (action_faults sc t uids e) f
+  unfolding action_faults
+  action_part f h = told_first (part_faults Action e.body) _ f h
+
+  pub action_members : (o : Option Data) (f : SchemaFault) → o ≡ unless_null (get (codes "memberOf") e.body) → Told ((list_at (member_read uids sc.namespace) [] o).faults) f → Told (action_faults sc t uids e) f
+  unfolding action_faults
+  action_members o f is h = told_then (part_faults Action e.body) _ f (told_first ((list_at (member_read uids sc.namespace) [] (unless_null (get (codes "memberOf") e.body))).faults) _ f (subst (λ (x : Option Data). Told ((list_at (member_read uids sc.namespace) [] x).faults) f) is h))
+
+  pub action_applies : (o : Option Data) (f : SchemaFault) → o ≡ unless_null (get (codes "appliesTo") e.body) → Told ((applies_read sc t o).faults) f → Told (action_faults sc t uids e) f
+  unfolding action_faults
+  action_applies o f is h = told_then (part_faults Action e.body) _ f (told_then ((list_at (member_read uids sc.namespace) [] (unless_null (get (codes "memberOf") e.body))).faults) _ f (told_first ((applies_read sc t (unless_null (get (codes "appliesTo") e.body))).faults) _ f (subst (λ (x : Option Data). Told ((applies_read sc t x).faults) f) is h)))
+
+  pub action_attributes : (o : Option Data) (f : SchemaFault) → o ≡ unless_null (get (codes "attributes") e.body) → Told (empty_faults o) f → Told (action_faults sc t uids e) f
+  unfolding action_faults
+  action_attributes o f is h = told_then (part_faults Action e.body) _ f (told_then ((list_at (member_read uids sc.namespace) [] (unless_null (get (codes "memberOf") e.body))).faults) _ f (told_then ((applies_read sc t (unless_null (get (codes "appliesTo") e.body))).faults) _ f ((subst (λ (x : Option Data). Told (empty_faults x) f) is h))))
+
+  pub action_fine : (m s g : Option Data) (parents : List Uid) (a : CodeApplies) → m ≡ unless_null (get (codes "memberOf") e.body) → s ≡ unless_null (get (codes "appliesTo") e.body) → g ≡ unless_null (get (codes "attributes") e.body)
+      → part_faults Action e.body ≡ [] → ((list_at (member_read uids sc.namespace) [] m).faults ≡ []) × (parents ≡ (list_at (member_read uids sc.namespace) [] m).items) → IsApplies a (applies_read sc t s) → empty_faults g ≡ []
+      → (action_faults sc t uids e ≡ []) × (record { parents = parents; principals = a.principals.keys; resources = a.resources.keys; context = a.context } ≡ action_of sc t uids e)
+  unfolding action_faults action_of
+  action_fine m s g parents a mi si gi part names made empty =
+      let n = ap (λ (x : Option Data). (list_at (member_read uids sc.namespace) [] x).faults) (sym mi) ∙ names.0 in
+      let r = ap (λ (x : Option Data). (applies_read sc t x).faults) (sym si) ∙ made.faults in
+      let w = ap empty_faults (sym gi) ∙ empty in
+      let p = names.1 ∙ ap (λ (x : Option Data). (list_at (member_read uids sc.namespace) [] x).items) mi in
+      let on = ap (applies_read sc t) si in
+      let q = made.principals ∙ ap (λ (x : Applies). x.principals) on in
+      let u = made.resources ∙ ap (λ (x : Applies). x.resources) on in
+      let v = made.context ∙ ap (λ (x : Applies). x.context) on in
+      ((λ i. part i ++ (n i ++ (r i ++ w i))), (λ i. record { parents = p i; principals = q i; resources = u i; context = v i }))

@@ -1,0 +1,15 @@
+pub mod AnswerLemmas
+pub mod AttributeJoins
+pub mod ChainLemmas
+pub mod DeclaringLemmas
+pub mod EachLemmas
+pub mod ExpandLemmas
+pub mod FormLemmas
+pub mod ListLemmas
+pub mod Lookups
+pub mod PlaceLemmas
+pub mod RowLemmas
+pub mod Search
+pub mod ShapeLemmas
+pub mod TypeLemmas
+pub mod Words

@@ -1,0 +1,15 @@
+-- Types as a schema's JSON writes them: a common type stands by its place among the common types.
+use Rattle.std.specs.Prelude.{ℕ, Bool, List}
+
+mutual
+  pub data FormTree : Type 0 where
+    no_form : FormTree  -- what is no type
+    boolean_form long_form string_form decimal_form : FormTree
+    entity_form : List ℕ → FormTree  -- a declared entity type, by its whole name
+    set_form : FormTree → FormTree
+    record_form : FormRows → FormTree
+    common_form : ℕ → FormTree  -- a declared common type, by its place
+
+  pub data FormRows : Type 0 where
+    no_form_rows : FormRows
+    form_row : List ℕ → Bool → FormTree → FormRows → FormRows

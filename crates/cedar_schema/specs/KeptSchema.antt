@@ -1,0 +1,13 @@
+-- Help for proofs, no definition: what a schema keeps beside what it declares.
+use Rattle.std.specs.Prelude.{◌≡◌, ℕ, List}
+use Rattle.std.specs.BTreeMap.{BTreeMap}
+use Rattle.std.specs.BTreeSet.{BTreeSet}
+use Rattle.cedar_value.specs.Order.{text_cmp, uid_cmp}
+use Rattle.cedar_value.specs.declared.uid.Uid.{Uid}
+use Rattle.cedar_schema.specs.declared.environment.Environment.{Environment}
+use Rattle.cedar_schema.specs.Kept.{AreRows}
+use Rattle.cedar_schema.specs.SchemaTree.{SchemaTree, environments_of, parents_of_type, parents_of_action}
+
+abbrev pub IsKept : SchemaTree → List Environment → BTreeMap (List ℕ) (BTreeSet (List ℕ)) → BTreeMap Uid (BTreeSet Uid) → Type 0
+IsKept s environments types actions =
+    (environments ≡ environments_of s.actions) × AreRows text_cmp (parents_of_type s.entities) types × AreRows uid_cmp (parents_of_action s.actions) actions

@@ -1,0 +1,98 @@
+-- What a schema's JSON denotes, and the faults that are there (Cedar documentation, JSON schema format).
+use Rattle.std.specs.Prelude.{ℕ, List, [], ◌∷◌, ◌++◌, map, false, codes}
+use Rattle.std.specs.BTreeMap.{insert_entry}
+use Rattle.std.specs.BTreeSet.{insert_key}
+use Rattle.serde_json.specs.Data.{Members}
+use Rattle.cedar_value.specs.Order.{text_cmp, uid_cmp}
+use Rattle.cedar_value.specs.declared.uid.Uid.{Uid}
+use Rattle.cedar_schema.specs.declared.schema_fault.SchemaFault.{SchemaFault}
+use Rattle.cedar_schema.specs.Reading.{Scope, type_read}
+use Rattle.cedar_schema.specs.Expansion.{Table, typed}
+use Rattle.cedar_schema.specs.Forms.{FormTree}
+use Rattle.cedar_schema.specs.Each.{each_faults, each_onto}
+use Rattle.cedar_schema.specs.Naming.{qualified}
+use Rattle.cedar_schema.specs.Entries.{EntryTree, entries, names_of, root_faults, common_key_faults}
+use Rattle.cedar_schema.specs.Declaring.{uid_of, entity_type_of, entity_type_faults, action_of, action_faults}
+use Rattle.cedar_schema.specs.SchemaTree.{EntityTypeTree, ActionTree, SchemaTree}
+
+-- what is declared: the names of the entity types and of the common types, these as they are written, and the uids of the actions, ascending
+pub record Setting : Type 0 where
+  pub entities : List (List ℕ)
+  pub commons : List (List ℕ)
+  pub table : Table
+  pub uids : List Uid
+
+abbrev pub scope_at : List (List ℕ) → List (List ℕ) → List ℕ → Scope
+scope_at entities commons namespace = record { namespace = namespace; entities = entities; commons = commons }
+
+abbrev pub scope_in : Setting → EntryTree → Scope
+scope_in s e = scope_at s.entities s.commons e.namespace
+
+-- ---- common types
+
+abbrev pub forms_of : List (List ℕ) → List (List ℕ) → List EntryTree → Table
+forms_of entities commons = map (λ e. (type_read (scope_at entities commons e.namespace) false e.body).form)
+
+abbrev pub common_faults : List (List ℕ) → List (List ℕ) → EntryTree → List SchemaFault
+common_faults entities commons e = common_key_faults e.key ++ (type_read (scope_at entities commons e.namespace) false e.body).faults
+
+-- each has to be within the limits, and not to lead back to itself
+abbrev pub expansion_faults : Table → FormTree → List SchemaFault
+expansion_faults t f = (typed t f).faults
+
+-- ---- entity types, by their names in ascending order
+
+abbrev pub add_entity : Setting → List (List ℕ × EntityTypeTree) → EntryTree → List (List ℕ × EntityTypeTree)
+add_entity s done e = insert_entry text_cmp done (qualified e.namespace e.key) (entity_type_of (scope_in s e) s.table e)
+
+abbrev pub entity_faults : Setting → EntryTree → List SchemaFault
+entity_faults s e = entity_type_faults (scope_in s e) s.table e
+
+-- ---- actions, by their uids in ascending order
+
+abbrev pub uids_onto : List Uid → List EntryTree → List Uid
+uids_onto done [] = done
+uids_onto done (e ∷ es) = uids_onto (insert_key uid_cmp done (uid_of e)) es
+
+abbrev pub add_action : Setting → List (Uid × ActionTree) → EntryTree → List (Uid × ActionTree)
+add_action s done e = insert_entry uid_cmp done (uid_of e) (action_of (scope_in s e) s.table s.uids e)
+
+abbrev pub one_action_faults : Setting → EntryTree → List SchemaFault
+one_action_faults s e = action_faults (scope_in s e) s.table s.uids e
+
+-- ---- the whole
+
+-- the entries of the three kinds of sections
+pub record Sections : Type 0 where
+  pub commons : List EntryTree
+  pub entities : List EntryTree
+  pub actions : List EntryTree
+
+abbrev pub sections_of : Members → Sections
+sections_of root = record { commons = entries (codes "commonTypes") root; entities = entries (codes "entityTypes") root; actions = entries (codes "actions") root }
+
+abbrev pub setting_of : Sections → Setting
+setting_of x = record {
+  entities = names_of x.entities;
+  commons = names_of x.commons;
+  table = forms_of (names_of x.entities) (names_of x.commons) x.commons;
+  uids = uids_onto [] x.actions;
+}
+
+-- the schema that the entries declare
+unfoldable pub schema_in : Setting → List EntryTree → List EntryTree → SchemaTree
+schema_in s entities actions = record { entities = each_onto (add_entity s) [] entities; actions = each_onto (add_action s) [] actions }
+
+unfoldable pub setting_faults : Setting → List EntryTree → List EntryTree → List SchemaFault
+setting_faults s entities actions = each_faults (expansion_faults s.table) s.table ++ (each_faults (entity_faults s) entities ++ each_faults (one_action_faults s) actions)
+
+unfoldable pub sections_faults : Sections → List SchemaFault
+sections_faults x = each_faults (common_faults (names_of x.entities) (names_of x.commons)) x.commons ++ setting_faults (setting_of x) x.entities x.actions
+
+-- the schema that an object of namespaces denotes
+abbrev pub schema_of : Members → SchemaTree
+schema_of root = schema_in (setting_of (sections_of root)) (sections_of root).entities (sections_of root).actions
+
+-- the faults of the object, but for cycles of actions
+unfoldable pub written_faults : Members → List SchemaFault
+written_faults root = root_faults root ++ sections_faults (sections_of root)

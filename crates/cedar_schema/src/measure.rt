@@ -1,0 +1,100 @@
+//! What a form would make is counted before it is made.
+ghost use Rattle.std.specs.Prelude.{◌≡◌, []};
+ghost use Rattle.cedar_schema.specs.FormView.{form_of, fields_view};
+ghost use Rattle.cedar_schema.specs.Expansion.{nodes, height, expanded, rows_nodes, rows_height, rows_type, common_nodes, common_height, common_type};
+ghost use Rattle.cedar_schema.specs.Measures.{AreEnds, Leaves};
+ghost use Rattle.cedar_schema.specs.TableView.{table_of};
+
+use crate::form::{Form, FormField};
+use crate::schema_fault::SchemaFault;
+use crate::table::{Behind, Table};
+
+fn take_one(levels: u32, room: u32) -> Result<u32, SchemaFault>
+    ensures { Leaves result room levels 1 1 [] }
+{
+    if levels == 0 || room == 0 {
+        Err(SchemaFault::TooLarge)
+    } else {
+        Ok(room - 1)
+    }
+}
+
+/// What is left of the room, where the form has so many nodes and levels with its common types
+/// expanded, and at most so many names are followed in a chain. Takes no memory.
+#[cycle(measure)]
+pub(crate) fn measure(
+    table: Table<'_>,
+    names: usize,
+    form: &Form,
+    levels: u32,
+    room: u32,
+) -> Result<u32, SchemaFault>
+    requires { AreEnds (table_of table.forms.now) table.ends.now }
+    ensures { Leaves result room levels
+        (nodes (table_of table.entry.forms.now) names (form_of form.now))
+        (height (table_of table.entry.forms.now) names (form_of form.now))
+        (expanded (table_of table.entry.forms.now) names (form_of form.now)).faults }
+{
+    match form {
+        Form::Set(element) => {
+            if levels == 0 || room == 0 {
+                return Err(SchemaFault::TooLarge);
+            }
+            measure(table, names, element, levels - 1, room - 1)
+        }
+        Form::Record(fields) => {
+            if levels == 0 || room == 0 {
+                return Err(SchemaFault::TooLarge);
+            }
+            measure_fields(table, names, fields, levels - 1, room - 1)
+        }
+        Form::Common(place) => measure_common(table, names, *place, levels, room),
+        Form::Boolean => take_one(levels, room),
+        Form::Long => take_one(levels, room),
+        Form::Text => take_one(levels, room),
+        Form::Decimal => take_one(levels, room),
+        Form::Entity(_) => take_one(levels, room),
+    }
+}
+
+#[cycle(measure)]
+fn measure_common(
+    table: Table<'_>,
+    names: usize,
+    place: usize,
+    levels: u32,
+    room: u32,
+) -> Result<u32, SchemaFault>
+    requires { AreEnds (table_of table.forms.now) table.ends.now }
+    ensures { Leaves result room levels
+        (common_nodes (table_of table.entry.forms.now) names place)
+        (common_height (table_of table.entry.forms.now) names place)
+        (common_type (table_of table.entry.forms.now) names place).faults }
+{
+    match table.behind(names, place) {
+        Behind::Form(form, left) => measure(table, left, form, levels, room),
+        Behind::Nothing => take_one(levels, room),
+        Behind::Cycle => Err(SchemaFault::CommonCycle),
+    }
+}
+
+#[cycle(measure)]
+fn measure_fields(
+    table: Table<'_>,
+    names: usize,
+    fields: &Vec<FormField>,
+    levels: u32,
+    room: u32,
+) -> Result<u32, SchemaFault>
+    requires { AreEnds (table_of table.forms.now) table.ends.now }
+    ensures { Leaves result room levels
+        (rows_nodes (common_nodes (table_of table.entry.forms.now) names) (fields_view fields.now.items))
+        (rows_height (common_height (table_of table.entry.forms.now) names) (fields_view fields.now.items))
+        (rows_type (common_type (table_of table.entry.forms.now) names) (fields_view fields.now.items)).faults }
+{
+    let mut left = room;
+    for i in 0..fields.len() {
+        left = measure(table, names, &fields[i].form, levels, left)?;
+    }
+    Ok(left)
+}

@@ -185,3 +185,132 @@ fn joins(rt: HostRuntime) -> Result<(), Fail> {
     assert!(rt; join(alloc, &long, &string)?.is_none());
     Ok(())
 }
+
+// Whether reading each of the texts answers the number.
+fn each_answers(alloc: Global, texts: &[&str], number: u16) -> bool {
+    for text in texts {
+        if number_of(alloc, text) != number {
+            return false;
+        }
+    }
+    true
+}
+
+#[test]
+fn unknown_keys(rt: HostRuntime) -> Result<(), Fail> {
+    let texts = [
+        r#"{"":{"x":{}}}"#,
+        r#"{"":{"actions":{"a":{"x":1}}}}"#,
+        r#"{"":{"actions":{"a":{"appliesTo":{"principalTypes":[],"resourceTypes":[],"x":1}}}}}"#,
+        r#"{"":{"actions":{"a":{},"b":{"memberOf":[{"id":"a","x":1}]}}}}"#,
+        r#"{"":{"commonTypes":{"A":{"type":"Long","name":"B"}}}}"#,
+        r#"{"":{"commonTypes":{"A":{"type":"Long"},"B":{"type":"A","element":{"type":"Long"}}}}}"#,
+        r#"{"":{"commonTypes":{"A":{"type":"Long","required":true}}}}"#,
+        r#"{"":{"commonTypes":{"A":{"type":"Set","element":{"type":"Long","required":true}}}}}"#,
+    ];
+    assert!(rt; each_answers(rt.alloc(), &texts, 302));
+    Ok(())
+}
+
+#[test]
+fn wrong_kinds(rt: HostRuntime) -> Result<(), Fail> {
+    let texts = [
+        r#"{"":1}"#,
+        r#"{"":{"entityTypes":[]}}"#,
+        r#"{"":{"entityTypes":{"A":1}}}"#,
+        r#"{"":{"entityTypes":{"A":{"memberOfTypes":{}}}}}"#,
+        r#"{"":{"entityTypes":{"A":{"memberOfTypes":[1]}}}}"#,
+        r#"{"":{"entityTypes":{"A":{"shape":1}}}}"#,
+        r#"{"":{"entityTypes":{"A":{"shape":{"type":"Long"}}}}}"#,
+        r#"{"":{"entityTypes":{"A B":{}}}}"#,
+        r#"{"A B":{}}"#,
+        r#"{"":{"actions":{"a":{"memberOf":{}}}}}"#,
+        r#"{"":{"actions":{"a":{"memberOf":[{"id":1}]}}}}"#,
+        r#"{"":{"commonTypes":{"A":{"type":1}}}}"#,
+        r#"{"":{"commonTypes":{"A":{"type":"Set"}}}}"#,
+        r#"{"":{"commonTypes":{"A":{"type":"Entity"}}}}"#,
+        r#"{"":{"commonTypes":{"A":{"type":"Record","attributes":[]}}}}"#,
+        r#"{"":{"commonTypes":{"A":{"type":"Record","additionalAttributes":1}}}}"#,
+    ];
+    assert!(rt; each_answers(rt.alloc(), &texts, 302));
+    Ok(())
+}
+
+#[test]
+fn null_is_no_value(rt: HostRuntime) -> Result<(), Fail> {
+    let texts = [
+        r#"{"":null}"#,
+        r#"{"":{"entityTypes":null}}"#,
+        r#"{"":{"entityTypes":{"A":null}}}"#,
+        r#"{"":{"entityTypes":{"A":{"memberOfTypes":null}}}}"#,
+        r#"{"":{"entityTypes":{"A":{"shape":null}}}}"#,
+        r#"{"":{"actions":{"a":null}}}"#,
+        r#"{"":{"actions":{"a":{"appliesTo":{"principalTypes":null,"resourceTypes":[]}}}}}"#,
+        r#"{"":{"actions":{"a":{"appliesTo":{"principalTypes":[],"resourceTypes":[],"context":null}}}}}"#,
+        r#"{"":{"actions":{"a":{},"b":{"memberOf":[{"id":"a","type":null}]}}}}"#,
+        r#"{"":{"commonTypes":{"A":{"type":"Record","attributes":null}}}}"#,
+        r#"{"":{"commonTypes":{"A":{"type":"Record","additionalAttributes":null}}}}"#,
+        r#"{"":{"commonTypes":{"A":{"type":"Record","attributes":{"b":{"type":"Long","required":null}}}}}}"#,
+    ];
+    assert!(rt; each_answers(rt.alloc(), &texts, 302));
+    Ok(())
+}
+
+#[test]
+fn names(rt: HostRuntime) -> Result<(), Fail> {
+    let alloc = rt.alloc();
+    let unknown = [
+        r#"{"":{"actions":{"a":{"memberOf":[{"id":"b"}]}}}}"#,
+        r#"{"":{"actions":{"b":{}}},"N":{"actions":{"a":{"memberOf":[{"id":"b"}]}}}}"#,
+        r#"{"":{"commonTypes":{"A":{"type":"Extension","name":"ipaddr"}}}}"#,
+        r#"{"":{"commonTypes":{"A":{"type":"Entity","name":"B"}}}}"#,
+        r#"{"N":{"entityTypes":{"A":{}}},"":{"entityTypes":{"B":{"memberOfTypes":["A"]}}}}"#,
+    ];
+    assert!(rt; each_answers(alloc, &unknown, 303));
+    let reserved = [
+        r#"{"__cedar":{}}"#,
+        r#"{"":{"entityTypes":{"__cedar":{}}}}"#,
+        r#"{"":{"commonTypes":{"__cedar":{"type":"Long"}}}}"#,
+        r#"{"":{"commonTypes":{"Extension":{"type":"Long"}}}}"#,
+    ];
+    assert!(rt; each_answers(alloc, &reserved, 306));
+    let accepted = [
+        r#"{"":{"actions":{"b":{}}},"N":{"actions":{"a":{"memberOf":[{"id":"b","type":"Action"}]}}}}"#,
+        r#"{"M":{"actions":{"b":{}}},"N":{"actions":{"c":{},"a":{"memberOf":[{"id":"b","type":"M::Action"},{"id":"c"}]}}}}"#,
+        r#"{"":{"entityTypes":{"A":{}}},"N":{"entityTypes":{"B":{"memberOfTypes":["A","B","N::B"]}}}}"#,
+        r#"{"":{"commonTypes":{"Bool":{"type":"Boolean"},"Action":{"type":"Bool"}}}}"#,
+    ];
+    assert!(rt; each_answers(alloc, &accepted, 0));
+    Ok(())
+}
+
+#[test]
+fn environments_stand_in_the_order_of_the_texts(rt: HostRuntime) -> Result<(), Fail> {
+    let alloc = rt.alloc();
+    let schema = read(
+        alloc,
+        r#"{"":{"entityTypes":{"A1":{},"R":{}},"actions":{"b":{"appliesTo":{"principalTypes":["A::B","A1","A1"],"resourceTypes":["R"]}},"a":{"appliesTo":{"principalTypes":[],"resourceTypes":["R"]}}}},"A":{"entityTypes":{"B":{}}}}"#,
+    )?;
+    let all = listed(alloc, &schema)?;
+    assert!(rt; all.as_str() == "b A1 R;b A::B R;");
+    Ok(())
+}
+
+#[test]
+fn bytes_that_are_no_json(rt: HostRuntime) -> Result<(), Fail> {
+    let alloc = rt.alloc();
+    assert!(rt; number_of(alloc, "") == 301);
+    let mut text = String::new(alloc);
+    for _ in 0..128 {
+        text.push_str("[")?;
+    }
+    for _ in 0..128 {
+        text.push_str("]")?;
+    }
+    assert!(rt; number_of(alloc, text.as_str()) == 301);
+    match Schema::read(alloc, &[0x22, 0xff, 0x22]) {
+        Ok(_) => assert!(rt; false, "no UTF-8"),
+        Err(fault) => assert!(rt; fault.number() == 301),
+    }
+    Ok(())
+}

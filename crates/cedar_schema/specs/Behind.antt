@@ -1,4 +1,4 @@
--- What is found behind the name of a common type.
+-- Private: what is found behind the name of a common type.
 use Rattle.std.specs.Prelude.{◌≡◌, ◌<◌, ℕ, Some, Contains}
 use Rattle.std.specs.List.{slice_get}
 use Rattle.cedar_schema.specs.declared.schema_fault.SchemaFault.TheVariants.{CommonCycle}

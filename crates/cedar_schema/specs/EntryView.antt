@@ -1,4 +1,4 @@
--- What an entry of the code stands for.
+-- Private: what an entry of the code stands for.
 use Rattle.std.specs.Prelude.{List, map}
 use Rattle.serde_json.specs.View.{view}
 use Rattle.cedar_schema.specs.declared.entry.Entry.{Entry}

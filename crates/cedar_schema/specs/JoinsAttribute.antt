@@ -1,4 +1,4 @@
--- The attribute that two attributes join to.
+-- Private: the attribute that two attributes join to.
 use Rattle.std.specs.Prelude.{◌≡◌, Option, Some, None, ◌&&◌, bytes_eq, MatchOption}
 use Rattle.cedar_schema.specs.Types.{TypeTree}
 use Rattle.cedar_schema.specs.Joining.{join, only_if, same_bool}

@@ -1,4 +1,4 @@
--- What measuring a form answers, and where chains of names lead.
+-- Private: what measuring a form answers, and where chains of names lead.
 use Rattle.std.specs.Prelude.{◌≡◌, ◌+◌, ◌<◌, ◌≤◌, ◌⊎◌, ℕ, zero, suc, List, [], Some, Contains, Result, MatchResult}
 use Rattle.std.specs.List.{slice_get}
 use Rattle.cedar_schema.specs.declared.schema_fault.SchemaFault.{SchemaFault}

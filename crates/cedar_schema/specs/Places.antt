@@ -1,4 +1,4 @@
--- What a map from names to their places has.
+-- Private: what a map from names to their places has.
 use Rattle.std.specs.Prelude.{◌≡◌, ℕ, List}
 use Rattle.std.specs.BTreeMap.{BTreeMap, get}
 use Rattle.cedar_value.specs.Order.{text_cmp}

@@ -1,4 +1,4 @@
--- What a call that reads a type answers.
+-- Private: what a call that reads a type answers.
 use Rattle.std.specs.Prelude.{◌≡◌, ℕ, List, [], ◌++◌, Option, Result, MatchResult}
 use Rattle.cedar_schema.specs.declared.schema_fault.SchemaFault.{SchemaFault}
 use Rattle.cedar_schema.specs.declared.form.Form.{Form}

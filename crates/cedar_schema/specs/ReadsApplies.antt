@@ -1,4 +1,4 @@
--- What reading an `appliesTo` answers.
+-- Private: what reading an `appliesTo` answers.
 use Rattle.std.specs.Prelude.{◌≡◌, [], Result, MatchResult}
 use Rattle.cedar_schema.specs.declared.schema_fault.SchemaFault.{SchemaFault}
 use Rattle.cedar_schema.specs.declared.action.AppliesTo.{AppliesTo}

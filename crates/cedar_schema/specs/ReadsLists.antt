@@ -1,4 +1,4 @@
--- What calls that read lists answer.
+-- Private: what calls that read lists answer.
 use Rattle.std.specs.Prelude.{◌≡◌, [], ◌∷◌, Vec, Result, MatchResult}
 use Rattle.std.specs.Global.{Global}
 use Rattle.cedar_schema.specs.declared.schema_fault.SchemaFault.{SchemaFault}

@@ -1,4 +1,4 @@
--- What settings and sections of the code stand for.
+-- Private: what settings and sections of the code stand for.
 use Rattle.std.specs.Prelude.{List}
 use Rattle.cedar_schema.specs.declared.entry.Entry.{Entry}
 use Rattle.cedar_schema.specs.EntryView.{entries_view}

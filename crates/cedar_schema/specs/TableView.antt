@@ -1,4 +1,4 @@
--- What a list of forms stands for, and what expanding answers.
+-- Private: what a list of forms stands for, and what expanding answers.
 use Rattle.std.specs.Prelude.{◌≡◌, List, [], map, Result, MatchResult}
 use Rattle.cedar_schema.specs.declared.form.Form.{Form}
 use Rattle.cedar_schema.specs.declared.schema_fault.SchemaFault.{SchemaFault}

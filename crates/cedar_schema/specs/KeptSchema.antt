@@ -6,8 +6,10 @@ use Rattle.cedar_value.specs.Order.{text_cmp, uid_cmp}
 use Rattle.cedar_value.specs.declared.uid.Uid.{Uid}
 use Rattle.cedar_schema.specs.declared.environment.Environment.{Environment}
 use Rattle.cedar_schema.specs.Kept.{AreRows}
+use Rattle.cedar_schema.specs.Descents.{ActionDescends}
+use Rattle.cedar_schema.specs.WellFormed.{IsWellFormed}
 use Rattle.cedar_schema.specs.SchemaTree.{SchemaTree, environments_of, parents_of_type, parents_of_action}
 
 abbrev pub IsKept : SchemaTree → List Environment → BTreeMap (List ℕ) (BTreeSet (List ℕ)) → BTreeMap Uid (BTreeSet Uid) → Type 0
 IsKept s environments types actions =
-    (environments ≡ environments_of s.actions) × AreRows text_cmp (parents_of_type s.entities) types × AreRows uid_cmp (parents_of_action s.actions) actions
+    (environments ≡ environments_of s.actions) × AreRows text_cmp (parents_of_type s.entities) types × AreRows uid_cmp (parents_of_action s.actions) actions × IsWellFormed s × ((u : Uid) → ¬ ActionDescends s u u)

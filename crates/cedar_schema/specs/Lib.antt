@@ -9,6 +9,7 @@ pub mod Expansion
 pub mod Faults
 pub mod FormView
 pub mod Forms
+pub mod InOrder
 pub mod Joining
 pub mod Joins
 pub mod JoinsAttribute
@@ -31,3 +32,4 @@ pub mod TypeCode
 pub mod TypeKind
 pub mod Types
 pub mod Weight
+pub mod WellFormed

@@ -9,10 +9,12 @@ ghost use Rattle.cedar_schema.specs.SchemaTree.{environments_of, shape_of};
 ghost use Rattle.cedar_schema.specs.Denotes.{Answers, Denotes, IsRefusedWith};
 ghost use Rattle.cedar_schema.specs.Entries.{names_of};
 ghost use Rattle.cedar_schema.specs.EntryView.{entries_view};
+ghost use Rattle.cedar_schema.specs.InOrder.{IsInOrder, ValuesInOrder, AreSectionsInOrder, IsSettingInOrder};
 ghost use Rattle.cedar_schema.specs.Measures.{AreEnds};
 ghost use Rattle.cedar_schema.specs.TableView.{table_of};
 ghost use Rattle.cedar_schema.specs.Schemas.{schema_in, schema_of, sections_faults, setting_faults, setting_of, written_faults};
 ghost use Rattle.cedar_schema.specs.SettingView.{setting_view, sections_view};
+ghost use Rattle.cedar_schema.specs.WellFormed.{AreMembersDeclared, AreTypesApart, DoContextsAscend, DoShapesAscend, IsHierarchy, IsListedInOrder, IsWellFormed};
 
 use crate::action::Action;
 use crate::chains::ends_of;
@@ -78,6 +80,7 @@ impl Schema {
         entities: BTreeMap<Name, EntityType>,
         actions: BTreeMap<Uid, Action>,
     ) -> Result<Self, SchemaFault>
+        requires { IsWellFormed (record { entities = entities.entries; actions = actions.entries }) }
         ensures { Answers result [] (record { entities = entities.entries; actions = actions.entries }) }
     {
         let types_above = type_rows(alloc, &entities)?;
@@ -90,6 +93,21 @@ impl Schema {
             types_above,
             actions_above,
         })
+    }
+
+    /// What every schema keeps, on which the soundness of typing rests: its entity types and actions
+    /// are listed in ascending order, no action's type is an entity type, the members of actions are
+    /// declared, what lies above an action is declared and never the action itself, and in shapes and
+    /// contexts the keys of each record ascend. It is a law of schemas, and does nothing.
+    pub fn well_formedness(&self)
+        ensures in_order { IsListedInOrder self.now }
+        ensures apart { AreTypesApart self.now }
+        ensures members { AreMembersDeclared self.now }
+        ensures hierarchy { IsHierarchy self.now }
+        ensures shapes { DoShapesAscend self.now }
+        ensures contexts { DoContextsAscend self.now }
+    {
+        let _kept = &self.entities;
     }
 
     /// The environments, ascending by the action's uid, then by the type of the principal, then by
@@ -158,6 +176,7 @@ impl Schema {
 }
 
 fn read_json(alloc: Global, json: &Value) -> Result<Schema, SchemaFault>
+    requires { IsInOrder (view json.now) }
     ensures { MatchResult result (Denotes (view json.now)) (λ e. e ≢ OutOfMemory → IsRefusedWith (view json.now) e) }
 {
     match json.as_object() {
@@ -167,6 +186,7 @@ fn read_json(alloc: Global, json: &Value) -> Result<Schema, SchemaFault>
 }
 
 fn read_root(alloc: Global, root: &Map<String, Value>) -> Result<Schema, SchemaFault>
+    requires { ValuesInOrder (members_view root.now.entries) }
     ensures { Answers result (written_faults (members_view root.now.entries)) (schema_of (members_view root.now.entries)) }
 {
     check_spaces(alloc, root)?;
@@ -183,6 +203,7 @@ fn read_sections(
     entities: &[Entry<'_>],
     actions: &[Entry<'_>],
 ) -> Result<Schema, SchemaFault>
+    requires { AreSectionsInOrder (sections_view commons.now entities.now actions.now) }
     ensures { let x = sections_view commons.now entities.now actions.now in
         Answers result (sections_faults x) (schema_in (setting_of x) x.entities x.actions) }
 {
@@ -215,7 +236,8 @@ fn read_setting(
     entities: &[Entry<'_>],
     actions: &[Entry<'_>],
 ) -> Result<Schema, SchemaFault>
-    requires { AreEnds (table_of setting.table.forms.now) setting.table.ends.now }
+    requires ends { AreEnds (table_of setting.table.forms.now) setting.table.ends.now }
+    requires in_order { IsSettingInOrder (setting_view setting) (entries_view entities.now) (entries_view actions.now) }
     ensures { Answers result (setting_faults (setting_view setting.entry) (entries_view entities.now) (entries_view actions.now))
         (schema_in (setting_view setting.entry) (entries_view entities.now) (entries_view actions.now)) }
 {

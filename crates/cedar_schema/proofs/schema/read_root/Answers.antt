@@ -4,6 +4,7 @@ use Rattle.serde_json.specs.View.{members_view}
 use Rattle.cedar_schema.specs.EntryView.{entries_view}
 use Rattle.cedar_schema.specs.SettingView.{sections_view}
 use Rattle.cedar_schema.proofs.AnswerLemmas.{root_spaces, root_all}
+use Rattle.cedar_schema.proofs.SettingOrder.{sections_in_order}
 use Rattle.cedar_schema.proofs.schema.read_root.Goals as goal
 
 pub returns-in_err-check_spaces : goal.returns-in_err-check_spaces
@@ -19,3 +20,12 @@ returns c =
       entities = (ap entries_view c.deref-2.ensures.value ∙ c.in_ok-entities.ensures) i;
       actions = (ap entries_view c.deref-3.ensures.value ∙ c.in_ok-actions.ensures) i;
     }) c.read_sections.ensures
+
+pub read_sections-requires : goal.read_sections-requires
+read_sections-requires c =
+    sections_in_order (members_view c.args.root.now.entries) (sections_view c.deref.result.now c.deref-2.result.now c.deref-3.result.now)
+    (λ i. record {
+      commons = (ap entries_view c.deref.ensures.value ∙ c.in_ok-commons.ensures) i;
+      entities = (ap entries_view c.deref-2.ensures.value ∙ c.in_ok-entities.ensures) i;
+      actions = (ap entries_view c.deref-3.ensures.value ∙ c.in_ok-actions.ensures) i;
+    }) c.requires

@@ -3,6 +3,7 @@ use Rattle.std.proofs.Common.{ap, ◌∙◌}
 use Rattle.cedar_schema.specs.SettingView.{sections_view}
 use Rattle.cedar_schema.specs.TableView.{table_of}
 use Rattle.cedar_schema.proofs.AnswerLemmas.{sections_forms, sections_all}
+use Rattle.cedar_schema.proofs.SettingOrder.{setting_in_order}
 use Rattle.cedar_schema.proofs.schema.read_sections.Goals as goal
 
 pub returns-in_err-forms : goal.returns-in_err-forms
@@ -15,3 +16,9 @@ returns c =
     sections_all (sections_view c.args.commons.now c.args.entities.now c.args.actions.now)
     (record { entities = c.in_ok-entity_names.entity_names; commons = c.in_ok-common_names.common_names; table = table_of c.deref-2.result.now; uids = c.in_ok-uids.uids.keys }) _ c.in_ok-entity_names.ensures c.in_ok-common_names.ensures
     (c.in_ok-forms.ensures.0, ap table_of c.deref-2.ensures.value ∙ c.in_ok-forms.ensures.1) c.in_ok-uids.ensures c.read_setting.ensures
+
+pub read_setting-requires-clause-in_order : goal.read_setting-requires-clause-in_order
+read_setting-requires-clause-in_order c =
+    setting_in_order (sections_view c.args.commons.now c.args.entities.now c.args.actions.now)
+    (record { entities = c.in_ok-entity_names.entity_names; commons = c.in_ok-common_names.common_names; table = table_of c.deref-2.result.now; uids = c.in_ok-uids.uids.keys })
+    c.requires (ap table_of c.deref-2.ensures.value ∙ c.in_ok-forms.ensures.1) c.in_ok-uids.ensures

@@ -2,6 +2,7 @@ use Rattle.std.proofs.lemmas.Result.{err_from_is_err_and}
 use Rattle.cedar_schema.specs.EntryView.{entries_view}
 use Rattle.cedar_schema.specs.SettingView.{setting_view}
 use Rattle.cedar_schema.proofs.AnswerLemmas.{setting_table, setting_entities, setting_actions, setting_all}
+use Rattle.cedar_schema.proofs.SettingOrder.{declared_well_formed}
 use Rattle.cedar_schema.proofs.schema.read_setting.Goals as goal
 
 pub returns-in_err-judge_forms : goal.returns-in_err-judge_forms
@@ -22,3 +23,7 @@ returns-in_err-action_types c =
 pub returns : goal.returns
 returns c =
     setting_all (setting_view c.args.setting) (entries_view c.args.entities.now) (entries_view c.args.actions.now) _ c.in_ok-entity_types.entity_types.entries c.in_ok-action_types.action_types.entries c.in_ok-judge_forms.ensures c.in_ok-entity_types.ensures c.in_ok-action_types.ensures c.new.ensures
+
+pub new-requires : goal.new-requires
+new-requires c =
+    declared_well_formed (setting_view c.args.setting) (entries_view c.args.entities.now) (entries_view c.args.actions.now) c.in_ok-entity_types.entity_types.entries c.in_ok-action_types.action_types.entries c.requires.in_order c.in_ok-entity_types.ensures c.in_ok-action_types.ensures.1

@@ -1,0 +1,23 @@
+use Rattle.std.proofs.Common.{subst}
+use Rattle.cedar_value.specs.declared.uid.Uid.{Uid}
+use Rattle.cedar_schema.specs.Descents.{ActionDescends}
+use Rattle.cedar_schema.specs.SchemaTree.{SchemaTree}
+use Rattle.cedar_schema.specs.WellFormed.{IsWellFormed}
+use Rattle.cedar_schema.proofs.DeclaredLemmas.{above_declared}
+use Rattle.cedar_schema.proofs.schema.Schema.well_formedness.Goals as goal
+
+kept : (c : goal.After-self) → IsWellFormed c.args.self.now
+kept c = subst IsWellFormed c.self.view_is c.self.invariant.3
+
+acyclic : (c : goal.After-self) (u : Uid) → ActionDescends c.args.self.now u u → ⊥
+acyclic c = subst (λ (s : SchemaTree). (u : Uid) → ActionDescends s u u → ⊥) c.self.view_is c.self.invariant.4
+
+pub returns : goal.returns
+returns c = record {
+  in_order = (kept c).in_order;
+  apart = (kept c).apart;
+  members = (kept c).members;
+  hierarchy = (above_declared c.args.self.now (kept c).members, acyclic c);
+  shapes = (kept c).shapes;
+  contexts = (kept c).contexts;
+}

@@ -40,4 +40,6 @@ pub use truth::Truth;
 pub use types::{Attribute, Type, TypeKind};
 
 #[cfg(test)]
+mod size_tests;
+#[cfg(test)]
 mod tests;

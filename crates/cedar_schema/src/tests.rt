@@ -1,4 +1,4 @@
-use crate::{Schema, SchemaFault, Truth, Type, TypeKind, join};
+use crate::{Attribute, Schema, SchemaFault, Truth, Type, TypeKind, join};
 use cedar_value::{Name, Text, Uid};
 use std::alloc::Global;
 use std::test::Fail;
@@ -90,6 +90,12 @@ fn refusals(rt: HostRuntime) -> Result<(), Fail> {
     assert!(rt;
         number_of(
             alloc,
+            r#"{"":{"commonTypes":{"A":{"type":"Set","element":{"type":"B"}},"B":{"type":"Set","element":{"type":"A"}}}}}"#
+        ) == 304
+    );
+    assert!(rt;
+        number_of(
+            alloc,
             r#"{"":{"actions":{"a":{"memberOf":[{"id":"b"}]},"b":{"memberOf":[{"id":"a"}]}}}}"#
         ) == 305
     );
@@ -99,6 +105,12 @@ fn refusals(rt: HostRuntime) -> Result<(), Fail> {
         number_of(
             alloc,
             r#"{"":{"entityTypes":{"A":{"shape":{"type":"Record","additionalAttributes":true}}}}}"#
+        ) == 307
+    );
+    assert!(rt;
+        number_of(
+            alloc,
+            r#"{"":{"commonTypes":{"T":{"type":"Record","attributes":{},"additionalAttributes":true}}}}"#
         ) == 307
     );
     assert!(rt;
@@ -135,30 +147,6 @@ fn accepted(rt: HostRuntime) -> Result<(), Fail> {
     Ok(())
 }
 
-// A schema with Long inside so many sets as its only common type.
-fn nested(alloc: Global, sets: usize) -> Result<String, SchemaFault> {
-    let mut text = String::from_str(alloc, r#"{"":{"commonTypes":{"A":"#)?;
-    for _ in 0..sets {
-        text.push_str(r#"{"type":"Set","element":"#)?;
-    }
-    text.push_str(r#"{"type":"Long"}"#)?;
-    for _ in 0..sets {
-        text.push_str("}")?;
-    }
-    text.push_str("}}}")?;
-    Ok(text)
-}
-
-#[test]
-fn limits(rt: HostRuntime) -> Result<(), Fail> {
-    let alloc = rt.alloc();
-    let within = nested(alloc, 99)?;
-    let beyond = nested(alloc, 100)?;
-    assert!(rt; number_of(alloc, within.as_str()) == 0);
-    assert!(rt; number_of(alloc, beyond.as_str()) == 309);
-    Ok(())
-}
-
 // Whether two sets of known Booleans join to the sets of all.
 fn sets_join(alloc: Global) -> Result<bool, SchemaFault> {
     let yes = Type::new(TypeKind::Boolean(Truth::True));
@@ -172,6 +160,32 @@ fn sets_join(alloc: Global) -> Result<bool, SchemaFault> {
         },
         None => Ok(false),
     }
+}
+
+// A type of records with a Long at `n`.
+fn record_of_long(alloc: Global, required: bool) -> Result<Type, SchemaFault> {
+    let attribute = Attribute {
+        name: Text::read(alloc, "n")?,
+        ty: Type::new(TypeKind::Long),
+        required,
+    };
+    let mut attributes = Vec::new(alloc);
+    attributes.push(attribute)?;
+    Ok(Type::new(TypeKind::Record(attributes)))
+}
+
+#[test]
+fn records_join_where_they_require_the_same(rt: HostRuntime) -> Result<(), Fail> {
+    let alloc = rt.alloc();
+    let required = record_of_long(alloc, true)?;
+    let optional = record_of_long(alloc, false)?;
+    let empty = Type::new(TypeKind::Record(Vec::new(alloc)));
+    assert!(rt; join(alloc, &required, &required)?.is_some());
+    assert!(rt; join(alloc, &optional, &optional)?.is_some());
+    assert!(rt; join(alloc, &required, &optional)?.is_none());
+    assert!(rt; join(alloc, &optional, &required)?.is_none());
+    assert!(rt; join(alloc, &optional, &empty)?.is_none());
+    Ok(())
 }
 
 #[test]
@@ -281,6 +295,40 @@ fn names(rt: HostRuntime) -> Result<(), Fail> {
         r#"{"":{"commonTypes":{"Bool":{"type":"Boolean"},"Action":{"type":"Bool"}}}}"#,
     ];
     assert!(rt; each_answers(alloc, &accepted, 0));
+    Ok(())
+}
+
+// A view of N is a member of g of M, which has h beside it.
+const TWO_NAMESPACES: &str = r#"{"M":{"actions":{"g":{},"h":{}}},
+ "N":{"entityTypes":{"U":{},"R":{}},"actions":{"view":{"memberOf":[{"id":"g","type":"M::Action"}],
+  "appliesTo":{"principalTypes":["U"],"resourceTypes":["R"],
+   "context":{"type":"Record","attributes":{"b":{"type":"Boolean"}}}}}}}}"#;
+
+#[test]
+fn types_of_actions_descend_by_their_actions(rt: HostRuntime) -> Result<(), Fail> {
+    let alloc = rt.alloc();
+    let schema = read(alloc, TWO_NAMESPACES)?;
+    schema.well_formedness();
+    let low = name(alloc, "N::Action")?;
+    let high = name(alloc, "M::Action")?;
+    assert!(rt; schema.type_descends(&low, &high));
+    assert!(rt; !schema.type_descends(&high, &low));
+    assert!(rt; !schema.type_descends(&low, &low));
+    assert!(rt; schema.attributes(&low).is_none());
+    let all = listed(alloc, &schema)?;
+    assert!(rt; all.as_str() == "view N::U N::R;");
+    Ok(())
+}
+
+#[test]
+fn entity_types_may_form_circles(rt: HostRuntime) -> Result<(), Fail> {
+    let alloc = rt.alloc();
+    let schema = read(
+        alloc,
+        r#"{"":{"entityTypes":{"Folder":{"memberOfTypes":["Folder"]}}}}"#,
+    )?;
+    let folder = name(alloc, "Folder")?;
+    assert!(rt; schema.type_descends(&folder, &folder));
     Ok(())
 }
 

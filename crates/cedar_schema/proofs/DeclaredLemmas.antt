@@ -24,11 +24,11 @@ use Rattle.cedar_schema.specs.Entries.{EntryTree, entity_key_faults}
 use Rattle.cedar_schema.specs.Each.{each_faults, each_onto}
 use Rattle.cedar_schema.specs.Declaring.{ListRead, each_read, list_at, unless_null, listed_uid, with_type, typed_uid, found_uid, by_type, by_id, by_member, member_read, entity_type_of, entity_type_faults, action_of, uid_of}
 use Rattle.cedar_schema.specs.SchemaTree.{SchemaTree, EntityTypeTree, ActionTree, environments_of, with_principals, with_resources, parents_of_action}
-use Rattle.cedar_schema.specs.Schemas.{Setting, schema_in, add_entity, add_action, entity_faults, scope_in, uids_onto}
+use Rattle.cedar_schema.specs.Schemas.{Setting, schema_in, add_entity, add_action, entity_faults, one_action_faults, scope_in, uids_onto}
 use Rattle.cedar_schema.specs.Descents.{ActionDescends, one_link, more_links}
 use Rattle.cedar_schema.specs.InOrder.{AreInOrder, IsInOrder}
-use Rattle.cedar_schema.specs.WellFormed.{Ascends, AreMembersDeclared, IsWellFormed}
-use Rattle.cedar_schema.proofs.FormOrder.{AreFormsInOrder, shape_ascends, context_ascends}
+use Rattle.cedar_schema.specs.WellFormed.{IsOrderedRecord, AreMembersDeclared, IsWellFormed}
+use Rattle.cedar_schema.proofs.FormOrder.{AreFormsInOrder, shape_ordered, context_ordered}
 use Rattle.cedar_schema.proofs.NameEnds.{no_first, no_second, is_no_action}
 
 -- ---- entries that go into a map one by one
@@ -191,20 +191,20 @@ types_apart types uids ts us = All-weaker HasActionType (λ u. ¬ Contains types
 
 -- ---- contexts of environments
 
-module _ (u : Uid) (a : ActionTree) (h : Ascends a.context) where
-  resources_ascend : (p : List ℕ) (rs : List (List ℕ)) → All (λ (e : Environment). Ascends e.context) (with_resources u p a.context rs)
-  resources_ascend p [] = All-nil (λ (e : Environment). Ascends e.context)
-  resources_ascend p (r ∷ rs) = All-cons (λ (e : Environment). Ascends e.context) _ (with_resources u p a.context rs) h (resources_ascend p rs)
+module _ (u : Uid) (a : ActionTree) (h : IsOrderedRecord a.context) where
+  resources_ascend : (p : List ℕ) (rs : List (List ℕ)) → All (λ (e : Environment). IsOrderedRecord e.context) (with_resources u p a.context rs)
+  resources_ascend p [] = All-nil (λ (e : Environment). IsOrderedRecord e.context)
+  resources_ascend p (r ∷ rs) = All-cons (λ (e : Environment). IsOrderedRecord e.context) _ (with_resources u p a.context rs) h (resources_ascend p rs)
 
-  principals_ascend : (ps : List (List ℕ)) → All (λ (e : Environment). Ascends e.context) (with_principals u a ps)
-  principals_ascend [] = All-nil (λ (e : Environment). Ascends e.context)
-  principals_ascend (p ∷ ps) = All-append (λ (e : Environment). Ascends e.context) (with_resources u p a.context a.resources) (with_principals u a ps) (resources_ascend p a.resources) (principals_ascend ps)
+  principals_ascend : (ps : List (List ℕ)) → All (λ (e : Environment). IsOrderedRecord e.context) (with_principals u a ps)
+  principals_ascend [] = All-nil (λ (e : Environment). IsOrderedRecord e.context)
+  principals_ascend (p ∷ ps) = All-append (λ (e : Environment). IsOrderedRecord e.context) (with_resources u p a.context a.resources) (with_principals u a ps) (resources_ascend p a.resources) (principals_ascend ps)
 
-environments_ascend : (es : List (Uid × ActionTree)) → All (λ a. Ascends a.context) (values_of es) → All (λ (e : Environment). Ascends e.context) (environments_of es)
-environments_ascend [] h = All-nil (λ (e : Environment). Ascends e.context)
+environments_ascend : (es : List (Uid × ActionTree)) → All (λ a. IsOrderedRecord a.context) (values_of es) → All (λ (e : Environment). IsOrderedRecord e.context) (environments_of es)
+environments_ascend [] h = All-nil (λ (e : Environment). IsOrderedRecord e.context)
 environments_ascend (x ∷ xs) h =
-    All-append (λ (e : Environment). Ascends e.context) (with_principals x.0 x.1 (x.1).principals) (environments_of xs) (principals_ascend x.0 x.1 (All-head (λ (a : ActionTree). Ascends a.context) x.1 (values_of xs) h) (x.1).principals)
-    (environments_ascend xs (All-tail (λ (a : ActionTree). Ascends a.context) x.1 (values_of xs) h))
+    All-append (λ (e : Environment). IsOrderedRecord e.context) (with_principals x.0 x.1 (x.1).principals) (environments_of xs) (principals_ascend x.0 x.1 (All-head (λ (a : ActionTree). IsOrderedRecord a.context) x.1 (values_of xs) h) (x.1).principals)
+    (environments_ascend xs (All-tail (λ (a : ActionTree). IsOrderedRecord a.context) x.1 (values_of xs) h))
 
 -- ---- the whole
 
@@ -221,9 +221,15 @@ all_parents_in : (s : Setting) (xs : List EntryTree) → All (λ e. All (Contain
 all_parents_in s [] = All-nil (λ (e : EntryTree). All (Contains s.uids) (action_of (scope_in s e) s.table s.uids e).parents)
 all_parents_in s (x ∷ xs) = All-cons (λ (e : EntryTree). All (Contains s.uids) (action_of (scope_in s e) s.table s.uids e).parents) x xs (parents_in s x) (all_parents_in s xs)
 
-pub all_well_formed : (s : Setting) (es as' : List EntryTree) → AreFormsInOrder s.table → s.uids ≡ uids_onto [] as' → AreInOrder es → AreInOrder as' → each_faults (entity_faults s) es ≡ [] → IsWellFormed (schema_in s es as')
+abbrev OrderedAndFine : (EntryTree → List SchemaFault) → EntryTree → Type 0
+OrderedAndFine f e = IsInOrder e.body × (f e ≡ [])
+
+both : (f : EntryTree → List SchemaFault) (es : List EntryTree) → AreInOrder es → each_faults f es ≡ [] → All (OrderedAndFine f) es
+both f es ordered fine k d h = (ordered k d h, each_fine f es fine k d h)
+
+pub all_well_formed : (s : Setting) (es as' : List EntryTree) → AreFormsInOrder s.table → s.uids ≡ uids_onto [] as' → AreInOrder es → AreInOrder as' → each_faults (entity_faults s) es ≡ [] → each_faults (one_action_faults s) as' ≡ [] → IsWellFormed (schema_in s es as')
 unfolding schema_in IsStrictlySortedBy
-all_well_formed s es as' table uids eb ab fine =
+all_well_formed s es as' table uids eb ab fine right =
     let shape = λ (e : EntryTree). entity_type_of (scope_in s e) s.table e in
     let act = λ (e : EntryTree). action_of (scope_in s e) s.table s.uids e in
     let name = λ (e : EntryTree). qualified e.namespace e.key in
@@ -235,9 +241,9 @@ all_well_formed s es as' table uids eb ab fine =
           (keys_onto uid_cmp uid_of act HasActionType as' [] (All-nil HasActionType) (called as'));
       members = subst (λ us. All (λ (a : ActionTree). All (Contains us) a.parents) (values_of (each_onto (add_action s) [] as'))) same
           (values_onto uid_cmp uid_of act (λ a. All (Contains s.uids) a.parents) as' [] (All-nil (λ (a : ActionTree). All (Contains s.uids) a.parents)) (all_parents_in s as'));
-      shapes = values_onto text_cmp name shape (λ e. Ascends e.shape) es [] (All-nil (λ (e : EntityTypeTree). Ascends e.shape)) (All-weaker (λ (e : EntryTree). IsInOrder e.body) (λ e. Ascends (shape e).shape) (λ e h. shape_ascends (scope_in s e) s.table table e h) es eb);
+      shapes = values_onto text_cmp name shape (λ e. IsOrderedRecord e.shape) es [] (All-nil (λ (e : EntityTypeTree). IsOrderedRecord e.shape)) (All-weaker (OrderedAndFine (entity_faults s)) (λ e. IsOrderedRecord (shape e).shape) (λ e h. shape_ordered (scope_in s e) s.table table e h.0 h.1) es (both (entity_faults s) es eb fine));
       contexts = environments_ascend (each_onto (add_action s) [] as')
-          (values_onto uid_cmp uid_of act (λ a. Ascends a.context) as' [] (All-nil (λ (a : ActionTree). Ascends a.context)) (All-weaker (λ (e : EntryTree). IsInOrder e.body) (λ e. Ascends (act e).context) (λ e h. context_ascends (scope_in s e) s.table table s.uids e h) as' ab));
+          (values_onto uid_cmp uid_of act (λ a. IsOrderedRecord a.context) as' [] (All-nil (λ (a : ActionTree). IsOrderedRecord a.context)) (All-weaker (OrderedAndFine (one_action_faults s)) (λ e. IsOrderedRecord (act e).context) (λ e h. context_ordered (scope_in s e) s.table table s.uids e h.0 h.1) as' (both (one_action_faults s) as' ab right)));
     }
 
 -- ---- what lies above an action

@@ -1,5 +1,5 @@
 -- What is read from JSON with its keys in order has its attributes in order.
-use Rattle.std.proofs.Common.{◌≡◌, codes, ℕ, zero, suc, unwrap_or, Bool, true, false, cond, List, [], ◌∷◌, length, Option, Some, None, option_map, IfSome, All, refl, sym, ap, subst, Ordering, Less, Equal, Greater, nat_cmp, bytes_eq}
+use Rattle.std.proofs.Common.{◌≡◌, codes, ℕ, zero, suc, unwrap_or, Bool, true, false, cond, not, List, [], ◌∷◌, length, Option, Some, None, option_map, IfSome, All, refl, sym, ap, subst, Ordering, Less, Equal, Greater, nat_cmp, bytes_eq}
 use Rattle.std.proofs.lemmas.List.Elements.{All-head, All-tail}
 use Rattle.std.specs.List.{slice_get}
 use Rattle.std.specs.List.Sorted.{IsStrictlySortedBy}
@@ -11,15 +11,18 @@ use Rattle.cedar_value.specs.Order.{text_cmp}
 use Rattle.cedar_schema.specs.declared.kind.Kind.{Kind}
 use Rattle.cedar_schema.specs.declared.kind.Kind.TheVariants.{Boolean, Long, Text, Set, Record, Entity, Extension, Common}
 use Rattle.cedar_schema.specs.Types.{long, names_of}
-use Rattle.cedar_schema.specs.Naming.{Declared, resolved}
+use Rattle.cedar_schema.specs.Naming.{Declared, fault_if, resolved}
 use Rattle.cedar_schema.specs.Forms.{FormTree, no_form, boolean_form, long_form, string_form, decimal_form, entity_form, set_form, record_form, common_form, FormRows, no_form_rows, form_row}
 use Rattle.cedar_schema.specs.Reading.{Scope, Read, RowsRead, type_read, read_at, rows_at, rows_read, all_rows, of_type, of_kind, kind_named, text_at, needed, set_of, record_of, made, extension_read, entity_read}
 use Rattle.cedar_schema.specs.Expansion.{Table, Expanded, plain, form_type, rows_type, common_type, typed}
-use Rattle.cedar_schema.specs.Declaring.{record_type, unless_null, applies_read, entity_type_of, action_of}
-use Rattle.cedar_schema.specs.Entries.{EntryTree}
+use Rattle.cedar_schema.specs.Declaring.{record_type, is_record, unless_null, names_at, list_at, member_read, applies_read, entity_type_of, entity_type_faults, action_of, action_faults}
+use Rattle.cedar_schema.specs.Entries.{EntryTree, part_faults, entity_key_faults}
+use Rattle.cedar_schema.specs.declared.part.Part.TheVariants.{EntityType, Action, AppliesTo}
+use Rattle.cedar_schema.specs.declared.schema_fault.SchemaFault.TheVariants.{Shape, Unspecified}
 use Rattle.cedar_value.specs.declared.uid.Uid.{Uid}
 use Rattle.cedar_schema.specs.InOrder.{keys_in, IsInOrder, ValuesInOrder, names_in, FormInOrder, RowsInOrder}
-use Rattle.cedar_schema.specs.WellFormed.{Ascends, AllAscend}
+use Rattle.cedar_schema.specs.WellFormed.{Ascends, AllAscend, IsOrderedRecord}
+use Rattle.cedar_schema.proofs.NameEnds.{no_first, no_second}
 use Rattle.cedar_schema.proofs.JsonOrder.{get_in_order}
 
 -- ---- a type's JSON
@@ -162,13 +165,39 @@ common_ascends t h (suc n) k = one_ascends (common_type t n) (common_ascends t h
 
 -- ---- shapes and contexts
 
+all_true : (b : Bool) → fault_if (not b) Shape ≡ [] → b ≡ true
+all_true true h = refl
+all_true false h = cc
+
+module _ (sc : Scope) (t : Table) where
+  record_is : (o : Option Data) → (record_type sc t o).faults ≡ [] → is_record (record_type sc t o).ty ≡ true
+  unfolding record_type
+  record_is None h = refl
+  record_is (Some d) h =
+      all_true (is_record (typed t (type_read sc false d).form).ty) (no_second (typed t (type_read sc false d).form).faults _ (no_second (type_read sc false d).faults _ h))
+
+  shape_is : (e : EntryTree) → entity_type_faults sc t e ≡ [] → is_record (entity_type_of sc t e).shape ≡ true
+  unfolding entity_type_faults entity_type_of
+  shape_is e h = record_is (get (codes "shape") e.body) (no_first _ _ (no_second (names_at sc [] (get (codes "memberOfTypes") e.body)).faults _ (no_second (part_faults EntityType e.body) _ (no_second (entity_key_faults e.key) _ h))))
+
+  applied_is : (o : Option Data) → (applies_read sc t o).faults ≡ [] → is_record (applies_read sc t o).context ≡ true
+  unfolding applies_read
+  applied_is None h = refl
+  applied_is (Some d) h =
+      record_is (get (codes "context") d) (no_second (names_at sc (Unspecified ∷ []) (get (codes "resourceTypes") d)).faults _ (no_second (names_at sc (Unspecified ∷ []) (get (codes "principalTypes") d)).faults _ (no_second (part_faults AppliesTo d) _ h)))
+
+  context_is : (uids : List Uid) (e : EntryTree) → action_faults sc t uids e ≡ [] → is_record (action_of sc t uids e).context ≡ true
+  unfolding action_faults action_of
+  context_is uids e h =
+      applied_is (unless_null (get (codes "appliesTo") e.body)) (no_first _ _ (no_second (list_at (member_read uids sc.namespace) [] (unless_null (get (codes "memberOf") e.body))).faults _ (no_second (part_faults Action e.body) _ h)))
+
 module _ (sc : Scope) (t : Table) (h : AreFormsInOrder t) where
   pub record_ascends : (o : Option Data) → IfSome o IsInOrder → Ascends (record_type sc t o).ty
   unfolding record_type typed Ascends IsStrictlySortedBy
   record_ascends None g = (tt, tt)
   record_ascends (Some d) g = form_ascends (common_type t (length t)) (common_ascends t h (length t)) (type_read sc false d).form (type_in_order sc false d g)
 
-  pub shape_ascends : (e : EntryTree) → IsInOrder e.body → Ascends (entity_type_of sc t e).shape
+  shape_ascends : (e : EntryTree) → IsInOrder e.body → Ascends (entity_type_of sc t e).shape
   unfolding entity_type_of
   shape_ascends e g = record_ascends (get (codes "shape") e.body) (get_in_order (codes "shape") e.body g)
 
@@ -186,6 +215,12 @@ module _ (sc : Scope) (t : Table) (h : AreFormsInOrder t) where
   present (Some (array ds)) g = g
   present (Some (object ms)) g = g
 
-  pub context_ascends : (uids : List Uid) (e : EntryTree) → IsInOrder e.body → Ascends (action_of sc t uids e).context
+  context_ascends : (uids : List Uid) (e : EntryTree) → IsInOrder e.body → Ascends (action_of sc t uids e).context
   unfolding action_of
   context_ascends uids e g = applied (unless_null (get (codes "appliesTo") e.body)) (present (get (codes "appliesTo") e.body) (get_in_order (codes "appliesTo") e.body g))
+
+  pub shape_ordered : (e : EntryTree) → IsInOrder e.body → entity_type_faults sc t e ≡ [] → IsOrderedRecord (entity_type_of sc t e).shape
+  shape_ordered e g fine = (shape_is sc t e fine, shape_ascends e g)
+
+  pub context_ordered : (uids : List Uid) (e : EntryTree) → IsInOrder e.body → action_faults sc t uids e ≡ [] → IsOrderedRecord (action_of sc t uids e).context
+  context_ordered uids e g fine = (context_is sc t uids e fine, context_ascends uids e g)

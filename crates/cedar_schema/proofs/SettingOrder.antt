@@ -9,7 +9,7 @@ use Rattle.cedar_schema.specs.Entries.{EntryTree, entries, entries_in, section}
 use Rattle.cedar_schema.specs.InOrder.{IsInOrder, ValuesInOrder, AreInOrder, FormInOrder, AreSectionsInOrder, IsSettingInOrder}
 use Rattle.cedar_schema.specs.Reading.{type_read}
 use Rattle.cedar_schema.specs.SchemaTree.{EntityTypeTree, ActionTree}
-use Rattle.cedar_schema.specs.Schemas.{Setting, Sections, sections_of, scope_at, forms_of, schema_in, add_entity, add_action, entity_faults, uids_onto}
+use Rattle.cedar_schema.specs.Schemas.{Setting, Sections, sections_of, scope_at, forms_of, schema_in, add_entity, add_action, entity_faults, one_action_faults, uids_onto}
 use Rattle.cedar_schema.specs.WellFormed.{IsWellFormed}
 use Rattle.cedar_schema.proofs.DeclaredLemmas.{all_well_formed}
 use Rattle.cedar_schema.proofs.FormOrder.{type_in_order}
@@ -73,8 +73,8 @@ setting_in_order x s h table uids = record {
 -- ---- the schema
 
 pub declared_well_formed : (s : Setting) (es as' : List EntryTree) (en : List (List ℕ × EntityTypeTree)) (ac : List (Uid × ActionTree)) → IsSettingInOrder s es as'
-    → (each_faults (entity_faults s) es ≡ []) × (en ≡ each_onto (add_entity s) [] es) → ac ≡ each_onto (add_action s) [] as' → IsWellFormed (record { entities = en; actions = ac })
+    → (each_faults (entity_faults s) es ≡ []) × (en ≡ each_onto (add_entity s) [] es) → (each_faults (one_action_faults s) as' ≡ []) × (ac ≡ each_onto (add_action s) [] as') → IsWellFormed (record { entities = en; actions = ac })
 unfolding schema_in
 declared_well_formed s es as' en ac h entities actions =
-    let same : schema_in s es as' ≡ record { entities = en; actions = ac } = λ i. record { entities = sym entities.1 i; actions = sym actions i } in
-    subst IsWellFormed same (all_well_formed s es as' h.forms h.uids h.entities_in_order h.actions_in_order entities.0)
+    let same : schema_in s es as' ≡ record { entities = en; actions = ac } = λ i. record { entities = sym entities.1 i; actions = sym actions.1 i } in
+    subst IsWellFormed same (all_well_formed s es as' h.forms h.uids h.entities_in_order h.actions_in_order entities.0 actions.0)

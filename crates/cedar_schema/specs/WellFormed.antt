@@ -1,10 +1,11 @@
 -- What every schema keeps, on which the soundness of typing rests (cedar-spec, Lean: Cedar.Validation, well-formed schemas).
-use Rattle.std.specs.Prelude.{All, Contains}
+use Rattle.std.specs.Prelude.{All, Contains, IsTrue}
 use Rattle.std.specs.List.Sorted.{IsStrictlySortedBy}
 use Rattle.std.specs.Map.{keys_of, values_of}
 use Rattle.cedar_value.specs.Order.{text_cmp, uid_cmp}
 use Rattle.cedar_value.specs.declared.uid.Uid.{Uid}
 use Rattle.cedar_schema.specs.Types.{TypeTree, boolean, long, string, entity, set, record_of, decimal, Attributes, no_attributes, attribute, names_of}
+use Rattle.cedar_schema.specs.Declaring.{is_record}
 use Rattle.cedar_schema.specs.SchemaTree.{SchemaTree, environments_of}
 use Rattle.cedar_schema.specs.Descents.{ActionDescends}
 
@@ -40,18 +41,22 @@ abbrev pub IsHierarchy : SchemaTree → Type 0
 IsHierarchy s =
     ((u v : Uid) → ActionDescends s u v → Contains (keys_of s.actions) u × Contains (keys_of s.actions) v) × ((u : Uid) → ¬ ActionDescends s u u)
 
--- each shape is of records whose keys ascend
-abbrev pub DoShapesAscend : SchemaTree → Type 0
-DoShapesAscend s = All (λ e. Ascends e.shape) (values_of s.entities)
+-- a type of records whose keys ascend
+abbrev pub IsOrderedRecord : TypeTree → Type 0
+IsOrderedRecord t = IsTrue (is_record t) × Ascends t
+
+-- each shape is one
+abbrev pub AreShapesOrdered : SchemaTree → Type 0
+AreShapesOrdered s = All (λ e. IsOrderedRecord e.shape) (values_of s.entities)
 
 -- and so is the context of each environment
-abbrev pub DoContextsAscend : SchemaTree → Type 0
-DoContextsAscend s = All (λ e. Ascends e.context) (environments_of s.actions)
+abbrev pub AreContextsOrdered : SchemaTree → Type 0
+AreContextsOrdered s = All (λ e. IsOrderedRecord e.context) (environments_of s.actions)
 
 -- all but what chains of links tell
 pub record IsWellFormed (s : SchemaTree) : Type 0 where
   pub in_order : IsListedInOrder s
   pub apart : AreTypesApart s
   pub members : AreMembersDeclared s
-  pub shapes : DoShapesAscend s
-  pub contexts : DoContextsAscend s
+  pub shapes : AreShapesOrdered s
+  pub contexts : AreContextsOrdered s

@@ -14,7 +14,7 @@ ghost use Rattle.cedar_schema.specs.Measures.{AreEnds};
 ghost use Rattle.cedar_schema.specs.TableView.{table_of};
 ghost use Rattle.cedar_schema.specs.Schemas.{schema_in, schema_of, sections_faults, setting_faults, setting_of, written_faults};
 ghost use Rattle.cedar_schema.specs.SettingView.{setting_view, sections_view};
-ghost use Rattle.cedar_schema.specs.WellFormed.{AreMembersDeclared, AreTypesApart, DoContextsAscend, DoShapesAscend, IsHierarchy, IsListedInOrder, IsWellFormed};
+ghost use Rattle.cedar_schema.specs.WellFormed.{AreContextsOrdered, AreMembersDeclared, AreShapesOrdered, AreTypesApart, IsHierarchy, IsListedInOrder, IsWellFormed};
 
 use crate::action::Action;
 use crate::chains::ends_of;
@@ -97,15 +97,16 @@ impl Schema {
 
     /// What every schema keeps, on which the soundness of typing rests: its entity types and actions
     /// are listed in ascending order, no action's type is an entity type, the members of actions are
-    /// declared, what lies above an action is declared and never the action itself, and in shapes and
-    /// contexts the keys of each record ascend. It is a law of schemas, and does nothing.
+    /// declared, what lies above an action is declared and never the action itself, and shapes and
+    /// contexts are types of records in which the keys of each record ascend. It is a law of schemas,
+    /// and does nothing.
     pub fn well_formedness(&self)
         ensures in_order { IsListedInOrder self.now }
         ensures apart { AreTypesApart self.now }
         ensures members { AreMembersDeclared self.now }
         ensures hierarchy { IsHierarchy self.now }
-        ensures shapes { DoShapesAscend self.now }
-        ensures contexts { DoContextsAscend self.now }
+        ensures shapes { AreShapesOrdered self.now }
+        ensures contexts { AreContextsOrdered self.now }
     {
         let _kept = &self.entities;
     }

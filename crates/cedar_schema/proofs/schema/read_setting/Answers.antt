@@ -26,4 +26,4 @@ returns c =
 
 pub new-requires : goal.new-requires
 new-requires c =
-    declared_well_formed (setting_view c.args.setting) (entries_view c.args.entities.now) (entries_view c.args.actions.now) c.in_ok-entity_types.entity_types.entries c.in_ok-action_types.action_types.entries c.requires.in_order c.in_ok-entity_types.ensures c.in_ok-action_types.ensures.1
+    declared_well_formed (setting_view c.args.setting) (entries_view c.args.entities.now) (entries_view c.args.actions.now) c.in_ok-entity_types.entity_types.entries c.in_ok-action_types.action_types.entries c.requires.in_order c.in_ok-entity_types.ensures c.in_ok-action_types.ensures

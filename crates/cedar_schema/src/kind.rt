@@ -46,12 +46,8 @@ fn allowed(kind: Kind, key: &str) -> bool
     match kind {
         Kind::Set => key == "type" || key == "element",
         Kind::Record => key == "type" || key == "attributes" || key == "additionalAttributes",
-        Kind::Entity => key == "type" || key == "name",
-        Kind::Extension => key == "type" || key == "name",
-        Kind::Boolean => key == "type",
-        Kind::Long => key == "type",
-        Kind::Text => key == "type",
-        Kind::Common => key == "type",
+        Kind::Entity | Kind::Extension => key == "type" || key == "name",
+        Kind::Boolean | Kind::Long | Kind::Text | Kind::Common => key == "type",
     }
 }
 

@@ -49,11 +49,9 @@ pub(crate) fn measure(
             measure_fields(table, names, fields, levels - 1, room - 1)
         }
         Form::Common(place) => measure_common(table, names, *place, levels, room),
-        Form::Boolean => take_one(levels, room),
-        Form::Long => take_one(levels, room),
-        Form::Text => take_one(levels, room),
-        Form::Decimal => take_one(levels, room),
-        Form::Entity(_) => take_one(levels, room),
+        Form::Boolean | Form::Long | Form::Text | Form::Decimal | Form::Entity(_) => {
+            take_one(levels, room)
+        }
     }
 }
 

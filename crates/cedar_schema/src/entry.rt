@@ -3,7 +3,7 @@ ghost use Rattle.std.specs.Prelude.{◌≡◌, ◌++◌, [], map, IfOk, OnOk, Ma
 ghost use Rattle.serde_json.specs.View.{view, members_view};
 ghost use Rattle.serde_json.specs.Find.{get, as_object};
 ghost use Rattle.cedar_schema.specs.Faults.{Told};
-ghost use Rattle.cedar_schema.specs.Entries.{entries, entries_in, section, names_of, namespace_faults, space_faults, root_faults, object_faults, key_text_faults, entity_key_faults, common_key_faults, is_common};
+ghost use Rattle.cedar_schema.specs.Entries.{entries, entries_in, section, names_of, namespace_faults, space_faults, root_faults, object_faults, key_text_faults, entity_key_faults, common_key_faults};
 ghost use Rattle.cedar_schema.specs.EntryView.{entries_view, entry_of};
 
 use crate::kind::{Kind, kind_named};
@@ -125,14 +125,8 @@ fn check_section(space: &Value, key: &str) -> Result<(), SchemaFault>
         (λ e. Told (object_faults (get key.now (view space.now))) e) }
 {
     match space.get(key) {
-        None => Ok(()),
-        Some(section) => {
-            if section.is_object() {
-                Ok(())
-            } else {
-                Err(SchemaFault::Shape)
-            }
-        }
+        Some(section) if !section.is_object() => Err(SchemaFault::Shape),
+        _ => Ok(()),
     }
 }
 
@@ -174,18 +168,8 @@ pub(crate) fn check_common_key(alloc: Global, key: &str) -> Result<(), SchemaFau
         (λ e. Told (common_key_faults key.now) e) }
 {
     check_key(alloc, key)?;
-    if is_common(kind_named(key)) {
-        Ok(())
-    } else {
-        Err(SchemaFault::ReservedName)
-    }
-}
-
-fn is_common(kind: Kind) -> bool
-    ensures { result ≡ is_common kind }
-{
-    match kind {
-        Kind::Common => true,
-        _ => false,
+    match kind_named(key) {
+        Kind::Common => Ok(()),
+        _ => Err(SchemaFault::ReservedName),
     }
 }

@@ -37,16 +37,12 @@ pub(crate) fn measure(
 {
     match form {
         Form::Set(element) => {
-            if levels == 0 || room == 0 {
-                return Err(SchemaFault::TooLarge);
-            }
-            measure(table, names, element, levels - 1, room - 1)
+            let left = take_one(levels, room)?;
+            measure(table, names, element, levels - 1, left)
         }
         Form::Record(fields) => {
-            if levels == 0 || room == 0 {
-                return Err(SchemaFault::TooLarge);
-            }
-            measure_fields(table, names, fields, levels - 1, room - 1)
+            let left = take_one(levels, room)?;
+            measure_fields(table, names, fields, levels - 1, left)
         }
         Form::Common(place) => measure_common(table, names, *place, levels, room),
         Form::Boolean | Form::Long | Form::Text | Form::Decimal | Form::Entity(_) => {

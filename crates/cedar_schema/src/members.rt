@@ -99,10 +99,7 @@ fn read_by_id(
     match ty {
         None => {
             let own = qualified(alloc, namespace, "Action")?;
-            match listed_uid(alloc, uids, own, id)? {
-                Some(uid) => Ok(uid),
-                None => Err(SchemaFault::UnknownType),
-            }
+            listed_uid(alloc, uids, own, id)?.ok_or(SchemaFault::UnknownType)
         }
         Some(ty) => match ty.as_str() {
             None => Err(SchemaFault::Shape),
@@ -121,10 +118,7 @@ fn read_by_type(
     ensures { ReadsItem result (by_type uids.now.keys namespace.now id.now (Some ty.now)) }
 {
     let ty = read_name(alloc, ty)?;
-    match typed_uid(alloc, uids, namespace, ty, id)? {
-        Some(uid) => Ok(uid),
-        None => Err(SchemaFault::UnknownType),
-    }
+    typed_uid(alloc, uids, namespace, ty, id)?.ok_or(SchemaFault::UnknownType)
 }
 
 #[tactic(auto, unfolding(crate::specs::Declaring::typed_uid))]

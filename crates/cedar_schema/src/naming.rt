@@ -38,10 +38,7 @@ pub(crate) fn read_declared(
         (λ e. Told (name_faults names.now namespace.now text.now) e) }
 {
     let name = read_name(alloc, text)?;
-    match resolve(alloc, names, namespace, name)? {
-        Some(found) => Ok(found),
-        None => Err(SchemaFault::UnknownType),
-    }
+    resolve(alloc, names, namespace, name)?.ok_or(SchemaFault::UnknownType)
 }
 
 // The declared name that a name in a namespace stands for.
@@ -110,14 +107,8 @@ fn joined(alloc: Global, namespace: &str, name: &str) -> Result<String, AllocErr
 fn is_reserved(alloc: Global, text: &str) -> Result<bool, AllocError>
     ensures { IfOk result (λ b. b ≡ is_reserved text.now) }
 {
-    let whole = enclosed(alloc, text)?;
+    let whole = format!(in alloc; "::{text}::")?;
     Ok(has_part(whole.as_bytes(), b"::__cedar::"))
-}
-
-fn enclosed(alloc: Global, text: &str) -> Result<String, AllocError>
-    ensures { IfOk result (λ s. string_bytes s ≡ codes "::" ++ text.now ++ codes "::") }
-{
-    format!(in alloc; "::{text}::")
 }
 
 fn has_part(text: &[u8], part: &[u8]) -> bool

@@ -66,17 +66,11 @@ pub(crate) fn check_empty(json: Option<&Value>) -> Result<(), SchemaFault>
         (λ _. empty_faults (option_map (λ v. view v.now) json.entry) ≡ [])
         (λ e. Told (empty_faults (option_map (λ v. view v.now) json.entry)) e) }
 {
-    match json {
-        None => Ok(()),
-        Some(json) => match json.as_object() {
-            None => Err(SchemaFault::Shape),
-            Some(members) => {
-                if members.is_empty() {
-                    Ok(())
-                } else {
-                    Err(SchemaFault::Shape)
-                }
-            }
-        },
+    let Some(json) = json else {
+        return Ok(());
+    };
+    match json.as_object() {
+        Some(members) if members.is_empty() => Ok(()),
+        _ => Err(SchemaFault::Shape),
     }
 }

@@ -98,8 +98,8 @@ impl Schema {
     /// What every schema keeps, on which the soundness of typing rests: its entity types and actions
     /// are listed in ascending order, no action's type is an entity type, the members of actions are
     /// declared, what lies above an action is declared and never the action itself, and shapes and
-    /// contexts are types of records in which the keys of each record ascend. It is a law of schemas,
-    /// and does nothing.
+    /// contexts are types of records in which the keys of each record ascend (cedar-spec, Lean:
+    /// Cedar.Validation, well-formed schemas). It is a law of schemas, and does nothing.
     pub fn well_formedness(&self)
         ensures in_order { IsListedInOrder self.now }
         ensures apart { AreTypesApart self.now }

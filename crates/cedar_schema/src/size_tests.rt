@@ -101,7 +101,7 @@ fn chain(alloc: Global, types: u32) -> Result<String, SchemaFault> {
 #[test]
 fn names_of_names_are_followed_far(rt: HostRuntime) -> Result<(), Fail> {
     let alloc = rt.alloc();
-    let long = chain(alloc, 20_000)?;
+    let long = chain(alloc, 100_000)?;
     assert_eq!(rt; number_of(alloc, long.as_str())?, 0);
     Ok(())
 }

@@ -1,1 +1,2 @@
 pub mod PolicyIdLemmas
+mod EvaluationExamples

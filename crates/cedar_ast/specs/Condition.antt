@@ -1,9 +1,11 @@
 -- The condition of a policy (Cedar language reference, policy scope and conditions; cedar-spec, Lean: Policy.toExpr).
-use Rattle.std.specs.Prelude.{true, List, [], ◌∷◌}
+use Rattle.std.specs.Prelude.{true, List, [], ◌∷◌, map}
 use Rattle.cedar_value.specs.Datum.{boolean, uid}
-use Rattle.cedar_ast.specs.declared.operator.Variable.{Variable}
-use Rattle.cedar_ast.specs.declared.operator.Variable.TheVariants.{Principal, Action, Resource}
-use Rattle.cedar_ast.specs.declared.operator.UnaryOperator.TheVariants.{Not}
+use Rattle.cedar_value.specs.declared.uid.Uid.{Uid}
+use Rattle.cedar_ast.specs.declared.variable.Variable.{Variable}
+use Rattle.cedar_ast.specs.declared.variable.Variable.TheVariants.{Principal, Action, Resource}
+use Rattle.cedar_ast.specs.declared.operator.UnaryOperator.TheVariants.{Not, Is}
+use Rattle.cedar_ast.specs.declared.operator.BinaryOperator.{BinaryOperator}
 use Rattle.cedar_ast.specs.declared.operator.BinaryOperator.TheVariants as operator
 use Rattle.cedar_ast.specs.declared.scope.EntityScope.{EntityScope}
 use Rattle.cedar_ast.specs.declared.scope.EntityScope.TheVariants as entity
@@ -12,18 +14,30 @@ use Rattle.cedar_ast.specs.declared.scope.ActionScope.TheVariants as action
 use Rattle.cedar_ast.specs.declared.condition.ConditionKind.{ConditionKind}
 use Rattle.cedar_ast.specs.declared.condition.ConditionKind.TheVariants.{When, Unless}
 use Rattle.cedar_ast.specs.declared.condition.Condition.{Condition}
-use Rattle.cedar_ast.specs.Expression.{Expression, literal, variable, and, unary, binary}
+use Rattle.cedar_ast.specs.Expression.{Expression, literal, variable, and, unary, binary, set_with, expressions_of}
 use Rattle.cedar_ast.specs.PolicyTree.{PolicyTree}
+
+abbrev pub entity_literal : Uid → Expression
+entity_literal u = literal (uid u)
+
+-- a variable, an operator, and an expression
+abbrev pub compared : BinaryOperator → Variable → Expression → Expression
+compared op x e = binary op (variable x) e
 
 -- what the scope asks of the principal or the resource
 abbrev pub entity_scope_of : Variable → EntityScope → Expression
 entity_scope_of x entity.Any = literal (boolean true)
-entity_scope_of x (entity.Equal u) = binary operator.Equal (variable x) (literal (uid u))
+entity_scope_of x (entity.Equal u) = compared operator.Equal x (entity_literal u)
+entity_scope_of x (entity.In u) = compared operator.In x (entity_literal u)
+entity_scope_of x (entity.Is ty) = unary (Is ty) (variable x)
+entity_scope_of x (entity.IsIn ty u) = and (unary (Is ty) (variable x)) (compared operator.In x (entity_literal u))
 
 -- what the scope asks of the action
 abbrev pub action_scope_of : ActionScope → Expression
 action_scope_of action.Any = literal (boolean true)
-action_scope_of (action.Equal u) = binary operator.Equal (variable Action) (literal (uid u))
+action_scope_of (action.Equal u) = compared operator.Equal Action (entity_literal u)
+action_scope_of (action.In u) = compared operator.In Action (entity_literal u)
+action_scope_of (action.InSet us) = compared operator.In Action (set_with (expressions_of (map entity_literal us)))
 
 -- `when` as it stands, `unless` negated
 abbrev pub asked_by : ConditionKind → Expression → Expression

@@ -1,76 +1,76 @@
 -- What an expression means: a value, or an error (Cedar language reference, operators; cedar-spec, Lean: Cedar.Spec.evaluate).
-use Rattle.std.specs.Prelude.{ℤ, pos, negsuc, ◌+ℤ◌, Bool, true, false, not, ◌&&◌, if◌then◌else◌, int_lt, Result, Ok, Err}
-use Rattle.cedar_value.specs.Datum.{Datum, boolean, long, uid, same}
-use Rattle.cedar_value.specs.declared.uid.Uid.{Uid}
+use Rattle.std.specs.Prelude.{ℕ, List, Bool, true, false, [], ◌∷◌, Result, Ok, Err}
+use Rattle.cedar_value.specs.Datum.{Datum, boolean, uid, set, record_of, members_of, fields_of}
+use Rattle.cedar_value.specs.Sets.{set_from}
+use Rattle.cedar_value.specs.Records.{record_from}
+use Rattle.cedar_value.specs.World.{World}
 use Rattle.cedar_value.specs.declared.request.Request.{Request}
-use Rattle.cedar_ast.specs.declared.operator.Variable.{Variable}
-use Rattle.cedar_ast.specs.declared.operator.Variable.TheVariants.{Principal, Action, Resource}
-use Rattle.cedar_ast.specs.declared.operator.UnaryOperator.{UnaryOperator}
-use Rattle.cedar_ast.specs.declared.operator.UnaryOperator.TheVariants.{Not}
-use Rattle.cedar_ast.specs.declared.operator.BinaryOperator.{BinaryOperator}
-use Rattle.cedar_ast.specs.declared.operator.BinaryOperator.TheVariants.{Equal, Less, Add}
+use Rattle.cedar_ast.specs.declared.variable.Variable.{Variable}
+use Rattle.cedar_ast.specs.declared.variable.Variable.TheVariants.{Principal, Action, Resource, Context}
 use Rattle.cedar_ast.specs.declared.error.EvaluationError.{EvaluationError}
-use Rattle.cedar_ast.specs.declared.error.EvaluationError.TheVariants.{Overflow, «Type»}
-use Rattle.cedar_ast.specs.Expression.{Expression, literal, variable, and, or, unary, binary}
+use Rattle.cedar_ast.specs.declared.error.EvaluationError.TheVariants.{«Type»}
+use Rattle.cedar_ast.specs.Expression.{Expression, literal, variable, and, or, if_else, unary, binary, set_with, record_with, Expressions, no_more, and_then, Entries, no_entries, entry}
+use Rattle.cedar_ast.specs.Answer.{Answer, with_answer}
+use Rattle.cedar_ast.specs.Operators.{unary_of, binary_of}
 
--- a value or an error
-abbrev pub Answer : Type 0
-Answer = Result Datum EvaluationError
-
--- goes on with a value, or stays an error
-abbrev pub with_answer : Answer → (Datum → Answer) → Answer
-with_answer (Ok v) go = go v
-with_answer (Err e) go = Err e
-
--- what the request has for a variable
-abbrev pub variable_of : Variable → Request → Uid
-variable_of Principal q = q.principal
-variable_of Action q = q.action
-variable_of Resource q = q.resource
-
--- whether a number is one of 64 bits
-abbrev pub is_long : ℤ → Bool
-is_long n = not (int_lt n (negsuc 9223372036854775807)) && int_lt n (pos 9223372036854775808)
-
-abbrev pub long_or_overflow : ℤ → Answer
-long_or_overflow n = if is_long n then Ok (long n) else Err Overflow
-
--- an operator's answer for its operand
-abbrev pub unary_of : UnaryOperator → Datum → Answer
-unary_of Not (boolean b) = Ok (boolean (not b))
-unary_of Not _ = Err «Type»
-
--- an operator's answer for its operands
-abbrev pub binary_of : BinaryOperator → Datum → Datum → Answer
-binary_of Equal x y = Ok (boolean (same x y))
-binary_of Less (long m) (long n) = Ok (boolean (int_lt m n))
-binary_of Less _ _ = Err «Type»
-binary_of Add (long m) (long n) = long_or_overflow (m +ℤ n)
-binary_of Add _ _ = Err «Type»
+-- what the request has for a variable (Cedar language reference, variables)
+abbrev pub variable_of : Variable → Request → Datum
+variable_of Principal q = uid q.principal
+variable_of Action q = uid q.action
+variable_of Resource q = uid q.resource
+variable_of Context q = record_of (fields_of q.context)
 
 -- a value that is a Boolean
-abbrev pub truth_of : Datum → Answer
+abbrev pub truth_of : Datum → Answer Datum
 truth_of (boolean b) = Ok (boolean b)
 truth_of _ = Err «Type»
 
 -- `&&` of a left value and the right side
-abbrev pub and_of : Datum → Answer → Answer
+abbrev pub and_of : Datum → Answer Datum → Answer Datum
 and_of (boolean true) right = with_answer right truth_of
 and_of (boolean false) right = Ok (boolean false)
 and_of _ right = Err «Type»
 
 -- `||` of a left value and the right side
-abbrev pub or_of : Datum → Answer → Answer
+abbrev pub or_of : Datum → Answer Datum → Answer Datum
 or_of (boolean true) right = Ok (boolean true)
 or_of (boolean false) right = with_answer right truth_of
 or_of _ right = Err «Type»
 
--- what an expression means for a request: operands from left to right, the first error is the result,
--- and only then their kinds are tested
-abbrev pub eval : Expression → Request → Answer
-eval (literal v) q = Ok v
-eval (variable x) q = Ok (uid (variable_of x q))
-eval (and a b) q = with_answer (eval a q) (λ x. and_of x (eval b q))
-eval (or a b) q = with_answer (eval a q) (λ x. or_of x (eval b q))
-eval (unary op a) q = with_answer (eval a q) (unary_of op)
-eval (binary op a b) q = with_answer (eval a q) (λ x. with_answer (eval b q) (binary_of op x))
+-- `if` of the condition's value and the two branches
+abbrev pub if_of : Datum → Answer Datum → Answer Datum → Answer Datum
+if_of (boolean true) if_true if_false = if_true
+if_of (boolean false) if_true if_false = if_false
+if_of _ if_true if_false = Err «Type»
+
+-- the set of these members (Cedar language reference, sets)
+abbrev pub set_of_values : List Datum → Datum
+set_of_values vs = set (members_of (set_from vs))
+
+-- the record of these pairs (Cedar language reference, records)
+abbrev pub record_of_pairs : List (List ℕ × Datum) → Datum
+record_of_pairs ps = record_of (fields_of (record_from ps))
+
+-- what an expression means for a request over a world: operands from left to right, the first error is the
+-- result, and only then their kinds are tested
+abbrev mutual
+  pub eval : Expression → Request → World → Answer Datum
+  eval (literal v) q w = Ok v
+  eval (variable x) q w = Ok (variable_of x q)
+  eval (and a b) q w = with_answer (eval a q w) (λ x. and_of x (eval b q w))
+  eval (or a b) q w = with_answer (eval a q w) (λ x. or_of x (eval b q w))
+  eval (if_else c a b) q w = with_answer (eval c q w) (λ x. if_of x (eval a q w) (eval b q w))
+  eval (unary op a) q w = with_answer (eval a q w) (unary_of w op)
+  eval (binary op a b) q w = with_answer (eval a q w) (λ x. with_answer (eval b q w) (binary_of w op x))
+  eval (set_with es) q w = with_answer (eval_all es q w) (λ vs. Ok (set_of_values vs))
+  eval (record_with fs) q w = with_answer (eval_entries fs q w) (λ ps. Ok (record_of_pairs ps))
+
+  -- the values of expressions, from left to right
+  pub eval_all : Expressions → Request → World → Answer (List Datum)
+  eval_all no_more q w = Ok []
+  eval_all (and_then e es) q w = with_answer (eval e q w) (λ v. with_answer (eval_all es q w) (λ vs. Ok (v ∷ vs)))
+
+  -- the keys of entries with their values, from left to right
+  pub eval_entries : Entries → Request → World → Answer (List (List ℕ × Datum))
+  eval_entries no_entries q w = Ok []
+  eval_entries (entry k e fs) q w = with_answer (eval e q w) (λ v. with_answer (eval_entries fs q w) (λ ps. Ok ((k, v) ∷ ps)))

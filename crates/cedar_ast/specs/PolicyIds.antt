@@ -1,15 +1,14 @@
--- The ids of policies.
+-- Private: the entries of a map from ids to policies or templates.
 use Rattle.std.specs.Prelude.{◌≡◌, ℕ, List, map, string_bytes, String}
 use Rattle.std.specs.declared.alloc.Global.{Global}
-use Rattle.cedar_ast.specs.PolicyTree.{PolicyTree}
 
-abbrev pub ids_of : List PolicyTree → List (List ℕ)
-ids_of ps = map (λ p. p.id) ps
+-- the ids at which something stands, and what stands there
+abbrev pub keys_of : {A : Type 0} → List (String Global × A) → List (List ℕ)
+keys_of es = map (λ e. string_bytes e.0) es
 
--- the policies of a map's entries
-abbrev pub policies_in : List (String Global × PolicyTree) → List PolicyTree
-policies_in es = map (λ e. e.1) es
+abbrev pub values_in : {A : Type 0} → List (String Global × A) → List A
+values_in es = map (λ e. e.1) es
 
--- each policy stands at its own id
-abbrev pub StandAtTheirIds : List (String Global × PolicyTree) → Type 0
-StandAtTheirIds es = map (λ e. string_bytes e.0) es ≡ ids_of (policies_in es)
+-- each stands at its own id
+abbrev pub StandAtTheirIds : {A : Type 0} → (A → List ℕ) → List (String Global × A) → Type 0
+StandAtTheirIds id es = keys_of es ≡ map id (values_in es)

@@ -1,22 +1,24 @@
 -- The response to a request (Cedar language reference, authorization; cedar-spec, Lean: Cedar.Spec.isAuthorized).
 use Rattle.std.specs.Prelude.{ℕ, Bool, true, false, not, ◌&&◌, if◌then◌else◌, List, map, filter, Option, Some, None, Ok, Err}
 use Rattle.std.specs.List.{list_any, filter_map}
-use Rattle.cedar_value.specs.Datum.{boolean}
+use Rattle.cedar_value.specs.Datum.{Datum, boolean}
+use Rattle.cedar_value.specs.World.{World}
 use Rattle.cedar_value.specs.declared.request.Request.{Request}
 use Rattle.cedar_ast.specs.declared.effect.Effect.{Effect}
 use Rattle.cedar_ast.specs.declared.effect.Effect.TheVariants.{Permit, Forbid}
 use Rattle.cedar_ast.specs.declared.decision.Decision.{Decision}
 use Rattle.cedar_ast.specs.declared.decision.Decision.TheVariants.{Allow, Deny}
 use Rattle.cedar_ast.specs.declared.error.EvaluationError.{EvaluationError}
-use Rattle.cedar_ast.specs.Evaluation.{Answer, eval}
+use Rattle.cedar_ast.specs.Answer.{Answer}
+use Rattle.cedar_ast.specs.Evaluation.{eval}
 use Rattle.cedar_ast.specs.PolicyTree.{PolicyTree}
 use Rattle.cedar_ast.specs.Condition.{condition_of}
 
--- what a policy's condition means for a request
-abbrev pub meaning : Request → PolicyTree → Answer
-meaning q p = eval (condition_of p) q
+-- what a policy's condition means for a request over a world
+abbrev pub meaning : Request → World → PolicyTree → Answer Datum
+meaning q w p = eval (condition_of p) q w
 
-abbrev pub is_true : Answer → Bool
+abbrev pub is_true : Answer Datum → Bool
 is_true (Ok (boolean b)) = b
 is_true _ = false
 
@@ -25,27 +27,27 @@ is_permit Permit = true
 is_permit Forbid = false
 
 -- a permit, or a forbid, whose condition is true
-abbrev pub permits : Request → PolicyTree → Bool
-permits q p = is_permit p.effect && is_true (meaning q p)
+abbrev pub permits : Request → World → PolicyTree → Bool
+permits q w p = is_permit p.effect && is_true (meaning q w p)
 
-abbrev pub forbids : Request → PolicyTree → Bool
-forbids q p = not (is_permit p.effect) && is_true (meaning q p)
+abbrev pub forbids : Request → World → PolicyTree → Bool
+forbids q w p = not (is_permit p.effect) && is_true (meaning q w p)
 
 -- a policy that errs, and its error
 pub record ErringTree : Type 0 where
   pub id : List ℕ
   pub error : EvaluationError
 
-abbrev pub erring_by : Answer → List ℕ → Option ErringTree
+abbrev pub erring_by : Answer Datum → List ℕ → Option ErringTree
 erring_by (Ok v) id = None
 erring_by (Err e) id = Some (record { id = id; error = e })
 
-abbrev pub erring_of : Request → PolicyTree → Option ErringTree
-erring_of q p = erring_by (meaning q p) p.id
+abbrev pub erring_of : Request → World → PolicyTree → Option ErringTree
+erring_of q w p = erring_by (meaning q w p) p.id
 
 -- allowed is what no forbid forbids and some permit permits
-abbrev pub allows : Request → List PolicyTree → Bool
-allows q ps = not (list_any (forbids q) ps) && list_any (permits q) ps
+abbrev pub allows : Request → World → List PolicyTree → Bool
+allows q w ps = not (list_any (forbids q w) ps) && list_any (permits q w) ps
 
 -- the decision, the ids of the policies that determine it, and the policies that err, each list in the set's order
 pub record ResponseTree : Type 0 where
@@ -57,9 +59,9 @@ abbrev pub decided : Bool → Decision
 decided true = Allow
 decided false = Deny
 
-abbrev pub response : List PolicyTree → Request → ResponseTree
-response ps q = record {
-  decision = decided (allows q ps);
-  determining = map (λ p. p.id) (filter (if allows q ps then permits q else forbids q) ps);
-  erring = filter_map (erring_of q) ps;
+abbrev pub response : List PolicyTree → Request → World → ResponseTree
+response ps q w = record {
+  decision = decided (allows q w ps);
+  determining = map (λ p. p.id) (filter (if allows q w ps then permits q w else forbids q w) ps);
+  erring = filter_map (erring_of q w) ps;
 }

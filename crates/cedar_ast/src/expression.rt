@@ -1,9 +1,11 @@
 //! Expressions, which contracts see as trees with no pointers.
 ghost use Rattle.std.specs.Prelude.{◌≡◌, IfOk};
-ghost use Rattle.cedar_ast.specs.Expression.{literal, variable, and, or, unary, binary};
+ghost use Rattle.cedar_ast.specs.Expression.{literal, variable, and, or, if_else, unary, binary, set_with, record_with, expressions_of, entries_of};
 ghost use Rattle.cedar_ast.specs.ExprKind.{expression_of};
 
-use crate::operator::{BinaryOperator, UnaryOperator, Variable};
+use crate::entries::Entries;
+use crate::operator::{BinaryOperator, UnaryOperator};
+use crate::variable::Variable;
 use cedar_value::Value;
 use std::alloc::{AllocError, Global};
 use std::marker::Model;
@@ -20,10 +22,16 @@ pub enum ExprKind {
     And(Box<Expr>, Box<Expr>),
     /// `||`; the right side is evaluated only where the left one is false.
     Or(Box<Expr>, Box<Expr>),
+    /// `if`, the condition first; one of the two branches is evaluated.
+    If(Box<Expr>, Box<Expr>, Box<Expr>),
     /// An operator on one operand.
     Unary(UnaryOperator, Box<Expr>),
     /// An operator on two operands.
     Binary(BinaryOperator, Box<Expr>, Box<Expr>),
+    /// The set of the members' values.
+    Set(Vec<Expr>),
+    /// The record of the entries' keys and values.
+    Record(Entries),
 }
 
 /// An expression, which contracts see as an `Expression`.
@@ -41,16 +49,16 @@ impl Model for Expr {
 
     ghost coded = { expression_code };
 
-    ghost use Rattle.cedar_ast.specs.Expression.{nodes};
+    ghost use Rattle.cedar_ast.specs.Depth.{depth};
     ghost use Rattle.cedar_ast.specs.ExprKind.{expression_of};
 
     ghost view = { λ e. expression_of e.kind };
 
-    ghost size = { nodes };
+    ghost size = { depth };
 
-    ghost use Rattle.cedar_ast.specs.Parts.{deep_le-nodes};
+    ghost use Rattle.cedar_ast.specs.Falls.{deep_le-depth};
 
-    ghost size_decreases = { λ e _. deep_le-nodes e.kind };
+    ghost size_decreases = { λ e _. deep_le-depth e.kind };
 }
 
 impl Expr {
@@ -93,6 +101,21 @@ impl Expr {
         Ok(Expr::new(ExprKind::Or(left, right)))
     }
 
+    /// `if condition then if_true else if_false`
+    pub fn if_else(
+        alloc: Global,
+        condition: Expr,
+        if_true: Expr,
+        if_false: Expr,
+    ) -> Result<Self, AllocError>
+        ensures { IfOk result (λ e. e ≡ if_else condition if_true if_false) }
+    {
+        let condition = Box::new(alloc, condition)?;
+        let if_true = Box::new(alloc, if_true)?;
+        let if_false = Box::new(alloc, if_false)?;
+        Ok(Expr::new(ExprKind::If(condition, if_true, if_false)))
+    }
+
     /// An operator on its operand.
     pub fn unary(alloc: Global, operator: UnaryOperator, operand: Expr) -> Result<Self, AllocError>
         ensures { IfOk result (λ e. e ≡ unary operator operand) }
@@ -115,6 +138,20 @@ impl Expr {
         Ok(Expr::new(ExprKind::Binary(operator, left, right)))
     }
 
+    /// The set of these members. Takes no memory.
+    pub fn set(members: Vec<Expr>) -> Self
+        ensures { result ≡ set_with (expressions_of members.items) }
+    {
+        Expr::new(ExprKind::Set(members))
+    }
+
+    /// The record of these entries. Takes no memory.
+    pub fn record(entries: Entries) -> Self
+        ensures { result ≡ record_with (entries_of entries) }
+    {
+        Expr::new(ExprKind::Record(entries))
+    }
+
     /// The form, with its parts, lent.
     pub fn kind(&self) -> &ExprKind
         ensures { expression_of result.now ≡ self.now }
@@ -123,31 +160,48 @@ impl Expr {
     }
 
     /// A copy, equal to the original.
+    #[cycle(copy)]
     pub fn try_clone(&self, alloc: Global) -> Result<Self, AllocError>
         ensures { IfOk result (λ e. e ≡ self.now) }
     {
-        match &self.kind {
-            ExprKind::Literal(value) => Ok(Expr::literal(value.try_clone(alloc)?)),
-            ExprKind::Variable(name) => Ok(Expr::variable(*name)),
+        let copy = match &self.kind {
+            ExprKind::Literal(value) => Expr::literal(value.try_clone(alloc)?),
+            ExprKind::Variable(name) => Expr::variable(*name),
             ExprKind::And(left, right) => {
                 let left = left.try_clone(alloc)?;
-                let copy = Expr::and(alloc, left, right.try_clone(alloc)?)?;
-                Ok(copy)
+                Expr::and(alloc, left, right.try_clone(alloc)?)?
             }
             ExprKind::Or(left, right) => {
                 let left = left.try_clone(alloc)?;
-                let copy = Expr::or(alloc, left, right.try_clone(alloc)?)?;
-                Ok(copy)
+                Expr::or(alloc, left, right.try_clone(alloc)?)?
+            }
+            ExprKind::If(condition, if_true, if_false) => {
+                let condition = condition.try_clone(alloc)?;
+                let if_true = if_true.try_clone(alloc)?;
+                Expr::if_else(alloc, condition, if_true, if_false.try_clone(alloc)?)?
             }
             ExprKind::Unary(operator, operand) => {
-                let copy = Expr::unary(alloc, *operator, operand.try_clone(alloc)?)?;
-                Ok(copy)
+                let operator = operator.try_clone(alloc)?;
+                Expr::unary(alloc, operator, operand.try_clone(alloc)?)?
             }
             ExprKind::Binary(operator, left, right) => {
                 let left = left.try_clone(alloc)?;
-                let copy = Expr::binary(alloc, *operator, left, right.try_clone(alloc)?)?;
-                Ok(copy)
+                Expr::binary(alloc, *operator, left, right.try_clone(alloc)?)?
             }
-        }
+            ExprKind::Set(members) => Expr::set(clone_members(alloc, members)?),
+            ExprKind::Record(entries) => Expr::record(entries.try_clone(alloc)?),
+        };
+        Ok(copy)
     }
+}
+
+#[cycle(copy)]
+fn clone_members(alloc: Global, members: &[Expr]) -> Result<Vec<Expr>, AllocError>
+    ensures { IfOk result (λ v. v.items ≡ members.now) }
+{
+    let mut copies = Vec::new(alloc);
+    for member in members {
+        copies.push(member.try_clone(alloc)?)?;
+    }
+    Ok(copies)
 }

@@ -1,19 +1,19 @@
-//! Why a policy is not added.
+//! Why a policy or a template is not added.
 ghost use Rattle.std.specs.Prelude.{◌≡◌};
 ghost use Rattle.cedar_ast.specs.AddFault.{number_of, refused};
 
-use crate::policy::Policy;
+use crate::statement::Statement;
 use thiserror::Error;
 
-/// Why a policy is not added to a set. The policy is handed back.
+/// Why a policy or a template is not added to a set. It is handed back.
 #[derive(Debug, Drop, Error)]
 pub enum AddFault {
     /// 1: memory was refused.
     #[error("out of memory")]
-    OutOfMemory(Policy),
-    /// 204: a policy of the set has this id already.
+    OutOfMemory(Statement),
+    /// 204: a policy or a template of the set has this id already.
     #[error("another policy has this id")]
-    DuplicateId(Policy),
+    DuplicateId(Statement),
 }
 
 impl AddFault {
@@ -27,13 +27,13 @@ impl AddFault {
         }
     }
 
-    /// The policy that was not added.
-    pub fn into_policy(self) -> Policy
+    /// What was not added.
+    pub fn into_statement(self) -> Statement
         ensures { result ≡ refused self }
     {
         match self {
-            AddFault::OutOfMemory(policy) => policy,
-            AddFault::DuplicateId(policy) => policy,
+            AddFault::OutOfMemory(statement) => statement,
+            AddFault::DuplicateId(statement) => statement,
         }
     }
 }

@@ -3,27 +3,45 @@
 //! The definitions of evaluation, of a policy's condition and of the response stand in `specs/`.
 #![tactic(auto)]
 
+mod annotation;
 mod condition;
 mod decision;
 mod effect;
+mod entries;
 mod error;
 mod expression;
 mod fault;
+mod keys;
 mod operator;
 mod policy;
 mod policy_set;
+mod record_fault;
 mod scope;
+mod statement;
+mod template;
+mod template_scope;
+mod uids;
+mod variable;
 
+pub use annotation::Annotation;
 pub use condition::{Condition, ConditionKind};
 pub use decision::Decision;
 pub use effect::Effect;
+pub use entries::Entries;
 pub use error::EvaluationError;
 pub use expression::{Expr, ExprKind};
 pub use fault::AddFault;
-pub use operator::{BinaryOperator, UnaryOperator, Variable};
+pub use keys::Keys;
+pub use operator::{BinaryOperator, UnaryOperator};
 pub use policy::Policy;
 pub use policy_set::PolicySet;
+pub use record_fault::RecordFault;
 pub use scope::{ActionScope, EntityScope, Scope};
+pub use statement::Statement;
+pub use template::Template;
+pub use template_scope::{EntityReference, TemplateEntityScope, TemplateScope};
+pub use uids::Uids;
+pub use variable::Variable;
 
 #[cfg(test)]
 mod tests;

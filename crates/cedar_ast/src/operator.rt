@@ -1,38 +1,44 @@
-//! Variables and operators.
-ghost use Rattle.std.specs.Prelude.{◌≡◌};
-ghost use Rattle.cedar_ast.specs.Evaluation.{variable_of};
+//! Operators.
+ghost use Rattle.std.specs.Prelude.{◌≡◌, IfOk};
 
-use cedar_value::{Request, Uid};
-
-/// A part of the request that an expression names (Cedar language reference, variables).
-#[derive(Clone, Copy, Debug, PartialEq, Eq)]
-pub enum Variable {
-    /// Who asks.
-    Principal,
-    /// What is to be done.
-    Action,
-    /// To what it is to be done.
-    Resource,
-}
-
-impl Variable {
-    /// The uid that the request has for the variable, lent.
-    pub fn of(self, request: &Request) -> &Uid
-        ensures { result.now ≡ variable_of self request.now }
-    {
-        match self {
-            Variable::Principal => &request.principal,
-            Variable::Action => &request.action,
-            Variable::Resource => &request.resource,
-        }
-    }
-}
+use cedar_ext::Pattern;
+use cedar_value::{Name, Text};
+use std::alloc::{AllocError, Global};
 
 /// An operator on one operand (Cedar language reference, operators).
-#[derive(Clone, Copy, Debug, PartialEq, Eq)]
+#[derive(Drop)]
 pub enum UnaryOperator {
     /// `!`, of a Boolean.
     Not,
+    /// `-`, of a number.
+    Negate,
+    /// `has a`, of a record or an entity.
+    Has(Text),
+    /// `.a` or `["a"]`, of a record or an entity.
+    Get(Text),
+    /// `like p`, of a text.
+    Like(Pattern),
+    /// `is T`, of an entity.
+    Is(Name),
+    /// `decimal(s)`, of a text.
+    Decimal,
+}
+
+impl UnaryOperator {
+    /// A copy, equal to the original.
+    pub fn try_clone(&self, alloc: Global) -> Result<Self, AllocError>
+        ensures { IfOk result (λ operator. operator ≡ self.now) }
+    {
+        match self {
+            UnaryOperator::Not => Ok(UnaryOperator::Not),
+            UnaryOperator::Negate => Ok(UnaryOperator::Negate),
+            UnaryOperator::Has(key) => Ok(UnaryOperator::Has(key.try_clone(alloc)?)),
+            UnaryOperator::Get(key) => Ok(UnaryOperator::Get(key.try_clone(alloc)?)),
+            UnaryOperator::Like(pattern) => Ok(UnaryOperator::Like(pattern.try_clone(alloc)?)),
+            UnaryOperator::Is(ty) => Ok(UnaryOperator::Is(ty.try_clone(alloc)?)),
+            UnaryOperator::Decimal => Ok(UnaryOperator::Decimal),
+        }
+    }
 }
 
 /// An operator on two operands, which are both evaluated first, the left one before the right one
@@ -43,6 +49,28 @@ pub enum BinaryOperator {
     Equal,
     /// `<`, of numbers.
     Less,
+    /// `<=`, of numbers.
+    LessEqual,
     /// `+`, of numbers.
     Add,
+    /// `-`, of numbers.
+    Subtract,
+    /// `*`, of numbers.
+    Multiply,
+    /// `in`, of an entity and an entity or a set of entities.
+    In,
+    /// `contains`, of a set and a value.
+    Contains,
+    /// `containsAll`, of sets.
+    ContainsAll,
+    /// `containsAny`, of sets.
+    ContainsAny,
+    /// `lessThan`, of decimals.
+    DecimalLess,
+    /// `lessThanOrEqual`, of decimals.
+    DecimalLessEqual,
+    /// `greaterThan`, of decimals.
+    DecimalGreater,
+    /// `greaterThanOrEqual`, of decimals.
+    DecimalGreaterEqual,
 }

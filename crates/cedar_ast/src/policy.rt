@@ -1,15 +1,16 @@
 //! Policies.
-ghost use Rattle.std.specs.Prelude.{◌≡◌, IfOk};
-ghost use Rattle.cedar_value.specs.Datum.{boolean, uid};
-ghost use Rattle.cedar_ast.specs.Expression.{literal, and, binary, variable};
-ghost use Rattle.cedar_ast.specs.Condition.{entity_scope_of, action_scope_of, conditions_of, condition_of, asked_by};
+ghost use Rattle.std.specs.Prelude.{◌≡◌, IfOk, map};
+ghost use Rattle.cedar_ast.specs.Condition.{compared, entity_literal, entity_scope_of, action_scope_of, conditions_of, condition_of, asked_by};
+ghost use Rattle.cedar_ast.specs.Expression.{and, unary, variable};
 
+use crate::annotation::Annotation;
 use crate::condition::{Condition, ConditionKind};
 use crate::effect::Effect;
 use crate::expression::Expr;
-use crate::operator::{BinaryOperator, UnaryOperator, Variable};
+use crate::operator::{BinaryOperator, UnaryOperator};
 use crate::scope::{ActionScope, EntityScope, Scope};
-use cedar_value::{Text, Uid, Value};
+use crate::variable::Variable;
+use cedar_value::{Name, Text, Uid, Value};
 use std::alloc::{AllocError, Global};
 use std::fmt;
 use std::marker::Model;
@@ -18,6 +19,7 @@ use std::marker::Model;
 #[derive(Drop)]
 pub struct Policy {
     id: Text,
+    annotations: Vec<Annotation>,
     effect: Effect,
     scope: Scope,
     conditions: Vec<Condition>,
@@ -32,19 +34,33 @@ impl Model for Policy {
 
     ghost coded = { Prim.hlevel (codes, expression_code) };
 
-    ghost view = { λ p. record { id = p.id; effect = p.effect; scope = p.scope; conditions = p.conditions.items } };
+    ghost view = { λ p. record {
+      id = p.id;
+      annotations = p.annotations.items;
+      effect = p.effect;
+      scope = p.scope;
+      conditions = p.conditions.items;
+    } };
 }
 
 impl Policy {
-    /// A policy of this id, with its conditions in order. Takes no memory.
-    pub fn new(id: Text, effect: Effect, scope: Scope, conditions: Vec<Condition>) -> Self
+    /// A policy of this id, with its annotations and its conditions in order. Takes no memory.
+    pub fn new(
+        id: Text,
+        annotations: Vec<Annotation>,
+        effect: Effect,
+        scope: Scope,
+        conditions: Vec<Condition>,
+    ) -> Self
         ensures id { result.id ≡ id }
+        ensures annotations { result.annotations ≡ annotations.items }
         ensures effect { result.effect ≡ effect }
         ensures scope { result.scope ≡ scope }
         ensures conditions { result.conditions ≡ conditions.items }
     {
         Policy {
             id,
+            annotations,
             effect,
             scope,
             conditions,
@@ -56,6 +72,13 @@ impl Policy {
         ensures { result.now ≡ self.now.id }
     {
         &self.id
+    }
+
+    /// The annotations in order, lent (Cedar language reference, annotations).
+    pub fn annotations(&self) -> &[Annotation]
+        ensures { result.now ≡ self.now.annotations }
+    {
+        &self.annotations
     }
 
     /// What the policy does where it is satisfied.
@@ -70,14 +93,9 @@ impl Policy {
     pub fn condition(&self, alloc: Global) -> Result<Expr, AllocError>
         ensures { IfOk result (λ e. e ≡ condition_of self.now) }
     {
+        let rest = from_action(alloc, &self.scope, &self.conditions)?;
         let principal = entity_scope(alloc, Variable::Principal, &self.scope.principal)?;
-        let action = action_scope(alloc, &self.scope.action)?;
-        let resource = entity_scope(alloc, Variable::Resource, &self.scope.resource)?;
-        let conditions = conditions(alloc, &self.conditions)?;
-        let resource = Expr::and(alloc, resource, conditions)?;
-        let action = Expr::and(alloc, action, resource)?;
-        let condition = Expr::and(alloc, principal, action)?;
-        Ok(condition)
+        Expr::and(alloc, principal, rest)
     }
 }
 
@@ -88,13 +106,55 @@ impl fmt::Debug for Policy {
     }
 }
 
-// `variable == uid`
-fn equal_to(alloc: Global, name: Variable, entity: &Uid) -> Result<Expr, AllocError>
-    ensures { IfOk result (λ e. e ≡ binary BinaryOperator.Equal (variable name) (literal (uid entity.now))) }
+// What is asked of the action, of the resource, and by the conditions.
+fn from_action(alloc: Global, scope: &Scope, conditions: &[Condition]) -> Result<Expr, AllocError>
+    ensures { IfOk result (λ e. e ≡ and (action_scope_of scope.now.action)
+        (and (entity_scope_of Variable.Resource scope.now.resource) (conditions_of conditions.now))) }
 {
-    let entity = Expr::literal(Value::uid(entity.try_clone(alloc)?));
-    let equal = Expr::binary(alloc, BinaryOperator::Equal, Expr::variable(name), entity)?;
-    Ok(equal)
+    let rest = from_resource(alloc, &scope.resource, conditions)?;
+    let action = action_scope(alloc, &scope.action)?;
+    Expr::and(alloc, action, rest)
+}
+
+// What is asked of the resource and by the conditions.
+fn from_resource(
+    alloc: Global,
+    scope: &EntityScope,
+    conditions: &[Condition],
+) -> Result<Expr, AllocError>
+    ensures { IfOk result (λ e. e ≡ and (entity_scope_of Variable.Resource scope.now) (conditions_of conditions.now)) }
+{
+    let conditions = all_conditions(alloc, conditions)?;
+    let resource = entity_scope(alloc, Variable::Resource, scope)?;
+    Expr::and(alloc, resource, conditions)
+}
+
+// The literal of an entity.
+fn literal(alloc: Global, entity: &Uid) -> Result<Expr, AllocError>
+    ensures { IfOk result (λ e. e ≡ entity_literal entity.now) }
+{
+    Ok(Expr::literal(Value::uid(entity.try_clone(alloc)?)))
+}
+
+// `variable == E` or `variable in E`
+fn compare(
+    alloc: Global,
+    operator: BinaryOperator,
+    name: Variable,
+    entity: &Uid,
+) -> Result<Expr, AllocError>
+    ensures { IfOk result (λ e. e ≡ compared operator name (entity_literal entity.now)) }
+{
+    let entity = literal(alloc, entity)?;
+    Expr::binary(alloc, operator, Expr::variable(name), entity)
+}
+
+// `variable is T`
+fn of_type(alloc: Global, name: Variable, ty: &Name) -> Result<Expr, AllocError>
+    ensures { IfOk result (λ e. e ≡ unary (UnaryOperator.Is ty.now) (variable name)) }
+{
+    let operator = UnaryOperator::Is(ty.try_clone(alloc)?);
+    Expr::unary(alloc, operator, Expr::variable(name))
 }
 
 // What the scope asks of the principal or the resource.
@@ -103,9 +163,13 @@ fn entity_scope(alloc: Global, name: Variable, scope: &EntityScope) -> Result<Ex
 {
     match scope {
         EntityScope::Any => Ok(Expr::literal(Value::boolean(true))),
-        EntityScope::Equal(entity) => {
-            let equal = equal_to(alloc, name, entity)?;
-            Ok(equal)
+        EntityScope::Equal(entity) => compare(alloc, BinaryOperator::Equal, name, entity),
+        EntityScope::In(entity) => compare(alloc, BinaryOperator::In, name, entity),
+        EntityScope::Is(ty) => of_type(alloc, name, ty),
+        EntityScope::IsIn(ty, entity) => {
+            let of_type = of_type(alloc, name, ty)?;
+            let within = compare(alloc, BinaryOperator::In, name, entity)?;
+            Expr::and(alloc, of_type, within)
         }
     }
 }
@@ -114,13 +178,27 @@ fn entity_scope(alloc: Global, name: Variable, scope: &EntityScope) -> Result<Ex
 fn action_scope(alloc: Global, scope: &ActionScope) -> Result<Expr, AllocError>
     ensures { IfOk result (λ e. e ≡ action_scope_of scope.now) }
 {
+    let action = Variable::Action;
     match scope {
         ActionScope::Any => Ok(Expr::literal(Value::boolean(true))),
-        ActionScope::Equal(entity) => {
-            let equal = equal_to(alloc, Variable::Action, entity)?;
-            Ok(equal)
+        ActionScope::Equal(entity) => compare(alloc, BinaryOperator::Equal, action, entity),
+        ActionScope::In(entity) => compare(alloc, BinaryOperator::In, action, entity),
+        ActionScope::InSet(entities) => {
+            let members = Expr::set(literals(alloc, entities.as_slice())?);
+            Expr::binary(alloc, BinaryOperator::In, Expr::variable(action), members)
         }
     }
+}
+
+// The literals of entities.
+fn literals(alloc: Global, entities: &[Uid]) -> Result<Vec<Expr>, AllocError>
+    ensures { IfOk result (λ v. v.items ≡ map entity_literal entities.now) }
+{
+    let mut members = Vec::new(alloc);
+    for entity in entities {
+        members.push(literal(alloc, entity)?)?;
+    }
+    Ok(members)
 }
 
 // One condition.
@@ -138,7 +216,7 @@ fn asked(alloc: Global, condition: &Condition) -> Result<Expr, AllocError>
 }
 
 // All conditions, joined from the last one to the first.
-fn conditions(alloc: Global, conditions: &[Condition]) -> Result<Expr, AllocError>
+fn all_conditions(alloc: Global, conditions: &[Condition]) -> Result<Expr, AllocError>
     ensures { IfOk result (λ e. e ≡ conditions_of conditions.now) }
 {
     let count = conditions.len();

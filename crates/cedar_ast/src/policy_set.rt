@@ -1,107 +1,135 @@
-//! Policies in order, by their ids.
-ghost use Rattle.std.specs.Prelude.{◌≡◌, ◌↔◌, [], ◌∷◌, ◌++◌, length, slice_get, Contains, OnOk, OnErr, IfErr, true, false, None, option_copied, string_bytes};
+//! Policies and templates in order, by their ids.
+ghost use Rattle.std.specs.Prelude.{◌≡◌, [], ◌∷◌, ◌++◌, length, slice_get, Contains, OnOk, OnErr, IfErr, true, false, None, option_copied, string_bytes};
 ghost use Rattle.indexmap.specs.IndexMap.{get_by_text};
-ghost use Rattle.cedar_ast.specs.PolicyIds.{ids_of, policies_in, StandAtTheirIds};
+ghost use Rattle.cedar_ast.specs.PolicySetTree.{no_policies, entered, ids_in, id_of};
+ghost use Rattle.cedar_ast.specs.PolicyIds.{keys_of};
 ghost use Rattle.cedar_ast.specs.AddFault.{refused, number_of};
 
 use crate::fault::AddFault;
 use crate::policy::Policy;
+use crate::statement::Statement;
+use crate::template::Template;
 use indexmap::IndexMap;
 use std::alloc::{AllocFailed, Global};
 use std::marker::Model;
 
-/// Policies in the order in which they were added, each with an id of its own. Contracts see the list of them.
+/// Policies and templates in the order in which they were added, each with an id of its own. Contracts see the list of
+/// the policies beside that of the templates.
 #[derive(Drop)]
 pub struct PolicySet {
     policies: IndexMap<String, Policy>,
+    templates: IndexMap<String, Template>,
 }
 
 impl Model for PolicySet {
-    ghost use Rattle.std.specs.Prelude.{List};
-    ghost use Rattle.std.specs.Coded.{codes, coded_list};
+    ghost use Rattle.std.specs.Coded.{codes};
     ghost use Rattle.cedar_ast.specs.ExpressionCode.{expression_code};
-    ghost use Rattle.cedar_ast.specs.PolicyTree.{PolicyTree};
+    ghost use Rattle.cedar_ast.specs.PolicySetTree.{PolicySetTree};
 
-    ghost Value = { List PolicyTree };
+    ghost Value = { PolicySetTree };
 
     ghost coded = { Prim.hlevel (codes, expression_code) };
 
-    ghost use Rattle.cedar_ast.specs.PolicyIds.{policies_in, StandAtTheirIds};
+    ghost use Rattle.cedar_ast.specs.PolicyIds.{values_in, StandAtTheirIds};
 
-    ghost view = { λ s. policies_in s.policies.entries };
+    ghost view = { λ s. record { policies = values_in s.policies.entries; templates = values_in s.templates.entries } };
 
-    ghost invariant = { λ s. StandAtTheirIds s.policies.entries };
+    ghost invariant = { λ s. StandAtTheirIds (λ p. p.id) s.policies.entries × StandAtTheirIds (λ t. t.id) s.templates.entries };
 }
 
 impl PolicySet {
     /// A set without policies. Takes no memory.
     pub fn new(alloc: Global) -> Self
-        ensures { result ≡ [] }
+        ensures { result ≡ no_policies }
     {
         PolicySet {
             policies: IndexMap::new(alloc),
+            templates: IndexMap::new(alloc),
         }
     }
 
-    /// How many policies there are.
+    /// How many policies there are; templates do not count.
     pub fn count(&self) -> usize
-        ensures { result ≡ length self.now }
+        ensures { result ≡ length self.now.policies }
     {
         self.policies.len()
     }
 
-    /// The policy at a position from 0, lent, if there are so many.
+    /// The policy at a position from 0, lent, if there are so many; templates do not count.
     pub fn policy(&self, position: usize) -> Option<&Policy>
-        ensures { option_copied result ≡ slice_get self.now position }
+        ensures { option_copied result ≡ slice_get self.now.policies position }
     {
         let (_, policy) = self.policies.as_slice().get_index(position)?;
         Some(policy)
     }
 
-    /// Adds a policy as the last one. A refusal hands the policy back and leaves the set as it was: 204 where a
-    /// policy of the set has its id, 1 where memory was refused.
-    pub fn add(&mut self, policy: Policy) -> Result<(), AddFault>
-        ensures ok { OnOk result (self.new ≡ self.old ++ policy ∷ []) }
-        ensures duplicate { IfErr result (λ fault. number_of fault ≡ 204 → Contains (ids_of self.old) policy.id) }
-        ensures distinct { OnOk result (Contains (ids_of self.old) policy.id → ⊥) }
+    /// How many templates there are.
+    pub fn template_count(&self) -> usize
+        ensures { result ≡ length self.now.templates }
+    {
+        self.templates.len()
+    }
+
+    /// The template at a position from 0, lent, if there are so many.
+    pub fn template(&self, position: usize) -> Option<&Template>
+        ensures { option_copied result ≡ slice_get self.now.templates position }
+    {
+        let (_, template) = self.templates.as_slice().get_index(position)?;
+        Some(template)
+    }
+
+    /// Enters a policy or a template as the last one. A refusal hands it back and leaves the set as it was: 204 where a
+    /// policy or a template of the set has its id, 1 where memory was refused.
+    pub fn add(&mut self, statement: Statement) -> Result<(), AddFault>
+        ensures ok { OnOk result (self.new ≡ entered self.old statement) }
+        ensures duplicate { IfErr result (λ fault. number_of fault ≡ 204 → Contains (ids_in self.old) (id_of statement)) }
+        ensures distinct { OnOk result (Contains (ids_in self.old) (id_of statement) → ⊥) }
         ensures unchanged { OnErr result (self.new ≡ self.old) }
-        ensures handed_back { IfErr result (λ fault. refused fault ≡ policy) }
+        ensures handed_back { IfErr result (λ fault. refused fault ≡ statement) }
     {
         let alloc = *self.policies.allocator();
-        let Ok(id) = String::from_str(alloc, policy.id().as_str()) else {
-            return Err(AddFault::OutOfMemory(policy));
+        let Ok(id) = String::from_str(alloc, statement.id().as_str()) else {
+            return Err(AddFault::OutOfMemory(statement));
         };
         if is_taken(&self.policies, id.as_str()) {
-            return Err(AddFault::DuplicateId(policy));
+            return Err(AddFault::DuplicateId(statement));
         }
-        match put(&mut self.policies, id, policy) {
-            Ok(()) => Ok(()),
-            Err(failed) => Err(AddFault::OutOfMemory(failed.value.1)),
+        if is_taken(&self.templates, id.as_str()) {
+            return Err(AddFault::DuplicateId(statement));
+        }
+        match statement {
+            Statement::Policy(policy) => match put(&mut self.policies, id, policy) {
+                Ok(()) => Ok(()),
+                Err(failed) => Err(AddFault::OutOfMemory(Statement::Policy(failed.value.1))),
+            },
+            Statement::Template(template) => match put(&mut self.templates, id, template) {
+                Ok(()) => Ok(()),
+                Err(failed) => Err(AddFault::OutOfMemory(Statement::Template(failed.value.1))),
+            },
         }
     }
 }
 
-// Whether a policy stands at the id.
-fn is_taken(policies: &IndexMap<String, Policy>, id: &str) -> bool
-    requires { StandAtTheirIds policies.now.entries }
-    ensures taken { result ≡ true → Contains (ids_of (policies_in policies.now.entries)) id.now }
-    ensures free { result ≡ false → Contains (ids_of (policies_in policies.now.entries)) id.now → ⊥ }
-    ensures absent { result ≡ false → get_by_text policies.now id.now ≡ None }
+// Whether something stands at the id.
+fn is_taken<T>(entries: &IndexMap<String, T>, id: &str) -> bool
+    ensures taken { result ≡ true → Contains (keys_of entries.now.entries) id.now }
+    ensures free { result ≡ false → Contains (keys_of entries.now.entries) id.now → ⊥ }
+    ensures absent { result ≡ false → get_by_text entries.now id.now ≡ None }
 {
-    policies.contains_key(id)
+    entries.contains_key(id)
 }
 
-// Adds a policy at an id that is free, as the last one.
-fn put(
-    policies: &mut IndexMap<String, Policy>,
+// Puts something at an id that is free, as the last one.
+fn put<T: Drop>(
+    entries: &mut IndexMap<String, T>,
     id: String,
-    policy: Policy,
-) -> Result<(), AllocFailed<(String, Policy)>>
-    requires { get_by_text policies.old (string_bytes id) ≡ None }
-    ensures ok { OnOk result (policies.new.entries ≡ policies.old.entries ++ (id, policy) ∷ []) }
-    ensures unchanged { OnErr result (policies.new.entries ≡ policies.old.entries) }
-    ensures handed_back { IfErr result (λ failed. failed.value ≡ (id, policy)) }
+    value: T,
+) -> Result<(), AllocFailed<(String, T)>>
+    requires { get_by_text entries.old (string_bytes id) ≡ None }
+    ensures ok { OnOk result (entries.new.entries ≡ entries.old.entries ++ (id, value) ∷ []) }
+    ensures unchanged { OnErr result (entries.new.entries ≡ entries.old.entries) }
+    ensures handed_back { IfErr result (λ failed. failed.value ≡ (id, value)) }
 {
-    policies.insert(id, policy)?;
+    entries.insert(id, value)?;
     Ok(())
 }

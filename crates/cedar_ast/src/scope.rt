@@ -1,5 +1,6 @@
 //! The scope of a policy.
-use cedar_value::Uid;
+use crate::uids::Uids;
+use cedar_value::{Name, Uid};
 
 /// What a policy's scope asks of the principal or the resource (Cedar language reference, policy scope).
 #[derive(Drop)]
@@ -8,6 +9,12 @@ pub enum EntityScope {
     Any,
     /// `== E`
     Equal(Uid),
+    /// `in E`
+    In(Uid),
+    /// `is T`
+    Is(Name),
+    /// `is T in E`
+    IsIn(Name, Uid),
 }
 
 /// What a policy's scope asks of the action (Cedar language reference, policy scope).
@@ -17,6 +24,10 @@ pub enum ActionScope {
     Any,
     /// `== E`
     Equal(Uid),
+    /// `in E`
+    In(Uid),
+    /// `in [E, ..]`
+    InSet(Uids),
 }
 
 /// The scope of a policy (Cedar language reference, policy scope).

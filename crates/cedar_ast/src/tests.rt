@@ -17,24 +17,73 @@ fn policy(alloc: Global, id: &str, effect: Effect) -> Result<Policy, AllocError>
         action: ActionScope::Any,
         resource: EntityScope::Any,
     };
-    Ok(Policy::new(Text::read(alloc, id)?, effect, scope, Vec::new(alloc)))
+    let id = Text::read(alloc, id)?;
+    Ok(Policy::new(id, Vec::new(alloc), effect, scope, Vec::new(alloc)))
+}
+
+/// The policy as what is entered.
+fn entry(alloc: Global, id: &str, effect: Effect) -> Result<Statement, AllocError> {
+    Ok(Statement::Policy(policy(alloc, id, effect)?))
+}
+
+fn template(alloc: Global, id: &str) -> Result<Statement, AllocError> {
+    let scope = TemplateScope {
+        principal: TemplateEntityScope::Equal(EntityReference::Slot),
+        action: ActionScope::Any,
+        resource: TemplateEntityScope::Any,
+    };
+    let id = Text::read(alloc, id)?;
+    let effect = Effect::Permit;
+    let template = Template::new(id, Vec::new(alloc), effect, scope, Vec::new(alloc));
+    Ok(Statement::Template(template))
 }
 
 #[test]
 fn a_repeated_id_is_refused(rt: HostRuntime) -> Result<(), Fail> {
     let alloc = rt.alloc();
     let mut set = PolicySet::new(alloc);
-    set.add(policy(alloc, "one", Effect::Permit)?)?;
-    set.add(policy(alloc, "two", Effect::Forbid)?)?;
-    let again = set.add(policy(alloc, "one", Effect::Forbid)?);
+    set.add(entry(alloc, "one", Effect::Permit)?)?;
+    set.add(entry(alloc, "two", Effect::Forbid)?)?;
+    let again = set.add(entry(alloc, "one", Effect::Forbid)?);
     assert_eq!(rt; set.count(), 2);
     match again {
         Ok(()) => assert!(rt; false, "the id stands twice"),
         Err(fault) => {
             assert_eq!(rt; fault.number(), 204);
-            assert_eq!(rt; fault.into_policy().effect(), Effect::Forbid);
+            assert_eq!(rt; fault.into_statement().id().as_str(), "one");
         }
     }
+    Ok(())
+}
+
+/// The template t and the policy p.
+fn both(alloc: Global) -> Result<PolicySet, Fail> {
+    let mut set = PolicySet::new(alloc);
+    set.add(template(alloc, "t")?)?;
+    set.add(entry(alloc, "p", Effect::Permit)?)?;
+    Ok(set)
+}
+
+#[test]
+fn templates_and_policies_share_the_ids(rt: HostRuntime) -> Result<(), Fail> {
+    let alloc = rt.alloc();
+    let mut set = both(alloc)?;
+    let policy = set.add(entry(alloc, "t", Effect::Permit)?);
+    assert!(rt; matches!(&policy, Err(AddFault::DuplicateId(_))));
+    let template = set.add(template(alloc, "p")?);
+    assert!(rt; matches!(&template, Err(AddFault::DuplicateId(_))));
+    Ok(())
+}
+
+#[test]
+fn templates_do_not_count_as_policies(rt: HostRuntime) -> Result<(), Fail> {
+    let alloc = rt.alloc();
+    let set = both(alloc)?;
+    assert_eq!(rt; set.count(), 1);
+    assert_eq!(rt; set.template_count(), 1);
+    let template = set.template(0).ok_or("no template")?;
+    assert_eq!(rt; template.id().as_str(), "t");
+    assert!(rt; set.template(1).is_none());
     Ok(())
 }
 
@@ -42,8 +91,8 @@ fn a_repeated_id_is_refused(rt: HostRuntime) -> Result<(), Fail> {
 fn policies_stand_in_the_order_of_entry(rt: HostRuntime) -> Result<(), Fail> {
     let alloc = rt.alloc();
     let mut set = PolicySet::new(alloc);
-    set.add(policy(alloc, "b", Effect::Permit)?)?;
-    set.add(policy(alloc, "a", Effect::Forbid)?)?;
+    set.add(entry(alloc, "b", Effect::Permit)?)?;
+    set.add(entry(alloc, "a", Effect::Forbid)?)?;
     let first = set.policy(0).ok_or("no first policy")?;
     assert_eq!(rt; first.id().as_str(), "b");
     assert_eq!(rt; first.effect(), Effect::Permit);
@@ -66,6 +115,12 @@ fn shape(alloc: Global, expression: &Expr) -> Result<String, AllocError> {
             let right = shape(alloc, right)?;
             format!(in alloc; "({left} || {right})")
         }
+        ExprKind::If(condition, if_true, if_false) => {
+            let condition = shape(alloc, condition)?;
+            let if_true = shape(alloc, if_true)?;
+            let if_false = shape(alloc, if_false)?;
+            format!(in alloc; "({condition} ? {if_true} : {if_false})")
+        }
         ExprKind::Unary(_, operand) => {
             let operand = shape(alloc, operand)?;
             format!(in alloc; "!{operand}")
@@ -75,6 +130,8 @@ fn shape(alloc: Global, expression: &Expr) -> Result<String, AllocError> {
             let right = shape(alloc, right)?;
             format!(in alloc; "({left} = {right})")
         }
+        ExprKind::Set(_) => String::from_str(alloc, "[]"),
+        ExprKind::Record(_) => String::from_str(alloc, "{}"),
     }
 }
 
@@ -97,12 +154,34 @@ fn a_condition_asks_the_scope_before_the_rest(rt: HostRuntime) -> Result<(), Fai
         kind: ConditionKind::Unless,
         body: Expr::variable(Variable::Resource),
     })?;
-    let policy = Policy::new(Text::read(alloc, "p")?, Effect::Permit, scope, conditions);
+    let id = Text::read(alloc, "p")?;
+    let policy = Policy::new(id, Vec::new(alloc), Effect::Permit, scope, conditions);
     let condition = policy.condition(alloc)?;
     let shape = shape(alloc, &condition)?;
     assert_eq!(rt;
         shape.as_str(),
         "((x = v) && (v && (v && ((x || v) && !x))))"
     );
+    Ok(())
+}
+
+#[test]
+fn a_record_with_a_repeated_key_is_refused(rt: HostRuntime) -> Result<(), Fail> {
+    let alloc = rt.alloc();
+    let mut pairs = Vec::new(alloc);
+    pairs.push((Text::read(alloc, "a")?, Expr::variable(Variable::Context)))?;
+    pairs.push((Text::read(alloc, "b")?, Expr::variable(Variable::Action)))?;
+    let entries = Entries::new(alloc, pairs)?;
+    assert_eq!(rt; entries.pairs().len(), 2);
+    let mut pairs = Vec::new(alloc);
+    pairs.push((Text::read(alloc, "a")?, Expr::variable(Variable::Context)))?;
+    pairs.push((Text::read(alloc, "a")?, Expr::variable(Variable::Action)))?;
+    match Entries::new(alloc, pairs) {
+        Ok(_) => assert!(rt; false, "the key stands twice"),
+        Err(fault) => {
+            assert_eq!(rt; fault.number(), 203);
+            assert_eq!(rt; fault.into_pairs().len(), 2);
+        }
+    }
     Ok(())
 }

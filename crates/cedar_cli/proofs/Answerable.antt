@@ -1,5 +1,5 @@
 -- It can't be that a line has no answer.
-use Rattle.std.proofs.Common.{◌≡◌, List, ℕ, Option, None, Some, refl, inl, inr}
+use Rattle.std.proofs.Common.{◌≡◌, List, [], ℕ, Option, None, Some, refl, inl, inr}
 use Rattle.serde_json.specs.Data.{Data}
 use Rattle.serde_json.specs.Written.{compact_text}
 use Rattle.cedar_ast.specs.PolicyTree.{PolicyTree}
@@ -13,7 +13,7 @@ answered_by ps line None e = λ none. none (compact_text (refused_data 501), inr
 answered_by ps line (Some d) e = λ none.
     none (
       compact_text (refused_data 502),
-      inr (502, inr (refl, (d, e, λ q h. none (compact_text (response_data (response ps q)), inl (q, h, refl)))), refl),
+      inr (502, inr (refl, (d, e, λ q h. none (compact_text (response_data (response ps q [])), inl (q, h, refl)))), refl),
     )
 
 pub answered : (ps : List PolicyTree) (line : List ℕ) → ¬ ¬ ((text : List ℕ) × Answers ps line text)

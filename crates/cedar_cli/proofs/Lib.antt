@@ -4,7 +4,6 @@ pub mod Steps
 pub mod MemberCounts
 pub mod Pairs
 pub mod PolicyFiles
-pub mod Readings
 pub mod Requests
 pub mod Responses
 pub mod Serving

@@ -26,18 +26,18 @@ none_where test (p ∷ ps) = none_by (test p) (list_any test ps) p (filter test 
 
 chosen : (q : Request) (ps : List PolicyTree) (b : Bool) → ResponseTree
 chosen q ps b =
-    if b then record { decision = Allow; determining = ids_where (permits q) ps; erring = filter_map (erring_of q) ps }
-    else record { decision = Deny; determining = ids_where (forbids q) ps; erring = filter_map (erring_of q) ps }
+    if b then record { decision = Allow; determining = ids_where (permits q []) ps; erring = filter_map (erring_of q []) ps }
+    else record { decision = Deny; determining = ids_where (forbids q []) ps; erring = filter_map (erring_of q []) ps }
 
 chosen_is : (q : Request) (ps : List PolicyTree) (b : Bool)
-    → chosen q ps b ≡ record { decision = decided b; determining = map (λ p. p.id) (filter (if b then permits q else forbids q) ps); erring = filter_map (erring_of q) ps }
+    → chosen q ps b ≡ record { decision = decided b; determining = map (λ p. p.id) (filter (if b then permits q [] else forbids q []) ps); erring = filter_map (erring_of q []) ps }
 unfolding chosen
 chosen_is q ps true = refl
 chosen_is q ps false = refl
 
-pub response_by-tally : (q : Request) (ps : List PolicyTree) → response_by (tally_of q ps) ≡ response ps q
+pub response_by-tally : (q : Request) (ps : List PolicyTree) → response_by (tally_of q ps) ≡ response ps q []
 unfolding chosen
 response_by-tally q ps =
-    let same : ((length (ids_where (forbids q) ps) == 0) && not (length (ids_where (permits q) ps) == 0)) ≡ allows q ps =
-    ap₂ (λ (x y : Bool). x && y) (none_where (forbids q) ps) (ap not (none_where (permits q) ps) ∙ not_not (list_any (permits q) ps)) in
-    ap (chosen q ps) same ∙ chosen_is q ps (allows q ps)
+    let same : ((length (ids_where (forbids q []) ps) == 0) && not (length (ids_where (permits q []) ps) == 0)) ≡ allows q [] ps =
+    ap₂ (λ (x y : Bool). x && y) (none_where (forbids q []) ps) (ap not (none_where (permits q []) ps) ∙ not_not (list_any (permits q []) ps)) in
+    ap (chosen q ps) same ∙ chosen_is q ps (allows q [] ps)

@@ -5,15 +5,15 @@ use Rattle.std.proofs.Math.Seq.{take-suc}
 use Rattle.std.proofs.lemmas.List.{map-append}
 use Rattle.std.proofs.lemmas.List.Elements.{filter-append, filter_map-append}
 use Rattle.std.proofs.lemmas.Option.{slice_get_within, get_or_from_slice_get, slice_get_read, slice_get-map}
-use Rattle.cedar_value.specs.Datum.{boolean}
+use Rattle.cedar_value.specs.Datum.{Datum, boolean}
 use Rattle.cedar_value.specs.declared.request.Request.{Request}
 use Rattle.cedar_ast.specs.declared.effect.Effect.{Effect}
 use Rattle.cedar_ast.specs.declared.effect.Effect.TheVariants.{Permit, Forbid}
-use Rattle.cedar_ast.specs.Evaluation.{Answer}
+use Rattle.cedar_ast.specs.Answer.{Answer}
 use Rattle.cedar_ast.specs.PolicyTree.{PolicyTree}
 use Rattle.cedar_ast.specs.Response.{ErringTree, meaning, is_true, is_permit, permits, forbids, erring_by, erring_of}
-use Rattle.cedar_machine.specs.declared.instruction.Instruction.{Instruction}
-use Rattle.cedar_machine.specs.CodeView.{CodeView}
+use Rattle.cedar_code.specs.declared.instruction.Instruction.{Instruction}
+use Rattle.cedar_code.specs.CodeView.{CodeView}
 use Rattle.cedar_cli.specs.Codes.{policy_code, AreCodesOf}
 use Rattle.cedar_cli.specs.Tally.{TallyTree, ids_where, tally_of, Verdict, verdict_of, entered}
 
@@ -40,7 +40,7 @@ same_tally : (a b c d : List (List ℕ)) (e f : List ErringTree) → a ≡ b →
 same_tally a b c d e f p q r = cc
 
 -- the tally with one more policy, part by part
-entered_by : (t : TallyTree) (id : List ℕ) (effect : Effect) (a : Answer)
+entered_by : (t : TallyTree) (id : List ℕ) (effect : Effect) (a : Answer Datum)
     → tally (t.permits ++ (if is_permit effect && is_true a then id ∷ [] else []))
     (t.forbids ++ (if not (is_permit effect) && is_true a then id ∷ [] else [])) (t.erring ++ cons_option (erring_by a id) [])
     ≡ entered t id effect (verdict_of a)
@@ -56,14 +56,14 @@ entered_by t id Forbid (Ok _) = simp append-nil
 
 -- one more policy is run
 tally_of-append : (q : Request) (ps : List PolicyTree) (p : PolicyTree)
-    → tally_of q (ps ++ p ∷ []) ≡ entered (tally_of q ps) p.id p.effect (verdict_of (meaning q p))
+    → tally_of q (ps ++ p ∷ []) ≡ entered (tally_of q ps) p.id p.effect (verdict_of (meaning q [] p))
 unfolding tally
 tally_of-append q ps p =
-    same_tally _ _ _ _ _ _ (ids_where-append (permits q) ps p) (ids_where-append (forbids q) ps p) (filter_map-append (erring_of q) ps (p ∷ []))
-    ∙ entered_by (tally_of q ps) p.id p.effect (meaning q p)
+    same_tally _ _ _ _ _ _ (ids_where-append (permits q []) ps p) (ids_where-append (forbids q []) ps p) (filter_map-append (erring_of q []) ps (p ∷ []))
+    ∙ entered_by (tally_of q ps) p.id p.effect (meaning q [] p)
 
 pub tally_of-next : (q : Request) (ps : List PolicyTree) (i : ℕ) (p : PolicyTree) (t t' : TallyTree) (id : List ℕ) (effect : Effect) (v : Verdict)
-    → Some p ≡ slice_get ps i → t ≡ tally_of q (take i ps) → t' ≡ entered t id effect v → id ≡ p.id → effect ≡ p.effect → v ≡ verdict_of (meaning q p)
+    → Some p ≡ slice_get ps i → t ≡ tally_of q (take i ps) → t' ≡ entered t id effect v → id ≡ p.id → effect ≡ p.effect → v ≡ verdict_of (meaning q [] p)
     → t' ≡ tally_of q (take (i + 1) ps)
 tally_of-next q ps i p t t' id effect v at was is same_id same_effect same_verdict =
     is

@@ -2,9 +2,9 @@
 use Rattle.std.specs.Prelude.{◌≡◌, List, map}
 use Rattle.cedar_ast.specs.PolicyTree.{PolicyTree}
 use Rattle.cedar_ast.specs.Condition.{condition_of}
-use Rattle.cedar_machine.specs.declared.instruction.Instruction.{Instruction}
-use Rattle.cedar_machine.specs.Code.{code_of}
-use Rattle.cedar_machine.specs.CodeView.{CodeView}
+use Rattle.cedar_code.specs.declared.instruction.Instruction.{Instruction}
+use Rattle.cedar_code.specs.Code.{code_of}
+use Rattle.cedar_code.specs.CodeView.{CodeView}
 
 -- the code of a policy's condition
 abbrev pub policy_code : PolicyTree → List Instruction

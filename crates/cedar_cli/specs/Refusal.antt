@@ -1,8 +1,9 @@
 -- The JSON that tells which file is refused.
-use Rattle.std.specs.Prelude.{ℕ, List, codes}
-use Rattle.serde_json.specs.Data.{Data, number, unsigned, string, object, no_members, member}
+use Rattle.std.specs.Prelude.{ℕ, List, Option, None, Some, codes}
+use Rattle.serde_json.specs.Data.{Data, Members, number, unsigned, string, object, no_members, member}
 use Rattle.cedar_cli.specs.declared.files.Role.{Role}
 use Rattle.cedar_cli.specs.declared.files.Role.TheVariants.{Schema, Policies, Links, Entities}
+use Rattle.cedar_cli.specs.declared.refusal.FileRefusal.{FileRefusal}
 
 abbrev pub file_name : Role → List ℕ
 file_name Schema = codes "schema"
@@ -10,6 +11,15 @@ file_name Policies = codes "policies"
 file_name Links = codes "links"
 file_name Entities = codes "entities"
 
--- `{"file":F,"refused":N}`
-abbrev pub refusal_data : Role → ℕ → Data
-refusal_data role n = object (member (codes "file") (string (file_name role)) (member (codes "refused") (number (unsigned n)) no_members))
+-- `"offset":N`, where the fault has a place
+abbrev pub with_offset : Option ℕ → Members → Members
+with_offset None others = others
+with_offset (Some at) others = member (codes "offset") (number (unsigned at)) others
+
+-- `{"file":F,"offset":O,"refused":N}`
+abbrev pub refusal_of : Role → Option ℕ → ℕ → Data
+refusal_of role offset n =
+    object (member (codes "file") (string (file_name role)) (with_offset offset (member (codes "refused") (number (unsigned n)) no_members)))
+
+abbrev pub refusal_data : Role → FileRefusal → Data
+refusal_data role refusal = refusal_of role refusal.offset refusal.number

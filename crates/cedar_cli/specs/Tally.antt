@@ -1,12 +1,13 @@
 -- Help for proofs: what is gathered while the policies run one after the other. Only private contracts cite it.
 use Rattle.std.specs.Prelude.{ℕ, Bool, true, false, ◌==◌, not, ◌&&◌, if◌then◌else◌, List, [], ◌∷◌, ◌++◌, length, map, filter, Result, Ok, Err}
 use Rattle.std.specs.List.{filter_map}
+use Rattle.cedar_value.specs.Datum.{Datum}
 use Rattle.cedar_value.specs.declared.request.Request.{Request}
 use Rattle.cedar_ast.specs.declared.effect.Effect.{Effect}
 use Rattle.cedar_ast.specs.declared.effect.Effect.TheVariants.{Permit, Forbid}
 use Rattle.cedar_ast.specs.declared.decision.Decision.TheVariants.{Allow, Deny}
 use Rattle.cedar_ast.specs.declared.error.EvaluationError.{EvaluationError}
-use Rattle.cedar_ast.specs.Evaluation.{Answer}
+use Rattle.cedar_ast.specs.Answer.{Answer}
 use Rattle.cedar_ast.specs.PolicyTree.{PolicyTree}
 use Rattle.cedar_ast.specs.Response.{ErringTree, ResponseTree, is_true, permits, forbids, erring_of}
 
@@ -22,16 +23,16 @@ ids_where test ps = map (λ p. p.id) (filter test ps)
 -- what these policies gather
 abbrev pub tally_of : Request → List PolicyTree → TallyTree
 tally_of q ps = record {
-  permits = ids_where (permits q) ps;
-  forbids = ids_where (forbids q) ps;
-  erring = filter_map (erring_of q) ps;
+  permits = ids_where (permits q []) ps;
+  forbids = ids_where (forbids q []) ps;
+  erring = filter_map (erring_of q []) ps;
 }
 
 -- whether a policy's condition is true, or its error
 abbrev pub Verdict : Type 0
 Verdict = Result Bool EvaluationError
 
-abbrev pub verdict_of : Answer → Verdict
+abbrev pub verdict_of : Answer Datum → Verdict
 verdict_of (Ok v) = Ok (is_true (Ok v))
 verdict_of (Err e) = Err e
 

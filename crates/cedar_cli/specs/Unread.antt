@@ -1,10 +1,10 @@
--- Help for proofs: the number of a refused policy file. Only private contracts cite it.
-use Rattle.std.specs.Prelude.{ℕ}
+-- Help for proofs: the refusal of a policy file. Only private contracts cite it.
+use Rattle.cedar_cli.specs.declared.refusal.FileRefusal.{FileRefusal}
 use Rattle.cedar_cli.specs.declared.authorizing.Unread.{Unread}
 use Rattle.cedar_cli.specs.declared.authorizing.Unread.TheVariants.{Refused, Unnamed, Device, Memory}
 
-abbrev pub IfRefused : Unread → (ℕ → Type 0) → Type 0
-IfRefused (Refused n) P = P n
+abbrev pub IfRefused : Unread → (FileRefusal → Type 0) → Type 0
+IfRefused (Refused r) P = P r
 IfRefused Unnamed P = Unit {0}
 IfRefused Device P = Unit {0}
 IfRefused Memory P = Unit {0}

@@ -1,7 +1,7 @@
 //! The subcommand `authorize`.
-ghost use Rattle.std.specs.Prelude.{◌≡◌, ◌⊎◌, ℕ, List, ◌-◌, ◌<◌, ◌^◌, ◌++◌, [], ◌∷◌, None, IfOk, IfErr, IfSome, IsErrOf};
+ghost use Rattle.std.specs.Prelude.{◌≡◌, ◌⊎◌, ◌-◌, ◌<◌, ◌^◌, ◌++◌, [], ◌∷◌, None, IfOk, IfErr, IfSome, IsErrOf};
 ghost use Rattle.serde_json.specs.Written.{compact_text};
-ghost use Rattle.cedar_ast.specs.PolicyTree.{PolicyTree};
+ghost use Rattle.cedar_ast.specs.PolicySetTree.{PolicySetTree};
 ghost use Rattle.cedar_cli.specs.Answers.{Answers};
 ghost use Rattle.cedar_cli.specs.AnswerText.{IsAnswerText, Writes};
 ghost use Rattle.cedar_cli.specs.Lines.{line_feed};
@@ -13,25 +13,25 @@ use crate::ending::End;
 use crate::files::{FileFault, Files, Role};
 use crate::first::fault::ServeFault;
 use crate::first::output::flush;
-use crate::first::reading::ReadFault;
 use crate::first::sink::Sink;
 use crate::first::source::Source;
-use crate::first::{Ready, read, serve};
-use crate::refusal::refusal_line;
+use crate::first::{Ready, serve};
+use crate::refusal::{FileRefusal, refusal_line};
 use cedar_ast::PolicySet;
-use cedar_machine::CodeFault;
+use cedar_code::CodeFault;
+use cedar_parser::parse;
 use std::alloc::Global;
 
 /// 105: a policy file that is no UTF-8.
 const NO_UTF8: u16 = 105;
 
-/// 201: a policy file that is no policy text.
-const NO_POLICY_TEXT: u16 = 201;
+/// 1: want of memory.
+const OUT_OF_MEMORY: u16 = 1;
 
 /// Why the policy file gives no policies.
 enum Unread {
-    /// It is refused, by this number.
-    Refused(u16),
+    /// It is refused.
+    Refused(FileRefusal),
     /// The command line names none.
     Unnamed,
     /// It can't be read.
@@ -42,9 +42,9 @@ enum Unread {
 
 /// The policies of the policy file.
 fn read_policies<F: Files>(alloc: Global, files: &F) -> Result<PolicySet, Unread>
-    ensures found { IfOk result (λ policies. IfSome (F.holds files.now Role.Policies) (λ held. HoldsPolicies held policies)) }
-    ensures refused { IfErr result (λ unread. IfRefused unread (λ number.
-        IfSome (F.holds files.now Role.Policies) (λ held. HasRefusal held number))) }
+    ensures found { IfOk result (λ set. IfSome (F.holds files.now Role.Policies) (λ held. HoldsPolicies held set)) }
+    ensures refused { IfErr result (λ unread. IfRefused unread (λ refusal.
+        IfSome (F.holds files.now Role.Policies) (λ held. HasRefusal held refusal))) }
     ensures unnamed { IsErrOf result Unread.Unnamed → IfSome (F.holds files.now Role.Policies) (λ held. held ≡ None) }
     ensures device { IsErrOf result Unread.Device → F.holds files.now Role.Policies ≡ None }
 {
@@ -55,24 +55,29 @@ fn read_policies<F: Files>(alloc: Global, files: &F) -> Result<PolicySet, Unread
         Err(FileFault::Memory) => return Err(Unread::Memory),
     };
     let Ok(text) = str::from_utf8(&bytes) else {
-        return Err(Unread::Refused(NO_UTF8));
+        return Err(Unread::Refused(FileRefusal::whole(NO_UTF8)));
     };
-    match read(alloc, text) {
+    match parse(alloc, text) {
         Ok(policies) => Ok(policies),
-        Err(ReadFault::OutOfMemory) => Err(Unread::Memory),
-        Err(ReadFault::Syntax) => Err(Unread::Refused(NO_POLICY_TEXT)),
+        Err(fault) => match fault.number() {
+            OUT_OF_MEMORY => Err(Unread::Memory),
+            number => {
+                let offset = fault.offset();
+                Err(Unread::Refused(FileRefusal { number, offset }))
+            }
+        },
     }
 }
 
 /// Tells that a file is refused.
-fn refuse<K: Sink>(alloc: Global, role: Role, number: u16, sink: &mut K) -> End
+fn refuse<K: Sink>(alloc: Global, role: Role, refusal: FileRefusal, sink: &mut K) -> End
     requires { K.failed sink.old < 2 ^ 64 - 1 }
     ensures refused { result ≡ End.Refused → Writes (K.written sink.old) (K.written sink.new)
-        (λ text. text ≡ compact_text (refusal_data role number) ++ line_feed ∷ []) }
+        (λ text. text ≡ compact_text (refusal_data role refusal) ++ line_feed ∷ []) }
     ensures device { result ≡ End.Device → K.failed sink.old < K.failed sink.new }
     ensures others { (result ≡ End.Done → ⊥) × (result ≡ End.Faults → ⊥) × (result ≡ End.CommandLine → ⊥) }
 {
-    let Ok(mut line) = refusal_line(alloc, role, number) else {
+    let Ok(mut line) = refusal_line(alloc, role, refusal) else {
         return End::Memory;
     };
     match flush(&mut line, sink) {
@@ -84,8 +89,8 @@ fn refuse<K: Sink>(alloc: Global, role: Role, number: u16, sink: &mut K) -> End
 /// Reads the policies and answers each request line of the source by an answer line to the sink.
 ///
 /// `Done` where all lines were answered. `Refused` where the policy file is refused: one line, as
-/// `{"file":"policies","refused":201}`, tells by which number (105 where it is no UTF-8, 701 where the code of a policy
-/// is too long). `CommandLine` where no policy file is named. `Device` where it can't be read, or where the source or
+/// `{"file":"policies","offset":43,"refused":104}`, tells by which number and where the fault is (105, with no place, where
+/// it is no UTF-8; 701, with none, where the code of a policy is too long). `CommandLine` where no policy file is named. `Device` where it can't be read, or where the source or
 /// the sink failed; `Memory` where memory ran out. What was answered before stays written.
 pub fn authorize<F: Files, S: Source, K: Sink>(
     alloc: Global,
@@ -96,12 +101,12 @@ pub fn authorize<F: Files, S: Source, K: Sink>(
     requires source_count { S.failed source.old < 2 ^ 64 - 1 }
     requires sink_count { K.failed sink.old < 2 ^ 64 - 1 }
 
-    ensures done { result ≡ End.Done → (policies : List PolicyTree)
-        × IfSome (F.holds files.now Role.Policies) (λ held. HoldsPolicies held policies) × IfSome (S.left source.old) (λ input.
-        Writes (K.written sink.old) (K.written sink.new) (IsAnswerText (Answers policies) input)) }
-    ensures refused { result ≡ End.Refused → (number : ℕ)
-        × IfSome (F.holds files.now Role.Policies) (λ held. HasRefusal held number)
-        × Writes (K.written sink.old) (K.written sink.new) (λ text. text ≡ compact_text (refusal_data Role.Policies number) ++ line_feed ∷ []) }
+    ensures done { result ≡ End.Done → (set : PolicySetTree)
+        × IfSome (F.holds files.now Role.Policies) (λ held. HoldsPolicies held set) × IfSome (S.left source.old) (λ input.
+        Writes (K.written sink.old) (K.written sink.new) (IsAnswerText (Answers set.policies) input)) }
+    ensures refused { result ≡ End.Refused → (refusal : FileRefusal)
+        × IfSome (F.holds files.now Role.Policies) (λ held. HasRefusal held refusal)
+        × Writes (K.written sink.old) (K.written sink.new) (λ text. text ≡ compact_text (refusal_data Role.Policies refusal) ++ line_feed ∷ []) }
     ensures unnamed { result ≡ End.CommandLine → IfSome (F.holds files.now Role.Policies) (λ held. held ≡ None) }
     ensures device { result ≡ End.Device → (F.holds files.now Role.Policies ≡ None)
         ⊎ (S.failed source.old < S.failed source.new) ⊎ (K.failed sink.old < K.failed sink.new) }
@@ -109,7 +114,7 @@ pub fn authorize<F: Files, S: Source, K: Sink>(
 {
     let policies = match read_policies(alloc, files) {
         Ok(policies) => policies,
-        Err(Unread::Refused(number)) => return refuse(alloc, Role::Policies, number, sink),
+        Err(Unread::Refused(refusal)) => return refuse(alloc, Role::Policies, refusal, sink),
         Err(Unread::Unnamed) => return End::CommandLine,
         Err(Unread::Device) => return End::Device,
         Err(Unread::Memory) => return End::Memory,
@@ -118,7 +123,8 @@ pub fn authorize<F: Files, S: Source, K: Sink>(
         Ok(ready) => ready,
         Err(CodeFault::OutOfMemory) => return End::Memory,
         Err(CodeFault::TooLong) => {
-            return refuse(alloc, Role::Policies, CodeFault::TooLong.number(), sink);
+            let refusal = FileRefusal::whole(CodeFault::TooLong.number());
+            return refuse(alloc, Role::Policies, refusal, sink);
         }
     };
     match serve(alloc, &ready, source, sink) {

@@ -7,7 +7,6 @@ pub mod lines;
 pub mod memory;
 pub(crate) mod output;
 pub mod piecewise;
-pub mod reading;
 pub mod ready;
 pub mod request_line;
 pub mod response;
@@ -17,6 +16,5 @@ pub mod source;
 pub mod standard;
 pub mod tally;
 
-pub use reading::read;
 pub use ready::Ready;
 pub use serving::serve;

@@ -1,13 +1,34 @@
 //! The line that tells which file is refused.
-ghost use Rattle.std.specs.Prelude.{◌≡◌, ℕ, List, ◌++◌, [], ◌∷◌, IfOk, OnOk};
+ghost use Rattle.std.specs.Prelude.{◌≡◌, List, ◌++◌, [], ◌∷◌, None, Some, IfOk, OnOk};
 ghost use Rattle.serde_json.specs.Written.{compact_text};
 ghost use Rattle.cedar_cli.specs.Lines.{line_feed};
-ghost use Rattle.cedar_cli.specs.Refusal.{file_name, refusal_data};
+ghost use Rattle.cedar_cli.specs.Refusal.{file_name, refusal_of, refusal_data};
 ghost use Rattle.cedar_cli.specs.Tokens.{data_tokens};
 
 use crate::files::Role;
 use json::Writer;
 use std::alloc::{AllocError, Global};
+
+/// Why a file is refused.
+#[derive(Clone, Copy, Debug, PartialEq, Eq)]
+pub struct FileRefusal {
+    /// The number of the refusal.
+    pub number: u16,
+    /// Where in the file the fault is, in bytes from 0, if it has a place.
+    pub offset: Option<usize>,
+}
+
+impl FileRefusal {
+    /// A refusal of the whole file.
+    pub fn whole(number: u16) -> Self
+        ensures { result ≡ record { number = number; offset = None } }
+    {
+        FileRefusal {
+            number,
+            offset: None,
+        }
+    }
+}
 
 fn file_name(role: Role) -> &'static str
     ensures { result.now ≡ file_name role }
@@ -20,8 +41,9 @@ fn file_name(role: Role) -> &'static str
     }
 }
 
-fn write_refusal(writer: &mut Writer, role: Role, number: u16) -> Result<(), AllocError>
-    ensures tokens { OnOk result (writer.new.tokens ≡ writer.old.tokens ++ data_tokens (refusal_data role number)) }
+// `{"file":F,"refused":N}`
+fn write_whole(writer: &mut Writer, role: Role, number: u16) -> Result<(), AllocError>
+    ensures tokens { OnOk result (writer.new.tokens ≡ writer.old.tokens ++ data_tokens (refusal_of role None number)) }
     ensures before { writer.new.before ≡ writer.old.before }
 {
     writer.begin_object()?;
@@ -33,12 +55,43 @@ fn write_refusal(writer: &mut Writer, role: Role, number: u16) -> Result<(), All
     Ok(())
 }
 
-/// The line that tells that a file is refused, and by which number: `{"file":"policies","refused":201}` and LF.
-pub fn refusal_line(alloc: Global, role: Role, number: u16) -> Result<Vec<u8>, AllocError>
-    ensures { IfOk result (λ line. line.items ≡ compact_text (refusal_data role number) ++ line_feed ∷ []) }
+// `{"file":F,"offset":O,"refused":N}`
+fn write_placed(
+    writer: &mut Writer,
+    role: Role,
+    offset: usize,
+    number: u16,
+) -> Result<(), AllocError>
+    ensures tokens { OnOk result (writer.new.tokens ≡ writer.old.tokens ++ data_tokens (refusal_of role (Some offset) number)) }
+    ensures before { writer.new.before ≡ writer.old.before }
+{
+    writer.begin_object()?;
+    writer.key("file")?;
+    writer.string(file_name(role))?;
+    writer.key("offset")?;
+    writer.u64(offset as u64)?;
+    writer.key("refused")?;
+    writer.u64(u64::from(number))?;
+    writer.end_object()?;
+    Ok(())
+}
+
+fn write_refusal(writer: &mut Writer, role: Role, refusal: FileRefusal) -> Result<(), AllocError>
+    ensures tokens { OnOk result (writer.new.tokens ≡ writer.old.tokens ++ data_tokens (refusal_data role refusal)) }
+    ensures before { writer.new.before ≡ writer.old.before }
+{
+    match refusal.offset {
+        None => write_whole(writer, role, refusal.number),
+        Some(offset) => write_placed(writer, role, offset, refusal.number),
+    }
+}
+
+/// The line that tells that a file is refused, why and where: `{"file":"policies","offset":43,"refused":104}` and LF.
+pub fn refusal_line(alloc: Global, role: Role, refusal: FileRefusal) -> Result<Vec<u8>, AllocError>
+    ensures { IfOk result (λ line. line.items ≡ compact_text (refusal_data role refusal) ++ line_feed ∷ []) }
 {
     let mut writer = Writer::new(Vec::new(alloc));
-    write_refusal(&mut writer, role, number)?;
+    write_refusal(&mut writer, role, refusal)?;
     let mut line = writer.into_inner();
     line.push(b'\n')?;
     Ok(line)

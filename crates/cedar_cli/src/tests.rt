@@ -104,10 +104,14 @@ fn cuts_lines_at_line_feeds(rt: HostRuntime) -> Result<(), Fail> {
 
 #[test]
 fn refuses_policy_files(rt: HostRuntime) {
-    let rows: [(&[u8], &[u8]); 2] = [
+    let rows: [(&[u8], &[u8]); 3] = [
         (
             b"permit(principal, action, resource)",
-            b"{\"file\":\"policies\",\"refused\":201}\n",
+            b"{\"file\":\"policies\",\"offset\":35,\"refused\":201}\n",
+        ),
+        (
+            b"permit(principal, action, resource) when { 1 < 9223372036854775808 };",
+            b"{\"file\":\"policies\",\"offset\":47,\"refused\":104}\n",
         ),
         (b"\xff", b"{\"file\":\"policies\",\"refused\":105}\n"),
     ];

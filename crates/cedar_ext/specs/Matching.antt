@@ -1,5 +1,5 @@
 -- When a pattern matches a text (Cedar language reference, like; cedar-spec, Lean: Cedar.Spec.Wildcard).
-use Rattle.std.specs.Prelude.{◌≡◌, ℕ, List, [], ◌∷◌, ◌++◌}
+use Rattle.std.specs.Prelude.{◌≡◌, ℕ, nat_eq, Bool, true, false, ◌&&◌, ◌||◌, List, [], ◌∷◌, ◌++◌}
 use Rattle.cedar_ext.specs.declared.pattern.Element.{Element}
 use Rattle.cedar_ext.specs.declared.pattern.Element.TheVariants.{Character, Star}
 
@@ -12,3 +12,16 @@ IsPiece Star piece = Unit {0}
 abbrev pub IsMatch : List Element → List ℕ → Type 0
 IsMatch [] cs = cs ≡ []
 IsMatch (e ∷ es) cs = (piece rest : List ℕ) × (cs ≡ piece ++ rest) × IsPiece e piece × IsMatch es rest
+
+-- whether the test holds of the characters, or of what is left behind some of the first ones
+abbrev pub on_some_rest : (List ℕ → Bool) → List ℕ → Bool
+on_some_rest test [] = test []
+on_some_rest test (c ∷ cs) = test (c ∷ cs) || on_some_rest test cs
+
+-- whether the characters can be so cut: the test that evaluation computes with
+abbrev pub is_match : List Element → List ℕ → Bool
+is_match [] [] = true
+is_match [] (c ∷ cs) = false
+is_match (Character c ∷ es) [] = false
+is_match (Character c ∷ es) (d ∷ cs) = nat_eq c d && is_match es cs
+is_match (Star ∷ es) cs = on_some_rest (is_match es) cs

@@ -1,7 +1,7 @@
 //! Patterns of `like`: characters and stars.
 ghost use Rattle.std.specs.Prelude.{◌≡◌, ◌↔◌, ◌∷◌, [], IsTrue, IfOk, MatchOption, IfSome};
 ghost use Rattle.std.specs.Str.{chars, IsUtf8};
-ghost use Rattle.cedar_ext.specs.Matching.{IsMatch};
+ghost use Rattle.cedar_ext.specs.Matching.{IsMatch, is_match};
 ghost use Rattle.cedar_ext.specs.declared.pattern.Element.TheVariants.{Star};
 
 use std::alloc::{AllocError, Global};
@@ -60,24 +60,32 @@ impl Pattern {
     /// character, a star's piece any text (Cedar language reference, like). Takes no memory, and steps
     /// by at most the product of the two lengths.
     pub fn matches(&self, text: &str) -> bool
-        ensures { IsTrue result ↔ IsMatch self.now (chars text.now) }
+        ensures cut { IsTrue result ↔ IsMatch self.now (chars text.now) }
+        ensures gives { result ≡ is_match self.now (chars text.now) }
     {
-        let mut todo = self.elements();
-        let mut rest = text;
-        'walk: while let Some((element, others)) = todo.split_first() {
-            match element {
-                Element::Star => return matches_after_star(others, rest),
-                Element::Character(c) => match split_first(rest) {
-                    Some((d, tail)) if d == *c => {
-                        todo = others;
-                        rest = tail;
-                    }
-                    _ => return false,
-                },
-            }
-        }
-        rest.is_empty()
+        matches_elements(self.elements(), text)
     }
+}
+
+// Whether the elements match the text: each character up to the first star, and then what follows it.
+fn matches_elements(elements: &[Element], text: &str) -> bool
+    ensures { IsTrue result ↔ IsMatch elements.now (chars text.now) }
+{
+    let mut todo = elements;
+    let mut rest = text;
+    'walk: while let Some((element, others)) = todo.split_first() {
+        match element {
+            Element::Star => return matches_after_star(others, rest),
+            Element::Character(c) => match split_first(rest) {
+                Some((d, tail)) if d == *c => {
+                    todo = others;
+                    rest = tail;
+                }
+                _ => return false,
+            },
+        }
+    }
+    rest.is_empty()
 }
 
 // Whether the elements match some end of the text. Where they fail at one place, they are tried

@@ -1,9 +1,5 @@
-pub mod Code
-pub mod CodeView
 pub mod Held
-pub mod Machine
-pub mod StackView
-pub mod State
 pub mod MachineView
 pub mod Progress
-pub mod CodeFault
+pub mod StackView
+pub mod State

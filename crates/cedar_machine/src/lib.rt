@@ -1,27 +1,18 @@
-//! Flat code, its compiler, and the machine that runs it.
+//! The machine that runs flat code.
 //!
-//! The code of an expression, the machine's steps and the law that joins them to evaluation stand in `specs/`.
+//! What contracts see of a machine stands in `specs/`; the steps of an execution stand in `cedar_code`.
 #![tactic(auto)]
 
-mod code;
-mod compiler;
 mod entry;
-mod fault;
-mod instruction;
-mod law;
+mod execution;
 mod machine;
+mod making;
 mod operators;
-mod outcome;
 mod stack;
 mod state;
 
-pub use code::Code;
-pub use compiler::{MOST_INSTRUCTIONS, compile};
-pub use fault::CodeFault;
-pub use instruction::Instruction;
-pub use law::execution_is_evaluation;
+pub use execution::Run;
 pub use machine::{Machine, Progress, run};
-pub use outcome::{Outcome, Run};
 
 #[cfg(test)]
 mod tests;

@@ -1,16 +1,18 @@
 //! The machine.
 ghost use Rattle.std.specs.Prelude.{◌≡◌, ◌+◌, ◌<◌, ◌≤◌, IfOk, IsOk, OnOk, OnErr, length, IsTrue, MatchOption};
-ghost use Rattle.cedar_machine.specs.Machine.{start, Step, Steps, Executes, going, ended, outcome_of};
+ghost use Rattle.cedar_code.specs.Machine.{start, Step, Steps, Executes, going, ended, outcome_of};
 ghost use Rattle.cedar_machine.specs.MachineView.{Moves, CameBySteps};
-ghost use Rattle.cedar_machine.specs.Progress.{progress_of, outcome_reached, EndsPlain, EachEndIsPlain};
-ghost use Rattle.cedar_machine.specs.Code.{code_of};
+ghost use Rattle.std.specs.Prelude.{slice_get};
+ghost use Rattle.cedar_machine.specs.Progress.{progress_of, outcome_reached, EndsPlain, EachEndIsPlain, StepTakesNoMemory, MakesNothing};
+ghost use Rattle.cedar_code.specs.Code.{code_of};
 ghost use Rattle.cedar_ast.specs.Evaluation.{eval};
 ghost use Rattle.cedar_ast.specs.Expression.{Expression};
 
-use crate::code::Code;
-use crate::outcome::{Outcome, Run};
+use crate::execution::Run;
 use crate::stack::Stack;
 use crate::state::{State, perform};
+use cedar_code::{Code, Outcome, execution_is_evaluation};
+use cedar_store::Hierarchy;
 use cedar_value::Request;
 use std::alloc::{AllocError, Global};
 use std::marker::Model;
@@ -24,17 +26,20 @@ pub enum Progress {
     Ended,
 }
 
-/// An execution of a code for a request: where it is, and how many instructions it has executed. It borrows both.
+/// An execution of a code for a request over a hierarchy: where it is, and how many instructions it has executed. It
+/// borrows all three.
 #[derive(Drop)]
-pub struct Machine<'a> {
+pub struct Machine<'a, H: Hierarchy> {
+    alloc: Global,
     code: &'a Code,
     request: &'a Request,
+    hierarchy: &'a H,
     stack: Stack<'a>,
     state: State,
     executed: u32,
 }
 
-impl<'a> Model for Machine<'a> {
+impl<'a, H: Hierarchy> Model for Machine<'a, H> {
     ghost use Rattle.cedar_machine.specs.MachineView.{MachineView};
     ghost use Rattle.std.specs.Coded.{codes};
     ghost use Rattle.cedar_value.specs.DatumCode.{datum_code};
@@ -43,26 +48,33 @@ impl<'a> Model for Machine<'a> {
 
     ghost coded = { Prim.hlevel (codes, datum_code) };
 
-    ghost use Rattle.cedar_machine.specs.Machine.{Steps, start};
+    ghost use Rattle.cedar_code.specs.Machine.{Steps, start};
     ghost use Rattle.cedar_machine.specs.State.{configuration_of};
     ghost use Rattle.cedar_machine.specs.MachineView.{IsSound};
 
     ghost view = { λ m. record {
       code = m.code.now;
       request = m.request.now;
+      world = H.world m.hierarchy.now;
       configuration = configuration_of m.state m.stack.values;
       executed = m.executed;
     } };
 
-    ghost invariant = { λ m. IsSound m.code.now m.request.now m.stack.values m.stack.capacity (configuration_of m.state m.stack.values) m.executed };
+    ghost invariant = { λ m. IsSound m.code.now m.request.now (H.world m.hierarchy.now) m.stack.values m.stack.capacity (configuration_of m.state m.stack.values) m.executed };
 }
 
-impl<'a> Machine<'a> {
+impl<'a, H: Hierarchy> Machine<'a, H> {
     /// A machine at the first place, with room for the code's height. 1: memory was refused; a code of height at most 16
     /// takes none.
-    pub fn new(alloc: Global, code: &'a Code, request: &'a Request) -> Result<Self, AllocError>
+    pub fn new(
+        alloc: Global,
+        code: &'a Code,
+        request: &'a Request,
+        hierarchy: &'a H,
+    ) -> Result<Self, AllocError>
         ensures code { IfOk result (λ m. m.code ≡ code.now) }
         ensures request { IfOk result (λ m. m.request ≡ request.now) }
+        ensures world { IfOk result (λ m. m.world ≡ H.world hierarchy.now) }
         ensures configuration { IfOk result (λ m. m.configuration ≡ start) }
         ensures executed { IfOk result (λ m. m.executed ≡ 0) }
         ensures came { IfOk result CameBySteps }
@@ -70,8 +82,10 @@ impl<'a> Machine<'a> {
     {
         let stack = Stack::with_room(alloc, code.height())?;
         Ok(Machine {
+            alloc,
             code,
             request,
+            hierarchy,
             stack,
             state: State::Going(0),
             executed: 0,
@@ -79,23 +93,26 @@ impl<'a> Machine<'a> {
     }
 
     /// Executes one instruction. A machine that has ended stays as it is. 1: memory was refused; the machine is as it
-    /// was, and nothing is counted. No instruction takes memory so far.
+    /// was, and nothing is counted. Only an instruction that makes a set or a record takes memory.
     pub fn step(&mut self) -> Result<Progress, AllocError>
         ensures moves { OnOk result (Moves self.old self.new) }
         ensures progress { IfOk result (λ p. p ≡ progress_of self.new.configuration) }
         ensures refused { OnErr result (self.new ≡ self.old) }
-        ensures succeeds { IsOk result }
+        ensures succeeds { StepTakesNoMemory self.old → IsOk result }
         ensures came { CameBySteps self.new }
     {
+        execution_is_evaluation();
         let State::Going(place) = self.state else {
             return Ok(Progress::Ended);
         };
         self.state = perform(
+            self.alloc,
             self.code.instructions(),
             self.request,
+            self.hierarchy,
             place,
             &mut self.stack,
-        );
+        )?;
         self.executed += 1;
         match self.state {
             State::Going(_) => Ok(Progress::Going),
@@ -108,6 +125,7 @@ impl<'a> Machine<'a> {
         ensures value { result ≡ self.now.executed }
         ensures came { CameBySteps self.now }
     {
+        execution_is_evaluation();
         self.executed
     }
 
@@ -129,15 +147,23 @@ impl<'a> Machine<'a> {
     }
 }
 
-/// The whole execution of a code for a request: how it ends, and how many instructions it executed. 1: memory was
-/// refused. Of a code of height at most 16 whose execution ends with a Boolean, a number or an error it takes none.
-pub fn run(alloc: Global, code: &Code, request: &Request) -> Result<Run, AllocError>
-    ensures executes { IfOk result (λ r. Executes code.now.instructions request.now r.executed r.outcome) }
-    ensures evaluates { IfOk result (λ r. (e : Expression) → code.now.instructions ≡ code_of e → r.outcome ≡ outcome_of (eval e request.now)) }
+/// The whole execution of a code for a request over a hierarchy: how it ends, and how many instructions it executed. 1:
+/// memory was refused. A code of height at most 16 that makes no set and no record, and whose execution ends with a
+/// Boolean, a number, a decimal or an error, takes none.
+pub fn run<H: Hierarchy>(
+    alloc: Global,
+    code: &Code,
+    request: &Request,
+    hierarchy: &H,
+) -> Result<Run, AllocError>
+    ensures executes { IfOk result (λ r. Executes code.now.instructions request.now (H.world hierarchy.now) r.executed r.outcome) }
+    ensures evaluates { IfOk result (λ r. (e : Expression) → code.now.instructions ≡ code_of e → r.outcome ≡ outcome_of (eval e request.now (H.world hierarchy.now))) }
     ensures few { IfOk result (λ r. r.executed ≤ length code.now.instructions) }
-    ensures succeeds { code.now.height ≤ 16 → EachEndIsPlain code.now.instructions request.now → IsOk result }
+    ensures succeeds { code.now.height ≤ 16 → MakesNothing code.now.instructions
+        → EachEndIsPlain code.now.instructions request.now (H.world hierarchy.now) → IsOk result }
 {
-    let mut machine = Machine::new(alloc, code, request)?;
+    execution_is_evaluation();
+    let mut machine = Machine::new(alloc, code, request, hierarchy)?;
     let mut progress = Progress::Going;
     'steps: while progress == Progress::Going {
         progress = machine.step()?;

@@ -1,5 +1,5 @@
 //! The operand stack.
-ghost use Rattle.std.specs.Prelude.{◌≡◌, ◌+◌, ◌<◌, ◌≤◌, ◌↔◌, max, [], ◌∷◌, length, IsSome, IfSome, IfNone, IfOk, IsOk, MatchOption, IsTrue};
+ghost use Rattle.std.specs.Prelude.{◌≡◌, ◌+◌, ◌<◌, ◌≤◌, ◌↔◌, max, [], ◌∷◌, length, take, drop, reverse, IsSome, IfSome, IfNone, IfOk, IsOk, MatchOption, IsTrue};
 ghost use Rattle.std.specs.Prelude.{List};
 ghost use Rattle.cedar_value.specs.Datum.{Datum};
 
@@ -57,6 +57,24 @@ impl<'a> Stack<'a> {
         ensures capacity { self.new.capacity ≡ self.old.capacity }
     {
         self.entries.pop()
+    }
+
+    /// Drops so many entries from the top, of which there are that many.
+    pub fn drop_top(&mut self, count: usize)
+        requires { count ≤ length self.old.values }
+        ensures values { self.new.values ≡ drop count self.old.values }
+        ensures capacity { self.new.capacity ≡ self.old.capacity }
+    {
+        self.entries.truncate(self.entries.len() - count);
+    }
+
+    /// The topmost entries, of which there are so many, the top last, lent.
+    pub fn top_entries(&self, count: usize) -> &[Entry<'a>]
+        requires { count ≤ length self.now.values }
+        ensures { result.now ≡ reverse (take count self.now.values) }
+    {
+        let entries = self.entries.as_slice();
+        &entries[entries.len() - count..]
     }
 
     /// How many entries there are.

@@ -1,9 +1,8 @@
-//! Worked examples: lengths, heights, counts and ends.
+//! Worked examples: ends and counts.
 use super::*;
-use cedar_ast::{
-    ActionScope, BinaryOperator, Condition, ConditionKind, Effect, EntityScope, EvaluationError,
-    Expr, Policy, Scope, UnaryOperator, Variable,
-};
+use cedar_ast::{BinaryOperator, Entries, EvaluationError, Expr, UnaryOperator, Variable};
+use cedar_code::{Code, CodeFault, Outcome, compile};
+use cedar_store::{Entity, NoEntities, Store};
 use cedar_value::{Name, Record, Request, Text, Uid, Value, ValueKind};
 use std::alloc::{AllocError, Global};
 use std::test::Fail;
@@ -38,11 +37,14 @@ fn name(outcome: &Outcome) -> &'static str {
         Outcome::Value(value) => match value.kind() {
             ValueKind::Boolean(true) => "true",
             ValueKind::Boolean(false) => "false",
+            ValueKind::Long(6) => "6",
             _ => "value",
         },
         Outcome::Error(EvaluationError::Overflow) => "overflow",
+        Outcome::Error(EvaluationError::MissingEntity) => "missing entity",
+        Outcome::Error(EvaluationError::MissingAttribute) => "missing attribute",
         Outcome::Error(EvaluationError::Type) => "type",
-        Outcome::Error(_) => "error",
+        Outcome::Error(EvaluationError::Decimal) => "decimal",
         Outcome::StackFault => "stack",
     }
 }
@@ -51,13 +53,9 @@ fn name(outcome: &Outcome) -> &'static str {
 fn ran(alloc: Global, expression: &Expr) -> Result<(&'static str, u32, usize, usize), CodeFault> {
     let code = compile(alloc, expression)?;
     let request = request(alloc)?;
-    let run = run(alloc, &code, &request)?;
-    Ok((
-        name(&run.outcome),
-        run.executed,
-        code.instructions().len(),
-        code.height(),
-    ))
+    let run = run(alloc, &code, &request, &NoEntities)?;
+    let length = code.instructions().len();
+    Ok((name(&run.outcome), run.executed, length, code.height()))
 }
 
 #[test]
@@ -78,58 +76,132 @@ fn a_right_side_that_is_no_boolean_is_a_type_error(rt: HostRuntime) -> Result<()
     Ok(())
 }
 
+fn sum(alloc: Global, left: Expr, right: Expr) -> Result<Expr, AllocError> {
+    Expr::binary(alloc, BinaryOperator::Add, left, right)
+}
+
 #[test]
 fn a_sum_overflows_beyond_the_greatest_number(rt: HostRuntime) -> Result<(), Fail> {
     let alloc = rt.alloc();
-    let sum = Expr::binary(alloc, BinaryOperator::Add, long(i64::MAX), long(1))?;
+    let sum = sum(alloc, long(i64::MAX), long(1))?;
     assert_eq!(rt; ran(alloc, &sum)?, ("overflow", 3, 3, 2));
-    let sum = Expr::binary(alloc, BinaryOperator::Add, long(i64::MAX - 1), long(1))?;
-    let equal = Expr::binary(alloc, BinaryOperator::Equal, sum, long(i64::MAX))?;
-    assert_eq!(rt; ran(alloc, &equal)?, ("true", 5, 5, 2));
     Ok(())
 }
 
 #[test]
 fn a_right_grouped_sum_stands_higher(rt: HostRuntime) -> Result<(), Fail> {
     let alloc = rt.alloc();
-    let inner = Expr::binary(alloc, BinaryOperator::Add, long(2), long(3))?;
-    let sum = Expr::binary(alloc, BinaryOperator::Add, long(1), inner)?;
-    assert_eq!(rt; ran(alloc, &sum)?, ("value", 5, 5, 3));
+    let inner = sum(alloc, long(2), long(3))?;
+    let sum = sum(alloc, long(1), inner)?;
+    assert_eq!(rt; ran(alloc, &sum)?, ("6", 5, 5, 3));
     Ok(())
+}
+
+/// `!(principal == User::"ann")`
+fn is_not_ann(alloc: Global) -> Result<Expr, AllocError> {
+    let ann = Expr::literal(Value::uid(uid(alloc, "User", "ann")?));
+    let principal = Expr::variable(Variable::Principal);
+    let equal = Expr::binary(alloc, BinaryOperator::Equal, principal, ann)?;
+    Expr::unary(alloc, UnaryOperator::Not, equal)
 }
 
 #[test]
 fn a_variable_is_the_uid_of_the_request(rt: HostRuntime) -> Result<(), Fail> {
     let alloc = rt.alloc();
-    let ann = Expr::literal(Value::uid(uid(alloc, "User", "ann")?));
-    let principal = Expr::variable(Variable::Principal);
-    let equal = Expr::binary(alloc, BinaryOperator::Equal, principal, ann)?;
-    let not = Expr::unary(alloc, UnaryOperator::Not, equal)?;
-    assert_eq!(rt; ran(alloc, &not)?, ("false", 4, 4, 2));
+    assert_eq!(rt; ran(alloc, &is_not_ann(alloc)?)?, ("false", 4, 4, 2));
+    Ok(())
+}
+
+fn longs(alloc: Global, numbers: &[i64]) -> Result<Expr, AllocError> {
+    let mut members = Vec::new(alloc);
+    for number in numbers {
+        members.push(long(*number))?;
+    }
+    Ok(Expr::set(members))
+}
+
+/// `[3, 1, 3] == [1, 3]`
+fn equal_sets(alloc: Global) -> Result<Expr, AllocError> {
+    let left = longs(alloc, &[3, 1, 3])?;
+    let right = longs(alloc, &[1, 3])?;
+    Expr::binary(alloc, BinaryOperator::Equal, left, right)
+}
+
+#[test]
+fn a_set_has_the_values_of_its_members(rt: HostRuntime) -> Result<(), Fail> {
+    let alloc = rt.alloc();
+    assert_eq!(rt; ran(alloc, &equal_sets(alloc)?)?, ("true", 8, 8, 3));
+    Ok(())
+}
+
+fn get(alloc: Global, of: Expr, key: &str) -> Result<Expr, AllocError> {
+    let get = UnaryOperator::Get(Text::read(alloc, key)?);
+    Expr::unary(alloc, get, of)
+}
+
+/// `{a: 6, b: 2}`
+fn record(alloc: Global) -> Result<Expr, Fail> {
+    let mut pairs = Vec::new(alloc);
+    for (key, number) in [("a", 6), ("b", 2)] {
+        pairs.push((Text::read(alloc, key)?, long(number)))?;
+    }
+    Ok(Expr::record(Entries::new(alloc, pairs)?))
+}
+
+#[test]
+fn an_attribute_is_there_or_missing(rt: HostRuntime) -> Result<(), Fail> {
+    let alloc = rt.alloc();
+    for (key, end) in [("a", "6"), ("c", "missing attribute")] {
+        let get = get(alloc, record(alloc)?, key)?;
+        assert_eq!(rt; ran(alloc, &get)?, (end, 4, 4, 2), "at {key}");
+    }
     Ok(())
 }
 
 #[test]
-fn the_condition_of_a_policy_tests_the_scope_first(rt: HostRuntime) -> Result<(), Fail> {
+fn an_absent_entity_has_no_attribute(rt: HostRuntime) -> Result<(), Fail> {
     let alloc = rt.alloc();
-    let mut conditions = Vec::new(alloc);
-    let body = Expr::binary(alloc, BinaryOperator::Less, long(1), long(2))?;
-    conditions.push(Condition {
-        kind: ConditionKind::When,
-        body,
-    })?;
-    let scope = Scope {
-        principal: EntityScope::Any,
-        action: ActionScope::Any,
-        resource: EntityScope::Any,
-    };
-    let policy = Policy::new(
-        Text::read(alloc, "policy0")?,
-        Effect::Permit,
-        scope,
-        conditions,
-    );
-    let condition = policy.condition(alloc)?;
-    assert_eq!(rt; ran(alloc, &condition)?, ("true", 12, 12, 2));
+    let get = get(alloc, Expr::variable(Variable::Resource), "owner")?;
+    assert_eq!(rt; ran(alloc, &get)?, ("missing entity", 2, 2, 1));
+    Ok(())
+}
+
+fn team(alloc: Global, id: &str, parent: &str) -> Result<Entity, AllocError> {
+    let mut parents = Vec::new(alloc);
+    parents.push(uid(alloc, "Team", parent)?)?;
+    let uid = uid(alloc, "Team", id)?;
+    let attrs = Record::new(alloc);
+    Ok(Entity {
+        uid,
+        attrs,
+        parents,
+    })
+}
+
+/// The team a in b, and b in c, which is absent.
+fn store(alloc: Global) -> Result<Store, Fail> {
+    let mut entities = Vec::new(alloc);
+    for (id, parent) in [("a", "b"), ("b", "c")] {
+        entities.push(team(alloc, id, parent)?)?;
+    }
+    Ok(Store::build(alloc, entities)?)
+}
+
+fn is_in(alloc: Global, low: &str, high: &str) -> Result<Code, CodeFault> {
+    let low = Expr::literal(Value::uid(uid(alloc, "Team", low)?));
+    let high = Expr::literal(Value::uid(uid(alloc, "Team", high)?));
+    let within = Expr::binary(alloc, BinaryOperator::In, low, high)?;
+    compile(alloc, &within)
+}
+
+#[test]
+fn an_entity_is_in_what_is_above_it(rt: HostRuntime) -> Result<(), Fail> {
+    let alloc = rt.alloc();
+    let store = store(alloc)?;
+    let request = request(alloc)?;
+    for (low, high, end) in [("a", "c", "true"), ("c", "a", "false"), ("c", "c", "true")] {
+        let run = run(alloc, &is_in(alloc, low, high)?, &request, &store)?;
+        assert_eq!(rt; name(&run.outcome), end, "{low} in {high}");
+    }
     Ok(())
 }

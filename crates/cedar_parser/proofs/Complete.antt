@@ -7,7 +7,7 @@ use Rattle.cedar_text.specs.declared.token_kind.TokenKind.{TokenKind}
 use Rattle.cedar_text.specs.declared.token_kind.TokenKind.TheVariants as k
 use Rattle.cedar_text.specs.Lexeme.{Lexeme, Lexemes}
 use Rattle.cedar_value.specs.declared.uid.Uid.{Uid}
-use Rattle.cedar_ast.specs.declared.operator.Variable.{Variable}
+use Rattle.cedar_ast.specs.declared.variable.Variable.{Variable}
 use Rattle.cedar_parser.specs.declared.sign.ChainSign.{ChainSign}
 use Rattle.cedar_parser.specs.declared.sign.RelationSign.{RelationSign}
 use Rattle.cedar_parser.specs.declared.written.Link.{Link}

@@ -10,3 +10,4 @@ pub mod Binds
 pub mod Complete
 pub mod StatementsComplete
 pub mod Refusals
+pub mod LiteralSizes

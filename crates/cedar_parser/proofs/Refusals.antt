@@ -1,10 +1,11 @@
 -- What the end of a text and each refusal show.
-use Rattle.std.proofs.Common.{◌≡◌, refl, sym, ap, subst, ◌∙◌, ℕ, zero, suc, ◌+◌, ◌<◌, List, [], ◌∷◌, ◌++◌, length, get_or, Ok, Err, length-append, arith}
-use Rattle.std.specs.Prelude.{All, Contains}
+use Rattle.std.proofs.Common.{◌≡◌, refl, sym, ap, ap₂, subst, ◌∙◌, ℕ, zero, suc, ◌+◌, ◌<◌, List, [], ◌∷◌, ◌++◌, length, get_or, Ok, Err, length-append, arith}
+use Rattle.std.specs.Prelude.{All, Contains, Result, IfOk}
 use Rattle.std.proofs.lemmas.List.{append-nil}
 use Rattle.cedar_value.specs.declared.uid.Uid.{Uid}
 use Rattle.cedar_ast.specs.PolicyTree.{PolicyTree}
-use Rattle.cedar_ast.specs.PolicyIds.{ids_of}
+use Rattle.cedar_ast.specs.TemplateTree.{TemplateTree}
+use Rattle.cedar_ast.specs.PolicySetTree.{PolicySetTree, ids_of}
 use Rattle.cedar_text.specs.Lexeme.{Lexemes}
 use Rattle.cedar_text.specs.Tokens.{AreTokens}
 use Rattle.cedar_parser.specs.declared.parse_fault.ParseFault.{ParseFault}
@@ -18,7 +19,7 @@ use Rattle.cedar_parser.specs.PolicyText.{policies_from, AreDistinct, ArePolicie
 use Rattle.cedar_parser.specs.Reading as r
 use Rattle.cedar_parser.specs.Reading.{Syntax, TooDeep, Outcome}
 use Rattle.cedar_parser.specs.StatementReading as st
-use Rattle.cedar_parser.specs.Contract.{Refuses, RefusesEntry}
+use Rattle.cedar_parser.specs.Contract.{Refuses, RefusesEntry, AnswersPolicies}
 use Rattle.cedar_parser.proofs.Outcomes.{Meets}
 use Rattle.cedar_parser.proofs.Moves.{shorter, statement_moves, IsOver, over_after, over_deep}
 use Rattle.cedar_parser.proofs.Sound.{entity_reads}
@@ -58,7 +59,7 @@ none_deep ts us n ps so some e ss h =
     let c = comes_next 101 us g.behind some g.reading in
     statement_too_deep 101 us c.first c.rest c.reading e
 
-pub unread_only : (ts us : Lexemes) (n : ℕ) (ps : List PolicyTree) → IsReadSoFar ts us n ps → 0 < length us → (x : ParseFault) → Refuses (st.statement 101 us) x → (qs : List PolicyTree) → ArePolicies ts [] qs → Answers qs (Err x)
+pub unread_only : (ts us : Lexemes) (n : ℕ) (ps : List PolicyTree) → IsReadSoFar ts us n ps → 0 < length us → (x : ParseFault) → Refuses (st.statement 101 us) x → (qs : List PolicyTree) → ArePolicies ts [] qs → AnswersPolicies qs (Err x)
 unread_only ts us n ps so some f.OutOfMemory e qs h = tt
 unread_only ts us n ps so some (f.Syntax at) e qs h = none_refused ts us n ps so some e 101 h.statements h.reading
 unread_only ts us n ps so some (f.TooDeep at) e qs h = none_deep ts us n ps so some e h.statements h.reading
@@ -124,7 +125,7 @@ repeated : (ts us : Lexemes) (n : ℕ) (ps : List PolicyTree) (so : IsReadSoFar 
 repeated ts us n ps so c =
     subst (λ m. Contains (ids_of (policies_from 0 so.are_policies.statements)) (id_at m)) (sym so.all) (subst (λ (qs : List PolicyTree). Contains (ids_of qs) (id_at n)) so.are_policies.meaning c)
 
-pub unentered_only : (ts us vs : Lexemes) (n : ℕ) (ps : List PolicyTree) (s : StatementTree) → IsReadSoFar ts us n ps → IsRead us vs s → (x : ParseFault) → RefusesEntry ps n s x → (qs : List PolicyTree) → ArePolicies ts [] qs → Answers qs (Err x)
+pub unentered_only : (ts us vs : Lexemes) (n : ℕ) (ps : List PolicyTree) (s : StatementTree) → IsReadSoFar ts us n ps → IsRead us vs s → (x : ParseFault) → RefusesEntry ps n s x → (qs : List PolicyTree) → ArePolicies ts [] qs → AnswersPolicies qs (Err x)
 unentered_only ts us vs n ps s so i x e qs h = go x e
   where
     g : GoesOn 101 vs (so.are_policies.statements ++ s ∷ []) h.statements
@@ -133,7 +134,7 @@ unentered_only ts us vs n ps s so i x e qs h = go x e
     kept : IsWithinLimits s
     kept = keeps_limits so.are_policies.statements g.behind h.statements s g.whole h.limits
 
-    go : (x : ParseFault) → RefusesEntry ps n s x → Answers qs (Err x)
+    go : (x : ParseFault) → RefusesEntry ps n s x → AnswersPolicies qs (Err x)
     go f.OutOfMemory e = tt
     go (f.DuplicateId at) e =
         keeps_ids so.are_policies.statements g.behind h.statements s g.whole (subst (λ (xs : List PolicyTree). AreDistinct (ids_of xs)) h.meaning h.distinct) (repeated ts us n ps so e)
@@ -162,6 +163,25 @@ unentered_fault ts us vs n ps s so i x e = go x e
     go (f.Text y) e = e
     go (f.Syntax at) e = absurd e
     go (f.TooDeep at) e = absurd e
+
+-- ---- the set
+
+abbrev made_of : List PolicyTree → List TemplateTree → PolicySetTree
+made_of ps ts = record { policies = ps; templates = ts }
+
+pub answers_set : (set : PolicySetTree) (r : Result PolicySetTree ParseFault) → IfOk r (λ found. found.templates ≡ []) → set.templates ≡ [] → AnswersPolicies set.policies r → Answers set r
+answers_set set (Ok found) plain none same = ap₂ made_of same (plain ∙ sym none)
+answers_set set (Err x) plain none h = go x h
+  where
+    go : (x : ParseFault) → AnswersPolicies set.policies (Err x) → Answers set (Err x)
+    go f.OutOfMemory e = tt
+    go (f.Text y) e = e
+    go (f.NumberTooLarge at) e = e
+    go (f.Syntax at) e = e
+    go (f.TooDeep at) e = e
+    go (f.TooHigh at) e = e
+    go (f.DuplicateId at) e = e
+    go (f.TooLarge at) e = e
 
 -- ---- uids
 

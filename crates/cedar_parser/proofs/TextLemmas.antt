@@ -3,7 +3,7 @@ use Rattle.std.proofs.Common.{◌≡◌, refl, sym, ap, subst, ◌∙◌, ℕ, z
 use Rattle.std.specs.Prelude.{All, Contains}
 use Rattle.std.proofs.lemmas.List.Elements.{All-append, All-cons, All-nil, Contains-append_cases}
 use Rattle.cedar_ast.specs.PolicyTree.{PolicyTree}
-use Rattle.cedar_ast.specs.PolicyIds.{ids_of}
+use Rattle.cedar_ast.specs.PolicySetTree.{ids_of}
 use Rattle.cedar_text.specs.Lexeme.{Lexemes}
 use Rattle.cedar_parser.specs.Statements.{Statement, Statements, end, next}
 use Rattle.cedar_parser.specs.StatementTree.{StatementTree}

@@ -6,7 +6,7 @@ use Rattle.cedar_text.specs.Lexeme.{Lexeme, Lexemes, lexeme}
 use Rattle.cedar_parser.specs.declared.parse_fault.ParseFault.{ParseFault}
 use Rattle.cedar_parser.specs.declared.parse_fault.ParseFault.TheVariants as f
 use Rattle.cedar_ast.specs.PolicyTree.{PolicyTree}
-use Rattle.cedar_ast.specs.PolicyIds.{ids_of}
+use Rattle.cedar_ast.specs.PolicySetTree.{PolicySetTree, ids_of}
 use Rattle.cedar_parser.specs.StatementTree.{StatementTree}
 use Rattle.cedar_parser.specs.Meaning.{id_at}
 use Rattle.cedar_parser.specs.Limits.{Breaks}
@@ -36,3 +36,9 @@ abbrev pub RefusesEntry : List PolicyTree → ℕ → StatementTree → ParseFau
 RefusesEntry set position statement f.OutOfMemory = Unit {0}
 RefusesEntry set position statement (f.DuplicateId at) = Contains (ids_of set) (id_at position)
 RefusesEntry set position statement fault = Breaks statement fault
+
+-- the policies answered are these, or memory ran out
+abbrev pub AnswersPolicies : List PolicyTree → Result PolicySetTree ParseFault → Type 0
+AnswersPolicies policies (Ok set) = set.policies ≡ policies
+AnswersPolicies policies (Err f.OutOfMemory) = Unit {0}
+AnswersPolicies policies (Err _) = ⊥

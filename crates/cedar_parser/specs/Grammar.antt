@@ -14,8 +14,8 @@ use Rattle.std.specs.Prelude.{◌≡◌, ℕ, zero, suc, Bool, true, false, ◌=
 use Rattle.std.specs.List.{list_any}
 use Rattle.std.specs.Str.{bytes_eq}
 use Rattle.cedar_value.specs.declared.uid.Uid.{Uid}
-use Rattle.cedar_ast.specs.declared.operator.Variable.{Variable}
-use Rattle.cedar_ast.specs.declared.operator.Variable.TheVariants as v
+use Rattle.cedar_ast.specs.declared.variable.Variable.{Variable}
+use Rattle.cedar_ast.specs.declared.variable.Variable.TheVariants as v
 use Rattle.cedar_text.specs.declared.token_kind.TokenKind.{TokenKind}
 use Rattle.cedar_text.specs.declared.token_kind.TokenKind.TheVariants as k
 use Rattle.cedar_text.specs.Lexeme.{Lexeme, Lexemes}

@@ -1,6 +1,6 @@
 -- What a statement must keep beside the grammar: numbers of 64 bits, and the limits of its condition.
 use Rattle.std.specs.Prelude.{ℕ, suc, ◌+◌, ◌<◌, ◌≤◌, ◌^◌, max, List, [], ◌∷◌}
-use Rattle.cedar_ast.specs.Expression.{Expression, literal, variable, and, or, unary, binary}
+use Rattle.cedar_ast.specs.Expression.{Expression, literal, variable, and, or, if_else, unary, binary, set_with, record_with, Expressions, no_more, and_then, Entries, no_entries, entry}
 use Rattle.cedar_ast.specs.Condition.{condition_of}
 use Rattle.cedar_parser.specs.declared.parse_fault.ParseFault.{ParseFault}
 use Rattle.cedar_parser.specs.declared.parse_fault.ParseFault.TheVariants as f
@@ -19,18 +19,37 @@ leaf = record { nodes = 1; height = 1 }
 abbrev pub above : Size → Size
 above a = record { nodes = suc a.nodes; height = suc a.height }
 
+-- no node, and trees side by side
+abbrev pub nothing : Size
+nothing = record { nodes = 0; height = 0 }
+
+abbrev pub beside : Size → Size → Size
+beside a b = record { nodes = a.nodes + b.nodes; height = max a.height b.height }
+
 -- one node with two trees below it
 abbrev pub above_both : Size → Size → Size
 above_both a b = record { nodes = suc (a.nodes + b.nodes); height = suc (max a.height b.height) }
 
 -- how many nodes a tree has, and how many stand on its longest way down
-abbrev pub size_of : Expression → Size
-size_of (literal d) = leaf
-size_of (variable x) = leaf
-size_of (and a b) = above_both (size_of a) (size_of b)
-size_of (or a b) = above_both (size_of a) (size_of b)
-size_of (unary op a) = above (size_of a)
-size_of (binary op a b) = above_both (size_of a) (size_of b)
+abbrev mutual
+  pub size_of : Expression → Size
+  size_of (literal d) = leaf
+  size_of (variable x) = leaf
+  size_of (and a b) = above_both (size_of a) (size_of b)
+  size_of (or a b) = above_both (size_of a) (size_of b)
+  size_of (if_else c a b) = above (beside (size_of c) (beside (size_of a) (size_of b)))
+  size_of (unary op a) = above (size_of a)
+  size_of (binary op a b) = above_both (size_of a) (size_of b)
+  size_of (set_with es) = above (size_all es)
+  size_of (record_with fs) = above (size_entries fs)
+
+  pub size_all : Expressions → Size
+  size_all no_more = nothing
+  size_all (and_then e es) = beside (size_of e) (size_all es)
+
+  pub size_entries : Entries → Size
+  size_entries no_entries = nothing
+  size_entries (entry k e fs) = beside (size_of e) (size_entries fs)
 
 -- Each number is at most the greatest of 64 bits.
 abbrev mutual

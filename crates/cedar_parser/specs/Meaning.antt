@@ -1,5 +1,5 @@
 -- The policy that a statement is (Cedar language reference, grammar and policies).
-use Rattle.std.specs.Prelude.{ℕ, pos, List, ◌++◌, map, codes, decimal}
+use Rattle.std.specs.Prelude.{ℕ, pos, List, [], ◌++◌, map, codes, decimal}
 use Rattle.cedar_value.specs.Datum as datum
 use Rattle.cedar_ast.specs.declared.operator.UnaryOperator.TheVariants.{Not}
 use Rattle.cedar_ast.specs.declared.operator.BinaryOperator.TheVariants as operator
@@ -48,7 +48,7 @@ condition_of_written c = record { kind = c.kind; body = expression_of c.body }
 
 -- the policy of this id that a statement is
 abbrev pub policy_of : List ℕ → StatementTree → PolicyTree
-policy_of id s = record { id = id; effect = s.effect; scope = s.scope; conditions = map condition_of_written s.conditions }
+policy_of id s = record { id = id; annotations = []; effect = s.effect; scope = s.scope; conditions = map condition_of_written s.conditions }
 
 -- the id of the statement at a position from 0
 abbrev pub id_at : ℕ → List ℕ

@@ -2,7 +2,7 @@
 use Rattle.std.specs.Prelude.{◌≡◌, ℕ, suc, ◌+◌, List, [], ◌∷◌, ◌++◌, length, Result, Ok, Err, All, Contains}
 use Rattle.cedar_value.specs.declared.uid.Uid.{Uid}
 use Rattle.cedar_ast.specs.PolicyTree.{PolicyTree}
-use Rattle.cedar_ast.specs.PolicyIds.{ids_of}
+use Rattle.cedar_ast.specs.PolicySetTree.{PolicySetTree, ids_of}
 use Rattle.cedar_text.specs.Lexeme.{Lexemes}
 use Rattle.cedar_text.specs.Tokens.{AreTokens}
 use Rattle.cedar_text.specs.Faults as lexer
@@ -37,11 +37,12 @@ pub record ArePolicies (ts us : Lexemes) (policies : List PolicyTree) : Type 0 w
   pub meaning : policies ≡ policies_from 0 statements
   pub distinct : AreDistinct (ids_of policies)
 
--- The text has tokens, and these are its policies.
-pub record IsPolicyText (source : List ℕ) (policies : List PolicyTree) : Type 0 where
+-- The text has tokens, and these are its policies; no template is read yet.
+pub record IsPolicyText (source : List ℕ) (set : PolicySetTree) : Type 0 where
   pub tokens : Lexemes
   pub are_tokens : AreTokens source tokens
-  pub are_policies : ArePolicies tokens [] policies
+  pub are_policies : ArePolicies tokens [] set.policies
+  pub no_templates : set.templates ≡ []
 
 -- ---- refusals
 
@@ -79,10 +80,10 @@ HasFault source (f.Text fault) = lexer.HasFault source fault
 HasFault source fault = (ts : Lexemes) × AreTokens source ts × TokensFault ts fault
 
 -- The answer is these policies, or memory ran out.
-abbrev pub Answers : List PolicyTree → Result (List PolicyTree) ParseFault → Type 0
-Answers policies (Ok set) = set ≡ policies
-Answers policies (Err f.OutOfMemory) = Unit {0}
-Answers policies (Err _) = ⊥
+abbrev pub Answers : PolicySetTree → Result PolicySetTree ParseFault → Type 0
+Answers set (Ok found) = found ≡ set
+Answers set (Err f.OutOfMemory) = Unit {0}
+Answers set (Err _) = ⊥
 
 -- ---- uids
 

@@ -1,7 +1,7 @@
 -- An expression as it is written: chains as lists, brackets kept, nothing expanded (Cedar language reference, grammar).
 use Rattle.std.specs.Prelude.{ℕ, suc, ◌+◌, Bool, List}
 use Rattle.cedar_value.specs.declared.uid.Uid.{Uid}
-use Rattle.cedar_ast.specs.declared.operator.Variable.{Variable}
+use Rattle.cedar_ast.specs.declared.variable.Variable.{Variable}
 use Rattle.cedar_parser.specs.declared.sign.ChainSign.{ChainSign}
 use Rattle.cedar_parser.specs.declared.sign.RelationSign.{RelationSign}
 

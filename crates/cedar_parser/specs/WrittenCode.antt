@@ -5,8 +5,7 @@ use base.Stored.{Gv, gnil, gnum, gcons, Coded}
 use denote.Struct.Codes.{code_by, itself}
 use Rattle.cedar_value.specs.declared.uid.Uid.{Uid}
 use Rattle.cedar_value.specs.DatumCode.{bytes_tree, bytes_from, bytes_back}
-use Rattle.cedar_ast.specs.declared.operator.Variable.{Variable}
-use Rattle.cedar_ast.specs.declared.operator.Variable.TheVariants as v
+use Rattle.cedar_ast.specs.OperatorCode.{variable_tree, variable_from, variable_back}
 use Rattle.cedar_parser.specs.declared.sign.ChainSign.{ChainSign}
 use Rattle.cedar_parser.specs.declared.sign.ChainSign.TheVariants as c
 use Rattle.cedar_parser.specs.declared.sign.RelationSign.{RelationSign}
@@ -24,23 +23,6 @@ truth_from _ = true
 truth_back : (b : Bool) → truth_from (truth_tree b) ≡ b
 truth_back true = refl
 truth_back false = refl
-
-abbrev variable_tree : Variable → Gv
-variable_tree v.Principal = gnum zero
-variable_tree v.Action = gnum (suc zero)
-variable_tree v.Resource = gnum (suc (suc zero))
-
-abbrev variable_from : Gv → Variable
-variable_from gnil = v.Principal
-variable_from (gnum zero) = v.Principal
-variable_from (gnum (suc zero)) = v.Action
-variable_from (gnum (suc (suc n))) = v.Resource
-variable_from (gcons a b) = v.Principal
-
-variable_back : (x : Variable) → variable_from (variable_tree x) ≡ x
-variable_back v.Principal = refl
-variable_back v.Action = refl
-variable_back v.Resource = refl
 
 abbrev chain_sign_tree : ChainSign → Gv
 chain_sign_tree c.Or = gnum zero

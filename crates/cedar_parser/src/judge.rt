@@ -1,7 +1,8 @@
 //! What a statement must keep beside the grammar.
 ghost use Rattle.std.specs.Prelude.{◌≡◌, ◌≤◌, MatchOption, OnOk, IfErr, map};
-ghost use Rattle.cedar_ast.specs.Condition.{entity_scope_of, action_scope_of, asked_by, conditions_of};
-ghost use Rattle.cedar_ast.specs.declared.operator.Variable.{Variable};
+ghost use Rattle.cedar_ast.specs.Condition.{entity_literal, entity_scope_of, action_scope_of, asked_by, conditions_of};
+ghost use Rattle.cedar_ast.specs.Expression.{set_with, expressions_of};
+ghost use Rattle.cedar_ast.specs.declared.variable.Variable.{Variable};
 ghost use Rattle.cedar_parser.specs.WrittenKind.{links_of};
 ghost use Rattle.cedar_parser.specs.Written.{chain};
 ghost use Rattle.cedar_parser.specs.Meaning.{expression_of, condition_of_written};
@@ -13,6 +14,7 @@ use crate::size::{Size, leaf};
 use crate::statement::{Statement, WrittenCondition};
 use crate::written::{Link, Written, WrittenKind};
 use cedar_ast::{ActionScope, ConditionKind, EntityScope};
+use cedar_value::Uid;
 
 /// The height that the condition of a statement may have, in nodes.
 pub const MAX_HEIGHT: usize = 2_000;
@@ -56,7 +58,9 @@ fn entity_scope_size(scope: &EntityScope) -> Size
 {
     match scope {
         EntityScope::Any => leaf(),
-        EntityScope::Equal(_) => leaf().above_both(leaf()),
+        EntityScope::Equal(_) | EntityScope::In(_) => leaf().above_both(leaf()),
+        EntityScope::Is(_) => leaf().above(),
+        EntityScope::IsIn(_, _) => leaf().above().above_both(leaf().above_both(leaf())),
     }
 }
 
@@ -65,7 +69,21 @@ fn action_scope_size(scope: &ActionScope) -> Size
 {
     match scope {
         ActionScope::Any => leaf(),
-        ActionScope::Equal(_) => leaf().above_both(leaf()),
+        ActionScope::Equal(_) | ActionScope::In(_) => leaf().above_both(leaf()),
+        ActionScope::InSet(entities) => leaf().above_both(literals_size(entities.as_slice())),
+    }
+}
+
+// The set of the literals of entities.
+fn literals_size(entities: &[Uid]) -> Size
+    ensures { result ≡ capped (size_of (set_with (expressions_of (map entity_literal entities.now)))) }
+{
+    if entities.is_empty() {
+        return leaf();
+    }
+    Size {
+        nodes: entities.len().saturating_add(1),
+        height: 2,
     }
 }
 

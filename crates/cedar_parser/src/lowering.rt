@@ -18,7 +18,13 @@ pub fn policy(alloc: Global, id: Text, statement: Statement) -> Result<Policy, A
     ensures { IfOk result (λ p. p ≡ policy_of id statement) }
 {
     let conditions = conditions(alloc, &statement.conditions)?;
-    Ok(Policy::new(id, statement.effect, statement.scope, conditions))
+    Ok(Policy::new(
+        id,
+        Vec::new(alloc),
+        statement.effect,
+        statement.scope,
+        conditions,
+    ))
 }
 
 fn conditions(alloc: Global, written: &[WrittenCondition]) -> Result<Vec<Condition>, AllocError>

@@ -1,10 +1,10 @@
 //! Policy texts and uids.
 ghost use Rattle.std.specs.Prelude.{◌≡◌, ◌++◌, ◌∷◌, [], List, IfOk, OnOk, IfErr, Contains};
-ghost use Rattle.cedar_ast.specs.PolicyIds.{ids_of};
+ghost use Rattle.cedar_ast.specs.PolicySetTree.{PolicySetTree, ids_of};
 ghost use Rattle.cedar_ast.specs.PolicyTree.{PolicyTree};
 ghost use Rattle.cedar_value.specs.declared.uid.Uid.{Uid};
 ghost use Rattle.cedar_parser.specs.PolicyText.{ArePolicies, IsPolicyText, TokensFault, HasFault, Answers, IsUidText, HasUidFault, AnswersUid};
-ghost use Rattle.cedar_parser.specs.Contract.{RefusesEntry};
+ghost use Rattle.cedar_parser.specs.Contract.{AnswersPolicies, RefusesEntry};
 ghost use Rattle.cedar_parser.specs.Meaning.{policy_of, id_at};
 ghost use Rattle.cedar_parser.specs.Limits.{IsWithinLimits};
 
@@ -15,7 +15,7 @@ use crate::names::entity;
 use crate::parse_fault::ParseFault;
 use crate::statement::Statement;
 use crate::statements::statement;
-use cedar_ast::{AddFault, PolicySet};
+use cedar_ast::{AddFault, PolicySet, Statement as Entry};
 use cedar_text::tokens;
 use cedar_value::{Text, Uid};
 use itoa::Buffer;
@@ -31,7 +31,7 @@ pub fn parse(alloc: Global, source: &str) -> Result<PolicySet, ParseFault>
     // What is answered are the policies of the text.
     ensures found { IfOk result (IsPolicyText source.now) }
     // The policies of the text are what is answered, unless memory runs out.
-    ensures only { (policies : List PolicyTree) → IsPolicyText source.now policies → Answers policies result }
+    ensures only { (set : PolicySetTree) → IsPolicyText source.now set → Answers set result }
     // Each fault comes only where it is.
     ensures fault { IfErr result (HasFault source.now) }
 {
@@ -42,8 +42,9 @@ pub fn parse(alloc: Global, source: &str) -> Result<PolicySet, ParseFault>
 
 // The policies of all tokens.
 fn policies(alloc: Global, tokens: &mut Cursor<'_>) -> Result<PolicySet, ParseFault>
-    ensures found { IfOk result (ArePolicies tokens.old []) }
-    ensures only { (policies : List PolicyTree) → ArePolicies tokens.old [] policies → Answers policies result }
+    ensures found { IfOk result (λ set. ArePolicies tokens.old [] set.policies) }
+    ensures no_templates { IfOk result (λ set. set.templates ≡ []) }
+    ensures only { (policies : List PolicyTree) → ArePolicies tokens.old [] policies → AnswersPolicies policies result }
     ensures fault { IfErr result (TokensFault tokens.old) }
 {
     let mut set = PolicySet::new(alloc);
@@ -64,16 +65,17 @@ fn enter(
     position: usize,
     statement: Statement,
 ) -> Result<(), ParseFault>
-    ensures entered { OnOk result (set.new ≡ set.old ++ policy_of (id_at position) statement ∷ []) }
+    ensures entered { OnOk result (set.new.policies ≡ set.old.policies ++ policy_of (id_at position) statement ∷ []) }
+    ensures templates { OnOk result (set.new.templates ≡ set.old.templates) }
     ensures limits { OnOk result (IsWithinLimits statement) }
-    ensures distinct { OnOk result (Contains (ids_of set.old) (id_at position) → ⊥) }
-    ensures refused { IfErr result (RefusesEntry set.old position statement) }
+    ensures distinct { OnOk result (Contains (ids_of set.old.policies) (id_at position) → ⊥) }
+    ensures refused { set.old.templates ≡ [] → IfErr result (RefusesEntry set.old.policies position statement) }
 {
     judge(&statement)?;
     let start = statement.start;
     let id = default_id(alloc, position)?;
     let policy = policy(alloc, id, statement)?;
-    match set.add(policy) {
+    match set.add(Entry::Policy(policy)) {
         Ok(()) => Ok(()),
         Err(AddFault::DuplicateId(_)) => Err(ParseFault::DuplicateId(start)),
         Err(AddFault::OutOfMemory(_)) => Err(ParseFault::OutOfMemory),

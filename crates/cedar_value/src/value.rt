@@ -128,6 +128,13 @@ impl Value {
         &self.kind
     }
 
+    /// The kind, with what it holds, taken out of the value.
+    pub fn into_kind(self) -> ValueKind
+        ensures { datum_of result ≡ self }
+    {
+        self.kind
+    }
+
     /// A look at the value, which is `Copy`.
     pub fn glance(&self) -> Glance<'_>
         ensures { datum_seen result ≡ self.now }

@@ -83,6 +83,16 @@ impl Record {
         }
     }
 
+    /// The value at a key, taken out of the record. Takes no memory, and comparisons as `get` does.
+    pub fn into_value(mut self, key: &str) -> Option<Value>
+        ensures { result ≡ value_at key.now self }
+    {
+        match self.pairs.binary_search_by(|pair| pair.0.as_str().cmp(key)) {
+            Ok(place) => Some(self.pairs.swap_remove(place).1),
+            Err(_) => None,
+        }
+    }
+
     /// The keys with their values, ascending by the keys. Takes no memory.
     pub fn iter(&self) -> slice::Iter<'_, (Text, Value)>
         ensures pairs { iter_rest result ≡ self.now }

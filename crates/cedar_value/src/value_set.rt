@@ -5,7 +5,9 @@ ghost use Rattle.std.specs.Slice.Iter.{iter_rest};
 ghost use Rattle.cedar_value.specs.Order.{IsAscending};
 ghost use Rattle.cedar_value.specs.Sets.{has_member, SameMembers, set_from};
 ghost use Rattle.cedar_value.specs.Datum.{same_as_sets};
+ghost use Rattle.cedar_value.specs.Glance.{datum_seen};
 
+use crate::glance::Glance;
 use crate::order::order_members;
 use crate::value::Value;
 use std::alloc::{AllocError, Global};
@@ -74,6 +76,20 @@ impl ValueSet {
         ensures gives { result ≡ has_member self.now value.now }
     {
         self.members.binary_search(value).is_ok()
+    }
+
+    /// Whether what is looked at is a member, as `contains` says of a value. Takes no memory.
+    pub fn has(&self, value: Glance<'_>) -> bool
+        ensures { result ≡ has_member self.now (datum_seen value.entry) }
+    {
+        let mut left = self.members();
+        'walk: while let Some((member, others)) = left.split_first() {
+            if value.same(member.glance()) {
+                return true;
+            }
+            left = others;
+        }
+        false
     }
 
     /// Whether each member of the other set is a member (Cedar language reference, `containsAll`).

@@ -1,16 +1,19 @@
 //! Policies that are ready to run.
 ghost use Rattle.std.specs.Prelude.{◌≡◌, ℕ, ◌<◌, List, length, Contains, IfOk, IsErrOf, OnOk};
+ghost use Rattle.cedar_value.specs.Datum.{Datum};
 ghost use Rattle.cedar_value.specs.declared.request.Request.{Request as RequestTree};
 ghost use Rattle.cedar_ast.specs.PolicyTree.{PolicyTree};
-ghost use Rattle.cedar_ast.specs.Evaluation.{Answer};
-ghost use Rattle.cedar_machine.specs.Code.{most_instructions};
-ghost use Rattle.cedar_machine.specs.Machine.{outcome_of};
+ghost use Rattle.cedar_ast.specs.Answer.{Answer};
+ghost use Rattle.cedar_code.specs.Code.{most_instructions};
+ghost use Rattle.cedar_code.specs.Machine.{outcome_of};
 ghost use Rattle.cedar_cli.specs.Codes.{policy_code};
 ghost use Rattle.cedar_cli.specs.Tally.{tally_of, verdict_of};
 
 use crate::first::tally::Tally;
 use cedar_ast::{EvaluationError, PolicySet};
-use cedar_machine::{Code, CodeFault, Outcome, compile, run};
+use cedar_code::{Code, CodeFault, Outcome, compile};
+use cedar_machine::run;
+use cedar_store::NoEntities;
 use cedar_value::{Request, ValueKind};
 use std::alloc::{AllocError, Global};
 use std::marker::Model;
@@ -33,15 +36,15 @@ impl<'p> Model for Ready<'p> {
 
     ghost coded = { Prim.hlevel (codes, expression_code) };
 
-    ghost view = { λ r. r.policies.now };
+    ghost view = { λ r. r.policies.now.policies };
 
-    ghost invariant = { λ r. AreCodesOf r.policies.now r.compiled.items };
+    ghost invariant = { λ r. AreCodesOf r.policies.now.policies r.compiled.items };
 }
 
 /// Whether a policy's condition is true, or its error, from the end of its run.
 fn verdict(outcome: &Outcome) -> Result<bool, EvaluationError>
-    requires { (answer : Answer) × (outcome.now ≡ outcome_of answer) }
-    ensures { (answer : Answer) → outcome.now ≡ outcome_of answer → result ≡ verdict_of answer }
+    requires { (answer : Answer Datum) × (outcome.now ≡ outcome_of answer) }
+    ensures { (answer : Answer Datum) → outcome.now ≡ outcome_of answer → result ≡ verdict_of answer }
 {
     match outcome {
         Outcome::Value(value) => match value.kind() {
@@ -57,9 +60,9 @@ impl<'p> Ready<'p> {
     /// Compiles each policy's condition. 1: memory was refused. 701: the code of some policy would have over 1,000,000
     /// instructions.
     pub fn new(alloc: Global, policies: &'p PolicySet) -> Result<Ready<'p>, CodeFault>
-        ensures ok { IfOk result (λ r. r ≡ policies.now) }
+        ensures ok { IfOk result (λ r. r ≡ policies.now.policies) }
         ensures too_long { IsErrOf result CodeFault.TooLong
-            → (p : PolicyTree) × Contains policies.now p × (most_instructions < length (policy_code p)) }
+            → (p : PolicyTree) × Contains policies.now.policies p × (most_instructions < length (policy_code p)) }
     {
         let mut compiled = Vec::with_capacity(alloc, policies.count())?;
         for position in 0..policies.count() {
@@ -88,7 +91,7 @@ impl<'p> Ready<'p> {
             let Some(policy) = policies.policy(position) else {
                 unreachable!()
             };
-            let ended = run(alloc, code, request)?;
+            let ended = run(alloc, code, request, &NoEntities)?;
             tally.enter(
                 policy.id().as_str(),
                 policy.effect(),

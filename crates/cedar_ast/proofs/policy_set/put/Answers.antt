@@ -4,5 +4,5 @@ use Rattle.indexmap.proofs.CallerLemmas.{insert_entry-new}
 use Rattle.cedar_ast.proofs.policy_set.put.Goals as goal
 
 pub returns-clause-ok : goal.returns-clause-ok
-returns-clause-ok c =
-    c.in_ok-insert.ensures.entries ∙ insert_entry-new string_eq c.args.policies.now c.args.id c.args.policy c.requires
+returns-clause-ok g c =
+    c.in_ok-insert.ensures.entries ∙ insert_entry-new string_eq c.args.entries.now c.args.id c.args.value c.requires

@@ -1,15 +1,34 @@
 use Rattle.std.proofs.Common.{◌≡◌, ◌∙◌}
+use Rattle.std.proofs.lemmas.List.Elements.{Contains-append_right}
+use Rattle.cedar_ast.specs.PolicySetTree.{id_of}
+use Rattle.cedar_ast.proofs.PolicyIdLemmas.{in_neither}
 use Rattle.cedar_ast.proofs.policy_set.PolicySet.add.Goals as goal
-use Rattle.cedar_ast.proofs.policy_set.PolicySet.add.Goals.{in-Ok-put, in-Err}
+use Rattle.cedar_ast.proofs.policy_set.PolicySet.add.Goals.{in-Ok-put, in-Ok-put-2, in-Err-put, in-Err}
 
-pub returns-then-is_taken-clause-duplicate : goal.returns-then-is_taken-clause-duplicate
-returns-then-is_taken-clause-duplicate c = λ _.
-    let same : c.as_str-2.result.now ≡ c.args.policy.id = c.as_str-2.ensures.value ∙ c.in-Ok.ensures.ok ∙ c.as_str.ensures ∙ c.id.ensures in
-    let taken = c.is_taken.ensures.taken c.if-is_taken.true in
-    rw (← c.self.view_is) (rw same at taken)
+pub returns-then-is_taken-2-clause-duplicate : goal.returns-then-is_taken-2-clause-duplicate
+returns-then-is_taken-2-clause-duplicate c = λ _.
+    let same : c.as_str-3.result.now ≡ id_of c.args.statement = c.as_str-3.ensures.value ∙ c.in-Ok.ensures.ok ∙ c.as_str.ensures ∙ c.id.ensures in
+    let taken = rw (same, c.self.invariant.1) at c.is_taken-2.ensures.taken c.if-is_taken-2.true in
+    rw (← c.self.view_is) (Contains-append_right _ _ _ taken)
 
-pub returns-clause-distinct : goal.returns-clause-distinct
-returns-clause-distinct c =
-    let same : c.as_str-2.result.now ≡ c.args.policy.id = c.as_str-2.ensures.value ∙ c.in-Ok.ensures.ok ∙ c.as_str.ensures ∙ c.id.ensures in
-    let free = c.is_taken.ensures.free c.if-is_taken.false in
-    elim c.match-put.branch [ in-Ok-put w ↦ rw (w.result-is, ← c.self.view_is) (rw same at free) | in-Err w ↦ rw w.result-is tt ]
+pub returns-after-put-clause-distinct : goal.returns-after-put-clause-distinct
+returns-after-put-clause-distinct c =
+    let same : c.as_str-2.result.now ≡ id_of c.args.statement = c.as_str-2.ensures.value ∙ c.in-Ok.ensures.ok ∙ c.as_str.ensures ∙ c.id.ensures in
+    let same-2 : c.as_str-3.result.now ≡ id_of c.args.statement = c.as_str-3.ensures.value ∙ c.in-Ok.ensures.ok ∙ c.as_str.ensures ∙ c.id.ensures in
+    let no_policy = rw (same, c.self.invariant.0) at c.is_taken.ensures.free c.if-is_taken.false in
+    let no_template = rw (same-2, c.self.invariant.1) at c.is_taken-2.ensures.free c.if-is_taken-2.false in
+    elim c.match-put.branch [
+      | in-Ok-put w ↦ rw (w.result-is, ← c.self.view_is) (in_neither _ _ _ no_policy no_template)
+      | in-Err w ↦ rw w.result-is tt
+    ]
+
+pub returns-after-put-2-clause-distinct : goal.returns-after-put-2-clause-distinct
+returns-after-put-2-clause-distinct c =
+    let same : c.as_str-2.result.now ≡ id_of c.args.statement = c.as_str-2.ensures.value ∙ c.in-Ok.ensures.ok ∙ c.as_str.ensures ∙ c.id.ensures in
+    let same-2 : c.as_str-3.result.now ≡ id_of c.args.statement = c.as_str-3.ensures.value ∙ c.in-Ok.ensures.ok ∙ c.as_str.ensures ∙ c.id.ensures in
+    let no_policy = rw (same, c.self.invariant.0) at c.is_taken.ensures.free c.if-is_taken.false in
+    let no_template = rw (same-2, c.self.invariant.1) at c.is_taken-2.ensures.free c.if-is_taken-2.false in
+    elim c.match-put-2.branch [
+      | in-Ok-put-2 w ↦ rw (w.result-is, ← c.self.view_is) (in_neither _ _ _ no_policy no_template)
+      | in-Err-put w ↦ rw w.result-is tt
+    ]

@@ -1,5 +1,5 @@
 use Rattle.std.proofs.Common.{◌∙◌, ap}
-use Rattle.cedar_machine.specs.Code.{code_of}
+use Rattle.cedar_code.specs.Code.{code_of}
 use Rattle.cedar_cli.proofs.Tallies.{AreCodesOf-next}
 use Rattle.cedar_cli.proofs.first.ready.Ready.new.Goals as goal
 

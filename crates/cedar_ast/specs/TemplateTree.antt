@@ -1,0 +1,14 @@
+-- A template, as a tree (Cedar language reference, policy templates; cedar-spec, Lean: Cedar.Spec.Template).
+use Rattle.std.specs.Prelude.{ℕ, List}
+use Rattle.cedar_ast.specs.declared.annotation.Annotation.{Annotation}
+use Rattle.cedar_ast.specs.declared.effect.Effect.{Effect}
+use Rattle.cedar_ast.specs.declared.template_scope.TemplateScope.{TemplateScope}
+use Rattle.cedar_ast.specs.declared.condition.Condition.{Condition}
+
+-- its id, its annotations in order, its effect, what its scope asks, and its conditions in order
+pub record TemplateTree : Type 0 where
+  pub id : List ℕ
+  pub annotations : List Annotation
+  pub effect : Effect
+  pub scope : TemplateScope
+  pub conditions : List Condition

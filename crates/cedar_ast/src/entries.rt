@@ -1,0 +1,130 @@
+//! The entries of a record expression.
+ghost use Rattle.std.specs.Prelude.{◌≡◌, ◌↔◌, IfOk, IfErr, IsTrue, map};
+ghost use Rattle.cedar_ast.specs.Keys.{AreDistinct, keys_of};
+ghost use Rattle.cedar_ast.specs.RecordFault.{number_of, refused};
+
+use crate::expression::Expr;
+use crate::keys::Keys;
+use crate::record_fault::RecordFault;
+use cedar_value::{Record, Text, Value};
+use std::alloc::{AllocError, Global};
+use std::marker::Model;
+
+/// The keys of a record expression with their expressions, in the order in which they are written. No key stands
+/// twice (Cedar language reference, records). Contracts see the list of the pairs.
+#[cycle(expression)]
+#[derive(Drop)]
+pub struct Entries {
+    pairs: Vec<(Text, Expr)>,
+}
+
+impl Model for Entries {
+    ghost use Rattle.std.specs.Prelude.{List, ℕ};
+    ghost use Rattle.std.specs.Coded.{coded_list, coded×, coded_ℕ};
+    ghost use Rattle.cedar_ast.specs.Expression.{Expression};
+    ghost use Rattle.cedar_ast.specs.ExpressionCode.{expression_code};
+
+    ghost Value = { List (List ℕ × Expression) };
+
+    ghost coded = { coded_list (coded× (coded_list coded_ℕ) expression_code) };
+
+    ghost use Rattle.cedar_ast.specs.Keys.{AreDistinct, keys_of};
+    ghost use Rattle.cedar_ast.specs.Depth.{depth, pairs_depth};
+
+    ghost view = { λ r. r.pairs.items };
+
+    ghost invariant = { λ r. AreDistinct (keys_of r.pairs.items) };
+
+    ghost size = { pairs_depth };
+
+    ghost use Rattle.std.specs.Prelude.{◌+◌, max};
+    ghost use Rattle.std.proofs.Common.{arith};
+    ghost use Rattle.cedar_ast.specs.Depth.{most_entries};
+
+    ghost size_decreases = { λ r _. omega (arith, most_entries (λ f. max 0 (max (depth f.1 + 1) 0)) (λ f. omega arith) r.pairs.items) };
+}
+
+impl Entries {
+    /// The entries of these pairs. A refusal hands them back: 203 where a key stands twice, 1 where memory was
+    /// refused (Cedar language reference, records).
+    pub fn new(alloc: Global, pairs: Vec<(Text, Expr)>) -> Result<Self, RecordFault>
+        ensures ok { IfOk result (λ r. r ≡ pairs.items) }
+        ensures distinct { IfOk result (λ r. AreDistinct (keys_of r)) }
+        ensures duplicate { IfErr result (λ fault. number_of fault ≡ 203 → AreDistinct (keys_of pairs.items) → ⊥) }
+        ensures handed_back { IfErr result (λ fault. refused fault ≡ pairs.items) }
+    {
+        match are_distinct(alloc, &pairs) {
+            Ok(true) => Ok(Entries { pairs }),
+            Ok(false) => Err(RecordFault::DuplicateKey(pairs)),
+            Err(_) => Err(RecordFault::OutOfMemory(pairs)),
+        }
+    }
+
+    /// The entries in order, lent.
+    pub fn pairs(&self) -> &[(Text, Expr)]
+        ensures pairs { result.now ≡ self.now }
+        ensures distinct { AreDistinct (keys_of self.now) }
+    {
+        &self.pairs
+    }
+
+    /// A copy of the keys, in order.
+    pub fn keys(&self, alloc: Global) -> Result<Keys, AllocError>
+        ensures { IfOk result (λ k. k ≡ keys_of self.now) }
+    {
+        Ok(Keys {
+            texts: copy_keys(alloc, &self.pairs)?,
+        })
+    }
+
+    /// A copy, equal to the original.
+    #[cycle(copy)]
+    pub fn try_clone(&self, alloc: Global) -> Result<Self, AllocError>
+        ensures { IfOk result (λ r. r ≡ self.now) }
+    {
+        Ok(Entries {
+            pairs: clone_pairs(alloc, &self.pairs)?,
+        })
+    }
+}
+
+#[cycle(copy)]
+fn clone_pairs(alloc: Global, pairs: &[(Text, Expr)]) -> Result<Vec<(Text, Expr)>, AllocError>
+    ensures { IfOk result (λ v. v.items ≡ pairs.now) }
+{
+    let mut copies = Vec::new(alloc);
+    for pair in pairs {
+        copies.push((pair.0.try_clone(alloc)?, pair.1.try_clone(alloc)?))?;
+    }
+    Ok(copies)
+}
+
+// The keys of the pairs.
+fn copy_keys(alloc: Global, pairs: &[(Text, Expr)]) -> Result<Vec<Text>, AllocError>
+    ensures { IfOk result (λ v. v.items ≡ keys_of pairs.now) }
+{
+    let mut keys = Vec::new(alloc);
+    for pair in pairs {
+        keys.push(pair.0.try_clone(alloc)?)?;
+    }
+    Ok(keys)
+}
+
+// Whether no key stands twice: there is then a record with these keys.
+fn are_distinct(alloc: Global, pairs: &[(Text, Expr)]) -> Result<bool, AllocError>
+    ensures { IfOk result (λ b. IsTrue b ↔ AreDistinct (keys_of pairs.now)) }
+{
+    let record = Record::from_pairs(falsities(alloc, pairs)?)?;
+    Ok(record.is_some())
+}
+
+// The keys of the pairs, each with the value `false`.
+fn falsities(alloc: Global, pairs: &[(Text, Expr)]) -> Result<Vec<(Text, Value)>, AllocError>
+    ensures { IfOk result (λ v. map (λ p. p.0) v.items ≡ keys_of pairs.now) }
+{
+    let mut falsities = Vec::new(alloc);
+    for pair in pairs {
+        falsities.push((pair.0.try_clone(alloc)?, Value::boolean(false)))?;
+    }
+    Ok(falsities)
+}

@@ -1,0 +1,6 @@
+mod Falls
+mod Taken
+mod Sizes
+mod Members
+mod Emitted
+mod Runs

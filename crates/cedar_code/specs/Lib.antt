@@ -1,0 +1,4 @@
+pub mod Code
+pub mod CodeFault
+pub mod CodeView
+pub mod Machine

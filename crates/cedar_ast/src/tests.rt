@@ -135,28 +135,35 @@ fn shape(alloc: Global, expression: &Expr) -> Result<String, AllocError> {
     }
 }
 
-#[test]
-fn a_condition_asks_the_scope_before_the_rest(rt: HostRuntime) -> Result<(), Fail> {
-    let alloc = rt.alloc();
+/// `when { action || true } unless { resource }`
+fn conditions(alloc: Global) -> Result<Vec<Condition>, AllocError> {
+    let truth = Expr::literal(Value::boolean(true));
+    let body = Expr::or(alloc, Expr::variable(Variable::Action), truth)?;
+    let kind = ConditionKind::When;
+    let mut conditions = Vec::new(alloc);
+    conditions.push(Condition { kind, body })?;
+    let body = Expr::variable(Variable::Resource);
+    let kind = ConditionKind::Unless;
+    conditions.push(Condition { kind, body })?;
+    Ok(conditions)
+}
+
+/// A policy of one entity with these conditions.
+fn conditional(alloc: Global) -> Result<Policy, AllocError> {
+    let conditions = conditions(alloc)?;
     let scope = Scope {
         principal: EntityScope::Equal(uid(alloc, "ann")?),
         action: ActionScope::Any,
         resource: EntityScope::Any,
     };
-    let mut conditions = Vec::new(alloc);
-    let truth = Expr::literal(Value::boolean(true));
-    let other = Expr::or(alloc, Expr::variable(Variable::Action), truth)?;
-    conditions.push(Condition {
-        kind: ConditionKind::When,
-        body: other,
-    })?;
-    conditions.push(Condition {
-        kind: ConditionKind::Unless,
-        body: Expr::variable(Variable::Resource),
-    })?;
-    let id = Text::read(alloc, "p")?;
-    let policy = Policy::new(id, Vec::new(alloc), Effect::Permit, scope, conditions);
-    let condition = policy.condition(alloc)?;
+    let id = Text::new(String::new(alloc));
+    Ok(Policy::new(id, Vec::new(alloc), Effect::Permit, scope, conditions))
+}
+
+#[test]
+fn a_condition_asks_the_scope_before_the_rest(rt: HostRuntime) -> Result<(), Fail> {
+    let alloc = rt.alloc();
+    let condition = conditional(alloc)?.condition(alloc)?;
     let shape = shape(alloc, &condition)?;
     assert_eq!(rt;
         shape.as_str(),

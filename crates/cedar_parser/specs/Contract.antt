@@ -1,15 +1,13 @@
 -- Private: what a function that reads ensures: the outcome of reading from left to right, unless memory runs out.
-use Rattle.std.specs.Prelude.{◌≡◌, ℕ, List, Result, Ok, Err, Contains}
+use Rattle.std.specs.Prelude.{◌≡◌, ℕ, Bool, true, false, List, Result, Ok, Err}
 use Rattle.std.specs.Global.{Vec}
-use Rattle.cedar_text.specs.declared.token.Token.{Token}
-use Rattle.cedar_text.specs.Lexeme.{Lexeme, Lexemes, lexeme}
+use denote.Ref.{Bor}
+use Rattle.cedar_text.specs.declared.text_fault.TextFault.{TextFault}
+use Rattle.cedar_text.specs.declared.text_fault.TextFault.TheVariants as t
+use Rattle.cedar_text.specs.Lexeme.{Lexeme, Lexemes}
+use Rattle.cedar_parser.specs.Marks.{Mark, Marks, IsMark, AreMarks}
 use Rattle.cedar_parser.specs.declared.parse_fault.ParseFault.{ParseFault}
 use Rattle.cedar_parser.specs.declared.parse_fault.ParseFault.TheVariants as f
-use Rattle.cedar_ast.specs.PolicyTree.{PolicyTree}
-use Rattle.cedar_ast.specs.PolicySetTree.{PolicySetTree, ids_of}
-use Rattle.cedar_parser.specs.StatementTree.{StatementTree}
-use Rattle.cedar_parser.specs.Meaning.{id_at}
-use Rattle.cedar_parser.specs.Limits.{Breaks}
 use Rattle.cedar_parser.specs.Reading.{Refusal, Syntax, TooDeep, Outcome}
 
 -- The place of a fault isn't spoken of.
@@ -19,26 +17,35 @@ Refuses o (f.Syntax at) = o ≡ Err Syntax
 Refuses o (f.TooDeep at) = o ≡ Err TooDeep
 Refuses o _ = ⊥
 
-abbrev pub Reads : {A : Type 0} → Outcome A → Result A ParseFault → Lexemes → Type 0
+abbrev pub Reads : {A : Type 0} → Outcome A → Result A ParseFault → Marks → Type 0
 Reads o (Ok a) new = o ≡ Ok (a, new)
 Reads o (Err x) new = Refuses o x
 
-abbrev pub TakesToken : Outcome Lexeme → Result Token ParseFault → Lexemes → Type 0
-TakesToken o (Ok t) new = o ≡ Ok (lexeme t, new)
+abbrev pub TakesToken : Outcome Mark → Result (Bor Mark) ParseFault → Marks → Type 0
+TakesToken o (Ok t) new = o ≡ Ok (t.now, new)
 TakesToken o (Err x) new = Refuses o x
 
-abbrev pub ReadsItems : {A : Type 0} → Outcome (List A) → Result (Vec A) ParseFault → Lexemes → Type 0
+abbrev pub ReadsItems : {A : Type 0} → Outcome (List A) → Result (Vec A) ParseFault → Marks → Type 0
 ReadsItems o (Ok v) new = o ≡ Ok (v.items, new)
 ReadsItems o (Err x) new = Refuses o x
 
--- why the policy of a statement is not added to a set
-abbrev pub RefusesEntry : List PolicyTree → ℕ → StatementTree → ParseFault → Type 0
-RefusesEntry set position statement f.OutOfMemory = Unit {0}
-RefusesEntry set position statement (f.DuplicateId at) = Contains (ids_of set) (id_at position)
-RefusesEntry set position statement fault = Breaks statement fault
+-- whether memory ran out
+abbrev pub is_memory : TextFault → Bool
+is_memory t.OutOfMemory = true
+is_memory _ = false
 
--- the policies answered are these, or memory ran out
-abbrev pub AnswersPolicies : List PolicyTree → Result PolicySetTree ParseFault → Type 0
-AnswersPolicies policies (Ok set) = set.policies ≡ policies
-AnswersPolicies policies (Err f.OutOfMemory) = Unit {0}
-AnswersPolicies policies (Err _) = ⊥
+-- why a string at a place has no letters
+abbrev pub refusal_of : TextFault → ℕ → ParseFault
+refusal_of t.OutOfMemory start = f.OutOfMemory
+refusal_of _ start = f.Syntax start
+
+-- why a token, and a list of them, has no marks
+abbrev pub Unmarked : Lexeme → ParseFault → Type 0
+Unmarked t f.OutOfMemory = Unit {0}
+Unmarked t (f.Syntax at) = (m : Mark) → IsMark t m → ⊥
+Unmarked t _ = ⊥
+
+abbrev pub AreUnmarked : Lexemes → ParseFault → Type 0
+AreUnmarked ts f.OutOfMemory = Unit {0}
+AreUnmarked ts (f.Syntax at) = (ms : Marks) → AreMarks ts ms → ⊥
+AreUnmarked ts _ = ⊥

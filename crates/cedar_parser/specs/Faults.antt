@@ -10,20 +10,32 @@ abbrev pub number_of : ParseFault → ℕ
 number_of f.OutOfMemory = 1
 number_of (f.Text fault) = lexer.number_of fault
 number_of (f.NumberTooLarge at) = 104
+number_of (f.EscapedStar at) = 103
 number_of (f.Syntax at) = 201
 number_of (f.TooDeep at) = 202
 number_of (f.TooHigh at) = 202
+number_of (f.DuplicateKey at) = 203
 number_of (f.DuplicateId at) = 204
+number_of (f.UnknownFunction at) = 205
+number_of (f.Arity at) = 206
+number_of (f.SlotMisplaced at) = 207
+number_of (f.DuplicateAnnotation at) = 208
 number_of (f.TooLarge at) = 209
 
 abbrev pub offset_of : ParseFault → Option ℕ
 offset_of f.OutOfMemory = None
 offset_of (f.Text fault) = lexer.offset_of fault
 offset_of (f.NumberTooLarge at) = Some at
+offset_of (f.EscapedStar at) = Some at
 offset_of (f.Syntax at) = Some at
 offset_of (f.TooDeep at) = Some at
 offset_of (f.TooHigh at) = Some at
+offset_of (f.DuplicateKey at) = Some at
 offset_of (f.DuplicateId at) = Some at
+offset_of (f.UnknownFunction at) = Some at
+offset_of (f.Arity at) = Some at
+offset_of (f.SlotMisplaced at) = Some at
+offset_of (f.DuplicateAnnotation at) = Some at
 offset_of (f.TooLarge at) = Some at
 
 -- the refusal of a text that has no tokens

@@ -1,95 +1,140 @@
--- What a statement must keep beside the grammar: numbers of 64 bits, and the limits of its condition.
-use Rattle.std.specs.Prelude.{ℕ, suc, ◌+◌, ◌<◌, ◌≤◌, ◌^◌, max, List, [], ◌∷◌}
-use Rattle.cedar_ast.specs.Expression.{Expression, literal, variable, and, or, if_else, unary, binary, set_with, record_with, Expressions, no_more, and_then, Entries, no_entries, entry}
-use Rattle.cedar_ast.specs.Condition.{condition_of}
-use Rattle.cedar_parser.specs.declared.parse_fault.ParseFault.{ParseFault}
-use Rattle.cedar_parser.specs.declared.parse_fault.ParseFault.TheVariants as f
+-- What a statement must keep beside the grammar: side conditions, and the limits of its condition.
+use Rattle.std.specs.Prelude.{ℕ, suc, ◌+◌, ◌<◌, ◌≤◌, ◌^◌, ◌≡◌, max, List, [], ◌∷◌, Option, IsSome}
+use Rattle.cedar_ast.specs.Expression as e
+use Rattle.cedar_ast.specs.Expression.{Expression, Expressions, Entries}
+use Rattle.cedar_ast.specs.Keys.{AreDistinct}
+use Rattle.cedar_parser.specs.declared.side_condition.SideCondition.{SideCondition}
+use Rattle.cedar_parser.specs.declared.side_condition.SideCondition.TheVariants.{Strings, Numbers, Keys, Names, Counts, Slots}
 use Rattle.cedar_parser.specs.declared.size.Size.{Size}
-use Rattle.cedar_parser.specs.Written.{Written, truth, number, text, entity, group, not, relation, chain, Links, no_links, link}
-use Rattle.cedar_parser.specs.Written as w
-use Rattle.cedar_parser.specs.declared.statement.WrittenCondition.{WrittenCondition}
-use Rattle.cedar_parser.specs.StatementTree.{StatementTree}
-use Rattle.cedar_parser.specs.Meaning.{policy_of}
+use Rattle.cedar_parser.specs.Written.{Content, Written, truth, number, negative, text, entity, variable, slot, group, not, negated, relation, has, like, is, is_in, chain, choice, set, record_of, call, Links, no_links, operand, attribute, method, Members, no_members, member, Fields, no_fields, field}
+use Rattle.cedar_parser.specs.Meaning.{told, function_of, method_of}
 
--- one node with nothing below it
-abbrev pub leaf : Size
-leaf = record { nodes = 1; height = 1 }
+-- ---- side conditions
+
+-- A string outside a pattern stands for a text: it has no `\*`.
+abbrev pub Stands : SideCondition → Content → Type 0
+Stands Strings c = IsSome c
+Stands _ c = Unit {0}
+
+-- A number is at most 9223372036854775807; behind a sign it may be one more.
+abbrev pub Fits : SideCondition → ℕ → Type 0
+Fits Numbers n = n < 2 ^ 63
+Fits _ n = Unit {0}
+
+abbrev pub FitsNegative : SideCondition → ℕ → Type 0
+FitsNegative Numbers n = n ≤ 2 ^ 63
+FitsNegative _ n = Unit {0}
+
+-- There is a function or method of the name.
+abbrev pub IsKnown : {A : Type 0} → SideCondition → Option A → Type 0
+IsKnown Names o = IsSome o
+IsKnown _ o = Unit {0}
+
+abbrev pub count_of : Members → ℕ
+count_of no_members = 0
+count_of (member a ms) = suc (count_of ms)
+
+-- A function or method has one argument.
+abbrev pub HasOne : SideCondition → Members → Type 0
+HasOne Counts ms = count_of ms ≡ 1
+HasOne _ ms = Unit {0}
+
+abbrev pub keys_in : Fields → List (List ℕ)
+keys_in no_fields = []
+keys_in (field key a fs) = told key ∷ keys_in fs
+
+-- No key of a record stands twice.
+abbrev pub HasDistinctKeys : SideCondition → Fields → Type 0
+HasDistinctKeys Keys fs = AreDistinct (keys_in fs)
+HasDistinctKeys _ fs = Unit {0}
+
+-- No slot stands in a condition.
+abbrev pub HasNoSlot : SideCondition → Type 0
+HasNoSlot Slots = ⊥
+HasNoSlot _ = Unit {0}
+
+-- An expression keeps a side condition where each part of it does.
+abbrev mutual
+  pub Keeps : SideCondition → Written → Type 0
+  Keeps c (truth b) = Unit {0}
+  Keeps c (number n) = Fits c n
+  Keeps c (negative n) = FitsNegative c n
+  Keeps c (text s) = Stands c s
+  Keeps c (entity u) = Stands c u.id
+  Keeps c (variable x) = Unit {0}
+  Keeps c (slot x) = HasNoSlot c
+  Keeps c (group a) = Keeps c a
+  Keeps c (not a) = Keeps c a
+  Keeps c (negated a) = Keeps c a
+  Keeps c (relation sign a b) = Keeps c a × Keeps c b
+  Keeps c (has a s) = Keeps c a × Stands c s
+  Keeps c (like a p) = Keeps c a
+  Keeps c (is a ty) = Keeps c a
+  Keeps c (is_in a ty b) = Keeps c a × Keeps c b
+  Keeps c (chain a ls) = Keeps c a × KeepLinks c ls
+  Keeps c (choice q a b) = Keeps c q × Keeps c a × Keeps c b
+  Keeps c (set ms) = KeepMembers c ms
+  Keeps c (record_of fs) = HasDistinctKeys c fs × KeepFields c fs
+  Keeps c (call name ms) = IsKnown c (function_of name) × HasOne c ms × KeepMembers c ms
+
+  pub KeepLinks : SideCondition → Links → Type 0
+  KeepLinks c no_links = Unit {0}
+  KeepLinks c (operand sign a ls) = Keeps c a × KeepLinks c ls
+  KeepLinks c (attribute s ls) = Stands c s × KeepLinks c ls
+  KeepLinks c (method name ms ls) = (IsKnown c (method_of name) × HasOne c ms × KeepMembers c ms) × KeepLinks c ls
+
+  pub KeepMembers : SideCondition → Members → Type 0
+  KeepMembers c no_members = Unit {0}
+  KeepMembers c (member a ms) = Keeps c a × KeepMembers c ms
+
+  pub KeepFields : SideCondition → Fields → Type 0
+  KeepFields c no_fields = Unit {0}
+  KeepFields c (field key a fs) = (Stands c key × Keeps c a) × KeepFields c fs
+
+-- ---- sizes
+
+abbrev pub nothing : Size
+nothing = record { nodes = 0; height = 0 }
+
+-- two trees beside one another
+abbrev pub both : Size → Size → Size
+both a b = record { nodes = a.nodes + b.nodes; height = max a.height b.height }
 
 -- one node with a tree below it
 abbrev pub above : Size → Size
 above a = record { nodes = suc a.nodes; height = suc a.height }
 
--- no node, and trees side by side
-abbrev pub nothing : Size
-nothing = record { nodes = 0; height = 0 }
-
-abbrev pub beside : Size → Size → Size
-beside a b = record { nodes = a.nodes + b.nodes; height = max a.height b.height }
+-- one node with nothing below it
+abbrev pub leaf : Size
+leaf = record { nodes = 1; height = 1 }
 
 -- one node with two trees below it
 abbrev pub above_both : Size → Size → Size
 above_both a b = record { nodes = suc (a.nodes + b.nodes); height = suc (max a.height b.height) }
 
--- how many nodes a tree has, and how many stand on its longest way down
 abbrev mutual
+  -- how many nodes a tree has, and how many stand on its longest way down
   pub size_of : Expression → Size
-  size_of (literal d) = leaf
-  size_of (variable x) = leaf
-  size_of (and a b) = above_both (size_of a) (size_of b)
-  size_of (or a b) = above_both (size_of a) (size_of b)
-  size_of (if_else c a b) = above (beside (size_of c) (beside (size_of a) (size_of b)))
-  size_of (unary op a) = above (size_of a)
-  size_of (binary op a b) = above_both (size_of a) (size_of b)
-  size_of (set_with es) = above (size_all es)
-  size_of (record_with fs) = above (size_entries fs)
+  size_of (e.literal d) = leaf
+  size_of (e.variable x) = leaf
+  size_of (e.and a b) = above_both (size_of a) (size_of b)
+  size_of (e.or a b) = above_both (size_of a) (size_of b)
+  size_of (e.if_else c a b) = above_both (size_of c) (both (size_of a) (size_of b))
+  size_of (e.unary op a) = above (size_of a)
+  size_of (e.binary op a b) = above_both (size_of a) (size_of b)
+  size_of (e.set_with es) = above (size_of_all es)
+  size_of (e.record_with es) = above (size_of_entries es)
 
-  pub size_all : Expressions → Size
-  size_all no_more = nothing
-  size_all (and_then e es) = beside (size_of e) (size_all es)
+  pub size_of_all : Expressions → Size
+  size_of_all e.no_more = nothing
+  size_of_all (e.and_then a es) = both (size_of a) (size_of_all es)
 
-  pub size_entries : Entries → Size
-  size_entries no_entries = nothing
-  size_entries (entry k e fs) = beside (size_of e) (size_entries fs)
-
--- Each number is at most the greatest of 64 bits.
-abbrev mutual
-  pub NumbersFit : Written → Type 0
-  NumbersFit (truth b) = Unit {0}
-  NumbersFit (number start n) = n < 2 ^ 63
-  NumbersFit (text s) = Unit {0}
-  NumbersFit (entity u) = Unit {0}
-  NumbersFit (w.variable x) = Unit {0}
-  NumbersFit (group a) = NumbersFit a
-  NumbersFit (not a) = NumbersFit a
-  NumbersFit (relation sign a b) = NumbersFit a × NumbersFit b
-  NumbersFit (chain a ls) = NumbersFit a × LinksFit ls
-
-  pub LinksFit : Links → Type 0
-  LinksFit no_links = Unit {0}
-  LinksFit (link sign a ls) = NumbersFit a × LinksFit ls
-
-abbrev pub ConditionsFit : List WrittenCondition → Type 0
-ConditionsFit [] = Unit {0}
-ConditionsFit (c ∷ cs) = NumbersFit c.body × ConditionsFit cs
-
--- the size of the condition of the statement's policy
-abbrev pub condition_size : StatementTree → Size
-condition_size s = size_of (condition_of (policy_of [] s))
+  pub size_of_entries : Entries → Size
+  size_of_entries e.no_entries = nothing
+  size_of_entries (e.entry key a es) = both (size_of a) (size_of_entries es)
 
 abbrev pub max_height : ℕ
 max_height = 2000
 
 abbrev pub max_nodes : ℕ
 max_nodes = 100000
-
-pub record IsWithinLimits (s : StatementTree) : Type 0 where
-  pub numbers : ConditionsFit s.conditions
-  pub low : (condition_size s).height ≤ max_height
-  pub small : (condition_size s).nodes ≤ max_nodes
-
--- what a refused statement breaks
-abbrev pub Breaks : StatementTree → ParseFault → Type 0
-Breaks s (f.NumberTooLarge at) = ConditionsFit s.conditions → ⊥
-Breaks s (f.TooHigh at) = max_height < (condition_size s).height
-Breaks s (f.TooLarge at) = max_nodes < (condition_size s).nodes
-Breaks s _ = ⊥

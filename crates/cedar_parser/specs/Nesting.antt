@@ -2,7 +2,7 @@
 use Rattle.std.specs.Prelude.{◌≡◌, ℕ, ◌+◌, ◌<◌, true, false, Bool, if◌then◌else◌, [], ◌∷◌, ◌++◌}
 use Rattle.cedar_text.specs.declared.token_kind.TokenKind.{TokenKind}
 use Rattle.cedar_text.specs.declared.token_kind.TokenKind.TheVariants as k
-use Rattle.cedar_text.specs.Lexeme.{Lexemes}
+use Rattle.cedar_parser.specs.Marks.{Marks}
 
 abbrev pub opens : TokenKind → Bool
 opens k.LeftParen = true
@@ -18,18 +18,18 @@ closes k.RightBrace = true
 closes _ = false
 
 -- how many of the tokens open a bracket or are an `if`
-unfoldable pub opened : Lexemes → ℕ
+unfoldable pub opened : Marks → ℕ
 opened [] = 0
 opened (t ∷ ts) = (if opens t.kind then 1 else 0) + opened ts
 
 -- how many of the tokens close a bracket
-unfoldable pub closed : Lexemes → ℕ
+unfoldable pub closed : Marks → ℕ
 closed [] = 0
 closed (t ∷ ts) = (if closes t.kind then 1 else 0) + closed ts
 
 -- Some first tokens hold over d more that open than that close.
-pub record IsDeep (d : ℕ) (ts : Lexemes) : Type 0 where
-  pub front : Lexemes
-  pub rest : Lexemes
+pub record IsDeep (d : ℕ) (ts : Marks) : Type 0 where
+  pub front : Marks
+  pub rest : Marks
   pub whole : ts ≡ front ++ rest
   pub over : closed front + d < opened front

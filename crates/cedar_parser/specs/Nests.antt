@@ -2,13 +2,13 @@
 use Rattle.std.specs.Prelude.{ℕ, Result}
 use Rattle.std.specs.declared.alloc.Global.{Global}
 use denote.Ref.{MutBor}
-use Rattle.cedar_text.specs.Lexeme.{Lexemes}
+use Rattle.cedar_parser.specs.Marks.{Marks}
 use Rattle.cedar_parser.specs.Written.{Written}
 use Rattle.cedar_parser.specs.declared.parse_fault.ParseFault.{ParseFault}
 use Rattle.cedar_parser.specs.Reading.{nested}
 use Rattle.cedar_parser.specs.Contract.{Reads}
 
-pub record Nests (depth : ℕ) (pre : Global → MutBor Lexemes → ℕ → Type 0)
-    (post : Global → MutBor Lexemes → ℕ → Result Written ParseFault → MutBor Lexemes → Type 0) : Type 0 where
-  pub callable : (alloc : Global) (old : MutBor Lexemes) → pre alloc old depth
-  pub reads : (alloc : Global) (old new : MutBor Lexemes) (r : Result Written ParseFault) → post alloc old depth r new → Reads (nested depth old.now) r new.now
+pub record Nests (depth : ℕ) (pre : Global → MutBor Marks → ℕ → Type 0)
+    (post : Global → MutBor Marks → ℕ → Result Written ParseFault → MutBor Marks → Type 0) : Type 0 where
+  pub callable : (alloc : Global) (old : MutBor Marks) → pre alloc old depth
+  pub reads : (alloc : Global) (old new : MutBor Marks) (r : Result Written ParseFault) → post alloc old depth r new → Reads (nested depth old.now) r new.now

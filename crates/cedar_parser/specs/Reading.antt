@@ -1,89 +1,83 @@
 -- Private: reading from left to right, with two tokens of sight, cut like the code. The grammar is what a reader must believe.
-use Rattle.std.specs.Prelude.{ℕ, zero, suc, ◌+◌, true, false, Bool, ◌&&◌, ◌==◌, if◌then◌else◌, List, [], ◌∷◌, ◌++◌, length, Option, Some, None, Result, Ok, Err, option_and_then, codes}
-use Rattle.std.specs.List.{list_any, before_first, position_or_len}
+use Rattle.std.specs.Prelude.{ℕ, zero, suc, true, false, Bool, ◌&&◌, ◌||◌, ◌==◌, if◌then◌else◌, List, [], ◌∷◌, ◌++◌, length, Option, Some, None, Result, Ok, Err, option_and_then, codes}
 use denote.Enum.Bare.{sameb}
 use Rattle.cedar_text.specs.contracts.token_kind.TokenKind.{the_type}
 use Rattle.cedar_text.specs.declared.token_kind.TokenKind.{TokenKind}
 use Rattle.cedar_text.specs.declared.token_kind.TokenKind.TheVariants as k
-use Rattle.cedar_text.specs.Lexeme.{Lexeme, Lexemes}
-use Rattle.cedar_value.specs.declared.uid.Uid.{Uid}
 use Rattle.cedar_ast.specs.declared.variable.Variable.{Variable}
+use Rattle.cedar_parser.specs.declared.content.WrittenUid.{WrittenUid}
 use Rattle.cedar_parser.specs.declared.sign.ChainSign.{ChainSign}
+use Rattle.cedar_parser.specs.declared.written.Field.{Field}
 use Rattle.cedar_parser.specs.declared.written.Link.{Link}
+use Rattle.cedar_parser.specs.declared.written.Link.TheVariants.{Operand, Attribute, Method}
+use Rattle.cedar_parser.specs.Marks.{Mark, Marks, content_of, pattern_of}
 use Rattle.cedar_parser.specs.Written as w
-use Rattle.cedar_parser.specs.Written.{Written}
-use Rattle.cedar_parser.specs.Grammar.{is_quote, is_backslash, variable_of, chained, or_sign, and_sign, sum_sign, relation_sign_of}
+use Rattle.cedar_parser.specs.Written.{Content, Written, members_of}
+use Rattle.cedar_parser.specs.WrittenKind.{fields_of}
+use Rattle.cedar_parser.specs.Grammar.{variable_of, slot_of, chained, or_sign, and_sign, sum_sign, product_sign, relation_sign_of}
 
 pub data Refusal : Type 0 where
   Syntax : Refusal
   TooDeep : Refusal
 
 abbrev pub Outcome : Type 0 → Type 0
-Outcome A = Result (A × Lexemes) Refusal
+Outcome A = Result (A × Marks) Refusal
 
-abbrev pub and_then : {A B : Type 0} → Outcome A → (A → Lexemes → Outcome B) → Outcome B
+abbrev pub and_then : {A B : Type 0} → Outcome A → (A → Marks → Outcome B) → Outcome B
 and_then (Ok p) f = f p.0 p.1
 and_then (Err x) f = Err x
 
 abbrev pub Parser : Type 0 → Type 0
-Parser A = Lexemes → Outcome A
+Parser A = Marks → Outcome A
 
 -- ---- tokens
 
 abbrev pub same_kind : TokenKind → TokenKind → Bool
 same_kind = sameb the_type
 
-unfoldable pub sees : TokenKind → Lexemes → Bool
+unfoldable pub sees : TokenKind → Marks → Bool
 sees kind [] = false
 sees kind (t ∷ ts) = same_kind t.kind kind
 
-unfoldable pub next : Lexemes → Lexemes
+unfoldable pub next : Marks → Marks
 next [] = []
 next (t ∷ ts) = ts
 
-unfoldable pub first : Lexemes → Option Lexeme
+unfoldable pub first : Marks → Option Mark
 first [] = None
 first (t ∷ ts) = Some t
 
 -- takes a token of this kind
-unfoldable pub expect : TokenKind → Parser Lexeme
+unfoldable pub expect : TokenKind → Parser Mark
 expect kind [] = Err Syntax
 expect kind (t ∷ ts) = if same_kind t.kind kind then Ok (t, ts) else Err Syntax
 
-unfoldable pub kind_at : Lexemes → Option TokenKind
+unfoldable pub kind_at : Marks → Option TokenKind
 kind_at [] = None
 kind_at (t ∷ ts) = Some t.kind
 
 -- the sign that the next token is
-abbrev pub sign_at : {S : Type 0} → (TokenKind → Option S) → Lexemes → Option S
+abbrev pub sign_at : {S : Type 0} → (TokenKind → Option S) → Marks → Option S
 sign_at signs ts = option_and_then signs (kind_at ts)
 
 abbrev pub on_some : {S B : Type 0} → Option S → B → (S → B) → B
 on_some None stop go = stop
 on_some (Some sign) stop go = go sign
 
+-- goes past a token that opens, where d more may
+unfoldable pub open_one : ℕ → Parser (Unit {0})
+open_one d ts = if d == 0 then Err TooDeep else Ok (tt, next ts)
+
 -- ---- texts, paths, uids
 
--- what stands before the quote that ends these bytes, where it has no backslash
-unfoldable pub ended : List ℕ → Option (List ℕ)
-ended bs =
-    if (position_or_len is_quote bs + 1) == length bs
-    then (if list_any is_backslash (before_first is_quote bs) then None else Some (before_first is_quote bs)) else None
+unfoldable pub text : Parser Content
+text ts = and_then (expect k.String ts) (λ t us. Ok (content_of t.letters, us))
 
--- what stands between the quotes, where it has no backslash
-unfoldable pub content_of : List ℕ → Option (List ℕ)
-content_of [] = None
-content_of (b ∷ bs) = if is_quote b then ended bs else None
-
-abbrev pub content_read : Option (List ℕ) → Parser (List ℕ)
-content_read None ts = Err Syntax
-content_read (Some s) ts = Ok (s, ts)
-
-unfoldable pub text : Parser (List ℕ)
-text ts = and_then (expect k.String ts) (λ t us. content_read (content_of t.text) us)
+unfoldable pub key : Parser Content
+key ts = if sees k.String ts then text ts else and_then (expect k.Identifier ts) (λ t us. Ok (Some t.text, us))
 
 -- a path goes on here
-abbrev pub goes_on : Lexemes → Bool
+abbrev pub goes_on : Marks → Bool
 goes_on ts = sees k.DoubleColon ts && sees k.Identifier (next ts)
 
 -- The number bounds the turns, and each turn takes a token, so the count of tokens is enough.
@@ -95,11 +89,25 @@ unfoldable pub path : Parser (List ℕ)
 path ts = and_then (expect k.Identifier ts) (λ t us. path_from (length us) t.text us)
 
 -- the text behind a path, which is that of the type
-unfoldable pub uid_of : List ℕ → Parser Uid
+unfoldable pub uid_of : List ℕ → Parser WrittenUid
 uid_of p ts = and_then (expect k.DoubleColon ts) (λ c us. and_then (text us) (λ s vs. Ok (record { ty = p; id = s }, vs)))
 
-unfoldable pub entity : Parser Uid
+unfoldable pub entity : Parser WrittenUid
 entity ts = and_then (path ts) (λ p us. uid_of p us)
+
+-- ---- lists
+
+module _ {A : Type 0} (item : Parser A) where
+  unfoldable pub series_from : ℕ → List A → Parser (List A)
+  series_from zero found ts = Ok (found, ts)
+  series_from (suc n) found ts = if sees k.Comma ts then and_then (item (next ts)) (λ a us. series_from n (found ++ a ∷ []) us) else Ok (found, ts)
+
+  abbrev pub series : Parser (List A)
+  series ts = and_then (item ts) (λ a us. series_from (length us) (a ∷ []) us)
+
+  -- and the sign that closes them
+  unfoldable pub arguments : TokenKind → Parser (List A)
+  arguments closer ts = if sees closer ts then Ok ([], next ts) else and_then (series ts) (λ found us. and_then (expect closer us) (λ r vs. Ok (found, vs)))
 
 -- ---- expressions
 
@@ -107,7 +115,7 @@ module _ (signs : TokenKind → Option ChainSign) (item : Parser Written) where
   unfoldable pub chain_from : ℕ → Written → List Link → Parser Written
   chain_from zero a ls ts = Ok (chained a ls, ts)
   chain_from (suc n) a ls ts =
-      on_some (sign_at signs ts) (Ok (chained a ls, ts)) (λ sign. and_then (item (next ts)) (λ b us. chain_from n a (ls ++ record { sign = sign; operand = b } ∷ []) us))
+      on_some (sign_at signs ts) (Ok (chained a ls, ts)) (λ sign. and_then (item (next ts)) (λ b us. chain_from n a (ls ++ Operand sign b ∷ []) us))
 
   abbrev pub chain : Parser Written
   chain ts = and_then (item ts) (λ a us. chain_from (length us) a [] us)
@@ -119,43 +127,116 @@ variable_read (Some x) ts = Ok (w.variable x, ts)
 unfoldable pub variable : Parser Written
 variable ts = and_then (expect k.Identifier ts) (λ t us. variable_read (variable_of t.text) us)
 
--- a uid, or a variable
-unfoldable pub named : Parser Written
-named ts = if sees k.DoubleColon (next ts) then and_then (entity ts) (λ u us. Ok (w.entity u, us)) else variable ts
+abbrev pub slot_read : Option Variable → Parser Written
+slot_read None ts = Err Syntax
+slot_read (Some x) ts = Ok (w.slot x, ts)
 
-module _ (inner : Parser Written) where
+unfoldable pub slot : Parser Written
+slot ts = and_then (expect k.Slot ts) (λ t us. slot_read (slot_of t.text) us)
+
+-- a path, and not a lone word
+abbrev pub begins_path : Marks → Bool
+begins_path ts = sees k.DoubleColon (next ts) || sees k.LeftParen (next ts)
+
+unfoldable pub entry : Parser Written → Parser Field
+entry inner ts = and_then (key ts) (λ c us. and_then (expect k.Colon us) (λ t vs. and_then (inner vs) (λ a ws. Ok (record { key = c; value = a }, ws))))
+
+abbrev pub has_suffix : Marks → Bool
+has_suffix ts = sees k.Dot ts || sees k.LeftBracket ts
+
+-- a text in brackets
+unfoldable pub indexed : ℕ → Parser Link
+indexed d ts = and_then (open_one d ts) (λ o us. and_then (text us) (λ c vs. and_then (expect k.RightBracket vs) (λ r ws. Ok (Attribute c, ws))))
+
+-- d more brackets may open, and inner reads what stands inside them
+module _ (d : ℕ) (inner : Parser Written) where
   unfoldable pub group : Parser Written
-  group ts = and_then (inner ts) (λ a us. and_then (expect k.RightParen us) (λ r vs. Ok (w.group a, vs)))
+  group ts = and_then (open_one d ts) (λ o us. and_then (inner us) (λ a vs. and_then (expect k.RightParen vs) (λ r ws. Ok (w.group a, ws))))
 
-  abbrev pub primary_by : TokenKind → Lexeme → Parser Written
+  unfoldable pub set : Parser Written
+  set ts = and_then (open_one d ts) (λ o us. and_then (arguments inner k.RightBracket us) (λ found vs. Ok (w.set (members_of found), vs)))
+
+  unfoldable pub record_of : Parser Written
+  record_of ts = and_then (open_one d ts) (λ o us. and_then (arguments (entry inner) k.RightBrace us) (λ found vs. Ok (w.record_of (fields_of found), vs)))
+
+  -- the arguments behind a function's or a method's name
+  unfoldable pub called : Parser (List Written)
+  called ts = and_then (open_one d ts) (λ o us. arguments inner k.RightParen us)
+
+  -- a call, or a uid
+  unfoldable pub with_path : Parser Written
+  with_path ts =
+      and_then (path ts) (λ p us. if sees k.LeftParen us then and_then (called us) (λ found vs. Ok (w.call p (members_of found), vs))
+      else and_then (uid_of p us) (λ u vs. Ok (w.entity u, vs)))
+
+  unfoldable pub named : Parser Written
+  named ts = if begins_path ts then with_path ts else variable ts
+
+  abbrev pub primary_by : TokenKind → Mark → Parser Written
   primary_by k.True t ts = Ok (w.truth true, next ts)
   primary_by k.False t ts = Ok (w.truth false, next ts)
-  primary_by k.Number t ts = Ok (w.number t.start t.number, next ts)
-  primary_by k.String t ts = and_then (text ts) (λ s us. Ok (w.text s, us))
+  primary_by k.Number t ts = Ok (w.number t.number, next ts)
+  primary_by k.String t ts = and_then (text ts) (λ c us. Ok (w.text c, us))
   primary_by k.Identifier t ts = named ts
-  primary_by k.LeftParen t ts = group (next ts)
+  primary_by k.Slot t ts = slot ts
+  primary_by k.LeftParen t ts = group ts
+  primary_by k.LeftBracket t ts = set ts
+  primary_by k.LeftBrace t ts = record_of ts
   primary_by _ t ts = Err Syntax
 
-  abbrev pub primary_of : Option Lexeme → Parser Written
+  abbrev pub primary_of : Option Mark → Parser Written
   primary_of None ts = Err Syntax
   primary_of (Some t) ts = primary_by t.kind t ts
 
   unfoldable pub primary : Parser Written
   primary ts = primary_of (first ts) ts
 
-  unfoldable pub nots : ℕ → Parser Written
-  nots zero ts = primary ts
-  nots (suc n) ts = if sees k.Not ts then and_then (nots n (next ts)) (λ a us. Ok (w.not a, us)) else primary ts
+  -- what stands behind a dot
+  unfoldable pub dotted : Parser Link
+  dotted ts =
+      and_then (expect k.Identifier ts) (λ t us. if sees k.LeftParen us then and_then (called us) (λ found vs. Ok (Method t.text found, vs))
+      else Ok (Attribute (Some t.text), us))
 
-  abbrev pub unary : Parser Written
-  unary = nots 4
+  unfoldable pub suffix : Parser Link
+  suffix ts = if sees k.Dot ts then dotted (next ts) else indexed d ts
+
+  unfoldable pub member_from : ℕ → Written → List Link → Parser Written
+  member_from zero a ls ts = Ok (chained a ls, ts)
+  member_from (suc n) a ls ts = if has_suffix ts then and_then (suffix ts) (λ l us. member_from n a (ls ++ l ∷ []) us) else Ok (chained a ls, ts)
+
+  unfoldable pub member : Parser Written
+  member ts = and_then (primary ts) (λ a us. member_from (length us) a [] us)
+
+  unfoldable pub nots : ℕ → Parser Written
+  nots zero ts = member ts
+  nots (suc n) ts = if sees k.Not ts then and_then (nots n (next ts)) (λ a us. Ok (w.not a, us)) else member ts
+
+  unfoldable pub minuses : ℕ → Parser Written
+  minuses zero ts = member ts
+  minuses (suc n) ts = if sees k.Minus ts then and_then (minuses n (next ts)) (λ a us. Ok (w.minus a, us)) else member ts
+
+  unfoldable pub unary : Parser Written
+  unary ts = if sees k.Minus ts then minuses 4 ts else nots 4 ts
+
+  unfoldable pub products : Parser Written
+  products = chain product_sign unary
 
   unfoldable pub sums : Parser Written
-  sums = chain sum_sign unary
+  sums = chain sum_sign products
+
+  unfoldable pub typed : Written → Parser Written
+  typed left ts =
+      and_then (path ts) (λ ty us. if sees k.In us then and_then (sums (next us)) (λ right vs. Ok (w.is_in left ty right, vs)) else Ok (w.is left ty, us))
+
+  unfoldable pub related : Written → Parser Written
+  related left ts =
+      on_some (sign_at relation_sign_of ts) (Ok (left, ts)) (λ sign. and_then (sums (next ts)) (λ right us. Ok (w.relation sign left right, us)))
 
   unfoldable pub relation_from : Written → Parser Written
   relation_from left ts =
-      on_some (sign_at relation_sign_of ts) (Ok (left, ts)) (λ sign. and_then (sums (next ts)) (λ right us. Ok (w.relation sign left right, us)))
+      if sees k.Has ts then and_then (key (next ts)) (λ c us. Ok (w.has left c, us))
+      else (if sees k.Like ts then and_then (expect k.String (next ts)) (λ t us. Ok (w.like left (pattern_of t.letters), us))
+      else (if sees k.Is ts then typed left (next ts) else related left ts))
 
   unfoldable pub relation : Parser Written
   relation ts = and_then (sums ts) (λ left us. relation_from left us)
@@ -166,10 +247,16 @@ module _ (inner : Parser Written) where
   unfoldable pub ors : Parser Written
   ors = chain or_sign ands
 
-  abbrev pub expression : Parser Written
-  expression = ors
+  unfoldable pub branches : Written → Parser Written
+  branches c ts = and_then (inner ts) (λ a xs. and_then (expect k.Else xs) (λ e ys. and_then (inner ys) (λ b zs. Ok (w.choice c a b, zs))))
 
--- with less than so many brackets open
+  unfoldable pub choice : Parser Written
+  choice ts = and_then (open_one d ts) (λ o us. and_then (inner us) (λ c vs. and_then (expect k.Then vs) (λ t ws. branches c ws)))
+
+  unfoldable pub expression : Parser Written
+  expression ts = if sees k.If ts then choice ts else ors ts
+
+-- with less than so many brackets and `if`s open
 unfoldable pub nested : ℕ → Parser Written
 nested zero ts = Err TooDeep
-nested (suc d) ts = expression (nested d) ts
+nested (suc d) ts = expression d (nested d) ts

@@ -1,43 +1,97 @@
 -- Private: reading statements from left to right, cut like the code. The grammar is what a reader must believe.
-use Rattle.std.specs.Prelude.{ℕ, zero, suc, List, [], ◌∷◌, ◌++◌, length, Option, None, Ok, Err, option_and_then, codes, if◌then◌else◌}
+use Rattle.std.specs.Prelude.{ℕ, zero, suc, List, [], ◌∷◌, ◌++◌, length, Option, Some, None, Ok, Err, option_and_then, codes, if◌then◌else◌}
 use Rattle.std.specs.Str.{bytes_eq}
+use Rattle.cedar_ast.specs.declared.variable.Variable.{Variable}
 use Rattle.cedar_ast.specs.declared.effect.Effect.{Effect}
-use Rattle.cedar_ast.specs.declared.scope.EntityScope.{EntityScope}
-use Rattle.cedar_ast.specs.declared.scope.EntityScope.TheVariants as entity_scope
-use Rattle.cedar_ast.specs.declared.scope.ActionScope.{ActionScope}
-use Rattle.cedar_ast.specs.declared.scope.ActionScope.TheVariants as action_scope
-use Rattle.cedar_ast.specs.declared.scope.Scope.{Scope}
 use Rattle.cedar_ast.specs.declared.condition.ConditionKind.{ConditionKind}
 use Rattle.cedar_text.specs.declared.token_kind.TokenKind.TheVariants as k
-use Rattle.cedar_text.specs.Lexeme.{Lexeme, Lexemes}
+use Rattle.cedar_parser.specs.Marks.{Mark, Marks}
 use Rattle.cedar_parser.specs.Written.{Written}
+use Rattle.cedar_parser.specs.Grammar.{slot_of}
+use Rattle.cedar_parser.specs.declared.statement.Reference.{Reference}
+use Rattle.cedar_parser.specs.declared.statement.Reference.TheVariants as reference
+use Rattle.cedar_parser.specs.declared.statement.WrittenAnnotation.{WrittenAnnotation}
 use Rattle.cedar_parser.specs.declared.statement.WrittenCondition.{WrittenCondition}
+use Rattle.cedar_parser.specs.declared.statement.WrittenEntityScope.{WrittenEntityScope}
+use Rattle.cedar_parser.specs.declared.statement.WrittenEntityScope.TheVariants as entity_scope
+use Rattle.cedar_parser.specs.declared.statement.WrittenActionScope.{WrittenActionScope}
+use Rattle.cedar_parser.specs.declared.statement.WrittenActionScope.TheVariants as action_scope
+use Rattle.cedar_parser.specs.declared.statement.WrittenScope.{WrittenScope}
 use Rattle.cedar_parser.specs.StatementTree.{StatementTree}
-use Rattle.cedar_parser.specs.Statements.{effect_of, condition_kind_of}
-use Rattle.cedar_parser.specs.Reading.{Syntax, Parser, and_then, on_some, sees, next, first, expect, same_kind, entity, nested}
+use Rattle.cedar_parser.specs.Statements.{is_word_kind, effect_of, condition_kind_of, start_of}
+use Rattle.cedar_parser.specs.Reading.{Syntax, Parser, and_then, on_some, sees, next, first, expect, same_kind, text, path, entity, arguments, nested}
+
+-- ---- annotations
+
+-- any word
+unfoldable pub any_word : Parser Mark
+any_word [] = Err Syntax
+any_word (t ∷ ts) = if is_word_kind t.kind then Ok (t, ts) else Err Syntax
+
+unfoldable pub annotation : Parser WrittenAnnotation
+annotation ts =
+    and_then (expect k.At ts) (λ p us. and_then (any_word us) (λ t vs. and_then (expect k.LeftParen vs) (λ l ws. and_then (text ws) (λ c xs. and_then (expect k.RightParen xs) (λ r ys.
+    Ok (record { start = p.start; name = t.text; value = c }, ys))))))
+
+unfoldable pub annotations_from : ℕ → List WrittenAnnotation → Parser (List WrittenAnnotation)
+annotations_from zero xs ts = Ok (xs, ts)
+annotations_from (suc n) xs ts = if sees k.At ts then and_then (annotation ts) (λ a us. annotations_from n (xs ++ a ∷ []) us) else Ok (xs, ts)
+
+unfoldable pub annotations : Parser (List WrittenAnnotation)
+annotations ts = annotations_from (length ts) [] ts
+
+-- ---- scopes
 
 unfoldable pub word : List ℕ → Parser (Unit {0})
 word name ts = and_then (expect k.Identifier ts) (λ t us. if bytes_eq t.text name then Ok (tt, us) else Err Syntax)
 
-unfoldable pub principal_or_resource : List ℕ → Parser EntityScope
-principal_or_resource name ts =
-    and_then (word name ts) (λ w us. if sees k.Equal us then and_then (entity (next us)) (λ u vs. Ok (entity_scope.Equal u, vs)) else Ok (entity_scope.Any, us))
+abbrev pub slot_read : Mark → Option Variable → Parser Reference
+slot_read t None ts = Err Syntax
+slot_read t (Some x) ts = Ok (reference.Slot t.start x, ts)
 
-unfoldable pub action : Parser ActionScope
+unfoldable pub slot : Parser Reference
+slot ts = and_then (expect k.Slot ts) (λ t us. slot_read t (slot_of t.text) us)
+
+unfoldable pub referred : Parser Reference
+referred ts = if sees k.Slot ts then slot ts else and_then (entity ts) (λ u us. Ok (reference.Entity u, us))
+
+unfoldable pub typed : Parser WrittenEntityScope
+typed ts = and_then (path ts) (λ ty us. if sees k.In us then and_then (referred (next us)) (λ q vs. Ok (entity_scope.IsIn ty q, vs)) else Ok (entity_scope.Is ty, us))
+
+-- what stands behind the variable
+unfoldable pub asked : Parser WrittenEntityScope
+asked ts =
+    if sees k.Equal ts then and_then (referred (next ts)) (λ q us. Ok (entity_scope.Equal q, us))
+    else (if sees k.In ts then and_then (referred (next ts)) (λ q us. Ok (entity_scope.In q, us))
+    else (if sees k.Is ts then typed (next ts) else Ok (entity_scope.Any, ts)))
+
+unfoldable pub principal_or_resource : List ℕ → Parser WrittenEntityScope
+principal_or_resource name ts = and_then (word name ts) (λ w us. asked us)
+
+-- an entity, or several in brackets
+unfoldable pub entities : Parser WrittenActionScope
+entities ts =
+    if sees k.LeftBracket ts then and_then (arguments entity k.RightBracket (next ts)) (λ list us. Ok (action_scope.InSet list, us))
+    else and_then (entity ts) (λ u us. Ok (action_scope.In u, us))
+
+unfoldable pub action : Parser WrittenActionScope
 action ts =
-    and_then (word (codes "action") ts) (λ w us. if sees k.Equal us then and_then (entity (next us)) (λ u vs. Ok (action_scope.Equal u, vs)) else Ok (action_scope.Any, us))
+    and_then (word (codes "action") ts) (λ w us. if sees k.Equal us then and_then (entity (next us)) (λ u vs. Ok (action_scope.Equal u, vs))
+    else (if sees k.In us then entities (next us) else Ok (action_scope.Any, us)))
 
-unfoldable pub scope : Parser Scope
+unfoldable pub scope : Parser WrittenScope
 scope ts =
     and_then (expect k.LeftParen ts) (λ l t1. and_then (principal_or_resource (codes "principal") t1) (λ p t2. and_then (expect k.Comma t2) (λ c t3. and_then (action t3) (λ a t4.
     and_then (expect k.Comma t4) (λ d t5. and_then (principal_or_resource (codes "resource") t5) (λ q t6. and_then (expect k.RightParen t6) (λ r us.
     Ok (record { principal = p; action = a; resource = q }, us))))))))
 
+-- ---- conditions
+
 -- `when` or `unless`
-abbrev pub kind_of_condition : Lexeme → Option ConditionKind
+abbrev pub kind_of_condition : Mark → Option ConditionKind
 kind_of_condition t = if same_kind t.kind k.Identifier then condition_kind_of t.text else None
 
-unfoldable pub condition_at : Lexemes → Option ConditionKind
+unfoldable pub condition_at : Marks → Option ConditionKind
 condition_at ts = option_and_then kind_of_condition (first ts)
 
 unfoldable pub block : ℕ → Parser Written
@@ -51,10 +105,13 @@ conditions_from d (suc n) cs ts =
 unfoldable pub conditions : ℕ → Parser (List WrittenCondition)
 conditions d ts = conditions_from d (length ts) [] ts
 
-unfoldable pub behind_effect : ℕ → ℕ → Effect → Parser StatementTree
-behind_effect d start effect ts =
+-- ---- statements
+
+unfoldable pub behind_effect : ℕ → ℕ → List WrittenAnnotation → Effect → Parser StatementTree
+behind_effect d start notes effect ts =
     and_then (scope ts) (λ s us. and_then (conditions d us) (λ cs vs. and_then (expect k.Semicolon vs) (λ e ws.
-    Ok (record { start = start; effect = effect; scope = s; conditions = cs }, ws))))
+    Ok (record { start = start; annotations = notes; effect = effect; scope = s; conditions = cs }, ws))))
 
 unfoldable pub statement : ℕ → Parser StatementTree
-statement d ts = and_then (expect k.Identifier ts) (λ t us. on_some (effect_of t.text) (Err Syntax) (λ effect. behind_effect d t.start effect us))
+statement d ts =
+    and_then (annotations ts) (λ notes us. and_then (expect k.Identifier us) (λ t vs. on_some (effect_of t.text) (Err Syntax) (λ effect. behind_effect d (start_of ts) notes effect vs)))

@@ -1,12 +1,14 @@
 -- A statement as it is written (Cedar language reference, policies).
 use Rattle.std.specs.Prelude.{ℕ, List}
 use Rattle.cedar_ast.specs.declared.effect.Effect.{Effect}
-use Rattle.cedar_ast.specs.declared.scope.Scope.{Scope}
+use Rattle.cedar_parser.specs.declared.statement.WrittenAnnotation.{WrittenAnnotation}
+use Rattle.cedar_parser.specs.declared.statement.WrittenScope.{WrittenScope}
 use Rattle.cedar_parser.specs.declared.statement.WrittenCondition.{WrittenCondition}
 
--- where its first token begins, its effect, its scope, and its conditions in order
+-- where its first token begins, its annotations in order, its effect, its scope, and its conditions in order
 pub record StatementTree : Type 0 where
   pub start : ℕ
+  pub annotations : List WrittenAnnotation
   pub effect : Effect
-  pub scope : Scope
+  pub scope : WrittenScope
   pub conditions : List WrittenCondition

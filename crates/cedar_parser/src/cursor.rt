@@ -1,17 +1,19 @@
 //! The tokens that are left.
 ghost use Rattle.std.specs.Prelude.{◌≡◌, length, option_map};
-ghost use Rattle.cedar_text.specs.Lexeme.{lexeme, lexemes};
 ghost use Rattle.cedar_parser.specs.Reading as spec;
 ghost use Rattle.cedar_parser.specs.Contract.{TakesToken};
+ghost use Rattle.cedar_parser.specs.StatementReading.{any_word};
+ghost use Rattle.cedar_parser.specs.Statements.{is_word_kind, start_of};
 
 use crate::parse_fault::ParseFault;
-use cedar_text::{Token, TokenKind};
+use crate::spelled::Spelled;
+use cedar_text::TokenKind;
 use std::marker::Model;
 
 /// A place in a list of tokens. Contracts see the tokens that are left.
 #[derive(Drop)]
 pub struct Cursor<'t> {
-    rest: &'t [Token<'t>],
+    rest: &'t [Spelled<'t>],
     /// Where the token that was taken last begins, and where the text ends, in bytes from 0.
     taken: usize,
     end: usize,
@@ -19,17 +21,17 @@ pub struct Cursor<'t> {
 
 impl<'t> Model for Cursor<'t> {
     ghost use Rattle.std.specs.Prelude.{List};
-    ghost use Rattle.cedar_text.specs.Lexeme.{Lexeme, lexemes};
+    ghost use Rattle.cedar_parser.specs.Marks.{Mark};
 
-    ghost Value = { List Lexeme };
+    ghost Value = { List Mark };
 
-    ghost view = { λ c. lexemes c.rest.now };
+    ghost view = { λ c. c.rest.now };
 }
 
 impl<'t> Cursor<'t> {
     /// The beginning of the tokens of a text that ends at the byte `end`.
-    pub fn new(tokens: &'t [Token<'t>], end: usize) -> Cursor<'t>
-        ensures { result ≡ lexemes tokens.now }
+    pub fn new(tokens: &'t [Spelled<'t>], end: usize) -> Cursor<'t>
+        ensures { result ≡ tokens.now }
     {
         Cursor {
             rest: tokens,
@@ -52,18 +54,18 @@ impl<'t> Cursor<'t> {
     {
         match self.rest {
             [] => None,
-            [token, ..] => Some(token.kind),
+            [token, ..] => Some(token.kind()),
         }
     }
 
     /// The next token.
     #[tactic(auto, unfolding(crate::specs::Reading::first))]
-    pub fn peek(&self) -> Option<Token<'t>>
-        ensures { option_map lexeme result ≡ spec.first self.now }
+    pub fn peek(&self) -> Option<&'t Spelled<'t>>
+        ensures { option_map (λ t. t.now) result ≡ spec.first self.now }
     {
         match self.rest {
             [] => None,
-            [token, ..] => Some(*token),
+            [token, ..] => Some(token),
         }
     }
 
@@ -74,7 +76,7 @@ impl<'t> Cursor<'t> {
     {
         match self.rest {
             [] => false,
-            [token, ..] => token.kind == kind,
+            [token, ..] => token.kind() == kind,
         }
     }
 
@@ -84,7 +86,7 @@ impl<'t> Cursor<'t> {
         ensures { result ≡ spec.sees kind (spec.next self.now) }
     {
         match self.rest {
-            [_, token, ..] => token.kind == kind,
+            [_, token, ..] => token.kind() == kind,
             _ => false,
         }
     }
@@ -95,23 +97,48 @@ impl<'t> Cursor<'t> {
         ensures { self.new ≡ spec.next self.old }
     {
         if let [token, rest @ ..] = self.rest {
-            self.taken = token.start;
+            self.taken = token.start();
             self.rest = rest;
         }
     }
 
     /// Goes past the next token, which is to be of this kind; another is no syntax.
     #[tactic(auto, unfolding(crate::specs::Reading::expect))]
-    pub fn expect(&mut self, kind: TokenKind) -> Result<Token<'t>, ParseFault>
+    pub fn expect(&mut self, kind: TokenKind) -> Result<&'t Spelled<'t>, ParseFault>
         ensures { TakesToken (spec.expect kind self.old) result self.new }
     {
         match self.rest {
-            [token, rest @ ..] if token.kind == kind => {
-                self.taken = token.start;
+            [token, rest @ ..] if token.kind() == kind => {
+                self.taken = token.start();
                 self.rest = rest;
-                Ok(*token)
+                Ok(token)
             }
             _ => Err(ParseFault::Syntax(self.offset())),
+        }
+    }
+
+    /// Goes past the next token, which is to be a word, reserved or not; another is no syntax.
+    #[tactic(auto, unfolding(crate::specs::StatementReading::any_word))]
+    pub fn any_word(&mut self) -> Result<&'t Spelled<'t>, ParseFault>
+        ensures { TakesToken (any_word self.old) result self.new }
+    {
+        match self.rest {
+            [token, rest @ ..] if is_word_kind(token.kind()) => {
+                self.taken = token.start();
+                self.rest = rest;
+                Ok(token)
+            }
+            _ => Err(ParseFault::Syntax(self.offset())),
+        }
+    }
+
+    /// Where the next token begins, 0 where there is none.
+    pub fn start(&self) -> usize
+        ensures { result ≡ start_of self.now }
+    {
+        match self.rest {
+            [] => 0,
+            [token, ..] => token.start(),
         }
     }
 
@@ -119,12 +146,31 @@ impl<'t> Cursor<'t> {
     pub fn offset(&self) -> usize {
         match self.rest {
             [] => self.end,
-            [token, ..] => token.start,
+            [token, ..] => token.start(),
         }
     }
 
     /// Where the token that was taken last begins.
     pub fn taken(&self) -> usize {
         self.taken
+    }
+}
+
+// Whether a token of this kind is a word.
+fn is_word_kind(kind: TokenKind) -> bool
+    ensures { result ≡ is_word_kind kind }
+{
+    match kind {
+        TokenKind::True
+        | TokenKind::False
+        | TokenKind::If
+        | TokenKind::Then
+        | TokenKind::Else
+        | TokenKind::In
+        | TokenKind::Is
+        | TokenKind::Like
+        | TokenKind::Has
+        | TokenKind::Identifier => true,
+        _ => false,
     }
 }

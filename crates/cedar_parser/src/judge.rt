@@ -1,20 +1,25 @@
 //! What a statement must keep beside the grammar.
-ghost use Rattle.std.specs.Prelude.{◌≡◌, ◌≤◌, MatchOption, OnOk, IfErr, map};
-ghost use Rattle.cedar_ast.specs.Condition.{entity_literal, entity_scope_of, action_scope_of, asked_by, conditions_of};
-ghost use Rattle.cedar_ast.specs.Expression.{set_with, expressions_of};
-ghost use Rattle.cedar_ast.specs.declared.variable.Variable.{Variable};
-ghost use Rattle.cedar_parser.specs.WrittenKind.{links_of};
-ghost use Rattle.cedar_parser.specs.Written.{chain};
-ghost use Rattle.cedar_parser.specs.Meaning.{expression_of, condition_of_written};
-ghost use Rattle.cedar_parser.specs.Limits.{size_of, NumbersFit, ConditionsFit, condition_size, IsWithinLimits, Breaks};
-ghost use Rattle.cedar_parser.specs.Capped.{capped};
+ghost use Rattle.std.specs.Prelude.{◌≡◌, ◌≤◌, ◌↔◌, IfOk, IfErr, IsTrue, MatchOption, OnOk, map};
+ghost use Rattle.cedar_ast.specs.Keys.{AreDistinct};
+ghost use Rattle.cedar_parser.specs.StatementLimits.{KeepsReference, KeepsEntityScope, KeepUids, KeepsActionScope, HasDistinctNames, KeepAnnotations, KeepConditions, KeepsStatement, condition_size, IsWithinLimits, Breaks};
+ghost use Rattle.cedar_parser.specs.Limits.{max_height, max_nodes};
+ghost use Rattle.cedar_parser.specs.Entering.{BreaksSize};
+ghost use Rattle.cedar_parser.specs.declared.side_condition.SideCondition.{SideCondition as Conditions};
 
+use crate::broken::{broken, content_broken};
+use crate::content::WrittenUid;
 use crate::parse_fault::ParseFault;
-use crate::size::{Size, leaf};
-use crate::statement::{Statement, WrittenCondition};
-use crate::written::{Link, Written, WrittenKind};
-use cedar_ast::{ActionScope, ConditionKind, EntityScope};
-use cedar_value::Uid;
+use crate::side_condition::SideCondition;
+use crate::size::Size;
+use crate::statement::{
+    Reference, WrittenActionScope, WrittenAnnotation, WrittenCondition, WrittenEntityScope,
+    WrittenStatement,
+};
+use crate::statement_size::condition_size;
+use cedar_ast::Variable;
+use cedar_value::{Record, Text, Value};
+use std::alloc::{AllocError, Global};
+use std::collections::HashMap;
 
 /// The height that the condition of a statement may have, in nodes.
 pub const MAX_HEIGHT: usize = 2_000;
@@ -22,174 +27,252 @@ pub const MAX_HEIGHT: usize = 2_000;
 /// How many nodes the condition of a statement may have.
 pub const MAX_NODES: usize = 100_000;
 
-/// Refuses a statement that breaks a limit: 104 for a number above 9223372036854775807, 202 for a condition that is too
-/// high, 209 for one that is too large, in this order.
-pub fn judge(statement: &Statement) -> Result<(), ParseFault>
+/// Refuses a statement that breaks a side condition or a limit: 103 for the escape `\*` outside a pattern, 104 for a
+/// number above 9223372036854775807, 203 for a key that stands twice in a record, 205 for an unknown function or method,
+/// 206 for another count of arguments than one, 207 for a slot elsewhere than in its variable's scope, 208 for an
+/// annotation that stands twice, 202 for a condition that is too high, 209 for one that is too large, in this order.
+pub fn judge(alloc: Global, statement: &WrittenStatement) -> Result<(), ParseFault>
     ensures kept { OnOk result (IsWithinLimits statement.now) }
     ensures broken { IfErr result (Breaks statement.now) }
 {
-    if let Some(start) = conditions_too_large(&statement.conditions) {
-        return Err(ParseFault::NumberTooLarge(start));
-    }
+    judge_conditions(alloc, statement)?;
+    judge_size(statement)?;
+    Ok(())
+}
+
+// Refuses a statement that breaks a side condition.
+fn judge_conditions(alloc: Global, statement: &WrittenStatement) -> Result<(), ParseFault>
+    ensures kept { OnOk result ((c : Conditions) → KeepsStatement c statement.now) }
+    ensures broken { IfErr result (Breaks statement.now) }
+{
+    judge_by(alloc, SideCondition::Strings, statement)?;
+    judge_by(alloc, SideCondition::Numbers, statement)?;
+    judge_by(alloc, SideCondition::Keys, statement)?;
+    judge_by(alloc, SideCondition::Names, statement)?;
+    judge_by(alloc, SideCondition::Counts, statement)?;
+    judge_by(alloc, SideCondition::Slots, statement)?;
+    judge_by(alloc, SideCondition::Annotations, statement)?;
+    Ok(())
+}
+
+// Refuses a statement whose condition is too high or too large.
+fn judge_size(statement: &WrittenStatement) -> Result<(), ParseFault>
+    ensures low { OnOk result ((condition_size statement.now).height ≤ max_height) }
+    ensures small { OnOk result ((condition_size statement.now).nodes ≤ max_nodes) }
+    ensures broken { IfErr result (Breaks statement.now) }
+{
     let size = condition_size(statement);
+    limit(size, statement.start)
+}
+
+// Refuses a size that is too high or too large.
+fn limit(size: Size, start: usize) -> Result<(), ParseFault>
+    ensures low { OnOk result (size.height ≤ max_height) }
+    ensures small { OnOk result (size.nodes ≤ max_nodes) }
+    ensures broken { IfErr result (BreaksSize size) }
+{
     if size.height > MAX_HEIGHT {
-        return Err(ParseFault::TooHigh(statement.start));
+        return Err(ParseFault::TooHigh(start));
     }
     if size.nodes > MAX_NODES {
-        return Err(ParseFault::TooLarge(statement.start));
+        return Err(ParseFault::TooLarge(start));
     }
     Ok(())
 }
 
-// The size of the condition of the policy that a statement is.
-fn condition_size(statement: &Statement) -> Size
-    ensures { result ≡ capped (condition_size statement.now) }
+// Refuses a statement that breaks this side condition.
+fn judge_by(
+    alloc: Global,
+    condition: SideCondition,
+    statement: &WrittenStatement,
+) -> Result<(), ParseFault>
+    ensures kept { OnOk result (KeepsStatement condition statement.now) }
+    ensures broken { IfErr result (Breaks statement.now) }
 {
-    let principal = entity_scope_size(&statement.scope.principal);
-    let action = action_scope_size(&statement.scope.action);
-    let resource = entity_scope_size(&statement.scope.resource);
-    let conditions = conditions_size(&statement.conditions);
-    principal.above_both(action.above_both(resource.above_both(conditions)))
+    let Some(at) = statement_broken(alloc, condition, statement)? else {
+        return Ok(());
+    };
+    match condition {
+        SideCondition::Strings => Err(ParseFault::EscapedStar(at)),
+        SideCondition::Numbers => Err(ParseFault::NumberTooLarge(at)),
+        SideCondition::Keys => Err(ParseFault::DuplicateKey(at)),
+        SideCondition::Names => Err(ParseFault::UnknownFunction(at)),
+        SideCondition::Counts => Err(ParseFault::Arity(at)),
+        SideCondition::Slots => Err(ParseFault::SlotMisplaced(at)),
+        SideCondition::Annotations => Err(ParseFault::DuplicateAnnotation(at)),
+    }
 }
 
-// What is asked of the principal or the resource: the literal `true`, or an equation.
-fn entity_scope_size(scope: &EntityScope) -> Size
-    ensures { (x : Variable) → result ≡ capped (size_of (entity_scope_of x scope.now)) }
+// Where a statement breaks a side condition, if it does.
+fn statement_broken(
+    alloc: Global,
+    condition: SideCondition,
+    statement: &WrittenStatement,
+) -> Result<Option<usize>, AllocError>
+    ensures { IfOk result (λ o. MatchOption o (KeepsStatement condition statement.now) (λ at. KeepsStatement condition statement.now → ⊥)) }
+{
+    if let Some(at) = names_broken(alloc, condition, &statement.annotations)? {
+        return Ok(Some(at));
+    }
+    if let Some(at) = annotations_broken(condition, &statement.annotations) {
+        return Ok(Some(at));
+    }
+    let scope = &statement.scope;
+    if let Some(at) = entity_scope_broken(condition, Variable::Principal, &scope.principal) {
+        return Ok(Some(at));
+    }
+    if let Some(at) = action_scope_broken(condition, &scope.action) {
+        return Ok(Some(at));
+    }
+    if let Some(at) = entity_scope_broken(condition, Variable::Resource, &scope.resource) {
+        return Ok(Some(at));
+    }
+    conditions_broken(alloc, condition, &statement.conditions)
+}
+
+fn entity_scope_broken(
+    condition: SideCondition,
+    variable: Variable,
+    scope: &WrittenEntityScope,
+) -> Option<usize>
+    ensures { MatchOption result (KeepsEntityScope condition variable scope.now) (λ at. KeepsEntityScope condition variable scope.now → ⊥) }
 {
     match scope {
-        EntityScope::Any => leaf(),
-        EntityScope::Equal(_) | EntityScope::In(_) => leaf().above_both(leaf()),
-        EntityScope::Is(_) => leaf().above(),
-        EntityScope::IsIn(_, _) => leaf().above().above_both(leaf().above_both(leaf())),
+        WrittenEntityScope::Any => None,
+        WrittenEntityScope::Equal(reference) => reference_broken(condition, variable, reference),
+        WrittenEntityScope::In(reference) => reference_broken(condition, variable, reference),
+        WrittenEntityScope::Is(_) => None,
+        WrittenEntityScope::IsIn(_, reference) => reference_broken(condition, variable, reference),
     }
 }
 
-fn action_scope_size(scope: &ActionScope) -> Size
-    ensures { result ≡ capped (size_of (action_scope_of scope.now)) }
+fn reference_broken(
+    condition: SideCondition,
+    variable: Variable,
+    reference: &Reference,
+) -> Option<usize>
+    ensures { MatchOption result (KeepsReference condition variable reference.now) (λ at. KeepsReference condition variable reference.now → ⊥) }
 {
-    match scope {
-        ActionScope::Any => leaf(),
-        ActionScope::Equal(_) | ActionScope::In(_) => leaf().above_both(leaf()),
-        ActionScope::InSet(entities) => leaf().above_both(literals_size(entities.as_slice())),
-    }
-}
-
-// The set of the literals of entities.
-fn literals_size(entities: &[Uid]) -> Size
-    ensures { result ≡ capped (size_of (set_with (expressions_of (map entity_literal entities.now)))) }
-{
-    if entities.is_empty() {
-        return leaf();
-    }
-    Size {
-        nodes: entities.len().saturating_add(1),
-        height: 2,
-    }
-}
-
-// The conditions, joined from the last one to the first.
-fn conditions_size(conditions: &[WrittenCondition]) -> Size
-    ensures { result ≡ capped (size_of (conditions_of (map condition_of_written conditions.now))) }
-{
-    let count = conditions.len();
-    if count == 0 {
-        return leaf();
-    }
-    let mut joined = asked_size(&conditions[count - 1]);
-    for index in (0..count - 1).rev() {
-        joined = asked_size(&conditions[index]).above_both(joined);
-    }
-    joined
-}
-
-fn asked_size(condition: &WrittenCondition) -> Size
-    ensures { result ≡ capped (size_of (asked_by condition.now.kind (expression_of condition.now.body))) }
-{
-    let body = size(&condition.body);
-    match condition.kind {
-        ConditionKind::When => body,
-        ConditionKind::Unless => body.above(),
-    }
-}
-
-// Where the digits of the first number begin that is no number of 64 bits, if there is one.
-fn conditions_too_large(conditions: &[WrittenCondition]) -> Option<usize>
-    ensures { MatchOption result (ConditionsFit conditions.now) (λ at. ConditionsFit conditions.now → ⊥) }
-{
-    for condition in conditions {
-        if let Some(start) = too_large(&condition.body) {
-            return Some(start);
-        }
-    }
-    None
-}
-
-/// The size of the tree that an expression is written for.
-#[cycle(size)]
-pub fn size(written: &Written) -> Size
-    ensures { result ≡ capped (size_of (expression_of written.now)) }
-{
-    match written.kind() {
-        WrittenKind::Truth(_)
-        | WrittenKind::Number(_, _)
-        | WrittenKind::Text(_)
-        | WrittenKind::Entity(_)
-        | WrittenKind::Variable(_) => leaf(),
-        WrittenKind::Group(inside) => size(inside),
-        WrittenKind::Not(operand) => size(operand).above(),
-        WrittenKind::Relation(_, left, right) => size(left).above_both(size(right)),
-        WrittenKind::Chain(first, links) => chain_size(first, links),
-    }
-}
-
-#[cycle(size)]
-fn chain_size(first: &Written, links: &[Link]) -> Size
-    ensures { result ≡ capped (size_of (expression_of (chain first.now (links_of links.now)))) }
-{
-    let mut whole = size(first);
-    for link in links {
-        whole = whole.above_both(size(&link.operand));
-    }
-    whole
-}
-
-/// Where the digits of a number begin that is no number of 64 bits, if there is one.
-#[cycle(too_large)]
-pub fn too_large(written: &Written) -> Option<usize>
-    ensures { MatchOption result (NumbersFit written.now) (λ at. NumbersFit written.now → ⊥) }
-{
-    match written.kind() {
-        WrittenKind::Truth(_)
-        | WrittenKind::Text(_)
-        | WrittenKind::Entity(_)
-        | WrittenKind::Variable(_) => None,
-        WrittenKind::Number(start, number) => {
-            if *number > i64::MAX as u64 {
-                return Some(*start);
+    match reference {
+        Reference::Entity(uid) => content_broken(condition, &uid.id),
+        Reference::Slot(start, slot) => match condition {
+            SideCondition::Slots => {
+                if variable == *slot {
+                    return None;
+                }
+                Some(*start)
             }
-            None
-        }
-        WrittenKind::Group(inside) => too_large(inside),
-        WrittenKind::Not(operand) => too_large(operand),
-        WrittenKind::Relation(_, left, right) => match too_large(left) {
-            Some(start) => Some(start),
-            None => too_large(right),
+            SideCondition::Strings
+            | SideCondition::Numbers
+            | SideCondition::Keys
+            | SideCondition::Names
+            | SideCondition::Counts
+            | SideCondition::Annotations => None,
         },
-        WrittenKind::Chain(first, links) => chain_too_large(first, links),
     }
 }
 
-#[cycle(too_large)]
-fn chain_too_large(first: &Written, links: &[Link]) -> Option<usize>
-    ensures { MatchOption result (NumbersFit (chain first.now (links_of links.now))) (λ at. NumbersFit (chain first.now (links_of links.now)) → ⊥) }
+fn action_scope_broken(condition: SideCondition, scope: &WrittenActionScope) -> Option<usize>
+    ensures { MatchOption result (KeepsActionScope condition scope.now) (λ at. KeepsActionScope condition scope.now → ⊥) }
 {
-    if let Some(start) = too_large(first) {
-        return Some(start);
+    match scope {
+        WrittenActionScope::Any => None,
+        WrittenActionScope::Equal(uid) => content_broken(condition, &uid.id),
+        WrittenActionScope::In(uid) => content_broken(condition, &uid.id),
+        WrittenActionScope::InSet(uids) => uids_broken(condition, uids.as_slice()),
     }
-    for link in links {
-        if let Some(start) = too_large(&link.operand) {
-            return Some(start);
+}
+
+fn uids_broken(condition: SideCondition, uids: &[WrittenUid]) -> Option<usize>
+    ensures { MatchOption result (KeepUids condition uids.now) (λ at. KeepUids condition uids.now → ⊥) }
+{
+    for uid in uids {
+        if let Some(at) = content_broken(condition, &uid.id) {
+            return Some(at);
         }
     }
     None
+}
+
+fn annotations_broken(condition: SideCondition, annotations: &[WrittenAnnotation]) -> Option<usize>
+    ensures { MatchOption result (KeepAnnotations condition annotations.now) (λ at. KeepAnnotations condition annotations.now → ⊥) }
+{
+    for annotation in annotations {
+        if let Some(at) = content_broken(condition, &annotation.value) {
+            return Some(at);
+        }
+    }
+    None
+}
+
+fn conditions_broken(
+    alloc: Global,
+    condition: SideCondition,
+    conditions: &[WrittenCondition],
+) -> Result<Option<usize>, AllocError>
+    ensures { IfOk result (λ o. MatchOption o (KeepConditions condition conditions.now) (λ at. KeepConditions condition conditions.now → ⊥)) }
+{
+    for asked in conditions {
+        if let Some(at) = broken(alloc, condition, &asked.body)? {
+            return Ok(Some(at));
+        }
+    }
+    Ok(None)
+}
+
+fn names_broken(
+    alloc: Global,
+    condition: SideCondition,
+    annotations: &[WrittenAnnotation],
+) -> Result<Option<usize>, AllocError>
+    ensures { IfOk result (λ o. MatchOption o (HasDistinctNames condition annotations.now) (λ at. HasDistinctNames condition annotations.now → ⊥)) }
+{
+    match condition {
+        SideCondition::Annotations => {
+            if are_distinct(alloc, annotations)? {
+                return Ok(None);
+            }
+            Ok(Some(repeated_at(alloc, annotations)?))
+        }
+        SideCondition::Strings
+        | SideCondition::Numbers
+        | SideCondition::Keys
+        | SideCondition::Names
+        | SideCondition::Counts
+        | SideCondition::Slots => Ok(None),
+    }
+}
+
+// Whether no name stands twice: there is then a record with these names as its keys.
+fn are_distinct(alloc: Global, annotations: &[WrittenAnnotation]) -> Result<bool, AllocError>
+    ensures { IfOk result (λ b. IsTrue b ↔ AreDistinct (map (λ a. a.name) annotations.now)) }
+{
+    let record = Record::from_pairs(falsities(alloc, annotations)?)?;
+    Ok(record.is_some())
+}
+
+// The names, each with the value `false`.
+fn falsities(
+    alloc: Global,
+    annotations: &[WrittenAnnotation],
+) -> Result<Vec<(Text, Value)>, AllocError>
+    ensures { IfOk result (λ v. map (λ p. p.0) v.items ≡ map (λ a. a.name) annotations.now) }
+{
+    let mut falsities = Vec::new(alloc);
+    for annotation in annotations {
+        let name = Text::read(alloc, annotation.name.as_str())?;
+        falsities.push((name, Value::boolean(false)))?;
+    }
+    Ok(falsities)
+}
+
+// Where the first annotation stands whose name stood before.
+fn repeated_at(alloc: Global, annotations: &[WrittenAnnotation]) -> Result<usize, AllocError> {
+    let mut seen = HashMap::new(alloc);
+    for annotation in annotations {
+        if seen.insert(annotation.name.as_str(), ())?.is_some() {
+            return Ok(annotation.start);
+        }
+    }
+    Ok(0)
 }

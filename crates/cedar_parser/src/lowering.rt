@@ -1,90 +1,266 @@
-//! The policy that a statement is.
-ghost use Rattle.std.specs.Prelude.{◌≡◌, ◌++◌, ◌∷◌, [], IfOk, OnOk, map};
-ghost use Rattle.cedar_parser.specs.WrittenKind.{links_of};
-ghost use Rattle.cedar_parser.specs.Written.{chain};
-ghost use Rattle.cedar_parser.specs.Meaning.{expression_of, linked, related, condition_of_written, policy_of};
-ghost use Rattle.cedar_parser.specs.Limits.{NumbersFit, ConditionsFit};
+//! The expression that is written.
+ghost use Rattle.std.specs.Prelude.{◌≡◌, ◌≢◌, ◌≤◌, ◌^◌, ◌++◌, ◌∷◌, [], IfOk, OnOk, MatchOption, length, pos, neg_ℤ};
+ghost use Rattle.cedar_ast.specs.Expression.{expressions_of, entries_of, unary, binary, record_with};
+ghost use Rattle.cedar_ast.specs.Keys.{AreDistinct, keys_of};
+ghost use Rattle.cedar_ast.specs.declared.operator.UnaryOperator.TheVariants.{Not};
+ghost use Rattle.cedar_parser.specs.declared.side_condition.SideCondition.TheVariants.{Numbers, Keys};
+ghost use Rattle.cedar_parser.specs.Written as tree;
+ghost use Rattle.cedar_parser.specs.Written.{chain, members_of};
+ghost use Rattle.cedar_parser.specs.WrittenKind.{links_of, fields_of};
+ghost use Rattle.cedar_parser.specs.Meaning.{expression_of, expressions_in, entries_in, related, linked, called, applied, function_of, method_of, uid_told};
+ghost use Rattle.cedar_parser.specs.Limits.{Keeps, KeepMembers, KeepFields};
+ghost use Rattle.cedar_parser.specs.Parts.{KeepLink, behind, pairs_of};
 
+use crate::content::WrittenUid;
+use crate::named::{function_of, method_of};
 use crate::sign::{ChainSign, RelationSign};
-use crate::statement::{Statement, WrittenCondition};
-use crate::written::{Link, Written, WrittenKind};
-use cedar_ast::{BinaryOperator, Condition, ConditionKind, Expr, Policy, UnaryOperator};
-use cedar_value::{Text, Value};
+use crate::written::{Field, Link, Written, WrittenKind};
+use cedar_ast::{BinaryOperator, Entries, Expr, RecordFault, UnaryOperator};
+use cedar_value::{Name, Text, Uid, Value};
 use std::alloc::{AllocError, Global};
-
-/// The policy of this id that a statement is.
-pub fn policy(alloc: Global, id: Text, statement: Statement) -> Result<Policy, AllocError>
-    requires { ConditionsFit statement.conditions }
-    ensures { IfOk result (λ p. p ≡ policy_of id statement) }
-{
-    let conditions = conditions(alloc, &statement.conditions)?;
-    Ok(Policy::new(
-        id,
-        Vec::new(alloc),
-        statement.effect,
-        statement.scope,
-        conditions,
-    ))
-}
-
-fn conditions(alloc: Global, written: &[WrittenCondition]) -> Result<Vec<Condition>, AllocError>
-    requires { ConditionsFit written.now }
-    ensures { IfOk result (λ v. v.items ≡ map condition_of_written written.now) }
-{
-    let mut conditions = Vec::new(alloc);
-    for condition in written {
-        let body = expression(alloc, &condition.body)?;
-        push(&mut conditions, condition.kind, body)?;
-    }
-    Ok(conditions)
-}
-
-// One more condition.
-fn push(conditions: &mut Vec<Condition>, kind: ConditionKind, body: Expr) -> Result<(), AllocError>
-    ensures { OnOk result (conditions.new.items ≡ conditions.old.items ++ record { kind = kind; body = body } ∷ []) }
-{
-    conditions.push(Condition { kind, body })?;
-    Ok(())
-}
 
 /// The expression that is written.
 #[cycle(expression)]
 pub fn expression(alloc: Global, written: &Written) -> Result<Expr, AllocError>
-    requires { NumbersFit written.now }
+    requires numbers { Keeps Numbers written.now }
+    requires keys { Keeps Keys written.now }
     ensures { IfOk result (λ e. e ≡ expression_of written.now) }
 {
     match written.kind() {
         WrittenKind::Truth(truth) => Ok(Expr::literal(Value::boolean(*truth))),
         WrittenKind::Number(_, number) => Ok(Expr::literal(Value::long(*number as i64))),
-        WrittenKind::Text(text) => Ok(Expr::literal(Value::string(text.try_clone(alloc)?))),
-        WrittenKind::Entity(uid) => Ok(Expr::literal(Value::uid(uid.try_clone(alloc)?))),
+        WrittenKind::Negative(_, number) => Ok(Expr::literal(Value::long(negative(*number)))),
+        WrittenKind::Text(content) => Ok(Expr::literal(Value::string(content.told(alloc)?))),
+        WrittenKind::Entity(uid) => Ok(Expr::literal(Value::uid(told_uid(alloc, uid)?))),
         WrittenKind::Variable(name) => Ok(Expr::variable(*name)),
+        WrittenKind::Slot(_, name) => Ok(Expr::variable(*name)),
         WrittenKind::Group(inside) => expression(alloc, inside),
-        WrittenKind::Not(operand) => {
-            let operand = expression(alloc, operand)?;
-            Expr::unary(alloc, UnaryOperator::Not, operand)
-        }
+        WrittenKind::Not(operand) => asked_of(alloc, UnaryOperator::Not, operand),
+        WrittenKind::Negated(operand) => asked_of(alloc, UnaryOperator::Negate, operand),
         WrittenKind::Relation(sign, left, right) => {
             let left = expression(alloc, left)?;
             let right = expression(alloc, right)?;
             related(alloc, *sign, left, right)
         }
+        WrittenKind::Has(operand, key) => {
+            let operator = UnaryOperator::Has(key.told(alloc)?);
+            asked_of(alloc, operator, operand)
+        }
+        WrittenKind::Like(operand, pattern) => {
+            let operator = UnaryOperator::Like(pattern.try_clone(alloc)?);
+            asked_of(alloc, operator, operand)
+        }
+        WrittenKind::Is(operand, ty) => {
+            let operator = UnaryOperator::Is(ty.try_clone(alloc)?);
+            asked_of(alloc, operator, operand)
+        }
+        WrittenKind::IsIn(left, ty, right) => is_in(alloc, left, ty, right),
         WrittenKind::Chain(first, links) => chain_expression(alloc, first, links),
+        WrittenKind::If(condition, if_true, if_false) => {
+            choice(alloc, condition, if_true, if_false)
+        }
+        WrittenKind::Set(members) => Ok(Expr::set(expressions(alloc, members.items())?)),
+        WrittenKind::Record(fields) => record_told(alloc, fields),
+        WrittenKind::Call(_, name, arguments) => {
+            let arguments = expressions(alloc, arguments.items())?;
+            called(alloc, name.as_str(), arguments)
+        }
     }
+}
+
+// An operator on its operand.
+#[cycle(expression)]
+fn asked_of(alloc: Global, operator: UnaryOperator, operand: &Written) -> Result<Expr, AllocError>
+    requires numbers { Keeps Numbers operand.now }
+    requires keys { Keeps Keys operand.now }
+    ensures { IfOk result (λ e. e ≡ unary operator (expression_of operand.now)) }
+{
+    let operand = expression(alloc, operand)?;
+    Expr::unary(alloc, operator, operand)
+}
+
+#[cycle(expression)]
+fn is_in(alloc: Global, left: &Written, ty: &Name, right: &Written) -> Result<Expr, AllocError>
+    requires numbers { Keeps Numbers (tree.is_in left.now ty.now right.now) }
+    requires keys { Keeps Keys (tree.is_in left.now ty.now right.now) }
+    ensures { IfOk result (λ e. e ≡ expression_of (tree.is_in left.now ty.now right.now)) }
+{
+    let operator = UnaryOperator::Is(ty.try_clone(alloc)?);
+    let asked = expression(alloc, left)?;
+    let asked = Expr::unary(alloc, operator, asked)?;
+    let left = expression(alloc, left)?;
+    let right = expression(alloc, right)?;
+    let within = Expr::binary(alloc, BinaryOperator::In, left, right)?;
+    Expr::and(alloc, asked, within)
+}
+
+#[cycle(expression)]
+fn choice(
+    alloc: Global,
+    condition: &Written,
+    if_true: &Written,
+    if_false: &Written,
+) -> Result<Expr, AllocError>
+    requires numbers { Keeps Numbers (tree.choice condition.now if_true.now if_false.now) }
+    requires keys { Keeps Keys (tree.choice condition.now if_true.now if_false.now) }
+    ensures { IfOk result (λ e. e ≡ expression_of (tree.choice condition.now if_true.now if_false.now)) }
+{
+    let condition = expression(alloc, condition)?;
+    let if_true = expression(alloc, if_true)?;
+    let if_false = expression(alloc, if_false)?;
+    Expr::if_else(alloc, condition, if_true, if_false)
 }
 
 // The operands of a chain, grouped to the left.
 #[cycle(expression)]
 fn chain_expression(alloc: Global, first: &Written, links: &[Link]) -> Result<Expr, AllocError>
-    requires { NumbersFit (chain first.now (links_of links.now)) }
+    requires numbers { Keeps Numbers (chain first.now (links_of links.now)) }
+    requires keys { Keeps Keys (chain first.now (links_of links.now)) }
     ensures { IfOk result (λ e. e ≡ expression_of (chain first.now (links_of links.now))) }
 {
     let mut left = expression(alloc, first)?;
     for link in links {
-        let right = expression(alloc, &link.operand)?;
-        left = linked(alloc, link.sign, left, right)?;
+        left = link_expression(alloc, left, link)?;
     }
     Ok(left)
+}
+
+// What stands to the left, and the link behind it.
+#[cycle(expression)]
+fn link_expression(alloc: Global, left: Expr, link: &Link) -> Result<Expr, AllocError>
+    requires numbers { KeepLink Numbers link.now }
+    requires keys { KeepLink Keys link.now }
+    ensures { IfOk result (λ e. e ≡ behind left link.now) }
+{
+    match link {
+        Link::Operand(sign, operand) => {
+            let right = expression(alloc, operand)?;
+            linked(alloc, *sign, left, right)
+        }
+        Link::Attribute(key) => {
+            let key = key.told(alloc)?;
+            Expr::unary(alloc, UnaryOperator::Get(key), left)
+        }
+        Link::Method(name, arguments) => {
+            let arguments = expressions(alloc, arguments.items())?;
+            applied(alloc, name.as_str(), left, arguments)
+        }
+    }
+}
+
+#[cycle(expression)]
+fn expressions(alloc: Global, members: &[Written]) -> Result<Vec<Expr>, AllocError>
+    requires numbers { KeepMembers Numbers (members_of members.now) }
+    requires keys { KeepMembers Keys (members_of members.now) }
+    ensures { IfOk result (λ v. expressions_of v.items ≡ expressions_in (members_of members.now)) }
+{
+    let mut found = Vec::new(alloc);
+    for member in members {
+        let item = expression(alloc, member)?;
+        push(&mut found, item)?;
+    }
+    Ok(found)
+}
+
+// One more expression.
+fn push(items: &mut Vec<Expr>, item: Expr) -> Result<(), AllocError>
+    ensures { OnOk result (items.new.items ≡ items.old.items ++ item ∷ []) }
+{
+    items.push(item)?;
+    Ok(())
+}
+
+#[cycle(expression)]
+fn record_told(alloc: Global, fields: &[Field]) -> Result<Expr, AllocError>
+    requires numbers { Keeps Numbers (tree.record_of (fields_of fields.now)) }
+    requires keys { Keeps Keys (tree.record_of (fields_of fields.now)) }
+    ensures { IfOk result (λ e. e ≡ expression_of (tree.record_of (fields_of fields.now))) }
+{
+    let pairs = pairs(alloc, fields)?;
+    record(alloc, pairs)
+}
+
+#[cycle(expression)]
+fn pairs(alloc: Global, fields: &[Field]) -> Result<Vec<(Text, Expr)>, AllocError>
+    requires numbers { KeepFields Numbers (fields_of fields.now) }
+    requires keys { KeepFields Keys (fields_of fields.now) }
+    ensures { IfOk result (λ v. v.items ≡ pairs_of fields.now) }
+{
+    let mut found = Vec::new(alloc);
+    for field in fields {
+        let key = field.key.told(alloc)?;
+        found.push((key, expression(alloc, &field.value)?))?;
+    }
+    Ok(found)
+}
+
+// A method of one argument.
+fn applied(alloc: Global, name: &str, left: Expr, arguments: Vec<Expr>) -> Result<Expr, AllocError>
+    ensures { IfOk result (λ e. e ≡ applied (method_of name.now) left (expressions_of arguments.items)) }
+{
+    let Some(operator) = method_of(name) else {
+        return Ok(left);
+    };
+    let Some(argument) = sole(arguments) else {
+        return Ok(left);
+    };
+    Expr::binary(alloc, operator, left, argument)
+}
+
+// A function of one argument.
+fn called(alloc: Global, name: &str, arguments: Vec<Expr>) -> Result<Expr, AllocError>
+    ensures { IfOk result (λ e. e ≡ called (function_of name.now) (expressions_of arguments.items)) }
+{
+    let Some(operator) = function_of(name) else {
+        return Ok(Expr::literal(Value::boolean(false)));
+    };
+    let Some(argument) = sole(arguments) else {
+        return Ok(Expr::literal(Value::boolean(false)));
+    };
+    Expr::unary(alloc, operator, argument)
+}
+
+// The argument, where there is exactly one.
+fn sole(mut arguments: Vec<Expr>) -> Option<Expr>
+    ensures { MatchOption result (length arguments.items ≢ 1) (λ a. arguments.items ≡ a ∷ []) }
+{
+    if arguments.len() != 1 {
+        return None;
+    }
+    arguments.pop()
+}
+
+// The record of these pairs.
+fn record(alloc: Global, pairs: Vec<(Text, Expr)>) -> Result<Expr, AllocError>
+    requires { AreDistinct (keys_of pairs.items) }
+    ensures { IfOk result (λ e. e ≡ record_with (entries_of pairs.items)) }
+{
+    match Entries::new(alloc, pairs) {
+        Ok(entries) => Ok(Expr::record(entries)),
+        Err(RecordFault::OutOfMemory(_)) => Err(AllocError),
+        Err(RecordFault::DuplicateKey(_)) => unreachable!(),
+    }
+}
+
+/// The uid that is written.
+pub fn told_uid(alloc: Global, uid: &WrittenUid) -> Result<Uid, AllocError>
+    ensures { IfOk result (λ u. u ≡ uid_told uid.now) }
+{
+    Ok(Uid {
+        ty: uid.ty.try_clone(alloc)?,
+        id: uid.id.told(alloc)?,
+    })
+}
+
+// The number with a sign before it.
+fn negative(number: u64) -> i64
+    requires { number ≤ 2 ^ 63 }
+    ensures { result ≡ neg_ℤ (pos number) }
+{
+    if number == 0 {
+        return 0;
+    }
+    -((number - 1) as i64) - 1
 }
 
 fn linked(alloc: Global, sign: ChainSign, left: Expr, right: Expr) -> Result<Expr, AllocError>
@@ -94,6 +270,8 @@ fn linked(alloc: Global, sign: ChainSign, left: Expr, right: Expr) -> Result<Exp
         ChainSign::Or => Expr::or(alloc, left, right),
         ChainSign::And => Expr::and(alloc, left, right),
         ChainSign::Plus => Expr::binary(alloc, BinaryOperator::Add, left, right),
+        ChainSign::Minus => Expr::binary(alloc, BinaryOperator::Subtract, left, right),
+        ChainSign::Times => Expr::binary(alloc, BinaryOperator::Multiply, left, right),
     }
 }
 
@@ -102,6 +280,24 @@ fn related(alloc: Global, sign: RelationSign, left: Expr, right: Expr) -> Result
 {
     match sign {
         RelationSign::Less => Expr::binary(alloc, BinaryOperator::Less, left, right),
+        RelationSign::LessEqual => Expr::binary(alloc, BinaryOperator::LessEqual, left, right),
+        RelationSign::Greater => denied(alloc, BinaryOperator::LessEqual, left, right),
+        RelationSign::GreaterEqual => denied(alloc, BinaryOperator::Less, left, right),
         RelationSign::Equal => Expr::binary(alloc, BinaryOperator::Equal, left, right),
+        RelationSign::NotEqual => denied(alloc, BinaryOperator::Equal, left, right),
+        RelationSign::In => Expr::binary(alloc, BinaryOperator::In, left, right),
     }
+}
+
+// `!` before the operator on its operands.
+fn denied(
+    alloc: Global,
+    operator: BinaryOperator,
+    left: Expr,
+    right: Expr,
+) -> Result<Expr, AllocError>
+    ensures { IfOk result (λ e. e ≡ unary Not (binary operator left right)) }
+{
+    let pair = Expr::binary(alloc, operator, left, right)?;
+    Expr::unary(alloc, UnaryOperator::Not, pair)
 }

@@ -1,47 +1,35 @@
 //! Strings, paths and uids.
-ghost use Rattle.std.specs.Prelude.{◌≡◌, ◌++◌, OnOk, codes, option_map, string_bytes};
-ghost use Rattle.std.specs.List.{list_any};
-ghost use Rattle.cedar_parser.specs.Grammar.{is_backslash};
+ghost use Rattle.std.specs.Prelude.{◌≡◌, ◌++◌, OnOk, codes, string_bytes};
 ghost use Rattle.cedar_parser.specs.Reading as spec;
 ghost use Rattle.cedar_parser.specs.Contract.{Reads};
 
+use crate::content::{Content, WrittenUid};
 use crate::cursor::Cursor;
 use crate::parse_fault::ParseFault;
 use cedar_text::TokenKind;
-use cedar_value::{Name, Text, Uid};
+use cedar_value::{Name, Text};
 use std::alloc::{AllocError, Global};
 
-/// The text of a string that has no escapes (Cedar language reference, grammar: `STR`).
+/// What a string stands for (Cedar language reference, grammar: `STR`).
 #[tactic(auto, unfolding(crate::specs::Reading::text))]
-pub fn text(alloc: Global, tokens: &mut Cursor<'_>) -> Result<Text, ParseFault>
+pub fn text(alloc: Global, tokens: &mut Cursor<'_>) -> Result<Content, ParseFault>
     ensures { Reads (spec.text tokens.old) result tokens.new }
 {
     let token = tokens.expect(TokenKind::String)?;
-    let Some(content) = content(token.text) else {
-        return Err(ParseFault::Syntax(token.start));
-    };
-    let content = Text::read(alloc, content)?;
-    Ok(content)
+    Ok(token.content().try_clone(alloc)?)
 }
 
-// What stands between the quotes, where it has no backslash.
-fn content(string: &str) -> Option<&str>
-    ensures { option_map (λ s. s.now) result ≡ spec.content_of string.now }
+/// A word, or what a string stands for (Cedar language reference, grammar: `RecInit`).
+#[tactic(auto, unfolding(crate::specs::Reading::key))]
+pub fn key(alloc: Global, tokens: &mut Cursor<'_>) -> Result<Content, ParseFault>
+    ensures { Reads (spec.key tokens.old) result tokens.new }
 {
-    let (content, behind) = string.strip_prefix('"')?.split_once('"')?;
-    if !behind.is_empty() {
-        return None;
+    if tokens.sees(TokenKind::String) {
+        return text(alloc, tokens);
     }
-    if has_backslash(content) {
-        return None;
-    }
-    Some(content)
-}
-
-fn has_backslash(text: &str) -> bool
-    ensures { result ≡ list_any is_backslash text.now }
-{
-    text.as_bytes().iter().any(|byte| *byte == b'\\')
+    let token = tokens.expect(TokenKind::Identifier)?;
+    let word = Text::read(alloc, token.text())?;
+    Ok(Content::new(Some(word), token.start()))
 }
 
 /// The name of an entity type (Cedar language reference, grammar: `Path`).
@@ -50,14 +38,14 @@ pub fn path(alloc: Global, tokens: &mut Cursor<'_>) -> Result<Name, ParseFault>
     ensures { Reads (spec.path tokens.old) result tokens.new }
 {
     let word = tokens.expect(TokenKind::Identifier)?;
-    let mut path = String::from_str(alloc, word.text)?;
+    let mut path = String::from_str(alloc, word.text())?;
     for _turn in 0..tokens.left() {
         if !goes_on(tokens) {
             return Ok(Name::new(Text::new(path)));
         }
         tokens.skip();
         let word = tokens.expect(TokenKind::Identifier)?;
-        lengthen(&mut path, word.text)?;
+        lengthen(&mut path, word.text())?;
     }
     Ok(Name::new(Text::new(path)))
 }
@@ -79,12 +67,20 @@ fn lengthen(path: &mut String, word: &str) -> Result<(), AllocError>
 }
 
 /// A uid (Cedar language reference, grammar: `Entity`).
-#[tactic(auto, unfolding(crate::specs::Reading::entity, crate::specs::Reading::uid_of))]
-pub fn entity(alloc: Global, tokens: &mut Cursor<'_>) -> Result<Uid, ParseFault>
+#[tactic(auto, unfolding(crate::specs::Reading::entity))]
+pub fn entity(alloc: Global, tokens: &mut Cursor<'_>) -> Result<WrittenUid, ParseFault>
     ensures { Reads (spec.entity tokens.old) result tokens.new }
 {
     let ty = path(alloc, tokens)?;
+    uid_of(alloc, ty, tokens)
+}
+
+/// The uid of this type, of which the rest is left.
+#[tactic(auto, unfolding(crate::specs::Reading::uid_of))]
+pub fn uid_of(alloc: Global, ty: Name, tokens: &mut Cursor<'_>) -> Result<WrittenUid, ParseFault>
+    ensures { Reads (spec.uid_of ty tokens.old) result tokens.new }
+{
     tokens.expect(TokenKind::DoubleColon)?;
     let id = text(alloc, tokens)?;
-    Ok(Uid { ty, id })
+    Ok(WrittenUid { ty, id })
 }

@@ -1,32 +1,37 @@
 //! Policy texts and uids.
-ghost use Rattle.std.specs.Prelude.{◌≡◌, ◌++◌, ◌∷◌, [], List, IfOk, OnOk, IfErr, Contains};
-ghost use Rattle.cedar_ast.specs.PolicySetTree.{PolicySetTree, ids_of};
-ghost use Rattle.cedar_ast.specs.PolicyTree.{PolicyTree};
+ghost use Rattle.std.specs.Prelude.{◌≡◌, [], IfOk, OnOk, IfErr, Contains, is_some};
+ghost use Rattle.cedar_ast.specs.PolicySetTree.{PolicySetTree, entered, id_of, ids_in};
 ghost use Rattle.cedar_value.specs.declared.uid.Uid.{Uid};
 ghost use Rattle.cedar_parser.specs.PolicyText.{ArePolicies, IsPolicyText, TokensFault, HasFault, Answers, IsUidText, HasUidFault, AnswersUid};
-ghost use Rattle.cedar_parser.specs.Contract.{AnswersPolicies, RefusesEntry};
-ghost use Rattle.cedar_parser.specs.Meaning.{policy_of, id_at};
-ghost use Rattle.cedar_parser.specs.Limits.{IsWithinLimits};
+ghost use Rattle.cedar_parser.specs.Entering.{RefusesEntry, RefusesAdd, refusal_for};
+ghost use Rattle.cedar_ast.specs.AddFault.{number_of};
+ghost use Rattle.cedar_parser.specs.StatementMeaning.{statement_of, id_at};
+ghost use Rattle.cedar_parser.specs.StatementLimits.{IsWithinLimits};
 
+use crate::content::Content;
 use crate::cursor::Cursor;
 use crate::judge::judge;
-use crate::lowering::policy;
+use crate::lowering::told_uid;
 use crate::names::entity;
 use crate::parse_fault::ParseFault;
-use crate::statement::Statement;
+use crate::spelled::spell_all;
+use crate::statement::WrittenStatement;
 use crate::statements::statement;
-use cedar_ast::{AddFault, PolicySet, Statement as Entry};
-use cedar_text::tokens;
-use cedar_value::{Text, Uid};
-use itoa::Buffer;
+use crate::telling::{id_of, statement_told};
+use cedar_ast::{AddFault, PolicySet, Statement};
+use cedar_text::{one_spelling, tokens};
+use cedar_value::Uid;
 use std::alloc::{AllocError, Global};
 
-/// The policies of a text, in order (Cedar language reference, grammar). The policy of the statement at position N, from 0,
-/// has the id `policyN`.
+/// The policies and templates of a text, in order (Cedar language reference, grammar). The statement at position N, from
+/// 0, has the value of its annotation `id` as its id, else `policyN`. A statement with a slot is a template.
 ///
-/// Refusals: 1; 101 to 104 where the text has no tokens; 104 for a number above 9223372036854775807; 201 where the
-/// tokens are no statements; 202 where more than 100 brackets are open at one place of a condition, or a condition is
-/// higher than 2,000 nodes; 204 where two statements have one id; 209 where a condition has more than 100,000 nodes.
+/// Refusals: 1; 101 to 104 where the text has no tokens; 103 for the escape `\*` outside a pattern; 104 for a number above
+/// 9223372036854775807; 201 where the tokens are no statements; 202 where more than 100 brackets and `if`s are open at one
+/// place of a condition, or a condition is higher than 2,000 nodes; 203 for a key that stands twice in a record; 204 where
+/// two statements have one id; 205 for an unknown function or method; 206 for another count of its arguments than one; 207
+/// for a slot elsewhere than in its variable's scope; 208 for an annotation that stands twice; 209 where a condition has
+/// more than 100,000 nodes.
 pub fn parse(alloc: Global, source: &str) -> Result<PolicySet, ParseFault>
     // What is answered are the policies of the text.
     ensures found { IfOk result (IsPolicyText source.now) }
@@ -35,16 +40,17 @@ pub fn parse(alloc: Global, source: &str) -> Result<PolicySet, ParseFault>
     // Each fault comes only where it is.
     ensures fault { IfErr result (HasFault source.now) }
 {
+    one_spelling();
     let tokens = tokens(alloc, source)?;
-    let mut cursor = Cursor::new(tokens.as_slice(), source.len());
+    let spelled = spell_all(alloc, tokens.as_slice())?;
+    let mut cursor = Cursor::new(spelled.as_slice(), source.len());
     policies(alloc, &mut cursor)
 }
 
 // The policies of all tokens.
 fn policies(alloc: Global, tokens: &mut Cursor<'_>) -> Result<PolicySet, ParseFault>
-    ensures found { IfOk result (λ set. ArePolicies tokens.old [] set.policies) }
-    ensures no_templates { IfOk result (λ set. set.templates ≡ []) }
-    ensures only { (policies : List PolicyTree) → ArePolicies tokens.old [] policies → AnswersPolicies policies result }
+    ensures found { IfOk result (ArePolicies tokens.old []) }
+    ensures only { (set : PolicySetTree) → ArePolicies tokens.old [] set → Answers set result }
     ensures fault { IfErr result (TokensFault tokens.old) }
 {
     let mut set = PolicySet::new(alloc);
@@ -53,49 +59,67 @@ fn policies(alloc: Global, tokens: &mut Cursor<'_>) -> Result<PolicySet, ParseFa
             return Ok(set);
         }
         let statement = statement(alloc, tokens)?;
-        enter(alloc, &mut set, position, statement)?;
+        enter(alloc, &mut set, position, &statement)?;
     }
     Ok(set)
 }
 
-// Adds the policy of the statement at a position.
+// Adds the policy or template of the statement at a position.
 fn enter(
     alloc: Global,
     set: &mut PolicySet,
     position: usize,
-    statement: Statement,
+    statement: &WrittenStatement,
 ) -> Result<(), ParseFault>
-    ensures entered { OnOk result (set.new.policies ≡ set.old.policies ++ policy_of (id_at position) statement ∷ []) }
-    ensures templates { OnOk result (set.new.templates ≡ set.old.templates) }
-    ensures limits { OnOk result (IsWithinLimits statement) }
-    ensures distinct { OnOk result (Contains (ids_of set.old.policies) (id_at position) → ⊥) }
-    ensures refused { set.old.templates ≡ [] → IfErr result (RefusesEntry set.old.policies position statement) }
+    ensures entered { OnOk result (set.new ≡ entered set.old (statement_of position statement.now)) }
+    ensures limits { OnOk result (IsWithinLimits statement.now) }
+    ensures distinct { OnOk result (Contains (ids_in set.old) (id_at position statement.now) → ⊥) }
+    ensures refused { IfErr result (RefusesEntry set.old position statement.now) }
 {
-    judge(&statement)?;
-    let start = statement.start;
-    let id = default_id(alloc, position)?;
-    let policy = policy(alloc, id, statement)?;
-    match set.add(Entry::Policy(policy)) {
+    judge(alloc, statement)?;
+    let entry = entry(alloc, position, statement)?;
+    add(set, entry, statement.start)
+}
+
+// The policy or template of the statement at a position.
+fn entry(
+    alloc: Global,
+    position: usize,
+    statement: &WrittenStatement,
+) -> Result<Statement, AllocError>
+    requires { IsWithinLimits statement.now }
+    ensures { IfOk result (λ e. e ≡ statement_of position statement.now) }
+{
+    let id = id_of(alloc, position, statement)?;
+    statement_told(alloc, id, statement)
+}
+
+// Adds a policy or template, whose statement begins at the place.
+fn add(set: &mut PolicySet, entry: Statement, start: usize) -> Result<(), ParseFault>
+    ensures entered { OnOk result (set.new ≡ entered set.old entry) }
+    ensures distinct { OnOk result (Contains (ids_in set.old) (id_of entry) → ⊥) }
+    ensures refused { IfErr result (RefusesAdd set.old entry) }
+{
+    match set.add(entry) {
         Ok(()) => Ok(()),
-        Err(AddFault::DuplicateId(_)) => Err(ParseFault::DuplicateId(start)),
-        Err(AddFault::OutOfMemory(_)) => Err(ParseFault::OutOfMemory),
+        Err(fault) => Err(refusal(&fault, start)),
     }
 }
 
-// The id of the policy at a position.
-fn default_id(alloc: Global, position: usize) -> Result<Text, AllocError>
-    ensures { IfOk result (λ id. id ≡ id_at position) }
+// Why the statement at the place is not added.
+fn refusal(fault: &AddFault, start: usize) -> ParseFault
+    ensures { result ≡ refusal_for (number_of fault.now) start }
 {
-    let mut buffer = Buffer::new();
-    let mut id = String::from_str(alloc, "policy")?;
-    id.push_str(buffer.format(position))?;
-    Ok(Text::new(id))
+    match fault {
+        AddFault::OutOfMemory(_) => ParseFault::OutOfMemory,
+        AddFault::DuplicateId(_) => ParseFault::DuplicateId(start),
+    }
 }
 
 /// The uid of a text, as `User::"ann"` (Cedar language reference, entity identifiers). White space and comments may stand
 /// in it.
 ///
-/// Refusals: 1; 101 to 104 where the text has no tokens; 201 where the tokens are no uid.
+/// Refusals: 1; 101 to 104 where the text has no tokens; 103 for the escape `\*` in the id; 201 where the tokens are no uid.
 pub fn read_uid(alloc: Global, source: &str) -> Result<Uid, ParseFault>
     // What is answered is the uid of the text.
     ensures found { IfOk result (IsUidText source.now) }
@@ -104,11 +128,27 @@ pub fn read_uid(alloc: Global, source: &str) -> Result<Uid, ParseFault>
     // Each fault comes only where it is.
     ensures fault { IfErr result (HasUidFault source.now) }
 {
+    one_spelling();
     let tokens = tokens(alloc, source)?;
-    let mut cursor = Cursor::new(tokens.as_slice(), source.len());
-    let uid = entity(alloc, &mut cursor)?;
+    let spelled = spell_all(alloc, tokens.as_slice())?;
+    let mut cursor = Cursor::new(spelled.as_slice(), source.len());
+    let written = entity(alloc, &mut cursor)?;
     if cursor.left() > 0 {
         return Err(ParseFault::Syntax(cursor.offset()));
     }
+    if !stands(&written.id) {
+        return Err(ParseFault::EscapedStar(written.id.place()));
+    }
+    let uid = told_uid(alloc, &written)?;
     Ok(uid)
+}
+
+// Whether a string stands for a text.
+fn stands(content: &Content) -> bool
+    ensures { result ≡ is_some content.now }
+{
+    match content.text() {
+        Some(_) => true,
+        None => false,
+    }
 }

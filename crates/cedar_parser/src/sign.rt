@@ -9,6 +9,10 @@ pub enum ChainSign {
     And,
     /// `+`
     Plus,
+    /// `-`
+    Minus,
+    /// `*`
+    Times,
 }
 
 /// A sign that stands between two operands at most once (Cedar language reference, grammar).
@@ -16,6 +20,16 @@ pub enum ChainSign {
 pub enum RelationSign {
     /// `<`
     Less,
+    /// `<=`
+    LessEqual,
+    /// `>`
+    Greater,
+    /// `>=`
+    GreaterEqual,
     /// `==`
     Equal,
+    /// `!=`
+    NotEqual,
+    /// `in`
+    In,
 }

@@ -1,6 +1,6 @@
 //! Sizes of trees, counted before the trees are built.
 ghost use Rattle.std.specs.Prelude.{◌≡◌};
-ghost use Rattle.cedar_parser.specs.Limits.{leaf, above, above_both};
+ghost use Rattle.cedar_parser.specs.Limits.{nothing, leaf, above, above_both, both};
 ghost use Rattle.cedar_parser.specs.Capped.{capped};
 
 /// How many nodes a tree has, and how many stand on its longest way down. Both stop at the greatest `usize`.
@@ -10,6 +10,16 @@ pub struct Size {
     pub nodes: usize,
     /// The nodes on the longest way down.
     pub height: usize,
+}
+
+/// No node.
+pub fn nothing() -> Size
+    ensures { result ≡ nothing }
+{
+    Size {
+        nodes: 0,
+        height: 0,
+    }
 }
 
 /// One node with nothing below it.
@@ -40,6 +50,16 @@ impl Size {
         Size {
             nodes: self.nodes.saturating_add(other.nodes).saturating_add(1),
             height: self.height.max(other.height).saturating_add(1),
+        }
+    }
+
+    /// This tree and another beside it.
+    pub fn both(self, other: Size) -> Size
+        ensures { result ≡ capped (both self other) }
+    {
+        Size {
+            nodes: self.nodes.saturating_add(other.nodes),
+            height: self.height.max(other.height),
         }
     }
 }

@@ -178,3 +178,196 @@ fn uids(rt: HostRuntime) -> Result<(), Fail> {
     }
     Ok(())
 }
+
+#[test]
+fn texts_of_every_form(rt: HostRuntime) -> Result<(), Fail> {
+    let alloc = rt.alloc();
+    let conditions = [
+        "if true then 1 == 1 else false",
+        "1 + (if true then 1 else 2) * 3 - 4 == 0",
+        "if true then 1 else if false then 2 else 3",
+        "1 <= 2 && 2 > 1 || 2 >= 1 && 1 != 2",
+        "principal in resource",
+        "principal in [User::\"a\", User::\"b\",User::\"c\"]",
+        "[] == {}",
+        "{a: 1, \"b c\": [2], permit: 3} == {when: 1, \"\\u{61}\": 2}",
+        "principal has age && principal has \"a b\"",
+        "principal.name like \"a*\\*b\"",
+        "principal is A::B",
+        "principal is User in Group::\"g\"",
+        "context.a.b[\"c d\"].e == 1",
+        "principal::\"x\" == action::\"y\"",
+        "[1].contains(1) && [1].containsAll([]) && [1].containsAny([2])",
+        "decimal(\"1.0\").lessThan(decimal(\"2.0\"))",
+        "context.d.lessThanOrEqual(context.e) || context.d.greaterThan(context.e) || context.d.greaterThanOrEqual(context.e)",
+        "- - 1 == 1",
+        "----1 == 1",
+        "-(1) == -1",
+        "-9223372036854775808 == --9223372036854775808",
+        "1 - 1 == 0",
+        "\"\\n\\r\\t\\\\\\0\\'\\\"\\x41\\u{1F600}\" == \"\"",
+        "!(principal.a.contains(1)) && !true",
+    ];
+    for condition in conditions {
+        let text = with_condition(alloc, condition)?;
+        assert_eq!(rt; refusal(alloc, text.as_str()), (0, None), "{condition}");
+    }
+    let texts = [
+        "@id(\"a\") @if(\"\") permit(principal in User::\"a\", action in [A::\"x\", A::\"y\"], resource is Doc);",
+        "permit(principal is User in Group::\"g\", action in A::\"x\", resource in Folder::\"f\");",
+        "permit(principal == ?principal, action, resource in ?resource);",
+        "permit(principal is User in ?principal, action in [], resource is Doc in ?resource);",
+        "permit(principal is principal, action, resource);",
+    ];
+    for text in texts {
+        assert_eq!(rt; refusal(alloc, text), (0, None), "{text}");
+    }
+    Ok(())
+}
+
+#[test]
+fn conditions_that_are_refused(rt: HostRuntime) -> Result<(), Fail> {
+    let alloc = rt.alloc();
+    // The condition begins at byte 43.
+    let conditions = [
+        ("\"a\\*\" == \"a\"", 103, 45),
+        ("\"\\u{D800}\" == \"\"", 103, 44),
+        ("{a: 1, \"a\": 2} == {}", 203, 50),
+        ("{a: 1, \"\\u{61}\": 2} == {}", 203, 50),
+        ("ip(\"::1\")", 205, 43),
+        ("principal(1)", 205, 43),
+        ("N::decimal(\"1.0\")", 205, 43),
+        ("[1].isEmpty()", 205, 47),
+        ("decimal()", 206, 43),
+        ("decimal(\"1.0\", \"2.0\")", 206, 43),
+        ("[1].contains()", 206, 47),
+        ("?principal == principal", 207, 43),
+        ("?foo == principal", 201, 43),
+        ("1 < 2 < 3", 201, 49),
+        ("-----1 == 1", 201, 47),
+        ("!-1", 201, 44),
+        ("1 + if true then 1 else 2", 201, 47),
+        ("principal has a.b", 201, 58),
+        ("{if: 1} == {}", 201, 44),
+        ("{a: 1,} == {}", 201, 49),
+        ("[1,] == []", 201, 46),
+        ("-(9223372036854775808) == 1", 104, 45),
+        ("1 - 9223372036854775808 == 1", 104, 47),
+        ("-9223372036854775808.a == 1", 104, 44),
+        ("principal.if", 201, 53),
+        ("principal like principal", 201, 58),
+        ("principal[1]", 201, 53),
+    ];
+    for (condition, number, at) in conditions {
+        let text = with_condition(alloc, condition)?;
+        assert_eq!(rt;
+            refusal(alloc, text.as_str()),
+            (number, Some(at)),
+            "{condition}"
+        );
+    }
+    let texts = [
+        (
+            "@id(\"a\") @id(\"b\") permit(principal, action, resource);",
+            208,
+            9,
+        ),
+        ("@id permit(principal, action, resource);", 201, 4),
+        (
+            "@id(\"policy1\") permit(principal, action, resource); permit(principal, action, resource);",
+            204,
+            52,
+        ),
+        ("permit(principal == ?resource, action, resource);", 207, 20),
+        (
+            "permit(principal, action, resource in ?principal);",
+            207,
+            38,
+        ),
+        (
+            "permit(principal, action == ?principal, resource);",
+            201,
+            28,
+        ),
+        (
+            "permit(principal, action in [A::\"x\",], resource);",
+            201,
+            36,
+        ),
+        (
+            "permit(principal == User::\"\\*\", action, resource);",
+            103,
+            27,
+        ),
+    ];
+    for (text, number, at) in texts {
+        assert_eq!(rt; refusal(alloc, text), (number, Some(at)), "{text}");
+    }
+    Ok(())
+}
+
+#[test]
+fn templates_and_ids(rt: HostRuntime) -> Result<(), Fail> {
+    let alloc = rt.alloc();
+    let set = parse(
+        alloc,
+        "permit(principal == ?principal, action, resource); @id(\"own\") @note(\"n\") permit(principal, action, resource); permit(principal, action, resource);",
+    )?;
+    assert_eq!(rt; set.count(), 2);
+    assert_eq!(rt; set.template_count(), 1);
+    let template = set.template(0).ok_or("the template")?;
+    assert_eq!(rt; template.id().as_str(), "policy0");
+    let own = set.policy(0).ok_or("the first policy")?;
+    assert_eq!(rt; own.id().as_str(), "own");
+    assert_eq!(rt; own.annotations().len(), 2);
+    let last = set.policy(1).ok_or("the last policy")?;
+    assert_eq!(rt; last.id().as_str(), "policy2");
+    Ok(())
+}
+
+#[test]
+fn nesting_of_every_bracket(rt: HostRuntime) -> Result<(), Fail> {
+    let alloc = rt.alloc();
+    let open = repeated(alloc, "(", 100)?;
+    let close = repeated(alloc, ")", 100)?;
+    // One more bracket stands behind 100 that are open.
+    for inside in [
+        "[]",
+        "{}",
+        "principal[\"a\"]",
+        "decimal(1)",
+        "if true then 1 else 1",
+    ] {
+        let whole = format!(in alloc; "{open}{inside}{close}")?;
+        let text = with_condition(alloc, whole.as_str())?;
+        assert_eq!(rt; refusal(alloc, text.as_str()).0, 202, "{inside}");
+    }
+    let chained = repeated(alloc, "if true then 1 else ", 100)?;
+    let whole = format!(in alloc; "({chained}1) == 1")?;
+    let text = with_condition(alloc, whole.as_str())?;
+    assert_eq!(rt; refusal(alloc, text.as_str()).0, 202);
+    Ok(())
+}
+
+#[test]
+fn large_sets_and_doubled_sides(rt: HostRuntime) -> Result<(), Fail> {
+    let alloc = rt.alloc();
+    for (count, answer) in [(99_990, (0, None)), (99_991, (209, Some(0)))] {
+        let ones = repeated(alloc, "1, ", count)?;
+        let inside = format!(in alloc; "[{ones}1].contains(1)")?;
+        let text = with_condition(alloc, inside.as_str())?;
+        assert_eq!(rt; refusal(alloc, text.as_str()), answer, "{count}");
+    }
+    // Each `is .. in` asks both of its left side, so that 90 of them would have more nodes than can be counted.
+    let open = repeated(alloc, "(", 90)?;
+    let close = repeated(alloc, " is A in B::\"b\")", 90)?;
+    let inside = format!(in alloc; "{open}principal{close}")?;
+    let text = with_condition(alloc, inside.as_str())?;
+    assert_eq!(rt; refusal(alloc, text.as_str()).0, 209);
+    // A long path of attributes is too high, and no harm to the stack.
+    let path = repeated(alloc, ".a", 100_000)?;
+    let inside = format!(in alloc; "principal{path}")?;
+    let text = with_condition(alloc, inside.as_str())?;
+    assert_eq!(rt; refusal(alloc, text.as_str()), (202, Some(0)));
+    Ok(())
+}

@@ -1,11 +1,13 @@
 //! Expressions as they are written, which contracts see as trees with no pointers.
-ghost use Rattle.std.specs.Prelude.{◌≡◌, IfOk};
+ghost use Rattle.std.specs.Prelude.{◌≡◌};
 ghost use Rattle.cedar_parser.specs.WrittenKind.{written_of};
 
+use crate::content::{Content, Word, WrittenUid};
+use crate::series::Series;
 use crate::sign::{ChainSign, RelationSign};
 use cedar_ast::Variable;
-use cedar_value::{Text, Uid};
-use std::alloc::{AllocError, Global};
+use cedar_ext::Pattern;
+use cedar_value::Name;
 use std::marker::Model;
 
 /// The form of an expression as it is written. Chains are lists, so that no text makes a tree deeper than its brackets nest.
@@ -16,30 +18,64 @@ pub enum WrittenKind {
     Truth(bool),
     /// Where the digits begin, in bytes from 0, and their value.
     Number(usize, u64),
+    /// A number with the sign right before it: where the digits begin, and their value.
+    Negative(usize, u64),
     /// A string.
-    Text(Text),
+    Text(Content),
     /// The uid of an entity.
-    Entity(Uid),
+    Entity(WrittenUid),
     /// A part of the request.
     Variable(Variable),
+    /// `?principal` or `?resource`, and where it stands.
+    Slot(usize, Variable),
     /// An expression in brackets.
     Group(Box<Written>),
     /// `!`
     Not(Box<Written>),
+    /// `-`
+    Negated(Box<Written>),
     /// A relation between two operands.
     Relation(RelationSign, Box<Written>, Box<Written>),
-    /// A first operand and the others, at least one, each behind its sign.
+    /// `has`
+    Has(Box<Written>, Content),
+    /// `like`
+    Like(Box<Written>, Pattern),
+    /// `is`
+    Is(Box<Written>, Name),
+    /// `is .. in`
+    IsIn(Box<Written>, Name, Box<Written>),
+    /// A first operand and what stands behind it, at least one link.
     Chain(Box<Written>, Vec<Link>),
+    /// `if .. then .. else`
+    If(Box<Written>, Box<Written>, Box<Written>),
+    /// The members in square brackets.
+    Set(Series),
+    /// The entries in braces.
+    Record(Vec<Field>),
+    /// Where a function's name stands, the name, and the arguments.
+    Call(usize, Name, Series),
 }
 
-/// A sign of a chain, and the operand behind it.
+/// What stands behind an operand of a chain.
 #[cycle(written)]
 #[derive(Drop)]
-pub struct Link {
-    /// The sign.
-    pub sign: ChainSign,
-    /// What stands behind it.
-    pub operand: Written,
+pub enum Link {
+    /// A sign, and the operand behind it.
+    Operand(ChainSign, Written),
+    /// `.a` or `["a"]`
+    Attribute(Content),
+    /// A method's name behind a dot, and the arguments.
+    Method(Word, Series),
+}
+
+/// An entry of a record as it is written.
+#[cycle(written)]
+#[derive(Drop)]
+pub struct Field {
+    /// The key.
+    pub key: Content,
+    /// What stands behind the colon.
+    pub value: Written,
 }
 
 /// An expression as it is written, which contracts see as a tree.

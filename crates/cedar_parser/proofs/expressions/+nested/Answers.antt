@@ -9,4 +9,4 @@ returns-then-depth-eq0 t c = none_deep (λ n. spec.nested n c.args.tokens.now) c
 
 pub returns : goal.returns
 unfolding spec.nested
-returns t c = rw (deeper (λ n. spec.nested n c.args.tokens.now) c.args.depth (omega arith)) c.ors.ensures
+returns t c = rw (deeper (λ n. spec.nested n c.args.tokens.now) c.args.depth (omega arith)) c.expression.ensures

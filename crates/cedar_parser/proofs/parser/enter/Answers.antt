@@ -1,10 +1,20 @@
-use Rattle.std.proofs.Common.{◌≡◌, ap, ◌∙◌}
-use Rattle.std.proofs.lemmas.List.Elements.{Contains-append_left}
-use Rattle.cedar_ast.specs.PolicyTree.{PolicyTree}
-use Rattle.cedar_parser.specs.Meaning.{id_at}
+use Rattle.std.proofs.Common.{subst, ap, ◌∙◌, List, ℕ}
+use Rattle.std.proofs.lemmas.Result.{err_from_is_err_and}
+use Rattle.std.specs.Prelude.{OnOk, Contains}
+use Rattle.cedar_ast.specs.PolicySetTree.{id_of, ids_in}
+use Rattle.cedar_parser.proofs.TextLemmas.{id_of_statement}
+use Rattle.cedar_parser.proofs.Refusals.{not_entered, judged}
 use Rattle.cedar_parser.proofs.parser.enter.Goals as goal
 
-pub returns-in-Ok-clause-distinct : goal.returns-in-Ok-clause-distinct
-returns-in-Ok-clause-distinct c = λ here.
-    let same : c.in_ok-policy.policy.id ≡ id_at c.args.position = ap (λ (p : PolicyTree). p.id) c.in_ok-policy.ensures ∙ c.in_ok-id.ensures in
-    c.in-Ok.ensures.distinct (rw same (Contains-append_left _ _ _ here))
+pub returns-clause-distinct : goal.returns-clause-distinct
+returns-clause-distinct c =
+    subst (λ (id : List ℕ). OnOk c.add.result (Contains (ids_in c.args.set.now) id → ⊥)) (ap id_of c.in_ok-entry.ensures ∙ id_of_statement c.args.position c.args.statement.now) c.add.ensures.distinct
+
+pub returns-clause-refused : goal.returns-clause-refused
+returns-clause-refused c =
+    not_entered c.args.set.now c.args.position c.args.statement.now c.in_ok-entry.entry c.add.result (ap id_of c.in_ok-entry.ensures ∙ id_of_statement c.args.position c.args.statement.now) c.add.ensures.refused
+
+pub returns-in_err-judge-clause-refused : goal.returns-in_err-judge-clause-refused
+returns-in_err-judge-clause-refused c =
+    let p = err_from_is_err_and c.from_residual.result c.from_residual.ensures.1 in
+    rw (p.1, p.2) (judged c.args.set.now c.args.position c.args.statement.now c.in_err-judge.field-0.0 c.in_err-judge.ensures.broken)

@@ -1,66 +1,65 @@
-use Rattle.std.proofs.Common.{ap, ◌∙◌, arith}
-use Rattle.cedar_ast.specs.PolicySetTree.{PolicySetTree}
+use Rattle.std.proofs.Common.{arith}
 use Rattle.std.proofs.lemmas.Result.{err_from_is_err_and}
-use Rattle.cedar_parser.proofs.Moves.{shorter, statement_moves}
+use Rattle.cedar_parser.proofs.Moves.{shorter}
+use Rattle.cedar_parser.proofs.StatementMoves.{statement_moves}
 use Rattle.cedar_parser.proofs.StatementsSound.{statement_is}
 use Rattle.cedar_parser.proofs.TextLemmas.{read_none, read_more, read_all}
 use Rattle.cedar_parser.proofs.Refusals.{read_only, unread_only, unread_fault, unentered_only, unentered_fault}
 use Rattle.cedar_parser.proofs.parser.policies.Goals as goal
 
 pub loop-position-init : goal.loop-position-init
-loop-position-init c = record { read = read_none c.args.tokens.now c.new-set.result.policies (ap (λ (s : PolicySetTree). s.policies) c.new-set.ensures); plain = ap (λ (s : PolicySetTree). s.templates) c.new-set.ensures; left = omega (arith, c.left-position-end.ensures) }
+loop-position-init c = record { read = read_none c.args.tokens.now c.new-set.result c.new-set.ensures; left = omega (arith, c.left-position-end.ensures) }
 
 pub loop-position-preserved : goal.loop-position-preserved
 loop-position-preserved c =
     let is = statement_is 101 c.loop-position.tokens c.statement.new.tokens c.in_ok-statement.statement c.in_ok-statement.ensures in
     let less = shorter (statement_moves 101 _ _ _ is) in
     record {
-      read = read_more c.args.tokens.now c.loop-position.tokens c.statement.new.tokens c.loop-position.position c.loop-position.set.policies c.enter.new.set.policies c.in_ok-statement.statement
+      read = read_more c.args.tokens.now c.loop-position.tokens c.statement.new.tokens c.loop-position.position c.loop-position.set c.enter.new.set c.in_ok-statement.statement
           c.loop-position.invariant.read (omega (arith, c.left.ensures, c.if-left-eq0.false)) c.in_ok-statement.ensures c.in_ok-enter.ensures.limits c.in_ok-enter.ensures.distinct c.in_ok-enter.ensures.entered;
-      plain = c.in_ok-enter.ensures.templates ∙ c.loop-position.invariant.plain;
       left = omega (arith, less, c.loop-position.invariant.left);
     }
 
 pub returns-then-left-eq0-clause-found : goal.returns-then-left-eq0-clause-found
 returns-then-left-eq0-clause-found c =
-    read_all c.args.tokens.now c.loop-position.tokens c.loop-position.position c.loop-position.set.policies c.loop-position.invariant.read (omega (arith, c.left.ensures, c.if-left-eq0.true))
+    read_all c.args.tokens.now c.loop-position.tokens c.loop-position.position c.loop-position.set c.loop-position.invariant.read (omega (arith, c.left.ensures, c.if-left-eq0.true))
 
 pub returns-then-left-eq0-clause-only : goal.returns-then-left-eq0-clause-only
 returns-then-left-eq0-clause-only c =
-    read_only c.args.tokens.now c.loop-position.tokens c.loop-position.position c.loop-position.set.policies c.loop-position.invariant.read (omega (arith, c.left.ensures, c.if-left-eq0.true))
+    read_only c.args.tokens.now c.loop-position.tokens c.loop-position.position c.loop-position.set c.loop-position.invariant.read (omega (arith, c.left.ensures, c.if-left-eq0.true))
 
 pub returns-clause-found : goal.returns-clause-found
 returns-clause-found c =
-    read_all c.args.tokens.now c.loop-position.tokens c.loop-position.position c.loop-position.set.policies c.loop-position.invariant.read
+    read_all c.args.tokens.now c.loop-position.tokens c.loop-position.position c.loop-position.set c.loop-position.invariant.read
     (omega (arith, c.loop-position.invariant.left, c.loop-position-test.false))
 
 pub returns-clause-only : goal.returns-clause-only
 returns-clause-only c =
-    read_only c.args.tokens.now c.loop-position.tokens c.loop-position.position c.loop-position.set.policies c.loop-position.invariant.read
+    read_only c.args.tokens.now c.loop-position.tokens c.loop-position.position c.loop-position.set c.loop-position.invariant.read
     (omega (arith, c.loop-position.invariant.left, c.loop-position-test.false))
 
 pub returns-in_err-statement-clause-only : goal.returns-in_err-statement-clause-only
 returns-in_err-statement-clause-only c =
     let p = err_from_is_err_and c.from_residual.result c.from_residual.ensures.1 in
     rw (p.1, p.2)
-    (unread_only c.args.tokens.now c.loop-position.tokens c.loop-position.position c.loop-position.set.policies c.loop-position.invariant.read (omega (arith, c.left.ensures, c.if-left-eq0.false)) c.in_err-statement.field-0.0 c.in_err-statement.ensures)
+    (unread_only c.args.tokens.now c.loop-position.tokens c.loop-position.position c.loop-position.set c.loop-position.invariant.read (omega (arith, c.left.ensures, c.if-left-eq0.false)) c.in_err-statement.field-0.0 c.in_err-statement.ensures)
 
 pub returns-in_err-statement-clause-fault : goal.returns-in_err-statement-clause-fault
 returns-in_err-statement-clause-fault c =
     let p = err_from_is_err_and c.from_residual.result c.from_residual.ensures.1 in
     rw (p.1, p.2)
-    (unread_fault c.args.tokens.now c.loop-position.tokens c.loop-position.position c.loop-position.set.policies c.loop-position.invariant.read (omega (arith, c.left.ensures, c.if-left-eq0.false)) c.in_err-statement.field-0.0 c.in_err-statement.ensures)
+    (unread_fault c.args.tokens.now c.loop-position.tokens c.loop-position.position c.loop-position.set c.loop-position.invariant.read (omega (arith, c.left.ensures, c.if-left-eq0.false)) c.in_err-statement.field-0.0 c.in_err-statement.ensures)
 
 pub returns-in_err-enter-clause-only : goal.returns-in_err-enter-clause-only
 returns-in_err-enter-clause-only c =
     let p = err_from_is_err_and c.from_residual-in_err-enter.result c.from_residual-in_err-enter.ensures.1 in
     rw (p.1, p.2)
-    (unentered_only c.args.tokens.now c.loop-position.tokens c.statement.new.tokens c.loop-position.position c.loop-position.set.policies c.in_ok-statement.statement c.loop-position.invariant.read
-    (record { some = omega (arith, c.left.ensures, c.if-left-eq0.false); read = c.in_ok-statement.ensures }) c.in_err-enter.field-0.0 (c.in_err-enter.ensures.refused c.loop-position.invariant.plain))
+    (unentered_only c.args.tokens.now c.loop-position.tokens c.statement.new.tokens c.loop-position.position c.loop-position.set c.in_ok-statement.statement c.loop-position.invariant.read
+    (record { some = omega (arith, c.left.ensures, c.if-left-eq0.false); read = c.in_ok-statement.ensures }) c.in_err-enter.field-0.0 c.in_err-enter.ensures.refused)
 
 pub returns-in_err-enter-clause-fault : goal.returns-in_err-enter-clause-fault
 returns-in_err-enter-clause-fault c =
     let p = err_from_is_err_and c.from_residual-in_err-enter.result c.from_residual-in_err-enter.ensures.1 in
     rw (p.1, p.2)
-    (unentered_fault c.args.tokens.now c.loop-position.tokens c.statement.new.tokens c.loop-position.position c.loop-position.set.policies c.in_ok-statement.statement c.loop-position.invariant.read
-    (record { some = omega (arith, c.left.ensures, c.if-left-eq0.false); read = c.in_ok-statement.ensures }) c.in_err-enter.field-0.0 (c.in_err-enter.ensures.refused c.loop-position.invariant.plain))
+    (unentered_fault c.args.tokens.now c.loop-position.tokens c.statement.new.tokens c.loop-position.position c.loop-position.set c.in_ok-statement.statement c.loop-position.invariant.read
+    (record { some = omega (arith, c.left.ensures, c.if-left-eq0.false); read = c.in_ok-statement.ensures }) c.in_err-enter.field-0.0 c.in_err-enter.ensures.refused)

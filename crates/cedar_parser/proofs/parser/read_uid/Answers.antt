@@ -1,55 +1,140 @@
-use Rattle.std.proofs.Common.{◌≡◌, sym, ap, subst, ◌∙◌, arith}
+use Rattle.std.proofs.Common.{◌≡◌, sym, ap, subst, ◌∙◌, List, [], ◌<◌, length, Ok, arith}
 use Rattle.std.proofs.lemmas.Result.{err_from_is_err_and}
-use Rattle.cedar_text.specs.Lexeme.{Lexemes, lexemes}
+use Rattle.cedar_text.specs.declared.token.Token.{Token}
+use Rattle.cedar_text.specs.Lexeme.{lexemes}
+use Rattle.cedar_parser.specs.Marks.{Marks, AreMarks}
+use Rattle.cedar_parser.specs.Grammar.{Entity}
 use Rattle.cedar_parser.specs.Reading.{entity}
-use Rattle.cedar_parser.specs.Contract.{Refuses}
-use Rattle.cedar_parser.proofs.Refusals.{uid_only, uid_refused, uid_fault, uid_longer}
+use Rattle.cedar_parser.specs.Contract.{AreUnmarked, Refuses}
+use Rattle.cedar_parser.specs.PolicyText.{IsUidText}
+use Rattle.cedar_parser.proofs.ParseLemmas.{IsText, IsUnspelled, uid_found, uid_same, uid_refused, uid_fault, uid_too_long, uid_star, unspelled_uid, unspelled_uid_fault}
 use Rattle.cedar_parser.proofs.Sound.{entity_is}
 use Rattle.cedar_parser.proofs.TextLemmas.{none_left}
 use Rattle.cedar_parser.proofs.parser.read_uid.Goals as goal
 
 pub returns-clause-found : goal.returns-clause-found
 returns-clause-found c =
-    let reading = entity_is c.new-cursor.result c.entity.new.tokens c.in_ok-uid.uid c.in_ok-uid.ensures in
-    let tokens : c.new-cursor.result ≡ lexemes c.in_ok-tokens.tokens.items = c.new-cursor.ensures ∙ ap lexemes c.as_slice.ensures.value in
+    let ts = lexemes c.in_ok-tokens.tokens.items in
+    let ms = c.in_ok-spelled.spelled.items in
+    let text : IsText c.args.source.now ts ms = record {
+      are = c.in_ok-tokens.ensures.found;
+      only = c.in_ok-tokens.ensures.only;
+      marks = subst (λ (xs : List Token). AreMarks (lexemes xs) ms) c.as_slice.ensures.value c.in_ok-spelled.ensures.found;
+    } in
+    let begins : c.new-cursor.result ≡ ms = c.new-cursor.ensures ∙ c.as_slice-2.ensures.value in
+    let reading = entity_is c.new-cursor.result c.entity.new.tokens c.in_ok-written.written c.in_ok-written.ensures in
     let none = none_left c.entity.new.tokens (omega (arith, c.left.ensures, c.if-left-gt0.false)) in
-    record {
-      tokens = lexemes c.in_ok-tokens.tokens.items;
-      are_tokens = c.in_ok-tokens.ensures.found;
-      reading = rw (← tokens, ← none) reading;
-    }
+    let here : Entity ms c.in_ok-written.written [] = rw (← begins, ← none) reading in
+    subst (IsUidText c.args.source.now) (sym c.in_ok-uid.ensures) (uid_found c.args.source.now ts ms c.in_ok-written.written text here (sym c.stands.ensures ∙ c.if-not-stands.false))
 
 pub returns-clause-only : goal.returns-clause-only
 returns-clause-only c = λ uid h.
-    let tokens : c.new-cursor.result ≡ lexemes c.in_ok-tokens.tokens.items = c.new-cursor.ensures ∙ ap lexemes c.as_slice.ensures.value in
-    let same = tokens ∙ c.in_ok-tokens.ensures.only h.tokens h.are_tokens in
-    uid_only h.tokens c.in_ok-uid.uid uid c.entity.new.tokens h.reading (ap entity (sym same) ∙ c.in_ok-uid.ensures)
+    let ts = lexemes c.in_ok-tokens.tokens.items in
+    let ms = c.in_ok-spelled.spelled.items in
+    let text : IsText c.args.source.now ts ms = record {
+      are = c.in_ok-tokens.ensures.found;
+      only = c.in_ok-tokens.ensures.only;
+      marks = subst (λ (xs : List Token). AreMarks (lexemes xs) ms) c.as_slice.ensures.value c.in_ok-spelled.ensures.found;
+    } in
+    let begins : c.new-cursor.result ≡ ms = c.new-cursor.ensures ∙ c.as_slice-2.ensures.value in
+    let read : entity ms ≡ Ok (c.in_ok-written.written, c.entity.new.tokens) = ap entity (sym begins) ∙ c.in_ok-written.ensures in
+    c.in_ok-uid.ensures ∙ (uid_same c.one_spelling.ensures c.args.source.now ts ms c.entity.new.tokens c.in_ok-written.written text read uid h).0
 
-pub returns-in_err-uid-clause-only : goal.returns-in_err-uid-clause-only
-returns-in_err-uid-clause-only c =
-    let tokens : c.new-cursor.result ≡ lexemes c.in_ok-tokens.tokens.items = c.new-cursor.ensures ∙ ap lexemes c.as_slice.ensures.value in
-    let p = err_from_is_err_and c.from_residual-in_err-uid.result c.from_residual-in_err-uid.ensures.1 in
-    rw (p.1, p.2)
-    (λ uid h. let same = tokens ∙ c.in_ok-tokens.ensures.only h.tokens h.are_tokens in
-    uid_refused h.tokens c.in_err-uid.field-0.0 (subst (λ (ts : Lexemes). Refuses (entity ts) c.in_err-uid.field-0.0) same c.in_err-uid.ensures) uid h.reading)
+pub returns-then-not-stands-clause-only : goal.returns-then-not-stands-clause-only
+returns-then-not-stands-clause-only c = λ uid h.
+    let ts = lexemes c.in_ok-tokens.tokens.items in
+    let ms = c.in_ok-spelled.spelled.items in
+    let text : IsText c.args.source.now ts ms = record {
+      are = c.in_ok-tokens.ensures.found;
+      only = c.in_ok-tokens.ensures.only;
+      marks = subst (λ (xs : List Token). AreMarks (lexemes xs) ms) c.as_slice.ensures.value c.in_ok-spelled.ensures.found;
+    } in
+    let begins : c.new-cursor.result ≡ ms = c.new-cursor.ensures ∙ c.as_slice-2.ensures.value in
+    let read : entity ms ≡ Ok (c.in_ok-written.written, c.entity.new.tokens) = ap entity (sym begins) ∙ c.in_ok-written.ensures in
+    uid_star c.in_ok-written.written.id (sym c.stands.ensures ∙ c.if-not-stands.true) (uid_same c.one_spelling.ensures c.args.source.now ts ms c.entity.new.tokens c.in_ok-written.written text read uid h).1
 
-pub returns-in_err-uid-clause-fault : goal.returns-in_err-uid-clause-fault
-returns-in_err-uid-clause-fault c =
-    let tokens : c.new-cursor.result ≡ lexemes c.in_ok-tokens.tokens.items = c.new-cursor.ensures ∙ ap lexemes c.as_slice.ensures.value in
-    let p = err_from_is_err_and c.from_residual-in_err-uid.result c.from_residual-in_err-uid.ensures.1 in
-    rw (p.1, p.2)
-    (uid_fault c.args.source.now (lexemes c.in_ok-tokens.tokens.items) c.in_err-uid.field-0.0 c.in_ok-tokens.ensures.found (subst (λ (ts : Lexemes). Refuses (entity ts) c.in_err-uid.field-0.0) tokens c.in_err-uid.ensures))
+pub returns-then-not-stands-clause-fault : goal.returns-then-not-stands-clause-fault
+returns-then-not-stands-clause-fault c =
+    let ts = lexemes c.in_ok-tokens.tokens.items in
+    let ms = c.in_ok-spelled.spelled.items in
+    let text : IsText c.args.source.now ts ms = record {
+      are = c.in_ok-tokens.ensures.found;
+      only = c.in_ok-tokens.ensures.only;
+      marks = subst (λ (xs : List Token). AreMarks (lexemes xs) ms) c.as_slice.ensures.value c.in_ok-spelled.ensures.found;
+    } in
+    let begins : c.new-cursor.result ≡ ms = c.new-cursor.ensures ∙ c.as_slice-2.ensures.value in
+    let reading = entity_is c.new-cursor.result c.entity.new.tokens c.in_ok-written.written c.in_ok-written.ensures in
+    let none = none_left c.entity.new.tokens (omega (arith, c.left.ensures, c.if-left-gt0.false)) in
+    let here : Entity ms c.in_ok-written.written [] = rw (← begins, ← none) reading in
+    (ms, c.in_ok-written.written, (ts, c.in_ok-tokens.ensures.found, text.marks), here, uid_star c.in_ok-written.written.id (sym c.stands.ensures ∙ c.if-not-stands.true))
 
 pub returns-then-left-gt0-clause-only : goal.returns-then-left-gt0-clause-only
 returns-then-left-gt0-clause-only c = λ uid h.
-    let tokens : c.new-cursor.result ≡ lexemes c.in_ok-tokens.tokens.items = c.new-cursor.ensures ∙ ap lexemes c.as_slice.ensures.value in
-    let same = tokens ∙ c.in_ok-tokens.ensures.only h.tokens h.are_tokens in
-    uid_longer h.tokens c.entity.new.tokens c.in_ok-uid.uid (omega (arith, c.left.ensures, c.if-left-gt0.true)) (ap entity (sym same) ∙ c.in_ok-uid.ensures) uid h.reading
+    let ts = lexemes c.in_ok-tokens.tokens.items in
+    let ms = c.in_ok-spelled.spelled.items in
+    let text : IsText c.args.source.now ts ms = record {
+      are = c.in_ok-tokens.ensures.found;
+      only = c.in_ok-tokens.ensures.only;
+      marks = subst (λ (xs : List Token). AreMarks (lexemes xs) ms) c.as_slice.ensures.value c.in_ok-spelled.ensures.found;
+    } in
+    let begins : c.new-cursor.result ≡ ms = c.new-cursor.ensures ∙ c.as_slice-2.ensures.value in
+    let read : entity ms ≡ Ok (c.in_ok-written.written, c.entity.new.tokens) = ap entity (sym begins) ∙ c.in_ok-written.ensures in
+    uid_too_long c.one_spelling.ensures c.args.source.now ts ms c.entity.new.tokens c.in_ok-written.written text h.tokens h.are_tokens read (omega (arith, c.left.ensures, c.if-left-gt0.true)) h.written h.reading
 
 pub returns-then-left-gt0-clause-fault : goal.returns-then-left-gt0-clause-fault
 returns-then-left-gt0-clause-fault c =
-    let tokens : c.new-cursor.result ≡ lexemes c.in_ok-tokens.tokens.items = c.new-cursor.ensures ∙ ap lexemes c.as_slice.ensures.value in (
-      lexemes c.in_ok-tokens.tokens.items,
-      c.in_ok-tokens.ensures.found,
-      uid_longer (lexemes c.in_ok-tokens.tokens.items) c.entity.new.tokens c.in_ok-uid.uid (omega (arith, c.left.ensures, c.if-left-gt0.true)) (ap entity (sym tokens) ∙ c.in_ok-uid.ensures),
-    )
+    let ts = lexemes c.in_ok-tokens.tokens.items in
+    let ms = c.in_ok-spelled.spelled.items in
+    let text : IsText c.args.source.now ts ms = record {
+      are = c.in_ok-tokens.ensures.found;
+      only = c.in_ok-tokens.ensures.only;
+      marks = subst (λ (xs : List Token). AreMarks (lexemes xs) ms) c.as_slice.ensures.value c.in_ok-spelled.ensures.found;
+    } in
+    let begins : c.new-cursor.result ≡ ms = c.new-cursor.ensures ∙ c.as_slice-2.ensures.value in
+    let read : entity ms ≡ Ok (c.in_ok-written.written, c.entity.new.tokens) = ap entity (sym begins) ∙ c.in_ok-written.ensures in
+    let more : 0 < length c.entity.new.tokens = omega (arith, c.left.ensures, c.if-left-gt0.true) in
+    ((ts, c.in_ok-tokens.ensures.found), λ ns i u e. uid_too_long c.one_spelling.ensures c.args.source.now ts ms c.entity.new.tokens c.in_ok-written.written text ns i read more u e)
+
+pub returns-in_err-written-clause-only : goal.returns-in_err-written-clause-only
+returns-in_err-written-clause-only c =
+    let ts = lexemes c.in_ok-tokens.tokens.items in
+    let ms = c.in_ok-spelled.spelled.items in
+    let text : IsText c.args.source.now ts ms = record {
+      are = c.in_ok-tokens.ensures.found;
+      only = c.in_ok-tokens.ensures.only;
+      marks = subst (λ (xs : List Token). AreMarks (lexemes xs) ms) c.as_slice.ensures.value c.in_ok-spelled.ensures.found;
+    } in
+    let begins : c.new-cursor.result ≡ ms = c.new-cursor.ensures ∙ c.as_slice-2.ensures.value in
+    let p = err_from_is_err_and c.from_residual-in_err-written.result c.from_residual-in_err-written.ensures.1 in
+    rw (p.1, p.2)
+    (uid_refused c.one_spelling.ensures c.args.source.now ts ms text c.in_err-written.field-0.0 (subst (λ (xs : Marks). Refuses (entity xs) c.in_err-written.field-0.0) begins c.in_err-written.ensures))
+
+pub returns-in_err-written-clause-fault : goal.returns-in_err-written-clause-fault
+returns-in_err-written-clause-fault c =
+    let ts = lexemes c.in_ok-tokens.tokens.items in
+    let ms = c.in_ok-spelled.spelled.items in
+    let text : IsText c.args.source.now ts ms = record {
+      are = c.in_ok-tokens.ensures.found;
+      only = c.in_ok-tokens.ensures.only;
+      marks = subst (λ (xs : List Token). AreMarks (lexemes xs) ms) c.as_slice.ensures.value c.in_ok-spelled.ensures.found;
+    } in
+    let begins : c.new-cursor.result ≡ ms = c.new-cursor.ensures ∙ c.as_slice-2.ensures.value in
+    let p = err_from_is_err_and c.from_residual-in_err-written.result c.from_residual-in_err-written.ensures.1 in
+    rw (p.1, p.2)
+    (uid_fault c.one_spelling.ensures c.args.source.now ts ms text c.in_err-written.field-0.0 (subst (λ (xs : Marks). Refuses (entity xs) c.in_err-written.field-0.0) begins c.in_err-written.ensures))
+
+pub returns-in_err-spelled-clause-only : goal.returns-in_err-spelled-clause-only
+returns-in_err-spelled-clause-only c =
+    let ts = lexemes c.in_ok-tokens.tokens.items in
+    let text : IsUnspelled c.args.source.now ts = record { are = c.in_ok-tokens.ensures.found; only = c.in_ok-tokens.ensures.only } in
+    let p = err_from_is_err_and c.from_residual-in_err-spelled.result c.from_residual-in_err-spelled.ensures.1 in
+    rw (p.1, p.2)
+    (unspelled_uid c.args.source.now ts text c.in_err-spelled.field-0.0 (subst (λ (xs : List Token). AreUnmarked (lexemes xs) c.in_err-spelled.field-0.0) c.as_slice.ensures.value c.in_err-spelled.ensures.refused))
+
+pub returns-in_err-spelled-clause-fault : goal.returns-in_err-spelled-clause-fault
+returns-in_err-spelled-clause-fault c =
+    let ts = lexemes c.in_ok-tokens.tokens.items in
+    let text : IsUnspelled c.args.source.now ts = record { are = c.in_ok-tokens.ensures.found; only = c.in_ok-tokens.ensures.only } in
+    let p = err_from_is_err_and c.from_residual-in_err-spelled.result c.from_residual-in_err-spelled.ensures.1 in
+    rw (p.1, p.2)
+    (unspelled_uid_fault c.args.source.now ts text c.in_err-spelled.field-0.0 (subst (λ (xs : List Token). AreUnmarked (lexemes xs) c.in_err-spelled.field-0.0) c.as_slice.ensures.value c.in_err-spelled.ensures.refused))

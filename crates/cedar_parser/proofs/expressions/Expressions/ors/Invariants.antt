@@ -4,4 +4,4 @@ use Rattle.cedar_parser.specs.Reading as spec
 use Rattle.cedar_parser.proofs.expressions.Expressions.ors.Given as goal
 
 abbrev pub invariant-loop-turn : goal.invariant-loop-turn
-invariant-loop-turn g l = spec.ors (spec.nested l.self.depth) l.fn.tokens ≡ spec.chain_from grammar.or_sign (spec.ands (spec.nested l.self.depth)) (l._turn-end - l._turn) l.first l.links.items l.tokens
+invariant-loop-turn g l = spec.ors l.self.depth (spec.nested l.self.depth) l.fn.tokens ≡ spec.chain_from grammar.or_sign (spec.ands l.self.depth (spec.nested l.self.depth)) (l._turn-end - l._turn) l.first l.links.items l.tokens

@@ -4,4 +4,4 @@ use Rattle.cedar_parser.specs.Reading as spec
 use Rattle.cedar_parser.proofs.expressions.Expressions.sums.Given as goal
 
 abbrev pub invariant-loop-turn : goal.invariant-loop-turn
-invariant-loop-turn g l = spec.sums (spec.nested l.self.depth) l.fn.tokens ≡ spec.chain_from grammar.sum_sign (spec.nots (spec.nested l.self.depth) 4) (l._turn-end - l._turn) l.first l.links.items l.tokens
+invariant-loop-turn g l = spec.sums l.self.depth (spec.nested l.self.depth) l.fn.tokens ≡ spec.chain_from grammar.sum_sign (spec.products l.self.depth (spec.nested l.self.depth)) (l._turn-end - l._turn) l.first l.links.items l.tokens

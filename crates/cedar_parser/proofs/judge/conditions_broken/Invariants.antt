@@ -1,0 +1,8 @@
+use Rattle.std.proofs.Common.{drop}
+use Rattle.cedar_parser.specs.StatementLimits.{KeepConditions}
+use Rattle.cedar_parser.proofs.judge.conditions_broken.Given as goal
+
+-- Where those that are left keep the condition, all do, and the other way round.
+abbrev pub invariant-loop-asked : goal.invariant-loop-asked
+invariant-loop-asked l =
+    (KeepConditions l.condition (drop l.asked-index l.conditions) → KeepConditions l.condition l.conditions) × (KeepConditions l.condition l.conditions → KeepConditions l.condition (drop l.asked-index l.conditions))

@@ -1,0 +1,31 @@
+//! Functions and methods by their names.
+ghost use Rattle.std.specs.Prelude.{◌≡◌};
+ghost use Rattle.cedar_parser.specs.Meaning.{function_of, method_of};
+
+use cedar_ast::{BinaryOperator, UnaryOperator};
+
+/// The function of this name (Cedar language reference, functions).
+pub fn function_of(name: &str) -> Option<UnaryOperator>
+    ensures { result ≡ function_of name.now }
+{
+    match name {
+        "decimal" => Some(UnaryOperator::Decimal),
+        _ => None,
+    }
+}
+
+/// The method of this name (Cedar language reference, functions).
+pub fn method_of(name: &str) -> Option<BinaryOperator>
+    ensures { result ≡ method_of name.now }
+{
+    match name {
+        "contains" => Some(BinaryOperator::Contains),
+        "containsAll" => Some(BinaryOperator::ContainsAll),
+        "containsAny" => Some(BinaryOperator::ContainsAny),
+        "lessThan" => Some(BinaryOperator::DecimalLess),
+        "lessThanOrEqual" => Some(BinaryOperator::DecimalLessEqual),
+        "greaterThan" => Some(BinaryOperator::DecimalGreater),
+        "greaterThanOrEqual" => Some(BinaryOperator::DecimalGreaterEqual),
+        _ => None,
+    }
+}

@@ -1,0 +1,20 @@
+//! What a statement must keep beside the grammar.
+
+/// A side condition of the grammar (Cedar language reference, grammar).
+#[derive(Clone, Copy, Debug, PartialEq, Eq)]
+pub enum SideCondition {
+    /// No string outside a pattern has the escape `\*`.
+    Strings,
+    /// Numbers are of 64 bits.
+    Numbers,
+    /// No key of a record stands twice.
+    Keys,
+    /// Functions and methods are known.
+    Names,
+    /// Functions and methods have one argument.
+    Counts,
+    /// Slots stand in their own variable's scope alone.
+    Slots,
+    /// No annotation stands twice.
+    Annotations,
+}

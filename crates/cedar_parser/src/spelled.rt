@@ -1,0 +1,203 @@
+//! Tokens with what their strings stand for.
+ghost use Rattle.std.specs.Prelude.{◌≡◌, false, None, IfOk, IfErr, OnOk, ◌++◌, ◌∷◌, []};
+ghost use Rattle.cedar_text.specs.Lexeme.{lexeme, lexemes};
+ghost use Rattle.cedar_text.specs.Letters.{IsSpelled};
+ghost use Rattle.cedar_text.specs.declared.token_kind.TokenKind.TheVariants.{String};
+ghost use Rattle.cedar_parser.specs.Marks.{content_of, pattern_of, element_of, IsMark, AreMarks};
+ghost use Rattle.cedar_parser.specs.Contract.{Unmarked, AreUnmarked, refusal_of, is_memory};
+ghost use Rattle.cedar_parser.specs.declared.parse_fault.ParseFault.TheVariants.{OutOfMemory};
+
+use crate::content::Content;
+use crate::parse_fault::ParseFault;
+use cedar_ext::{Element, Pattern};
+use cedar_text::{Letter, TextFault, Token, TokenKind, letters, one_spelling, unescape};
+use cedar_value::Text;
+use std::alloc::{AllocError, Global};
+use std::marker::Model;
+
+/// A token and what it stands for, which contracts see as a `Mark`.
+#[derive(Drop)]
+pub struct Spelled<'t> {
+    token: Token<'t>,
+    letters: Vec<Letter>,
+    content: Content,
+}
+
+impl<'t> Model for Spelled<'t> {
+    ghost use Rattle.std.specs.Prelude.{◌≡◌};
+    ghost use Rattle.cedar_text.specs.Lexeme.{lexeme};
+    ghost use Rattle.cedar_parser.specs.Marks.{Mark, mark_of, content_of};
+
+    ghost Value = { Mark };
+
+    ghost view = { λ s. mark_of (lexeme s.token) s.letters.items };
+
+    ghost invariant = { λ s. s.content ≡ content_of s.letters.items };
+}
+
+impl<'t> Spelled<'t> {
+    /// What it is.
+    pub fn kind(&self) -> TokenKind
+        ensures { result ≡ self.now.kind }
+    {
+        self.token.kind
+    }
+
+    /// Where it begins, in bytes from 0.
+    pub fn start(&self) -> usize
+        ensures { result ≡ self.now.start }
+    {
+        self.token.start
+    }
+
+    /// The slice of the source that it is.
+    pub fn text(&self) -> &'t str
+        ensures { result.now ≡ self.now.text }
+    {
+        self.token.text
+    }
+
+    /// The value of a number.
+    pub fn number(&self) -> u64
+        ensures { result ≡ self.now.number }
+    {
+        self.token.number
+    }
+
+    /// What a string stands for, lent.
+    pub fn content(&self) -> &Content
+        ensures { result.now ≡ content_of self.now.letters }
+    {
+        &self.content
+    }
+
+    /// The pattern that a string writes.
+    pub fn pattern(&self, alloc: Global) -> Result<Pattern, AllocError>
+        ensures { IfOk result (λ p. p ≡ pattern_of self.now.letters) }
+    {
+        pattern(alloc, &self.letters)
+    }
+}
+
+fn pattern(alloc: Global, letters: &[Letter]) -> Result<Pattern, AllocError>
+    ensures { IfOk result (λ p. p ≡ pattern_of letters.now) }
+{
+    let mut elements = Vec::new(alloc);
+    for letter in letters {
+        elements.push(element(*letter))?;
+    }
+    Ok(Pattern::new(elements))
+}
+
+// What a letter is in a pattern.
+fn element(letter: Letter) -> Element
+    ensures { result ≡ element_of letter }
+{
+    match letter {
+        Letter::Character(character) => Element::Character(character),
+        Letter::Star => Element::Star,
+        Letter::EscapedStar => Element::Character('*'),
+    }
+}
+
+/// The tokens with what their strings stand for. A string that writes nothing is no syntax.
+pub fn spell_all<'t>(alloc: Global, tokens: &[Token<'t>]) -> Result<Vec<Spelled<'t>>, ParseFault>
+    ensures found { IfOk result (λ v. AreMarks (lexemes tokens.now) v.items) }
+    ensures refused { IfErr result (AreUnmarked (lexemes tokens.now)) }
+{
+    let mut found = Vec::new(alloc);
+    for token in tokens {
+        let token = spell(alloc, token)?;
+        push(&mut found, token)?;
+    }
+    Ok(found)
+}
+
+// One more token.
+fn push<'t>(found: &mut Vec<Spelled<'t>>, token: Spelled<'t>) -> Result<(), AllocError>
+    ensures { OnOk result (found.new.items ≡ found.old.items ++ token.entry ∷ []) }
+{
+    found.push(token)?;
+    Ok(())
+}
+
+fn spell<'t>(alloc: Global, token: &Token<'t>) -> Result<Spelled<'t>, ParseFault>
+    ensures found { IfOk result (IsMark (lexeme token.now)) }
+    ensures refused { IfErr result (Unmarked (lexeme token.now)) }
+{
+    if token.kind != TokenKind::String {
+        return Ok(Spelled {
+            token: *token,
+            letters: Vec::new(alloc),
+            content: Content::new(Some(Text::new(String::new(alloc))), token.start),
+        });
+    }
+    string(alloc, token)
+}
+
+// A string with its letters.
+fn string<'t>(alloc: Global, token: &Token<'t>) -> Result<Spelled<'t>, ParseFault>
+    requires { token.now.kind ≡ String }
+    ensures found { IfOk result (IsMark (lexeme token.now)) }
+    ensures refused { IfErr result (Unmarked (lexeme token.now)) }
+{
+    match letters(alloc, token.text) {
+        Err(fault) => Err(unspelled(fault, token.start)),
+        Ok(letters) => {
+            let content = content(alloc, token.text, token.start, &letters)?;
+            Ok(Spelled {
+                token: *token,
+                letters,
+                content,
+            })
+        }
+    }
+}
+
+// Why a string at a place has no letters.
+fn unspelled(fault: TextFault, start: usize) -> ParseFault
+    ensures { result ≡ refusal_of fault start }
+{
+    match fault {
+        TextFault::OutOfMemory => ParseFault::OutOfMemory,
+        TextFault::BadCharacter(_)
+        | TextFault::UnclosedString(_)
+        | TextFault::BadEscape(_)
+        | TextFault::NumberTooLarge(_) => ParseFault::Syntax(start),
+    }
+}
+
+// What a string of these letters stands for.
+fn content(
+    alloc: Global,
+    text: &str,
+    start: usize,
+    letters: &[Letter],
+) -> Result<Content, ParseFault>
+    requires { IsSpelled text.now letters.now }
+    ensures found { IfOk result (λ c. c ≡ content_of letters.now) }
+    ensures refused { IfErr result (λ fault. fault ≡ OutOfMemory) }
+{
+    one_spelling();
+    match unescape(alloc, text) {
+        Ok(content) => Ok(Content::new(Some(Text::new(content)), start)),
+        Err(fault) => untold(fault, start),
+    }
+}
+
+// A string at a place that stands for none.
+fn untold(fault: TextFault, start: usize) -> Result<Content, ParseFault>
+    ensures none { IfOk result (λ c. c ≡ None) }
+    ensures memory { IfOk result (λ c. is_memory fault ≡ false) }
+    ensures refused { IfErr result (λ fault. fault ≡ OutOfMemory) }
+{
+    match fault {
+        TextFault::OutOfMemory => Err(ParseFault::OutOfMemory),
+        TextFault::BadCharacter(place)
+        | TextFault::UnclosedString(place)
+        | TextFault::BadEscape(place)
+        | TextFault::NumberTooLarge(place) => {
+            Ok(Content::new(None, start.saturating_add(place)))
+        }
+    }
+}

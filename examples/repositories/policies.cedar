@@ -1,0 +1,35 @@
+// A source-hosting service: repositories have readers, writers and maintainers, which are teams or users.
+
+// What is public is read by everybody.
+@id("public")
+permit (principal, action in [Action::"pull", Action::"fork"], resource is Repository)
+when { resource has visibility && resource.visibility == "public" };
+
+// Each role of a repository includes the roles below it: maintainers write, and writers read.
+@id("read")
+permit (principal, action in [Action::"pull", Action::"fork"], resource is Repository)
+when { resource has readers && principal in resource.readers };
+
+@id("write")
+permit (principal, action == Action::"push", resource is Repository)
+when { resource has writers && principal in resource.writers };
+
+@id("maintain")
+permit (principal, action, resource is Repository)
+when { resource has maintainers && principal in resource.maintainers };
+
+// The team of the platform keeps its own repositories.
+@id("platform")
+permit (principal in Team::"platform", action, resource in Organization::"platform");
+
+// A bot pushes only where the request scores its trust, and scores it well.
+@id("bots")
+forbid (principal is Bot, action == Action::"push", resource)
+unless {
+  context has trust && context.trust.greaterThanOrEqual(decimal("0.9500"))
+};
+
+// Release branches are pushed by nobody, whoever maintains the repository.
+@id("release")
+forbid (principal, action == Action::"push", resource is Branch)
+when { if resource has name then resource.name like "release/*" else false };

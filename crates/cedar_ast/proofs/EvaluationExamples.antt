@@ -10,9 +10,7 @@ use Rattle.cedar_value.specs.World as above
 use Rattle.cedar_value.specs.declared.uid.Uid.{Uid}
 use Rattle.cedar_value.specs.declared.request.Request.{Request}
 use Rattle.cedar_ast.specs.declared.variable.Variable.TheVariants as variable_named
-use Rattle.cedar_ast.specs.declared.operator.UnaryOperator.{UnaryOperator}
 use Rattle.cedar_ast.specs.declared.operator.UnaryOperator.TheVariants as one
-use Rattle.cedar_ast.specs.declared.operator.BinaryOperator.{BinaryOperator}
 use Rattle.cedar_ast.specs.declared.operator.BinaryOperator.TheVariants as two
 use Rattle.cedar_ast.specs.declared.error.EvaluationError.TheVariants.{Overflow, MissingEntity, MissingAttribute, «Type», Decimal}
 use Rattle.cedar_ast.specs.Answer.{Answer}

@@ -1,5 +1,5 @@
 -- What an expression means: a value, or an error (Cedar language reference, operators; cedar-spec, Lean: Cedar.Spec.evaluate).
-use Rattle.std.specs.Prelude.{ℕ, List, Bool, true, false, [], ◌∷◌, Result, Ok, Err}
+use Rattle.std.specs.Prelude.{ℕ, List, true, false, [], ◌∷◌, Ok, Err}
 use Rattle.cedar_value.specs.Datum.{Datum, boolean, uid, set, record_of, members_of, fields_of}
 use Rattle.cedar_value.specs.Sets.{set_from}
 use Rattle.cedar_value.specs.Records.{record_from}
@@ -7,7 +7,6 @@ use Rattle.cedar_value.specs.World.{World}
 use Rattle.cedar_value.specs.declared.request.Request.{Request}
 use Rattle.cedar_ast.specs.declared.variable.Variable.{Variable}
 use Rattle.cedar_ast.specs.declared.variable.Variable.TheVariants.{Principal, Action, Resource, Context}
-use Rattle.cedar_ast.specs.declared.error.EvaluationError.{EvaluationError}
 use Rattle.cedar_ast.specs.declared.error.EvaluationError.TheVariants.{«Type»}
 use Rattle.cedar_ast.specs.Expression.{Expression, literal, variable, and, or, if_else, unary, binary, set_with, record_with, Expressions, no_more, and_then, Entries, no_entries, entry}
 use Rattle.cedar_ast.specs.Answer.{Answer, with_answer}

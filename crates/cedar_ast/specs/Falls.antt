@@ -1,7 +1,6 @@
 -- Help for the model of an expression, no definition: what is inside a kind nests less deep than its expression.
-use Rattle.std.specs.Prelude.{◌≤◌, ◌+◌, ℕ, max, List, [], ◌∷◌, map}
+use Rattle.std.specs.Prelude.{◌≤◌, max}
 use Rattle.std.proofs.Common.{arith}
-use denote.Param.Weighed.{most}
 use Rattle.cedar_ast.specs.Depth.{depth, most_members}
 use Rattle.cedar_ast.specs.declared.expression.ExprKind.{ExprKind}
 use Rattle.cedar_ast.specs.declared.expression.ExprKind.TheVariants.{Literal, Variable, And, Or, If, Unary, Binary, Set, Record}

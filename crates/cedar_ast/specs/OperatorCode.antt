@@ -1,5 +1,5 @@
 -- Help for the models, no definition: operators as trees of numbers that give them back.
-use Rattle.std.specs.Prelude.{◌≡◌, ℕ, zero, suc, List, [], ◌∷◌, refl}
+use Rattle.std.specs.Prelude.{◌≡◌, zero, suc, List, [], ◌∷◌, refl}
 use Rattle.std.proofs.Common.{ap}
 use base.Stored.{Gv, gnil, gnum, gcons}
 use Rattle.cedar_ext.specs.declared.pattern.Element.{Element}

@@ -164,35 +164,45 @@ impl Expr {
     pub fn try_clone(&self, alloc: Global) -> Result<Self, AllocError>
         ensures { IfOk result (λ e. e ≡ self.now) }
     {
-        let copy = match &self.kind {
-            ExprKind::Literal(value) => Expr::literal(value.try_clone(alloc)?),
-            ExprKind::Variable(name) => Expr::variable(*name),
+        let kind = match &self.kind {
+            ExprKind::Literal(value) => ExprKind::Literal(value.try_clone(alloc)?),
+            ExprKind::Variable(name) => ExprKind::Variable(*name),
             ExprKind::And(left, right) => {
-                let left = left.try_clone(alloc)?;
-                Expr::and(alloc, left, right.try_clone(alloc)?)?
+                let left = clone_part(alloc, left)?;
+                ExprKind::And(left, clone_part(alloc, right)?)
             }
             ExprKind::Or(left, right) => {
-                let left = left.try_clone(alloc)?;
-                Expr::or(alloc, left, right.try_clone(alloc)?)?
+                let left = clone_part(alloc, left)?;
+                ExprKind::Or(left, clone_part(alloc, right)?)
             }
             ExprKind::If(condition, if_true, if_false) => {
-                let condition = condition.try_clone(alloc)?;
-                let if_true = if_true.try_clone(alloc)?;
-                Expr::if_else(alloc, condition, if_true, if_false.try_clone(alloc)?)?
+                let condition = clone_part(alloc, condition)?;
+                let if_true = clone_part(alloc, if_true)?;
+                ExprKind::If(condition, if_true, clone_part(alloc, if_false)?)
             }
             ExprKind::Unary(operator, operand) => {
                 let operator = operator.try_clone(alloc)?;
-                Expr::unary(alloc, operator, operand.try_clone(alloc)?)?
+                ExprKind::Unary(operator, clone_part(alloc, operand)?)
             }
             ExprKind::Binary(operator, left, right) => {
-                let left = left.try_clone(alloc)?;
-                Expr::binary(alloc, *operator, left, right.try_clone(alloc)?)?
+                let left = clone_part(alloc, left)?;
+                ExprKind::Binary(*operator, left, clone_part(alloc, right)?)
             }
-            ExprKind::Set(members) => Expr::set(clone_members(alloc, members)?),
-            ExprKind::Record(entries) => Expr::record(entries.try_clone(alloc)?),
+            ExprKind::Set(members) => ExprKind::Set(clone_members(alloc, members)?),
+            ExprKind::Record(entries) => ExprKind::Record(entries.try_clone(alloc)?),
         };
-        Ok(copy)
+        Ok(Expr::new(kind))
     }
+}
+
+// A copy of a part. A function of its own, so that each level of a high expression stands on little of the call stack.
+#[cycle(copy)]
+#[inline(never)]
+fn clone_part(alloc: Global, part: &Expr) -> Result<Box<Expr>, AllocError>
+    ensures { IfOk result (λ b. b.value ≡ part.now) }
+{
+    let copy = part.try_clone(alloc)?;
+    Ok(Box::new(alloc, copy)?)
 }
 
 #[cycle(copy)]

@@ -108,7 +108,7 @@ fn nesting(rt: HostRuntime) -> Result<(), Fail> {
     for (count, answer) in [
         (100, (0, None)),
         (101, (202, Some(143))),
-        (100_000, (202, Some(143))),
+        (1_000_000, (202, Some(143))),
     ] {
         let open = repeated(alloc, "(", count)?;
         let close = repeated(alloc, ")", count)?;

@@ -1,0 +1,20 @@
+//! Tests that cross the crates: each condition of a table is read from its text, evaluated plainly, and compiled and run
+//! by the machine; both ends are to be the one that the table says.
+//!
+//! The table stands in `table/`, the world that it is evaluated over in `world.rt`.
+#![tactic(auto)]
+
+#[cfg(test)]
+mod agreement;
+#[cfg(test)]
+mod ending;
+#[cfg(test)]
+mod plain;
+#[cfg(test)]
+mod plain_fault;
+#[cfg(test)]
+mod table;
+#[cfg(test)]
+mod tests;
+#[cfg(test)]
+mod world;

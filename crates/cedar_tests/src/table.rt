@@ -1,0 +1,10 @@
+//! Conditions with their ends, by the Cedar language reference, operators; never by what a program answered.
+pub mod choices;
+pub mod decimals;
+pub mod entities;
+pub mod numbers;
+pub mod order_of_errors;
+pub mod patterns;
+pub mod records;
+pub mod sets;
+pub mod values;

@@ -14,8 +14,10 @@ use std::marker::Model;
 #[derive(Drop)]
 pub struct Cursor<'t> {
     rest: &'t [Spelled<'t>],
-    /// Where the token that was taken last begins, and where the text ends, in bytes from 0.
+    /// Where the token that was taken last begins, up to where a reading goes on although no token is taken, and where the
+    /// text ends, in bytes from 0.
     taken: usize,
+    reached: usize,
     end: usize,
 }
 
@@ -36,6 +38,7 @@ impl<'t> Cursor<'t> {
         Cursor {
             rest: tokens,
             taken: 0,
+            reached: 0,
             end,
         }
     }
@@ -142,12 +145,26 @@ impl<'t> Cursor<'t> {
         }
     }
 
-    /// Where the next token begins, or the text ends.
-    pub fn offset(&self) -> usize {
+    /// Notes that `::` goes on behind a path, though the path ends here.
+    pub fn pass_colons(&mut self)
+        ensures { self.new ≡ self.old }
+    {
         match self.rest {
+            [colons] if colons.kind() == TokenKind::DoubleColon => self.reached = self.end,
+            [colons, behind, ..] if colons.kind() == TokenKind::DoubleColon => {
+                self.reached = behind.start();
+            }
+            _ => {}
+        }
+    }
+
+    /// Where the first token begins at which no reading goes on, or the text ends.
+    pub fn offset(&self) -> usize {
+        let next = match self.rest {
             [] => self.end,
             [token, ..] => token.start(),
-        }
+        };
+        next.max(self.reached)
     }
 
     /// Where the token that was taken last begins.

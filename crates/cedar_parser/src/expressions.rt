@@ -119,6 +119,7 @@ impl<F: Fn(Global, &mut Cursor<'_>, u8) -> Result<Written, ParseFault>> Expressi
         ensures { Reads (spec.typed self.now.depth (spec.nested self.now.depth) left tokens.old) result tokens.new }
     {
         let ty = path(self.alloc, tokens)?;
+        tokens.pass_colons();
         if tokens.sees(TokenKind::In) {
             tokens.skip();
             let right = self.sums(tokens)?;

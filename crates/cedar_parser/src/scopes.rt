@@ -75,6 +75,7 @@ fn typed(alloc: Global, tokens: &mut Cursor<'_>) -> Result<WrittenEntityScope, P
     ensures { Reads (spec.typed tokens.old) result tokens.new }
 {
     let ty = path(alloc, tokens)?;
+    tokens.pass_colons();
     if tokens.sees(TokenKind::In) {
         tokens.skip();
         let reference = referred(alloc, tokens)?;

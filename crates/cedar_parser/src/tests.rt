@@ -257,6 +257,9 @@ fn conditions_that_are_refused(rt: HostRuntime) -> Result<(), Fail> {
         ("principal.if", 201, 53),
         ("principal like principal", 201, 58),
         ("principal[1]", 201, 53),
+        ("principal is A::", 201, 60),
+        ("principal is A::\"x\"", 201, 59),
+        ("principal is A::B::1", 201, 62),
     ];
     for (condition, number, at) in conditions {
         let text = with_condition(alloc, condition)?;
@@ -299,6 +302,8 @@ fn conditions_that_are_refused(rt: HostRuntime) -> Result<(), Fail> {
             103,
             27,
         ),
+        ("permit(principal is A::, action, resource);", 201, 23),
+        ("permit(principal is A::", 201, 23),
     ];
     for (text, number, at) in texts {
         assert_eq!(rt; refusal(alloc, text), (number, Some(at)), "{text}");

@@ -32,6 +32,3 @@ mod written;
 
 pub use parse_fault::ParseFault;
 pub use parser::{parse, read_uid};
-
-#[cfg(test)]
-mod tests;

@@ -2,7 +2,7 @@
 use crate::ending::End;
 
 /// The conditions with their ends.
-pub const ROWS: [(&str, End); 54] = [
+pub const ROWS: [(&str, End); 58] = [
     ("!true", End::False),
     ("!false", End::True),
     ("!!true", End::True),
@@ -37,6 +37,11 @@ pub const ROWS: [(&str, End); 54] = [
     ("1 || true", End::Type),
     ("[] || true", End::Type),
     ("false || principal.nope", End::MissingAttribute),
+    // The sides are looked at even where nothing asks the whole for a Boolean.
+    ("(true && 1) == 1", End::Type),
+    ("(false || 1) == 1", End::Type),
+    ("(1 && true) == 1", End::Type),
+    ("(1 || true) == 1", End::Type),
     // `&&` binds closer than `||`, and `!` closer than both.
     ("false && true || true", End::True),
     ("true || true && false", End::True),

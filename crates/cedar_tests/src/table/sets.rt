@@ -2,12 +2,15 @@
 use crate::ending::End;
 
 /// The conditions with their ends.
-pub const ROWS: [(&str, End); 46] = [
+pub const ROWS: [(&str, End); 49] = [
     ("[] == []", End::True),
     ("[] == [1]", End::False),
     ("[1, 2] == [2, 1]", End::True),
     ("[1, 1] == [1]", End::True),
     ("[1, 2] == [1]", End::False),
+    ("[1, 2] == [1, 3]", End::False),
+    (r#"[1] == ["1"]"#, End::False),
+    ("[[1]] == [[2]]", End::False),
     (r#"[1, "a", true] == [true, 1, "a"]"#, End::True),
     ("[[1], [2, 3]] == [[3, 2], [1], [1, 1]]", End::True),
     ("[1] == 1", End::False),

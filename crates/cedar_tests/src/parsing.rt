@@ -1,24 +1,8 @@
-use crate::parser::{parse, read_uid};
+//! Texts that read, with what they are, and texts that are refused, with number and place.
+use crate::policy_text::{refusal, uid_refusal, with_condition};
 use cedar_ast::Effect;
-use std::alloc::Global;
+use cedar_parser::{parse, read_uid};
 use std::test::Fail;
-
-const ALL: &str = "permit(principal, action, resource)";
-
-/// The number and the place of a refusal; 0 for a text that reads.
-fn refusal(alloc: Global, source: &str) -> (u16, Option<usize>) {
-    match parse(alloc, source) {
-        Ok(_) => (0, None),
-        Err(fault) => (fault.number(), fault.offset()),
-    }
-}
-
-fn uid_refusal(alloc: Global, source: &str) -> (u16, Option<usize>) {
-    match read_uid(alloc, source) {
-        Ok(_) => (0, None),
-        Err(fault) => (fault.number(), fault.offset()),
-    }
-}
 
 #[test]
 fn texts_that_read(rt: HostRuntime) -> Result<(), Fail> {
@@ -84,63 +68,6 @@ fn texts_that_are_refused(rt: HostRuntime) -> Result<(), Fail> {
     ];
     for (text, number, at) in texts {
         assert_eq!(rt; refusal(alloc, text), (number, Some(at)), "{text}");
-    }
-    Ok(())
-}
-
-/// A permit of all with this condition.
-fn with_condition(alloc: Global, condition: &str) -> Result<String, Fail> {
-    let text = format!(in alloc; "{ALL} when {{ {condition} }};")?;
-    Ok(text)
-}
-
-fn repeated(alloc: Global, text: &str, count: usize) -> Result<String, Fail> {
-    let mut whole = String::new(alloc);
-    for _ in 0..count {
-        whole.push_str(text)?;
-    }
-    Ok(whole)
-}
-
-#[test]
-fn nesting(rt: HostRuntime) -> Result<(), Fail> {
-    let alloc = rt.alloc();
-    for (count, answer) in [
-        (100, (0, None)),
-        (101, (202, Some(143))),
-        (1_000_000, (202, Some(143))),
-    ] {
-        let open = repeated(alloc, "(", count)?;
-        let close = repeated(alloc, ")", count)?;
-        let inside = format!(in alloc; "{open}true{close}")?;
-        let text = with_condition(alloc, inside.as_str())?;
-        assert_eq!(rt; refusal(alloc, text.as_str()), answer, "{count}");
-    }
-    Ok(())
-}
-
-#[test]
-fn height_and_nodes(rt: HostRuntime) -> Result<(), Fail> {
-    let alloc = rt.alloc();
-    // The chain of n operands is n high, and stands below three `&&`.
-    for (count, answer) in [
-        (1_996, (0, None)),
-        (1_997, (202, Some(0))),
-        (100_000, (202, Some(0))),
-    ] {
-        let more = repeated(alloc, " && true", count)?;
-        let inside = format!(in alloc; "true{more}")?;
-        let text = with_condition(alloc, inside.as_str())?;
-        assert_eq!(rt; refusal(alloc, text.as_str()), answer, "{count}");
-    }
-    // One hundred chains of 500 operands joined in brackets by chains: 6 nodes of the scope, and 2 n - 1 of n operands.
-    let ones = repeated(alloc, " + 1", 499)?;
-    for (count, answer) in [(99, (0, None)), (100, (209, Some(0)))] {
-        let sum = format!(in alloc; " + (1{ones})")?;
-        let sums = repeated(alloc, sum.as_str(), count)?;
-        let inside = format!(in alloc; "1 == 1{sums}")?;
-        let text = with_condition(alloc, inside.as_str())?;
-        assert_eq!(rt; refusal(alloc, text.as_str()), answer, "{count}");
     }
     Ok(())
 }
@@ -327,52 +254,5 @@ fn templates_and_ids(rt: HostRuntime) -> Result<(), Fail> {
     assert_eq!(rt; own.annotations().len(), 2);
     let last = set.policy(1).ok_or("the last policy")?;
     assert_eq!(rt; last.id().as_str(), "policy2");
-    Ok(())
-}
-
-#[test]
-fn nesting_of_every_bracket(rt: HostRuntime) -> Result<(), Fail> {
-    let alloc = rt.alloc();
-    let open = repeated(alloc, "(", 100)?;
-    let close = repeated(alloc, ")", 100)?;
-    // One more bracket stands behind 100 that are open.
-    for inside in [
-        "[]",
-        "{}",
-        "principal[\"a\"]",
-        "decimal(1)",
-        "if true then 1 else 1",
-    ] {
-        let whole = format!(in alloc; "{open}{inside}{close}")?;
-        let text = with_condition(alloc, whole.as_str())?;
-        assert_eq!(rt; refusal(alloc, text.as_str()).0, 202, "{inside}");
-    }
-    let chained = repeated(alloc, "if true then 1 else ", 100)?;
-    let whole = format!(in alloc; "({chained}1) == 1")?;
-    let text = with_condition(alloc, whole.as_str())?;
-    assert_eq!(rt; refusal(alloc, text.as_str()).0, 202);
-    Ok(())
-}
-
-#[test]
-fn large_sets_and_doubled_sides(rt: HostRuntime) -> Result<(), Fail> {
-    let alloc = rt.alloc();
-    for (count, answer) in [(99_990, (0, None)), (99_991, (209, Some(0)))] {
-        let ones = repeated(alloc, "1, ", count)?;
-        let inside = format!(in alloc; "[{ones}1].contains(1)")?;
-        let text = with_condition(alloc, inside.as_str())?;
-        assert_eq!(rt; refusal(alloc, text.as_str()), answer, "{count}");
-    }
-    // Each `is .. in` asks both of its left side, so that 90 of them would have more nodes than can be counted.
-    let open = repeated(alloc, "(", 90)?;
-    let close = repeated(alloc, " is A in B::\"b\")", 90)?;
-    let inside = format!(in alloc; "{open}principal{close}")?;
-    let text = with_condition(alloc, inside.as_str())?;
-    assert_eq!(rt; refusal(alloc, text.as_str()).0, 209);
-    // A long path of attributes is too high, and no harm to the stack.
-    let path = repeated(alloc, ".a", 100_000)?;
-    let inside = format!(in alloc; "principal{path}")?;
-    let text = with_condition(alloc, inside.as_str())?;
-    assert_eq!(rt; refusal(alloc, text.as_str()), (202, Some(0)));
     Ok(())
 }

@@ -1,4 +1,4 @@
--- The laws of the comparisons.
+-- Help for proofs, no definition: the laws of the comparisons.
 use Rattle.std.specs.Prelude.{◌≡◌, ℕ, List, true, refl}
 use Rattle.std.proofs.Common.{ap, sym, ◌∙◌}
 use Rattle.std.proofs.lemmas.Cmp.{on_total, then_total, nat_list_cmp_total, lists_total, tied_itself}

@@ -1,5 +1,5 @@
--- Worked examples of evaluation, each computed by the definition itself: a value and each error of every form, and
--- the order of errors (Cedar language reference, operators).
+-- Worked examples of evaluation, each computed by the definition itself: a value and each error of every form (of
+-- `like` the value by the test of matching alone), and the order of errors (Cedar language reference, operators).
 use Rattle.std.proofs.Common.{◌≡◌, ℕ, ℤ, pos, negsuc, Bool, true, false, List, [], ◌∷◌, refl}
 use Rattle.std.specs.Prelude.{Ok, Err}
 use Rattle.cedar_ext.specs.declared.pattern.Element.TheVariants.{Character, Star}
@@ -169,6 +169,12 @@ product_overflows = refl
 sum_wants_numbers : value (binary two.Add (number 1) a_text) ≡ Err «Type»
 sum_wants_numbers = refl
 
+difference_wants_numbers : value (binary two.Subtract a_text (number 1)) ≡ Err «Type»
+difference_wants_numbers = refl
+
+product_wants_numbers : value (binary two.Multiply (number 1) (truth true)) ≡ Err «Type»
+product_wants_numbers = refl
+
 -- both operands are evaluated before their kinds are tested, the left one first
 error_before_kind : value (binary two.Add (binary two.Add greatest (number 1)) a_text) ≡ Err Overflow
 error_before_kind = refl
@@ -225,11 +231,20 @@ contains_all_not = refl
 contains_all_of_number : value (binary two.ContainsAll (members []) (number 1)) ≡ Err «Type»
 contains_all_of_number = refl
 
+number_contains_all : value (binary two.ContainsAll (number 1) (members [])) ≡ Err «Type»
+number_contains_all = refl
+
 contains_any : value (binary two.ContainsAny (a_set (long (pos 1) ∷ long (pos 2) ∷ [])) (a_set (long (pos 2) ∷ long (pos 3) ∷ []))) ≡ Ok (boolean true)
 contains_any = refl
 
 contains_any_of_none : value (binary two.ContainsAny (members (number 1 ∷ [])) (members [])) ≡ Ok (boolean false)
 contains_any_of_none = refl
+
+contains_any_of_number : value (binary two.ContainsAny (members []) (number 1)) ≡ Err «Type»
+contains_any_of_number = refl
+
+number_contains_any : value (binary two.ContainsAny (number 1) (members [])) ≡ Err «Type»
+number_contains_any = refl
 
 -- `has`: false of an absent entity
 has_attribute : value (unary (one.Has a) (the a)) ≡ Ok (boolean true)
@@ -309,7 +324,22 @@ decimal_greater_equal = refl
 decimal_less_number : value (binary two.DecimalLess (units (pos 0)) (number 1)) ≡ Err «Type»
 decimal_less_number = refl
 
+number_decimal_less_equal : value (binary two.DecimalLessEqual (number 1) (units (pos 0))) ≡ Err «Type»
+number_decimal_less_equal = refl
+
+decimal_greater_text : value (binary two.DecimalGreater (units (pos 0)) a_text) ≡ Err «Type»
+decimal_greater_text = refl
+
+text_decimal_greater_equal : value (binary two.DecimalGreaterEqual a_text (units (pos 0))) ≡ Err «Type»
+text_decimal_greater_equal = refl
+
 -- sets and records: the members and the entries from left to right
+set_of_members : value (members (number 1 ∷ [])) ≡ value (a_set (long (pos 1) ∷ []))
+set_of_members = refl
+
+record_of_entries : value (unary (one.Get a) (record_with (entries_of ((b, number 2) ∷ (a, number 1) ∷ [])))) ≡ Ok (long (pos 1))
+record_of_entries = refl
+
 set_error : value (members (number 1 ∷ binary two.Add greatest (number 1) ∷ unary one.Not (number 1) ∷ [])) ≡ Err Overflow
 set_error = refl
 

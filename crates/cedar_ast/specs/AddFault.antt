@@ -1,8 +1,8 @@
 -- What a fault of adding tells.
 use Rattle.std.specs.Prelude.{ℕ}
 use Rattle.cedar_ast.specs.declared.statement.Statement.{Statement}
-use Rattle.cedar_ast.specs.declared.fault.AddFault.{AddFault}
-use Rattle.cedar_ast.specs.declared.fault.AddFault.TheVariants.{OutOfMemory, DuplicateId}
+use Rattle.cedar_ast.specs.declared.add_fault.AddFault.{AddFault}
+use Rattle.cedar_ast.specs.declared.add_fault.AddFault.TheVariants.{OutOfMemory, DuplicateId}
 
 -- its number
 abbrev pub number_of : AddFault → ℕ

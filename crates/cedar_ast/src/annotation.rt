@@ -6,6 +6,6 @@ use cedar_value::Text;
 pub struct Annotation {
     /// The name behind the `@`.
     pub name: Text,
-    /// The text in brackets, empty where there is none.
+    /// The text in brackets.
     pub value: Text,
 }

@@ -4,9 +4,9 @@ ghost use Rattle.cedar_ast.specs.Keys.{AreDistinct, keys_of};
 ghost use Rattle.cedar_ast.specs.RecordFault.{number_of, refused};
 
 use crate::expression::Expr;
-use crate::keys::Keys;
+use crate::keys::{Keys, first_repeated};
 use crate::record_fault::RecordFault;
-use cedar_value::{Record, Text, Value};
+use cedar_value::Text;
 use std::alloc::{AllocError, Global};
 use std::marker::Model;
 
@@ -47,7 +47,7 @@ impl Model for Entries {
 impl Entries {
     /// The entries of these pairs. A refusal hands them back: 203 where a key stands twice, 1 where memory was
     /// refused (Cedar language reference, records).
-    pub fn new(alloc: Global, pairs: Vec<(Text, Expr)>) -> Result<Self, RecordFault>
+    pub(crate) fn new(alloc: Global, pairs: Vec<(Text, Expr)>) -> Result<Self, RecordFault>
         ensures ok { IfOk result (λ r. r ≡ pairs.items) }
         ensures distinct { IfOk result (λ r. AreDistinct (keys_of r)) }
         ensures duplicate { IfErr result (λ fault. number_of fault ≡ 203 → AreDistinct (keys_of pairs.items) → ⊥) }
@@ -68,7 +68,7 @@ impl Entries {
         &self.pairs
     }
 
-    /// A copy of the keys, in order.
+    /// A copy of the keys, in order. 1: memory was refused.
     pub fn keys(&self, alloc: Global) -> Result<Keys, AllocError>
         ensures { IfOk result (λ k. k ≡ keys_of self.now) }
     {
@@ -77,7 +77,7 @@ impl Entries {
         })
     }
 
-    /// A copy, equal to the original.
+    /// A copy, equal to the original. 1: memory was refused.
     #[cycle(copy)]
     pub fn try_clone(&self, alloc: Global) -> Result<Self, AllocError>
         ensures { IfOk result (λ r. r ≡ self.now) }
@@ -110,21 +110,21 @@ fn copy_keys(alloc: Global, pairs: &[(Text, Expr)]) -> Result<Vec<Text>, AllocEr
     Ok(keys)
 }
 
-// Whether no key stands twice: there is then a record with these keys.
+// Whether no key stands twice.
 fn are_distinct(alloc: Global, pairs: &[(Text, Expr)]) -> Result<bool, AllocError>
     ensures { IfOk result (λ b. IsTrue b ↔ AreDistinct (keys_of pairs.now)) }
 {
-    let record = Record::from_pairs(falsities(alloc, pairs)?)?;
-    Ok(record.is_some())
+    let keys = lent_keys(alloc, pairs)?;
+    Ok(first_repeated(alloc, &keys)?.is_none())
 }
 
-// The keys of the pairs, each with the value `false`.
-fn falsities(alloc: Global, pairs: &[(Text, Expr)]) -> Result<Vec<(Text, Value)>, AllocError>
-    ensures { IfOk result (λ v. map (λ p. p.0) v.items ≡ keys_of pairs.now) }
+// The keys of the pairs, lent.
+fn lent_keys<'a>(alloc: Global, pairs: &'a [(Text, Expr)]) -> Result<Vec<&'a str>, AllocError>
+    ensures { IfOk result (λ v. map (λ k. k.now) v.items ≡ keys_of pairs.now) }
 {
-    let mut falsities = Vec::new(alloc);
+    let mut keys = Vec::new(alloc);
     for pair in pairs {
-        falsities.push((pair.0.try_clone(alloc)?, Value::boolean(false)))?;
+        keys.push(pair.0.as_str())?;
     }
-    Ok(falsities)
+    Ok(keys)
 }

@@ -1,12 +1,15 @@
 //! Expressions, which contracts see as trees with no pointers.
-ghost use Rattle.std.specs.Prelude.{◌≡◌, IfOk};
+ghost use Rattle.std.specs.Prelude.{◌≡◌, IfOk, IfErr};
 ghost use Rattle.cedar_ast.specs.Expression.{literal, variable, and, or, if_else, unary, binary, set_with, record_with, expressions_of, entries_of};
 ghost use Rattle.cedar_ast.specs.ExprKind.{expression_of};
+ghost use Rattle.cedar_ast.specs.Keys.{AreDistinct, keys_of};
+ghost use Rattle.cedar_ast.specs.RecordFault.{number_of, refused};
 
 use crate::entries::Entries;
 use crate::operator::{BinaryOperator, UnaryOperator};
+use crate::record_fault::RecordFault;
 use crate::variable::Variable;
-use cedar_value::Value;
+use cedar_value::{Text, Value};
 use std::alloc::{AllocError, Global};
 use std::marker::Model;
 
@@ -83,7 +86,7 @@ impl Expr {
         Expr::new(ExprKind::Variable(name))
     }
 
-    /// `left && right`
+    /// `left && right`. 1: memory was refused.
     pub fn and(alloc: Global, left: Expr, right: Expr) -> Result<Self, AllocError>
         ensures { IfOk result (λ e. e ≡ and left right) }
     {
@@ -92,7 +95,7 @@ impl Expr {
         Ok(Expr::new(ExprKind::And(left, right)))
     }
 
-    /// `left || right`
+    /// `left || right`. 1: memory was refused.
     pub fn or(alloc: Global, left: Expr, right: Expr) -> Result<Self, AllocError>
         ensures { IfOk result (λ e. e ≡ or left right) }
     {
@@ -101,7 +104,7 @@ impl Expr {
         Ok(Expr::new(ExprKind::Or(left, right)))
     }
 
-    /// `if condition then if_true else if_false`
+    /// `if condition then if_true else if_false`. 1: memory was refused.
     pub fn if_else(
         alloc: Global,
         condition: Expr,
@@ -116,7 +119,7 @@ impl Expr {
         Ok(Expr::new(ExprKind::If(condition, if_true, if_false)))
     }
 
-    /// An operator on its operand.
+    /// An operator on its operand. 1: memory was refused.
     pub fn unary(alloc: Global, operator: UnaryOperator, operand: Expr) -> Result<Self, AllocError>
         ensures { IfOk result (λ e. e ≡ unary operator operand) }
     {
@@ -124,7 +127,7 @@ impl Expr {
         Ok(Expr::new(ExprKind::Unary(operator, operand)))
     }
 
-    /// An operator on its operands.
+    /// An operator on its operands. 1: memory was refused.
     pub fn binary(
         alloc: Global,
         operator: BinaryOperator,
@@ -145,11 +148,16 @@ impl Expr {
         Expr::new(ExprKind::Set(members))
     }
 
-    /// The record of these entries. Takes no memory.
-    pub fn record(entries: Entries) -> Self
-        ensures { result ≡ record_with (entries_of entries) }
+    /// The record of these keys with their expressions, in the order in which they are written. A refusal hands them
+    /// back: 203 where a key stands twice, 1 where memory was refused (Cedar language reference, records).
+    pub fn record(alloc: Global, pairs: Vec<(Text, Expr)>) -> Result<Self, RecordFault>
+        ensures ok { IfOk result (λ e. e ≡ record_with (entries_of pairs.items)) }
+        ensures distinct { IfOk result (λ e. AreDistinct (keys_of pairs.items)) }
+        ensures duplicate { IfErr result (λ fault. number_of fault ≡ 203 → AreDistinct (keys_of pairs.items) → ⊥) }
+        ensures handed_back { IfErr result (λ fault. refused fault ≡ pairs.items) }
     {
-        Expr::new(ExprKind::Record(entries))
+        let entries = Entries::new(alloc, pairs)?;
+        Ok(Expr::new(ExprKind::Record(entries)))
     }
 
     /// The form, with its parts, lent.
@@ -159,7 +167,7 @@ impl Expr {
         &self.kind
     }
 
-    /// A copy, equal to the original.
+    /// A copy, equal to the original. 1: memory was refused.
     #[cycle(copy)]
     pub fn try_clone(&self, alloc: Global) -> Result<Self, AllocError>
         ensures { IfOk result (λ e. e ≡ self.now) }

@@ -1,8 +1,10 @@
 //! The keys of a record expression.
-ghost use Rattle.std.specs.Prelude.{◌≡◌};
-ghost use Rattle.cedar_ast.specs.Keys.{AreDistinct};
+ghost use Rattle.std.specs.Prelude.{◌≡◌, IfOk, IfSome, MatchOption, map};
+ghost use Rattle.cedar_ast.specs.Keys.{AreDistinct, IsFirstRepeated};
 
 use cedar_value::Text;
+use std::alloc::{AllocError, Global};
+use std::collections::BTreeSet;
 use std::marker::Model;
 
 /// Keys of which none stands twice, in the order in which they are written. Contracts see the list of their bytes.
@@ -30,4 +32,19 @@ impl Keys {
     {
         &self.texts
     }
+}
+
+/// The position from 0 of the first key that stands before it already, or none where no key stands twice (Cedar
+/// language reference, records). Comparisons grow with the count of keys times its logarithm. 1: memory was refused.
+pub fn first_repeated(alloc: Global, keys: &[&str]) -> Result<Option<usize>, AllocError>
+    ensures distinct { IfOk result (λ o. MatchOption o (AreDistinct (map (λ k. k.now) keys.now)) (λ place. AreDistinct (map (λ k. k.now) keys.now) → ⊥)) }
+    ensures first { IfOk result (λ o. IfSome o (IsFirstRepeated (map (λ k. k.now) keys.now))) }
+{
+    let mut seen = BTreeSet::new(alloc);
+    for (place, key) in keys.iter().enumerate() {
+        if !seen.insert(*key)? {
+            return Ok(Some(place));
+        }
+    }
+    Ok(None)
 }

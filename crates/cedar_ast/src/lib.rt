@@ -3,6 +3,7 @@
 //! The definitions of evaluation, of a policy's condition and of the response stand in `specs/`.
 #![tactic(auto)]
 
+mod add_fault;
 mod annotation;
 mod condition;
 mod decision;
@@ -10,7 +11,6 @@ mod effect;
 mod entries;
 mod error;
 mod expression;
-mod fault;
 mod keys;
 mod operator;
 mod policy;
@@ -23,6 +23,7 @@ mod template_scope;
 mod uids;
 mod variable;
 
+pub use add_fault::AddFault;
 pub use annotation::Annotation;
 pub use condition::{Condition, ConditionKind};
 pub use decision::Decision;
@@ -30,8 +31,7 @@ pub use effect::Effect;
 pub use entries::Entries;
 pub use error::EvaluationError;
 pub use expression::{Expr, ExprKind};
-pub use fault::AddFault;
-pub use keys::Keys;
+pub use keys::{Keys, first_repeated};
 pub use operator::{BinaryOperator, UnaryOperator};
 pub use policy::Policy;
 pub use policy_set::PolicySet;

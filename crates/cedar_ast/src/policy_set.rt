@@ -2,10 +2,11 @@
 ghost use Rattle.std.specs.Prelude.{◌≡◌, [], ◌∷◌, ◌++◌, length, slice_get, Contains, OnOk, OnErr, IfErr, true, false, None, option_copied, string_bytes};
 ghost use Rattle.indexmap.specs.IndexMap.{get_by_text};
 ghost use Rattle.cedar_ast.specs.PolicySetTree.{no_policies, entered, ids_in, id_of};
+ghost use Rattle.cedar_ast.specs.Keys.{AreDistinct};
 ghost use Rattle.cedar_ast.specs.PolicyIds.{keys_of};
 ghost use Rattle.cedar_ast.specs.AddFault.{refused, number_of};
 
-use crate::fault::AddFault;
+use crate::add_fault::AddFault;
 use crate::policy::Policy;
 use crate::statement::Statement;
 use crate::template::Template;
@@ -14,7 +15,7 @@ use std::alloc::{AllocFailed, Global};
 use std::marker::Model;
 
 /// Policies and templates in the order in which they were added, each with an id of its own. Contracts see the list of
-/// the policies beside that of the templates.
+/// the policies beside that of the templates; no id stands twice in the two.
 #[derive(Drop)]
 pub struct PolicySet {
     policies: IndexMap<String, Policy>,
@@ -30,11 +31,11 @@ impl Model for PolicySet {
 
     ghost coded = { Prim.hlevel (codes, expression_code) };
 
-    ghost use Rattle.cedar_ast.specs.PolicyIds.{values_in, StandAtTheirIds};
+    ghost use Rattle.cedar_ast.specs.PolicyIds.{values_in, AreById};
 
     ghost view = { λ s. record { policies = values_in s.policies.entries; templates = values_in s.templates.entries } };
 
-    ghost invariant = { λ s. StandAtTheirIds (λ p. p.id) s.policies.entries × StandAtTheirIds (λ t. t.id) s.templates.entries };
+    ghost invariant = { λ s. AreById s.policies.entries s.templates.entries };
 }
 
 impl PolicySet {
@@ -50,7 +51,8 @@ impl PolicySet {
 
     /// How many policies there are; templates do not count.
     pub fn count(&self) -> usize
-        ensures { result ≡ length self.now.policies }
+        ensures policies { result ≡ length self.now.policies }
+        ensures distinct { AreDistinct (ids_in self.now) }
     {
         self.policies.len()
     }

@@ -11,13 +11,18 @@ fn uid(alloc: Global, id: &str) -> Result<Uid, AllocError> {
     })
 }
 
-fn policy(alloc: Global, id: &str, effect: Effect) -> Result<Policy, AllocError> {
-    let scope = Scope {
+/// `principal == User::"ann", action, resource`
+fn scope(alloc: Global) -> Result<Scope, AllocError> {
+    Ok(Scope {
         principal: EntityScope::Equal(uid(alloc, "ann")?),
         action: ActionScope::Any,
         resource: EntityScope::Any,
-    };
+    })
+}
+
+fn policy(alloc: Global, id: &str, effect: Effect) -> Result<Policy, AllocError> {
     let id = Text::read(alloc, id)?;
+    let scope = scope(alloc)?;
     Ok(Policy::new(id, Vec::new(alloc), effect, scope, Vec::new(alloc)))
 }
 
@@ -100,11 +105,29 @@ fn policies_stand_in_the_order_of_entry(rt: HostRuntime) -> Result<(), Fail> {
     Ok(())
 }
 
-/// The expression in words: `&&`, `==`, a variable, a literal.
+fn variable_name(variable: Variable) -> &'static str {
+    match variable {
+        Variable::Principal => "principal",
+        Variable::Action => "action",
+        Variable::Resource => "resource",
+        Variable::Context => "context",
+    }
+}
+
+fn binary_name(operator: BinaryOperator) -> &'static str {
+    match operator {
+        BinaryOperator::Equal => "==",
+        BinaryOperator::In => "in",
+        _ => "another operator",
+    }
+}
+
+/// The expression in words, with brackets round each operand and `v` for each literal. Of the operators on one operand
+/// `!` alone has a word.
 fn shape(alloc: Global, expression: &Expr) -> Result<String, AllocError> {
     match expression.kind() {
         ExprKind::Literal(_) => String::from_str(alloc, "v"),
-        ExprKind::Variable(_) => String::from_str(alloc, "x"),
+        ExprKind::Variable(name) => String::from_str(alloc, variable_name(*name)),
         ExprKind::And(left, right) => {
             let left = shape(alloc, left)?;
             let right = shape(alloc, right)?;
@@ -121,14 +144,16 @@ fn shape(alloc: Global, expression: &Expr) -> Result<String, AllocError> {
             let if_false = shape(alloc, if_false)?;
             format!(in alloc; "({condition} ? {if_true} : {if_false})")
         }
-        ExprKind::Unary(_, operand) => {
+        ExprKind::Unary(UnaryOperator::Not, operand) => {
             let operand = shape(alloc, operand)?;
             format!(in alloc; "!{operand}")
         }
-        ExprKind::Binary(_, left, right) => {
+        ExprKind::Unary(_, _) => String::from_str(alloc, "another operator"),
+        ExprKind::Binary(operator, left, right) => {
             let left = shape(alloc, left)?;
+            let sign = binary_name(*operator);
             let right = shape(alloc, right)?;
-            format!(in alloc; "({left} = {right})")
+            format!(in alloc; "({left} {sign} {right})")
         }
         ExprKind::Set(_) => String::from_str(alloc, "[]"),
         ExprKind::Record(_) => String::from_str(alloc, "{}"),
@@ -151,11 +176,7 @@ fn conditions(alloc: Global) -> Result<Vec<Condition>, AllocError> {
 /// A policy of one entity with these conditions.
 fn conditional(alloc: Global) -> Result<Policy, AllocError> {
     let conditions = conditions(alloc)?;
-    let scope = Scope {
-        principal: EntityScope::Equal(uid(alloc, "ann")?),
-        action: ActionScope::Any,
-        resource: EntityScope::Any,
-    };
+    let scope = scope(alloc)?;
     let id = Text::new(String::new(alloc));
     Ok(Policy::new(id, Vec::new(alloc), Effect::Permit, scope, conditions))
 }
@@ -167,7 +188,7 @@ fn a_condition_asks_the_scope_before_the_rest(rt: HostRuntime) -> Result<(), Fai
     let shape = shape(alloc, &condition)?;
     assert_eq!(rt;
         shape.as_str(),
-        "((x = v) && (v && (v && ((x || v) && !x))))"
+        "((principal == v) && (v && (v && ((action || v) && !resource))))"
     );
     Ok(())
 }
@@ -178,17 +199,27 @@ fn a_record_with_a_repeated_key_is_refused(rt: HostRuntime) -> Result<(), Fail> 
     let mut pairs = Vec::new(alloc);
     pairs.push((Text::read(alloc, "a")?, Expr::variable(Variable::Context)))?;
     pairs.push((Text::read(alloc, "b")?, Expr::variable(Variable::Action)))?;
-    let entries = Entries::new(alloc, pairs)?;
-    assert_eq!(rt; entries.pairs().len(), 2);
+    let record = Expr::record(alloc, pairs)?;
+    assert!(rt; matches!(record.kind(), ExprKind::Record(entries) if entries.pairs().len() == 2));
     let mut pairs = Vec::new(alloc);
     pairs.push((Text::read(alloc, "a")?, Expr::variable(Variable::Context)))?;
     pairs.push((Text::read(alloc, "a")?, Expr::variable(Variable::Action)))?;
-    match Entries::new(alloc, pairs) {
+    match Expr::record(alloc, pairs) {
         Ok(_) => assert!(rt; false, "the key stands twice"),
         Err(fault) => {
             assert_eq!(rt; fault.number(), 203);
             assert_eq!(rt; fault.into_pairs().len(), 2);
         }
     }
+    Ok(())
+}
+
+#[test]
+fn the_first_key_that_stood_before_is_found(rt: HostRuntime) -> Result<(), Fail> {
+    let alloc = rt.alloc();
+    assert_eq!(rt; first_repeated(alloc, &[])?, None);
+    assert_eq!(rt; first_repeated(alloc, &["b", "a", ""])?, None);
+    assert_eq!(rt; first_repeated(alloc, &["b", "a", "c", "a", "b"])?, Some(3));
+    assert_eq!(rt; first_repeated(alloc, &["", ""])?, Some(1));
     Ok(())
 }

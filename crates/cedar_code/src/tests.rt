@@ -1,8 +1,8 @@
 //! Worked examples: instructions, jumps, lengths and heights.
 use super::*;
 use cedar_ast::{
-    ActionScope, BinaryOperator, Condition, ConditionKind, Effect, EntityScope, Entries, Expr,
-    Policy, Scope, UnaryOperator, Variable,
+    ActionScope, BinaryOperator, Condition, ConditionKind, Effect, EntityScope, Expr, Policy,
+    Scope, UnaryOperator, Variable,
 };
 use cedar_value::{Text, Value};
 use std::alloc::{AllocError, Global};
@@ -159,7 +159,7 @@ fn record(alloc: Global) -> Result<Expr, Fail> {
     for (key, number) in [("a", 1), ("b", 2)] {
         pairs.push((Text::read(alloc, key)?, long(number)))?;
     }
-    Ok(Expr::record(Entries::new(alloc, pairs)?))
+    Ok(Expr::record(alloc, pairs)?)
 }
 
 #[test]

@@ -1,6 +1,6 @@
 //! Worked examples: ends and counts.
 use super::*;
-use cedar_ast::{BinaryOperator, Entries, EvaluationError, Expr, UnaryOperator, Variable};
+use cedar_ast::{BinaryOperator, EvaluationError, Expr, UnaryOperator, Variable};
 use cedar_code::{Code, CodeFault, Outcome, compile};
 use cedar_store::{Entity, NoEntities, Store};
 use cedar_value::{Name, Record, Request, Text, Uid, Value, ValueKind};
@@ -145,7 +145,7 @@ fn record(alloc: Global) -> Result<Expr, Fail> {
     for (key, number) in [("a", 6), ("b", 2)] {
         pairs.push((Text::read(alloc, key)?, long(number)))?;
     }
-    Ok(Expr::record(Entries::new(alloc, pairs)?))
+    Ok(Expr::record(alloc, pairs)?)
 }
 
 #[test]

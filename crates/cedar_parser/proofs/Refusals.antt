@@ -1,9 +1,10 @@
 -- What the end of a text and each refusal show.
 use Rattle.std.proofs.lemmas.Bool.{eqb-true}
-use Rattle.std.proofs.Common.{Bool, true, false, cond, eqb, ◌≡◌, refl, sym, ap, subst, ◌∙◌, ℕ, zero, suc, ◌+◌, ◌<◌, List, [], ◌∷◌, ◌++◌, length, get_or, Option, Some, None, Result, Ok, Err, length-append, arith}
+use Rattle.std.proofs.Common.{Bool, true, false, cond, eqb, ◌≡◌, refl, sym, ap, subst, ◌∙◌, ℕ, ◌+◌, ◌<◌, List, [], ◌∷◌, ◌++◌, length, get_or, Option, Some, None, Result, Ok, Err, length-append, arith}
 use Rattle.std.specs.Prelude.{All, Contains, IsSome, IfErr}
-use Rattle.std.proofs.lemmas.List.{append-nil}
+use Rattle.std.proofs.lemmas.List.{append-nil, get_or_append_left}
 use Rattle.cedar_value.specs.declared.uid.Uid.{Uid}
+use Rattle.cedar_ast.specs.Keys.{AreDistinct}
 use Rattle.cedar_ast.specs.PolicySetTree.{PolicySetTree, no_policies, ids_in, id_of}
 use Rattle.cedar_ast.specs.declared.statement.Statement.{Statement as Entry}
 use Rattle.cedar_parser.specs.Marks.{Marks}
@@ -17,7 +18,7 @@ use Rattle.cedar_parser.specs.StatementTree.{StatementTree}
 use Rattle.cedar_parser.specs.Meaning.{told, uid_told}
 use Rattle.cedar_parser.specs.StatementMeaning.{id_at, entered_from, ids_from}
 use Rattle.cedar_parser.specs.StatementLimits.{IsWithinLimits, Breaks}
-use Rattle.cedar_parser.specs.PolicyText.{AreDistinct, ArePolicies, BreaksLimit, TokensFault, Answers}
+use Rattle.cedar_parser.specs.PolicyText.{ArePolicies, BreaksLimit, TokensFault, Answers}
 use Rattle.cedar_parser.specs.Reading as r
 use Rattle.cedar_parser.specs.Reading.{Syntax, TooDeep, Outcome}
 use Rattle.cedar_parser.specs.StatementReading as st
@@ -99,7 +100,7 @@ unread_fault ts us n ps so some (f.TooLarge at) e = absurd e
 
 -- ---- a statement that is not entered
 
-at_seam : (xs : List StatementTree) (y : StatementTree) (zs : List StatementTree) (d : StatementTree) → get_or ((xs ++ y ∷ []) ++ zs) (length xs) d ≡ y
+at_seam : {A : Type 0} (xs : List A) (y : A) (zs : List A) (d : A) → get_or ((xs ++ y ∷ []) ++ zs) (length xs) d ≡ y
 at_seam [] y zs d = refl
 at_seam (x ∷ xs) y zs d = at_seam xs y zs d
 
@@ -108,14 +109,12 @@ keeps_limits before behind all s e h =
     let long : length all ≡ (length before + 1) + length behind = ap length e ∙ length-append (before ++ s ∷ []) behind ∙ ap (λ n. n + length behind) (length-append before (s ∷ [])) in
     subst IsWithinLimits (ap (λ xs. get_or xs (length before) s) e ∙ at_seam before s behind s) (h (length before) s (omega arith))
 
-contains_seam : (xs zs : List (List ℕ)) (y x : List ℕ) → y ≡ x → Contains ((xs ++ y ∷ []) ++ zs) x
-contains_seam [] zs y x e = (0, omega arith, e)
-contains_seam (w ∷ xs) zs y x e = let h = contains_seam xs zs y x e in (suc h.0, (let l = h.1 in omega arith), h.2)
-
 distinct_not : (xs zs : List (List ℕ)) (y : List ℕ) → AreDistinct ((xs ++ y ∷ []) ++ zs) → Contains xs y → ⊥
-distinct_not [] zs y d c = omega (arith, c.1)
-distinct_not (x ∷ xs) zs y d (zero, lt, e) = d.0 (contains_seam xs zs y x (sym e))
-distinct_not (x ∷ xs) zs y d (suc k, lt, e) = distinct_not xs zs y d.1 (k, (omega arith), e)
+distinct_not xs zs y d c =
+    let there : length xs < length ((xs ++ y ∷ []) ++ zs) = omega (arith, length-append (xs ++ y ∷ []) zs, length-append xs (y ∷ [])) in
+    let longer : c.0 < length (xs ++ y ∷ []) = omega (arith, c.1, length-append xs (y ∷ [])) in
+    d c.0 (length xs) y c.1 there
+    (get_or_append_left (xs ++ y ∷ []) zs y c.0 longer ∙ get_or_append_left xs (y ∷ []) y c.0 c.1 ∙ c.2 ∙ sym (at_seam xs y zs y))
 
 ids_there : (before behind : List StatementTree) (s : StatementTree) → ids_from 0 ((before ++ s ∷ []) ++ behind) ≡ (ids_from 0 before ++ id_at (length before) s ∷ []) ++ ids_from (0 + length (before ++ s ∷ [])) behind
 ids_there before behind s =

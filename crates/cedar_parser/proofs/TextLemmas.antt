@@ -1,11 +1,20 @@
 -- Statement after statement.
 use Rattle.std.proofs.Common.{◌≡◌, refl, sym, ap, subst, ◌∙◌, ℕ, zero, suc, ◌+◌, ◌<◌, Bool, true, false, cond, List, [], ◌∷◌, ◌++◌, length, Ok, append_assoc, length-append, ◌⊎◌, inl, inr, arith}
 use Rattle.std.specs.Prelude.{All, Contains, map}
+use Rattle.std.specs.List.{list_any}
+use Rattle.std.specs.Str.{bytes_eq}
+use Rattle.std.proofs.lemmas.Bool.{false_from_ne_true}
+use Rattle.std.proofs.lemmas.Map.Keys.{IsDistinct-push}
+use Rattle.std.proofs.lemmas.Map.Made.{AllPairs-from_IsDistinct, IsDistinct-from_AllPairs}
+use Rattle.std.proofs.lemmas.Map.Views.{Contains-from_any}
+use Rattle.std.proofs.lemmas.Slice.Eq.{bytes_eq-Decides}
+use Rattle.cedar_value.specs.Equality.{text_equivalence}
 use Rattle.std.proofs.lemmas.List.Elements.{All-append, All-cons, All-nil, Contains-append_cases}
 use Rattle.cedar_ast.specs.declared.statement.Statement.{Statement as Entry}
 use Rattle.cedar_ast.specs.declared.statement.Statement.TheVariants as entry
 use Rattle.cedar_ast.specs.PolicyTree.{PolicyTree}
 use Rattle.cedar_ast.specs.TemplateTree.{TemplateTree}
+use Rattle.cedar_ast.specs.Keys.{AreDistinct}
 use Rattle.cedar_ast.specs.PolicySetTree.{PolicySetTree, no_policies, entered, ids_in, ids_of, id_of}
 use Rattle.cedar_text.specs.Lexeme.{Lexeme, Lexemes}
 use Rattle.cedar_text.specs.declared.letter.Letter.{Letter}
@@ -20,7 +29,7 @@ use Rattle.cedar_parser.specs.StatementLimits.{IsWithinLimits}
 use Rattle.cedar_parser.specs.StatementReading as r
 use Rattle.cedar_parser.proofs.StatementsSound.{statement_is}
 use Rattle.cedar_parser.proofs.StatementsComplete.{statement_same}
-use Rattle.cedar_parser.specs.PolicyText.{AreDistinct, ArePolicies}
+use Rattle.cedar_parser.specs.PolicyText.{ArePolicies}
 
 All-one : (s : StatementTree) → IsWithinLimits s → All IsWithinLimits (s ∷ [])
 All-one s w = All-cons IsWithinLimits s [] w (All-nil IsWithinLimits)
@@ -43,11 +52,11 @@ contains_later : (x y : List ℕ) (xs : List (List ℕ)) → Contains xs y → C
 contains_later x y xs (k, lt, e) = (suc k, omega arith, e)
 
 distinct_then : (xs : List (List ℕ)) (y : List ℕ) → AreDistinct xs → (Contains xs y → ⊥) → AreDistinct (xs ++ y ∷ [])
-distinct_then [] y d none = (λ c. absurd (omega (arith, c.1)), tt)
-distinct_then (x ∷ xs) y d none = (
-  λ c. elim (Contains-append_cases xs (y ∷ []) x c) [ inl h ↦ d.0 h | inr h ↦ none (contains_first y x xs (contains_one y x h)) ],
-  distinct_then xs y d.1 (λ c. none (contains_later x y xs c)),
-)
+distinct_then xs y d none =
+    AllPairs-from_IsDistinct bytes_eq-Decides (xs ++ y ∷ []) (IsDistinct-push text_equivalence xs y (IsDistinct-from_AllPairs bytes_eq-Decides xs d) free)
+  where
+    free : list_any (bytes_eq y) xs ≡ false
+    free = false_from_ne_true _ (λ found. none (Contains-from_any (λ x z. (bytes_eq-Decides x z).0) y xs found))
 
 -- ---- what stands in a list
 
@@ -175,7 +184,7 @@ pub record IsReadSoFar (ts us : Marks) (count : ℕ) (set : PolicySetTree) : Typ
 
 pub read_none : (ts : Marks) (set : PolicySetTree) → set ≡ no_policies → IsReadSoFar ts ts 0 set
 read_none ts set e = record {
-  are_policies = record { statements = []; reading = end; limits = All-nil IsWithinLimits; meaning = e; distinct = tt };
+  are_policies = record { statements = []; reading = end; limits = All-nil IsWithinLimits; meaning = e; distinct = λ i j d less within. omega arith };
   all = refl;
   only = λ d ss h. record { behind = ss; reading = h; whole = refl };
 }

@@ -1,6 +1,7 @@
 -- What a policy text is, and what a uid's text is (Cedar language reference, grammar; policies; entity identifiers).
 use Rattle.std.specs.Prelude.{◌≡◌, ℕ, suc, List, [], ◌∷◌, ◌++◌, length, IsSome, Some, Result, Ok, Err, All, Contains}
 use Rattle.cedar_value.specs.declared.uid.Uid.{Uid}
+use Rattle.cedar_ast.specs.Keys.{AreDistinct}
 use Rattle.cedar_ast.specs.PolicySetTree.{PolicySetTree, no_policies}
 use Rattle.cedar_text.specs.Lexeme.{Lexemes}
 use Rattle.cedar_text.specs.Tokens.{AreTokens}
@@ -19,11 +20,6 @@ use Rattle.cedar_parser.specs.declared.parse_fault.ParseFault.TheVariants as f
 -- how many brackets and `if`s may be open at one place inside a condition
 abbrev pub max_open : ℕ
 max_open = 100
-
--- No text is equal to one behind it.
-abbrev pub AreDistinct : List (List ℕ) → Type 0
-AreDistinct [] = Unit {0}
-AreDistinct (x ∷ xs) = (Contains xs x → ⊥) × AreDistinct xs
 
 -- The tokens from ts up to us are statements within the limits, each with an id of its own, and this is the set of them.
 pub record ArePolicies (ts us : Marks) (set : PolicySetTree) : Type 0 where

@@ -1,9 +1,8 @@
 //! Side conditions of expressions.
-ghost use Rattle.std.specs.Prelude.{◌≡◌, ◌↔◌, IfOk, IsTrue, MatchOption, map};
-ghost use Rattle.cedar_ast.specs.Keys.{AreDistinct};
+ghost use Rattle.std.specs.Prelude.{◌≡◌, IfOk, MatchOption, map};
 ghost use Rattle.cedar_parser.specs.Written.{members_of};
 ghost use Rattle.cedar_parser.specs.WrittenKind.{links_of, fields_of};
-ghost use Rattle.cedar_parser.specs.Meaning.{function_of, method_of};
+ghost use Rattle.cedar_parser.specs.Meaning.{told, function_of, method_of};
 ghost use Rattle.cedar_parser.specs.Limits.{Stands, Fits, FitsNegative, IsKnown, HasOne, HasDistinctKeys, HasNoSlot, Keeps, KeepLinks, KeepMembers, KeepFields, keys_in};
 ghost use Rattle.cedar_parser.specs.Parts.{KeepLink, KeepField};
 
@@ -11,9 +10,9 @@ use crate::content::{Content, Word};
 use crate::named::{function_of, method_of};
 use crate::side_condition::SideCondition;
 use crate::written::{Field, Link, Written, WrittenKind};
-use cedar_value::{Name, Record, Text, Value};
+use cedar_ast::first_repeated;
+use cedar_value::Name;
 use std::alloc::{AllocError, Global};
-use std::collections::HashMap;
 
 /// Where an expression breaks a side condition, in bytes from 0, if it does.
 #[cycle(broken)]
@@ -185,12 +184,7 @@ pub fn content_broken(condition: SideCondition, content: &Content) -> Option<usi
             }
             Some(content.place())
         }
-        SideCondition::Numbers
-        | SideCondition::Keys
-        | SideCondition::Names
-        | SideCondition::Counts
-        | SideCondition::Slots
-        | SideCondition::Annotations => None,
+        _ => None,
     }
 }
 
@@ -204,12 +198,7 @@ fn number_broken(condition: SideCondition, start: usize, number: u64) -> Option<
             }
             Some(start)
         }
-        SideCondition::Strings
-        | SideCondition::Keys
-        | SideCondition::Names
-        | SideCondition::Counts
-        | SideCondition::Slots
-        | SideCondition::Annotations => None,
+        _ => None,
     }
 }
 
@@ -223,12 +212,7 @@ fn negative_broken(condition: SideCondition, start: usize, number: u64) -> Optio
             }
             Some(start)
         }
-        SideCondition::Strings
-        | SideCondition::Keys
-        | SideCondition::Names
-        | SideCondition::Counts
-        | SideCondition::Slots
-        | SideCondition::Annotations => None,
+        _ => None,
     }
 }
 
@@ -237,12 +221,7 @@ fn slot_broken(condition: SideCondition, start: usize) -> Option<usize>
 {
     match condition {
         SideCondition::Slots => Some(start),
-        SideCondition::Strings
-        | SideCondition::Numbers
-        | SideCondition::Keys
-        | SideCondition::Names
-        | SideCondition::Counts
-        | SideCondition::Annotations => None,
+        _ => None,
     }
 }
 
@@ -256,12 +235,7 @@ fn function_broken(condition: SideCondition, start: usize, name: &Name) -> Optio
             }
             Some(start)
         }
-        SideCondition::Strings
-        | SideCondition::Numbers
-        | SideCondition::Keys
-        | SideCondition::Counts
-        | SideCondition::Slots
-        | SideCondition::Annotations => None,
+        _ => None,
     }
 }
 
@@ -275,12 +249,7 @@ fn method_broken(condition: SideCondition, name: &Word) -> Option<usize>
             }
             Some(name.place())
         }
-        SideCondition::Strings
-        | SideCondition::Numbers
-        | SideCondition::Keys
-        | SideCondition::Counts
-        | SideCondition::Slots
-        | SideCondition::Annotations => None,
+        _ => None,
     }
 }
 
@@ -295,15 +264,11 @@ fn count_broken(condition: SideCondition, start: usize, arguments: &[Written]) -
             }
             Some(start)
         }
-        SideCondition::Strings
-        | SideCondition::Numbers
-        | SideCondition::Keys
-        | SideCondition::Names
-        | SideCondition::Slots
-        | SideCondition::Annotations => None,
+        _ => None,
     }
 }
 
+#[tactic(auto, using(crate::proofs::PartLemmas::keys_map))]
 fn keys_broken(
     alloc: Global,
     condition: SideCondition,
@@ -313,49 +278,23 @@ fn keys_broken(
 {
     match condition {
         SideCondition::Keys => {
-            if are_distinct(alloc, fields)? {
-                return Ok(None);
-            }
-            Ok(Some(repeated_at(alloc, fields)?))
-        }
-        SideCondition::Strings
-        | SideCondition::Numbers
-        | SideCondition::Names
-        | SideCondition::Counts
-        | SideCondition::Slots
-        | SideCondition::Annotations => Ok(None),
-    }
-}
-
-// Whether no key stands twice: there is then a record with these keys.
-fn are_distinct(alloc: Global, fields: &[Field]) -> Result<bool, AllocError>
-    ensures { IfOk result (λ b. IsTrue b ↔ AreDistinct (keys_in (fields_of fields.now))) }
-{
-    let record = Record::from_pairs(falsities(alloc, fields)?)?;
-    Ok(record.is_some())
-}
-
-// The keys, each with the value `false`.
-fn falsities(alloc: Global, fields: &[Field]) -> Result<Vec<(Text, Value)>, AllocError>
-    ensures { IfOk result (λ v. map (λ p. p.0) v.items ≡ keys_in (fields_of fields.now)) }
-{
-    let mut falsities = Vec::new(alloc);
-    for field in fields {
-        let key = field.key.told(alloc)?;
-        falsities.push((key, Value::boolean(false)))?;
-    }
-    Ok(falsities)
-}
-
-// Where the first key is written that stood before.
-fn repeated_at(alloc: Global, fields: &[Field]) -> Result<usize, AllocError> {
-    let mut seen = HashMap::new(alloc);
-    for field in fields {
-        if let Some(key) = field.key.text() {
-            if seen.insert(key.as_str(), ())?.is_some() {
-                return Ok(field.key.place());
+            let keys = lent_keys(alloc, fields)?;
+            match first_repeated(alloc, &keys)? {
+                None => Ok(None),
+                Some(position) => Ok(Some(fields[position].key.place())),
             }
         }
+        _ => Ok(None),
     }
-    Ok(0)
+}
+
+// The keys, lent.
+fn lent_keys<'a>(alloc: Global, fields: &'a [Field]) -> Result<Vec<&'a str>, AllocError>
+    ensures { IfOk result (λ v. map (λ k. k.now) v.items ≡ map (λ f. told f.key) fields.now) }
+{
+    let mut keys = Vec::new(alloc);
+    for field in fields {
+        keys.push(field.key.as_str())?;
+    }
+    Ok(keys)
 }

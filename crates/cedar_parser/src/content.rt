@@ -39,6 +39,16 @@ impl Content {
         self.text.as_ref()
     }
 
+    /// The text, an empty one where there is none, lent.
+    pub fn as_str(&self) -> &str
+        ensures { result.now ≡ told self.now }
+    {
+        match &self.text {
+            None => "",
+            Some(text) => text.as_str(),
+        }
+    }
+
     /// Where it is written, or the first `\*` in it, in bytes from 0.
     pub fn place(&self) -> usize {
         self.place

@@ -14,10 +14,11 @@ use std::marker::Model;
 #[derive(Drop)]
 pub struct Cursor<'t> {
     rest: &'t [Spelled<'t>],
-    /// Where the token that was taken last begins, up to where a reading goes on although no token is taken, and where the
-    /// text ends, in bytes from 0.
+    /// Where the token that was taken last begins, in bytes from 0.
     taken: usize,
+    /// Where a token begins up to which some reading goes on although none was taken, in bytes from 0.
     reached: usize,
+    /// Where the text ends, in bytes from 0.
     end: usize,
 }
 

@@ -1,6 +1,5 @@
 //! What a statement must keep beside the grammar.
-ghost use Rattle.std.specs.Prelude.{◌≡◌, ◌≤◌, ◌↔◌, IfOk, IfErr, IsTrue, MatchOption, OnOk, map};
-ghost use Rattle.cedar_ast.specs.Keys.{AreDistinct};
+ghost use Rattle.std.specs.Prelude.{◌≡◌, ◌≤◌, IfOk, IfErr, MatchOption, OnOk, map};
 ghost use Rattle.cedar_parser.specs.StatementLimits.{KeepsReference, KeepsEntityScope, KeepUids, KeepsActionScope, HasDistinctNames, KeepAnnotations, KeepConditions, KeepsStatement, condition_size, IsWithinLimits, Breaks};
 ghost use Rattle.cedar_parser.specs.Limits.{max_height, max_nodes};
 ghost use Rattle.cedar_parser.specs.Entering.{BreaksSize};
@@ -16,16 +15,14 @@ use crate::statement::{
     WrittenStatement,
 };
 use crate::statement_size::condition_size;
-use cedar_ast::Variable;
-use cedar_value::{Record, Text, Value};
+use cedar_ast::{Variable, first_repeated};
 use std::alloc::{AllocError, Global};
-use std::collections::HashMap;
 
 /// The height that the condition of a statement may have, in nodes.
-pub const MAX_HEIGHT: usize = 2_000;
+const MAX_HEIGHT: usize = 2_000;
 
 /// How many nodes the condition of a statement may have.
-pub const MAX_NODES: usize = 100_000;
+const MAX_NODES: usize = 100_000;
 
 /// Refuses a statement that breaks a side condition or a limit: 103 for the escape `\*` outside a pattern, 104 for a
 /// number above 9223372036854775807, 203 for a key that stands twice in a record, 205 for an unknown function or method,
@@ -162,12 +159,7 @@ fn reference_broken(
                 }
                 Some(*start)
             }
-            SideCondition::Strings
-            | SideCondition::Numbers
-            | SideCondition::Keys
-            | SideCondition::Names
-            | SideCondition::Counts
-            | SideCondition::Annotations => None,
+            _ => None,
         },
     }
 }
@@ -229,50 +221,26 @@ fn names_broken(
 {
     match condition {
         SideCondition::Annotations => {
-            if are_distinct(alloc, annotations)? {
-                return Ok(None);
+            let names = lent_names(alloc, annotations)?;
+            match first_repeated(alloc, &names)? {
+                None => Ok(None),
+                Some(position) => Ok(Some(annotations[position].start)),
             }
-            Ok(Some(repeated_at(alloc, annotations)?))
         }
-        SideCondition::Strings
-        | SideCondition::Numbers
-        | SideCondition::Keys
-        | SideCondition::Names
-        | SideCondition::Counts
-        | SideCondition::Slots => Ok(None),
+        _ => Ok(None),
     }
 }
 
-// Whether no name stands twice: there is then a record with these names as its keys.
-fn are_distinct(alloc: Global, annotations: &[WrittenAnnotation]) -> Result<bool, AllocError>
-    ensures { IfOk result (λ b. IsTrue b ↔ AreDistinct (map (λ a. a.name) annotations.now)) }
-{
-    let record = Record::from_pairs(falsities(alloc, annotations)?)?;
-    Ok(record.is_some())
-}
-
-// The names, each with the value `false`.
-fn falsities(
+// The names, lent.
+fn lent_names<'a>(
     alloc: Global,
-    annotations: &[WrittenAnnotation],
-) -> Result<Vec<(Text, Value)>, AllocError>
-    ensures { IfOk result (λ v. map (λ p. p.0) v.items ≡ map (λ a. a.name) annotations.now) }
+    annotations: &'a [WrittenAnnotation],
+) -> Result<Vec<&'a str>, AllocError>
+    ensures { IfOk result (λ v. map (λ k. k.now) v.items ≡ map (λ a. a.name) annotations.now) }
 {
-    let mut falsities = Vec::new(alloc);
+    let mut names = Vec::new(alloc);
     for annotation in annotations {
-        let name = Text::read(alloc, annotation.name.as_str())?;
-        falsities.push((name, Value::boolean(false)))?;
+        names.push(annotation.name.as_str())?;
     }
-    Ok(falsities)
-}
-
-// Where the first annotation stands whose name stood before.
-fn repeated_at(alloc: Global, annotations: &[WrittenAnnotation]) -> Result<usize, AllocError> {
-    let mut seen = HashMap::new(alloc);
-    for annotation in annotations {
-        if seen.insert(annotation.name.as_str(), ())?.is_some() {
-            return Ok(annotation.start);
-        }
-    }
-    Ok(0)
+    Ok(names)
 }

@@ -15,7 +15,7 @@ use crate::content::WrittenUid;
 use crate::named::{function_of, method_of};
 use crate::sign::{ChainSign, RelationSign};
 use crate::written::{Field, Link, Written, WrittenKind};
-use cedar_ast::{BinaryOperator, Entries, Expr, RecordFault, UnaryOperator};
+use cedar_ast::{BinaryOperator, Expr, RecordFault, UnaryOperator};
 use cedar_value::{Name, Text, Uid, Value};
 use std::alloc::{AllocError, Global};
 
@@ -235,8 +235,8 @@ fn record(alloc: Global, pairs: Vec<(Text, Expr)>) -> Result<Expr, AllocError>
     requires { AreDistinct (keys_of pairs.items) }
     ensures { IfOk result (λ e. e ≡ record_with (entries_of pairs.items)) }
 {
-    match Entries::new(alloc, pairs) {
-        Ok(entries) => Ok(Expr::record(entries)),
+    match Expr::record(alloc, pairs) {
+        Ok(record) => Ok(record),
         Err(RecordFault::OutOfMemory(_)) => Err(AllocError),
         Err(RecordFault::DuplicateKey(_)) => unreachable!(),
     }

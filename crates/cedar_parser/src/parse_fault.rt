@@ -22,7 +22,7 @@ pub enum ParseFault {
     #[error("no text goes on with what stands at {0}")]
     Syntax(usize),
     /// 202: with the bracket or `if` there more than 100 are open in a condition.
-    #[error("the bracket at {0} nests too deep")]
+    #[error("the bracket or `if` at {0} nests too deep")]
     TooDeep(usize),
     /// 202: the condition of the statement that begins there is higher than 2,000 nodes.
     #[error("the condition of the statement at {0} is too high")]

@@ -26,12 +26,12 @@ use std::alloc::{AllocError, Global};
 /// The policies and templates of a text, in order (Cedar language reference, grammar). The statement at position N, from
 /// 0, has the value of its annotation `id` as its id, else `policyN`. A statement with a slot is a template.
 ///
-/// Refusals: 1; 101 to 104 where the text has no tokens; 103 for the escape `\*` outside a pattern; 104 for a number above
-/// 9223372036854775807; 201 where the tokens are no statements; 202 where more than 100 brackets and `if`s are open at one
-/// place of a condition, or a condition is higher than 2,000 nodes; 203 for a key that stands twice in a record; 204 where
-/// two statements have one id; 205 for an unknown function or method; 206 for another count of its arguments than one; 207
-/// for a slot elsewhere than in its variable's scope; 208 for an annotation that stands twice; 209 where a condition has
-/// more than 100,000 nodes.
+/// Refusals: 1; 101 to 104 where the text has no tokens; 103 for the escape `\*` outside a pattern; 104 for a number
+/// above 9223372036854775807, behind a minus sign above 9223372036854775808; 201 where the tokens are no statements;
+/// 202 where more than 100 brackets and `if`s are open at one place of a condition, or a condition is higher than 2,000
+/// nodes; 203 for a key that stands twice in a record; 204 where two statements have one id; 205 for an unknown
+/// function or method; 206 for another count of its arguments than one; 207 for a slot elsewhere than in its variable's
+/// scope; 208 for an annotation that stands twice; 209 where a condition has more than 100,000 nodes.
 pub fn parse(alloc: Global, source: &str) -> Result<PolicySet, ParseFault>
     // What is answered are the policies of the text.
     ensures found { IfOk result (IsPolicyText source.now) }
@@ -42,7 +42,7 @@ pub fn parse(alloc: Global, source: &str) -> Result<PolicySet, ParseFault>
 {
     one_spelling();
     let tokens = tokens(alloc, source)?;
-    let spelled = spell_all(alloc, tokens.as_slice())?;
+    let spelled = spell_all(alloc, tokens)?;
     let mut cursor = Cursor::new(spelled.as_slice(), source.len());
     policies(alloc, &mut cursor)
 }
@@ -130,7 +130,7 @@ pub fn read_uid(alloc: Global, source: &str) -> Result<Uid, ParseFault>
 {
     one_spelling();
     let tokens = tokens(alloc, source)?;
-    let spelled = spell_all(alloc, tokens.as_slice())?;
+    let spelled = spell_all(alloc, tokens)?;
     let mut cursor = Cursor::new(spelled.as_slice(), source.len());
     let written = entity(alloc, &mut cursor)?;
     if cursor.left() > 0 {

@@ -101,12 +101,12 @@ fn element(letter: Letter) -> Element
 }
 
 /// The tokens with what their strings stand for. A string that writes nothing is no syntax.
-pub fn spell_all<'t>(alloc: Global, tokens: &[Token<'t>]) -> Result<Vec<Spelled<'t>>, ParseFault>
-    ensures found { IfOk result (λ v. AreMarks (lexemes tokens.now) v.items) }
-    ensures refused { IfErr result (AreUnmarked (lexemes tokens.now)) }
+pub fn spell_all<'t>(alloc: Global, tokens: Vec<Token<'t>>) -> Result<Vec<Spelled<'t>>, ParseFault>
+    ensures found { IfOk result (λ v. AreMarks (lexemes tokens.entry.items) v.items) }
+    ensures refused { IfErr result (AreUnmarked (lexemes tokens.entry.items)) }
 {
-    let mut found = Vec::new(alloc);
-    for token in tokens {
+    let mut found = Vec::with_capacity(alloc, tokens.len())?;
+    for token in &tokens {
         let token = spell(alloc, token)?;
         push(&mut found, token)?;
     }

@@ -17,7 +17,7 @@ use cedar_text::TokenKind;
 use std::alloc::{AllocError, Global};
 
 /// How many brackets may be open at one place inside a condition.
-pub const MAX_OPEN: u8 = 100;
+const MAX_OPEN: u8 = 100;
 
 /// A statement (Cedar language reference, grammar: policies).
 #[tactic(auto, unfolding(crate::specs::StatementReading::statement, crate::specs::StatementReading::behind_effect))]

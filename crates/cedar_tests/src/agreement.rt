@@ -2,8 +2,9 @@
 use crate::ending::End;
 use crate::plain::evaluate;
 use crate::plain_fault::PlainFault;
+use crate::policy_text::with_condition;
 use crate::world::{request, store};
-use cedar_ast::{Expr, PolicySet};
+use cedar_ast::Expr;
 use cedar_code::{Outcome, compile};
 use cedar_machine::run;
 use cedar_parser::parse;
@@ -13,16 +14,9 @@ use std::alloc::Global;
 use std::process::Abort;
 use std::test::Fail;
 
-// The policies of the text.
-fn policies(alloc: Global, text: &str) -> Result<PolicySet, Fail> {
-    let source = format!(in alloc; "permit(principal, action, resource) when {{ {text} }};")?;
-    let set = parse(alloc, source.as_str())?;
-    Ok(set)
-}
-
-// The condition of the policy whose `when` this is.
-fn condition(alloc: Global, text: &str) -> Result<Expr, Fail> {
-    let set = policies(alloc, text)?;
+// The condition of the first policy of the text.
+fn condition(alloc: Global, source: &str) -> Result<Expr, Fail> {
+    let set = parse(alloc, source)?;
     let policy = set.policy(0).ok_or("no policy")?;
     let condition = policy.condition(alloc)?;
     Ok(condition)
@@ -38,6 +32,7 @@ fn plain_end(
         Ok(value) => Ok(End::of_value(&value)),
         Err(PlainFault::Evaluation(error)) => Ok(End::of_error(error)),
         Err(PlainFault::OutOfMemory) => Err("out of memory".into()),
+        Err(PlainFault::RepeatedKey) => Err("a key stands twice".into()),
     }
 }
 
@@ -56,20 +51,33 @@ fn machine_end(
     }
 }
 
-// How the condition ends, plainly and by the machine.
-fn ends(alloc: Global, text: &str, request: &Request, store: &Store) -> Result<(End, End), Fail> {
-    let condition = condition(alloc, text)?;
+// How the condition of the policy ends, plainly and by the machine.
+fn ends(alloc: Global, source: &str, request: &Request, store: &Store) -> Result<(End, End), Fail> {
+    let condition = condition(alloc, source)?;
     let plain = plain_end(alloc, &condition, request, store)?;
     Ok((plain, machine_end(alloc, &condition, request, store)?))
 }
 
-/// Each condition ends as its row says, plainly and by the machine.
-pub fn check(rt: &impl Abort, alloc: Global, rows: &[(&str, End)]) -> Result<(), Fail> {
+/// Each condition, as the `when` of a permit of all, ends as its row says, plainly and by the machine.
+pub fn check_conditions(rt: &impl Abort, alloc: Global, rows: &[(&str, End)]) -> Result<(), Fail> {
     let store = store(alloc)?;
     let request = request(alloc)?;
-    for (text, end) in rows {
-        let found = ends(alloc, text, &request, &store)?;
-        assert_eq!(rt; found, (*end, *end), "{text}");
+    for (condition, end) in rows {
+        let source = with_condition(alloc, condition)?;
+        let found = ends(alloc, source.as_str(), &request, &store)?;
+        assert_eq!(rt; found, (*end, *end), "{condition}");
+    }
+    Ok(())
+}
+
+/// The condition of each policy, its scope before what is written behind it, ends as its row says, plainly and by the
+/// machine.
+pub fn check_policies(rt: &impl Abort, alloc: Global, rows: &[(&str, End)]) -> Result<(), Fail> {
+    let store = store(alloc)?;
+    let request = request(alloc)?;
+    for (source, end) in rows {
+        let found = ends(alloc, source, &request, &store)?;
+        assert_eq!(rt; found, (*end, *end), "{source}");
     }
     Ok(())
 }

@@ -1,4 +1,7 @@
 //! A plain evaluator: the Cedar language reference, operators, form by form, with no thought of speed.
+//!
+//! Ancestors, decimal texts and the equality of values are asked of the same crates that the machine asks, so that only
+//! the ends that stand in the tables by hand judge these.
 use crate::plain_fault::PlainFault;
 use cedar_ast::{BinaryOperator, EvaluationError, Expr, ExprKind, UnaryOperator, Variable};
 use cedar_ext::{Decimal, Element, Pattern};
@@ -111,11 +114,11 @@ fn set_of(members: Result<Vec<Value>, PlainFault>) -> Result<Value, PlainFault> 
     Ok(Value::set(members))
 }
 
-// A record expression never has a key twice.
+// A record expression that is read never has a key twice.
 fn record_of(pairs: Result<Vec<(Text, Value)>, PlainFault>) -> Result<Value, PlainFault> {
     match Record::from_pairs(pairs?)? {
         Some(record) => Ok(Value::record(record)),
-        None => Err(PlainFault::Evaluation(EvaluationError::Type)),
+        None => Err(PlainFault::RepeatedKey),
     }
 }
 

@@ -9,6 +9,9 @@ pub enum PlainFault {
     /// Memory was refused.
     #[error("out of memory")]
     OutOfMemory,
+    /// A record expression has a key twice, as none that is read has.
+    #[error("a key stands twice")]
+    RepeatedKey,
     /// The expression has no value.
     #[error("an error of evaluation")]
     Evaluation(EvaluationError),

@@ -22,7 +22,7 @@ pub fn uid_refusal(alloc: Global, source: &str) -> (u16, Option<usize>) {
     }
 }
 
-/// A permit of all with this condition.
+/// A permit of all with this condition, which begins at byte 43.
 pub fn with_condition(alloc: Global, condition: &str) -> Result<String, Fail> {
     let text = format!(in alloc; "{ALL} when {{ {condition} }};")?;
     Ok(text)

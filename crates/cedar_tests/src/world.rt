@@ -1,8 +1,9 @@
-//! The request and the entities that the table is evaluated over.
+//! The request and the entities that the table is evaluated over. A mistake in them fails each test of the table.
 use cedar_ext::Decimal;
-use cedar_store::{Entity, Store, StoreFault};
+use cedar_store::{Entity, Store};
 use cedar_value::{Name, Record, Request, Text, Uid, Value, ValueSet};
 use std::alloc::{AllocError, Global};
+use std::test::Fail;
 
 /// An attribute's value, as the tables below write it.
 enum Written {
@@ -125,50 +126,47 @@ fn longs(alloc: Global, numbers: &[i64]) -> Result<Value, AllocError> {
     Ok(Value::set(ValueSet::from_list(members)?))
 }
 
-fn decimal(written: &str) -> Value {
-    match Decimal::read(written) {
-        Some(decimal) => Value::decimal(decimal),
-        None => Value::boolean(false),
-    }
+fn decimal(written: &str) -> Result<Value, Fail> {
+    let decimal = Decimal::read(written).ok_or("a decimal of the world is misspelt")?;
+    Ok(Value::decimal(decimal))
 }
 
-// The record of the pairs, whose keys are all different in the tables above.
-fn record_of(alloc: Global, pairs: Vec<(Text, Value)>) -> Result<Record, AllocError> {
+fn record_of(pairs: Vec<(Text, Value)>) -> Result<Record, Fail> {
     match Record::from_pairs(pairs)? {
         Some(record) => Ok(record),
-        None => Ok(Record::new(alloc)),
+        None => Err("a key of the world stands twice".into()),
     }
 }
 
-fn fields(alloc: Global, written: &[(&str, i64)]) -> Result<Record, AllocError> {
+fn fields(alloc: Global, written: &[(&str, i64)]) -> Result<Record, Fail> {
     let mut pairs = Vec::new(alloc);
     for (key, number) in written {
         pairs.push((Text::read(alloc, key)?, Value::long(*number)))?;
     }
-    record_of(alloc, pairs)
+    record_of(pairs)
 }
 
-fn value(alloc: Global, written: &Written) -> Result<Value, AllocError> {
+fn value(alloc: Global, written: &Written) -> Result<Value, Fail> {
     match written {
         Written::Truth(truth) => Ok(Value::boolean(*truth)),
         Written::Long(number) => Ok(Value::long(*number)),
         Written::Text(content) => Ok(Value::string(Text::read(alloc, content)?)),
         Written::Entity(ty, id) => Ok(Value::uid(uid(alloc, ty, id)?)),
-        Written::Units(text) => Ok(decimal(text)),
-        Written::Longs(numbers) => longs(alloc, numbers),
+        Written::Units(text) => decimal(text),
+        Written::Longs(numbers) => Ok(longs(alloc, numbers)?),
         Written::Fields(pairs) => Ok(Value::record(fields(alloc, pairs)?)),
     }
 }
 
-fn record(alloc: Global, written: &[(&str, Written)]) -> Result<Record, AllocError> {
+fn record(alloc: Global, written: &[(&str, Written)]) -> Result<Record, Fail> {
     let mut pairs = Vec::new(alloc);
     for (key, attribute) in written {
         pairs.push((Text::read(alloc, key)?, value(alloc, attribute)?))?;
     }
-    record_of(alloc, pairs)
+    record_of(pairs)
 }
 
-fn entity(alloc: Global, row: &Row) -> Result<Entity, AllocError> {
+fn entity(alloc: Global, row: &Row) -> Result<Entity, Fail> {
     Ok(Entity {
         uid: uid(alloc, row.ty, row.id)?,
         attrs: record(alloc, row.attributes)?,
@@ -177,25 +175,20 @@ fn entity(alloc: Global, row: &Row) -> Result<Entity, AllocError> {
 }
 
 /// The entities.
-pub fn store(alloc: Global) -> Result<Store, StoreFault> {
+pub fn store(alloc: Global) -> Result<Store, Fail> {
     let mut entities = Vec::new(alloc);
     for row in &ROWS {
         entities.push(entity(alloc, row)?)?;
     }
-    Store::build(alloc, entities)
+    let store = Store::build(alloc, entities)?;
+    Ok(store)
 }
 
 /// Ann asks to view the document.
-pub fn request(alloc: Global) -> Result<Request, AllocError> {
-    let principal = uid(alloc, "User", "ann")?;
-    let action = uid(alloc, "Action", "view")?;
-    finished(alloc, principal, action)
-}
-
-fn finished(alloc: Global, principal: Uid, action: Uid) -> Result<Request, AllocError> {
+pub fn request(alloc: Global) -> Result<Request, Fail> {
     Ok(Request {
-        principal,
-        action,
+        principal: uid(alloc, "User", "ann")?,
+        action: uid(alloc, "Action", "view")?,
         resource: uid(alloc, "Doc", "d")?,
         context: record(alloc, &CONTEXT)?,
     })

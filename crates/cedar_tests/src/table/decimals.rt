@@ -2,7 +2,7 @@
 use crate::ending::End;
 
 /// The conditions with their ends.
-pub const ROWS: [(&str, End); 59] = [
+pub const ROWS: [(&str, End); 69] = [
     (r#"decimal("1.0") == decimal("1.00")"#, End::True),
     (r#"decimal("1.0") == decimal("1.0000")"#, End::True),
     (r#"decimal("1.5") == decimal("1.4")"#, End::False),
@@ -84,7 +84,44 @@ pub const ROWS: [(&str, End); 59] = [
         r#"decimal("1.9").greaterThanOrEqual(decimal("2.0"))"#,
         End::False,
     ),
+    (
+        r#"decimal("1.0").lessThanOrEqual(decimal("1.0001"))"#,
+        End::True,
+    ),
+    (
+        r#"decimal("-2.0").lessThanOrEqual(decimal("-1.0"))"#,
+        End::True,
+    ),
+    (
+        r#"decimal("-1.0").lessThanOrEqual(decimal("-2.0"))"#,
+        End::False,
+    ),
+    (
+        r#"decimal("1.0").greaterThan(decimal("1.0001"))"#,
+        End::False,
+    ),
+    (
+        r#"decimal("2.0").greaterThanOrEqual(decimal("1.9999"))"#,
+        End::True,
+    ),
+    (
+        r#"decimal("-1.0").greaterThanOrEqual(decimal("-2.0"))"#,
+        End::True,
+    ),
+    (
+        r#"decimal("-2.0").greaterThanOrEqual(decimal("-1.0"))"#,
+        End::False,
+    ),
     // By size, and not letter by letter.
+    (r#"decimal("9.0").lessThan(decimal("10.0"))"#, End::True),
+    (
+        r#"decimal("9.0").lessThanOrEqual(decimal("10.0"))"#,
+        End::True,
+    ),
+    (
+        r#"decimal("10.0").greaterThanOrEqual(decimal("9.0"))"#,
+        End::True,
+    ),
     (r#"decimal("10.0").greaterThan(decimal("9.0"))"#, End::True),
     (
         r#"principal.score.greaterThan(decimal("1.4999"))"#,

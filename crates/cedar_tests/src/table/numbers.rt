@@ -2,7 +2,7 @@
 use crate::ending::End;
 
 /// The conditions with their ends.
-pub const ROWS: [(&str, End); 67] = [
+pub const ROWS: [(&str, End); 69] = [
     ("1 + 2 == 3", End::True),
     ("1 - 2 == -1", End::True),
     ("3 * -4 == -12", End::True),
@@ -78,6 +78,8 @@ pub const ROWS: [(&str, End); 67] = [
     ("3 <= 2", End::False),
     ("2 > 1", End::True),
     ("2 > 2", End::False),
+    ("1 > 2", End::False),
+    ("2 >= 1", End::True),
     ("2 >= 2", End::True),
     ("1 >= 2", End::False),
     ("-1 < 1", End::True),

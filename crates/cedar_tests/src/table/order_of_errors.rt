@@ -2,7 +2,7 @@
 use crate::ending::End;
 
 /// The conditions with their ends.
-pub const ROWS: [(&str, End); 53] = [
+pub const ROWS: [(&str, End); 65] = [
     (r#"1 + "a" == 1"#, End::Type),
     (r#"(9223372036854775807 + 1) + "a" == 1"#, End::Overflow),
     (r#""a" + (9223372036854775807 + 1) == 1"#, End::Overflow),
@@ -62,8 +62,35 @@ pub const ROWS: [(&str, End); 53] = [
     (r#"decimal(1).lessThan(decimal("x"))"#, End::Type),
     (r#"decimal("x").lessThan(1)"#, End::Decimal),
     (r#"context.n.lessThan(decimal("x"))"#, End::Decimal),
+    (r#"decimal(1).lessThanOrEqual(decimal("x"))"#, End::Type),
+    (r#"decimal("x").lessThanOrEqual(1)"#, End::Decimal),
+    (
+        r#"decimal("x").lessThanOrEqual(principal.nope)"#,
+        End::Decimal,
+    ),
+    (
+        r#"principal.nope.lessThanOrEqual(decimal("x"))"#,
+        End::MissingAttribute,
+    ),
+    (r#"context.n.lessThanOrEqual(decimal("x"))"#, End::Decimal),
+    (r#"decimal("x").greaterThan(1)"#, End::Decimal),
+    (r#"decimal("x").greaterThan(principal.nope)"#, End::Decimal),
     (
         "context.n.greaterThan(principal.nope)",
+        End::MissingAttribute,
+    ),
+    (r#"decimal(1).greaterThanOrEqual(decimal("x"))"#, End::Type),
+    (r#"decimal("x").greaterThanOrEqual(1)"#, End::Decimal),
+    (
+        r#"decimal("x").greaterThanOrEqual(principal.nope)"#,
+        End::Decimal,
+    ),
+    (
+        r#"principal.nope.greaterThanOrEqual(decimal("x"))"#,
+        End::MissingAttribute,
+    ),
+    (
+        r#"context.n.greaterThanOrEqual(principal.nope)"#,
         End::MissingAttribute,
     ),
     (r#"!(1 + "a")"#, End::Type),

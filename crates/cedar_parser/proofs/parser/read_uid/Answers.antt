@@ -1,11 +1,10 @@
-use Rattle.std.proofs.Common.{◌≡◌, sym, ap, subst, ◌∙◌, List, [], ◌<◌, length, Ok, arith}
+use Rattle.std.proofs.Common.{◌≡◌, sym, ap, subst, ◌∙◌, [], ◌<◌, length, Ok, arith}
 use Rattle.std.proofs.lemmas.Result.{err_from_is_err_and}
-use Rattle.cedar_text.specs.declared.token.Token.{Token}
 use Rattle.cedar_text.specs.Lexeme.{lexemes}
-use Rattle.cedar_parser.specs.Marks.{Marks, AreMarks}
+use Rattle.cedar_parser.specs.Marks.{Marks}
 use Rattle.cedar_parser.specs.Grammar.{Entity}
 use Rattle.cedar_parser.specs.Reading.{entity}
-use Rattle.cedar_parser.specs.Contract.{AreUnmarked, Refuses}
+use Rattle.cedar_parser.specs.Contract.{Refuses}
 use Rattle.cedar_parser.specs.PolicyText.{IsUidText}
 use Rattle.cedar_parser.proofs.ParseLemmas.{IsText, IsUnspelled, uid_found, uid_same, uid_refused, uid_fault, uid_too_long, uid_star, unspelled_uid, unspelled_uid_fault}
 use Rattle.cedar_parser.proofs.Sound.{entity_is}
@@ -19,9 +18,9 @@ returns-clause-found c =
     let text : IsText c.args.source.now ts ms = record {
       are = c.in_ok-tokens.ensures.found;
       only = c.in_ok-tokens.ensures.only;
-      marks = subst (λ (xs : List Token). AreMarks (lexemes xs) ms) c.as_slice.ensures.value c.in_ok-spelled.ensures.found;
+      marks = c.in_ok-spelled.ensures.found;
     } in
-    let begins : c.new-cursor.result ≡ ms = c.new-cursor.ensures ∙ c.as_slice-2.ensures.value in
+    let begins : c.new-cursor.result ≡ ms = c.new-cursor.ensures ∙ c.as_slice.ensures.value in
     let reading = entity_is c.new-cursor.result c.entity.new.tokens c.in_ok-written.written c.in_ok-written.ensures in
     let none = none_left c.entity.new.tokens (omega (arith, c.left.ensures, c.if-left-gt0.false)) in
     let here : Entity ms c.in_ok-written.written [] = rw (← begins, ← none) reading in
@@ -34,9 +33,9 @@ returns-clause-only c = λ uid h.
     let text : IsText c.args.source.now ts ms = record {
       are = c.in_ok-tokens.ensures.found;
       only = c.in_ok-tokens.ensures.only;
-      marks = subst (λ (xs : List Token). AreMarks (lexemes xs) ms) c.as_slice.ensures.value c.in_ok-spelled.ensures.found;
+      marks = c.in_ok-spelled.ensures.found;
     } in
-    let begins : c.new-cursor.result ≡ ms = c.new-cursor.ensures ∙ c.as_slice-2.ensures.value in
+    let begins : c.new-cursor.result ≡ ms = c.new-cursor.ensures ∙ c.as_slice.ensures.value in
     let read : entity ms ≡ Ok (c.in_ok-written.written, c.entity.new.tokens) = ap entity (sym begins) ∙ c.in_ok-written.ensures in
     c.in_ok-uid.ensures ∙ (uid_same c.one_spelling.ensures c.args.source.now ts ms c.entity.new.tokens c.in_ok-written.written text read uid h).0
 
@@ -47,9 +46,9 @@ returns-then-not-stands-clause-only c = λ uid h.
     let text : IsText c.args.source.now ts ms = record {
       are = c.in_ok-tokens.ensures.found;
       only = c.in_ok-tokens.ensures.only;
-      marks = subst (λ (xs : List Token). AreMarks (lexemes xs) ms) c.as_slice.ensures.value c.in_ok-spelled.ensures.found;
+      marks = c.in_ok-spelled.ensures.found;
     } in
-    let begins : c.new-cursor.result ≡ ms = c.new-cursor.ensures ∙ c.as_slice-2.ensures.value in
+    let begins : c.new-cursor.result ≡ ms = c.new-cursor.ensures ∙ c.as_slice.ensures.value in
     let read : entity ms ≡ Ok (c.in_ok-written.written, c.entity.new.tokens) = ap entity (sym begins) ∙ c.in_ok-written.ensures in
     uid_star c.in_ok-written.written.id (sym c.stands.ensures ∙ c.if-not-stands.true) (uid_same c.one_spelling.ensures c.args.source.now ts ms c.entity.new.tokens c.in_ok-written.written text read uid h).1
 
@@ -60,9 +59,9 @@ returns-then-not-stands-clause-fault c =
     let text : IsText c.args.source.now ts ms = record {
       are = c.in_ok-tokens.ensures.found;
       only = c.in_ok-tokens.ensures.only;
-      marks = subst (λ (xs : List Token). AreMarks (lexemes xs) ms) c.as_slice.ensures.value c.in_ok-spelled.ensures.found;
+      marks = c.in_ok-spelled.ensures.found;
     } in
-    let begins : c.new-cursor.result ≡ ms = c.new-cursor.ensures ∙ c.as_slice-2.ensures.value in
+    let begins : c.new-cursor.result ≡ ms = c.new-cursor.ensures ∙ c.as_slice.ensures.value in
     let reading = entity_is c.new-cursor.result c.entity.new.tokens c.in_ok-written.written c.in_ok-written.ensures in
     let none = none_left c.entity.new.tokens (omega (arith, c.left.ensures, c.if-left-gt0.false)) in
     let here : Entity ms c.in_ok-written.written [] = rw (← begins, ← none) reading in
@@ -75,9 +74,9 @@ returns-then-left-gt0-clause-only c = λ uid h.
     let text : IsText c.args.source.now ts ms = record {
       are = c.in_ok-tokens.ensures.found;
       only = c.in_ok-tokens.ensures.only;
-      marks = subst (λ (xs : List Token). AreMarks (lexemes xs) ms) c.as_slice.ensures.value c.in_ok-spelled.ensures.found;
+      marks = c.in_ok-spelled.ensures.found;
     } in
-    let begins : c.new-cursor.result ≡ ms = c.new-cursor.ensures ∙ c.as_slice-2.ensures.value in
+    let begins : c.new-cursor.result ≡ ms = c.new-cursor.ensures ∙ c.as_slice.ensures.value in
     let read : entity ms ≡ Ok (c.in_ok-written.written, c.entity.new.tokens) = ap entity (sym begins) ∙ c.in_ok-written.ensures in
     uid_too_long c.one_spelling.ensures c.args.source.now ts ms c.entity.new.tokens c.in_ok-written.written text h.tokens h.are_tokens read (omega (arith, c.left.ensures, c.if-left-gt0.true)) h.written h.reading
 
@@ -88,9 +87,9 @@ returns-then-left-gt0-clause-fault c =
     let text : IsText c.args.source.now ts ms = record {
       are = c.in_ok-tokens.ensures.found;
       only = c.in_ok-tokens.ensures.only;
-      marks = subst (λ (xs : List Token). AreMarks (lexemes xs) ms) c.as_slice.ensures.value c.in_ok-spelled.ensures.found;
+      marks = c.in_ok-spelled.ensures.found;
     } in
-    let begins : c.new-cursor.result ≡ ms = c.new-cursor.ensures ∙ c.as_slice-2.ensures.value in
+    let begins : c.new-cursor.result ≡ ms = c.new-cursor.ensures ∙ c.as_slice.ensures.value in
     let read : entity ms ≡ Ok (c.in_ok-written.written, c.entity.new.tokens) = ap entity (sym begins) ∙ c.in_ok-written.ensures in
     let more : 0 < length c.entity.new.tokens = omega (arith, c.left.ensures, c.if-left-gt0.true) in
     ((ts, c.in_ok-tokens.ensures.found), λ ns i u e. uid_too_long c.one_spelling.ensures c.args.source.now ts ms c.entity.new.tokens c.in_ok-written.written text ns i read more u e)
@@ -102,9 +101,9 @@ returns-in_err-written-clause-only c =
     let text : IsText c.args.source.now ts ms = record {
       are = c.in_ok-tokens.ensures.found;
       only = c.in_ok-tokens.ensures.only;
-      marks = subst (λ (xs : List Token). AreMarks (lexemes xs) ms) c.as_slice.ensures.value c.in_ok-spelled.ensures.found;
+      marks = c.in_ok-spelled.ensures.found;
     } in
-    let begins : c.new-cursor.result ≡ ms = c.new-cursor.ensures ∙ c.as_slice-2.ensures.value in
+    let begins : c.new-cursor.result ≡ ms = c.new-cursor.ensures ∙ c.as_slice.ensures.value in
     let p = err_from_is_err_and c.from_residual-in_err-written.result c.from_residual-in_err-written.ensures.1 in
     rw (p.1, p.2)
     (uid_refused c.one_spelling.ensures c.args.source.now ts ms text c.in_err-written.field-0.0 (subst (λ (xs : Marks). Refuses (entity xs) c.in_err-written.field-0.0) begins c.in_err-written.ensures))
@@ -116,9 +115,9 @@ returns-in_err-written-clause-fault c =
     let text : IsText c.args.source.now ts ms = record {
       are = c.in_ok-tokens.ensures.found;
       only = c.in_ok-tokens.ensures.only;
-      marks = subst (λ (xs : List Token). AreMarks (lexemes xs) ms) c.as_slice.ensures.value c.in_ok-spelled.ensures.found;
+      marks = c.in_ok-spelled.ensures.found;
     } in
-    let begins : c.new-cursor.result ≡ ms = c.new-cursor.ensures ∙ c.as_slice-2.ensures.value in
+    let begins : c.new-cursor.result ≡ ms = c.new-cursor.ensures ∙ c.as_slice.ensures.value in
     let p = err_from_is_err_and c.from_residual-in_err-written.result c.from_residual-in_err-written.ensures.1 in
     rw (p.1, p.2)
     (uid_fault c.one_spelling.ensures c.args.source.now ts ms text c.in_err-written.field-0.0 (subst (λ (xs : Marks). Refuses (entity xs) c.in_err-written.field-0.0) begins c.in_err-written.ensures))
@@ -129,7 +128,7 @@ returns-in_err-spelled-clause-only c =
     let text : IsUnspelled c.args.source.now ts = record { are = c.in_ok-tokens.ensures.found; only = c.in_ok-tokens.ensures.only } in
     let p = err_from_is_err_and c.from_residual-in_err-spelled.result c.from_residual-in_err-spelled.ensures.1 in
     rw (p.1, p.2)
-    (unspelled_uid c.args.source.now ts text c.in_err-spelled.field-0.0 (subst (λ (xs : List Token). AreUnmarked (lexemes xs) c.in_err-spelled.field-0.0) c.as_slice.ensures.value c.in_err-spelled.ensures.refused))
+    (unspelled_uid c.args.source.now ts text c.in_err-spelled.field-0.0 c.in_err-spelled.ensures.refused)
 
 pub returns-in_err-spelled-clause-fault : goal.returns-in_err-spelled-clause-fault
 returns-in_err-spelled-clause-fault c =
@@ -137,4 +136,4 @@ returns-in_err-spelled-clause-fault c =
     let text : IsUnspelled c.args.source.now ts = record { are = c.in_ok-tokens.ensures.found; only = c.in_ok-tokens.ensures.only } in
     let p = err_from_is_err_and c.from_residual-in_err-spelled.result c.from_residual-in_err-spelled.ensures.1 in
     rw (p.1, p.2)
-    (unspelled_uid_fault c.args.source.now ts text c.in_err-spelled.field-0.0 (subst (λ (xs : List Token). AreUnmarked (lexemes xs) c.in_err-spelled.field-0.0) c.as_slice.ensures.value c.in_err-spelled.ensures.refused))
+    (unspelled_uid_fault c.args.source.now ts text c.in_err-spelled.field-0.0 c.in_err-spelled.ensures.refused)

@@ -4,4 +4,4 @@ use Rattle.cedar_parser.specs.Marks.{AreMarks}
 use Rattle.cedar_parser.proofs.spelled.spell_all.Given as goal
 
 abbrev pub invariant-loop-token : goal.invariant-loop-token
-invariant-loop-token l = AreMarks (lexemes (take l.token-index l.tokens)) l.found.items
+invariant-loop-token l = AreMarks (lexemes (take l.token-index l.token-items)) l.found.items

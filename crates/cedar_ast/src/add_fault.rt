@@ -12,7 +12,7 @@ pub enum AddFault {
     #[error("out of memory")]
     OutOfMemory(Statement),
     /// 204: a policy or a template of the set has this id already.
-    #[error("another policy has this id")]
+    #[error("another policy or template has this id")]
     DuplicateId(Statement),
 }
 

@@ -14,6 +14,7 @@ pub mod Progress
 pub mod Refusal
 pub mod RequestLine
 pub mod Roles
+pub mod Standing
 pub mod Tally
 pub mod Tokens
 pub mod Unread

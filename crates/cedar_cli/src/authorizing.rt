@@ -1,5 +1,6 @@
 //! The subcommand `authorize`.
 ghost use Rattle.std.specs.Prelude.{◌≡◌, ◌⊎◌, ◌-◌, ◌<◌, ◌^◌, ◌++◌, [], ◌∷◌, None, IfOk, IfErr, IfSome, IsErrOf};
+ghost use Rattle.std.specs.Io.KnownBytes.{Keeps};
 ghost use Rattle.serde_json.specs.Written.{compact_text};
 ghost use Rattle.cedar_ast.specs.PolicySetTree.{PolicySetTree};
 ghost use Rattle.cedar_cli.specs.Answers.{Answers};
@@ -7,6 +8,7 @@ ghost use Rattle.cedar_cli.specs.AnswerText.{IsAnswerText, Writes};
 ghost use Rattle.cedar_cli.specs.Lines.{line_feed};
 ghost use Rattle.cedar_cli.specs.PolicyFile.{HasRefusal, HoldsPolicies};
 ghost use Rattle.cedar_cli.specs.Refusal.{refusal_data};
+ghost use Rattle.cedar_cli.specs.Standing.{BeginsRefusal, Stands, StandsWhole};
 ghost use Rattle.cedar_cli.specs.Unread.{IfRefused};
 
 use crate::ending::End;
@@ -75,6 +77,8 @@ fn refuse<K: Sink>(alloc: Global, role: Role, refusal: FileRefusal, sink: &mut K
     ensures refused { result ≡ End.Refused → Writes (K.written sink.old) (K.written sink.new)
         (λ text. text ≡ compact_text (refusal_data role refusal) ++ line_feed ∷ []) }
     ensures device { result ≡ End.Device → K.failed sink.old < K.failed sink.new }
+    ensures stands { result ≡ End.Device → Writes (K.written sink.old) (K.written sink.new) (BeginsRefusal role refusal) }
+    ensures stands_whole { result ≡ End.Memory → Keeps (K.written sink.old) (K.written sink.new) }
     ensures others { (result ≡ End.Done → ⊥) × (result ≡ End.Faults → ⊥) × (result ≡ End.CommandLine → ⊥) }
 {
     let Ok(mut line) = refusal_line(alloc, role, refusal) else {
@@ -90,8 +94,9 @@ fn refuse<K: Sink>(alloc: Global, role: Role, refusal: FileRefusal, sink: &mut K
 ///
 /// `Done` where all lines were answered. `Refused` where the policy file is refused: one line, as
 /// `{"file":"policies","offset":43,"refused":104}`, tells by which number and where the fault is (105, with no place, where
-/// it is no UTF-8; 701, with none, where the code of a policy is too long). `CommandLine` where no policy file is named. `Device` where it can't be read, or where the source or
-/// the sink failed; `Memory` where memory ran out. What was answered before stays written.
+/// it is no UTF-8; 701, with none, where the code of a policy is too long). `CommandLine` where no policy file is named.
+/// `Device` where it can't be read, or where the source or the sink failed; `Memory` where memory ran out. What was
+/// answered before stays written: whole lines after `Memory`, and after `Device` perhaps a part of a line too.
 pub fn authorize<F: Files, S: Source, K: Sink>(
     alloc: Global,
     files: &F,
@@ -110,6 +115,10 @@ pub fn authorize<F: Files, S: Source, K: Sink>(
     ensures unnamed { result ≡ End.CommandLine → IfSome (F.holds files.now Role.Policies) (λ held. held ≡ None) }
     ensures device { result ≡ End.Device → (F.holds files.now Role.Policies ≡ None)
         ⊎ (S.failed source.old < S.failed source.new) ⊎ (K.failed sink.old < K.failed sink.new) }
+    ensures stands { result ≡ End.Device
+        → Stands (F.holds files.now Role.Policies) (S.left source.old) (K.written sink.old) (K.written sink.new) }
+    ensures stands_whole { result ≡ End.Memory
+        → StandsWhole (F.holds files.now Role.Policies) (S.left source.old) (K.written sink.old) (K.written sink.new) }
     ensures no_faults { result ≡ End.Faults → ⊥ }
 {
     let policies = match read_policies(alloc, files) {

@@ -13,6 +13,7 @@ pub mod refusal;
 mod tests;
 
 use authorizing::authorize;
+use clap::error::ErrorKind;
 use command_line::words;
 use ending::End;
 use files::NamedFiles;
@@ -20,6 +21,19 @@ use first::standard::{StdSink, StdSource};
 use options::Subcommand;
 use std::process::ExitCode;
 use std::{env, io};
+
+/// Tells what `clap` says of a command line that gives no words: a refusal, or the help that was asked for.
+fn tell(rt: &HostRuntime, error: &clap::Error) -> io::Result<End> {
+    if error.kind() == ErrorKind::OutOfMemory {
+        return Ok(End::Memory);
+    }
+    error.print(rt)?;
+    Ok(if error.use_stderr() {
+        End::CommandLine
+    } else {
+        End::Done
+    })
+}
 
 /// Does what the command line asks for.
 fn run(rt: &HostRuntime) -> io::Result<End> {
@@ -31,14 +45,7 @@ fn run(rt: &HostRuntime) -> io::Result<End> {
     }
     let words = match words(alloc, &texts) {
         Ok(words) => words,
-        Err(error) => {
-            error.print(rt)?;
-            return Ok(if error.use_stderr() {
-                End::CommandLine
-            } else {
-                End::Done
-            });
-        }
+        Err(error) => return tell(rt, &error),
     };
     match words.subcommand {
         Subcommand::Authorize => {
@@ -50,8 +57,17 @@ fn run(rt: &HostRuntime) -> io::Result<End> {
     }
 }
 
+/// How the program ends where a call of the host failed.
+fn end_of(error: &io::Error) -> End {
+    if error.kind() == io::ErrorKind::OutOfMemory {
+        End::Memory
+    } else {
+        End::Device
+    }
+}
+
 fn main(rt: HostRuntime) -> ExitCode {
-    let end = run(&rt).unwrap_or(End::Device);
+    let end = run(&rt).unwrap_or_else(|error| end_of(&error));
     let told = match end {
         End::Device => rt.eprintln("cedar: device failed"),
         End::Memory => rt.eprintln("cedar: out of memory"),

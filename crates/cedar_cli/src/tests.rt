@@ -147,7 +147,7 @@ fn each_read_and_each_write_may_fail(rt: HostRuntime) -> Result<(), Fail> {
             "read {k}"
         );
         assert!(rt; whole.bytes().starts_with(sink.bytes()), "read {k}");
-        // 90 bytes in pieces of 7, and the end: 14 reads.
+        // 89 bytes in pieces of 7, and the end: 14 reads.
         assert_eq!(rt; failed, k <= 14, "read {k}");
 
         let mut source = PiecewiseSource::new(&input, 7, 0);

@@ -137,11 +137,8 @@ fn answer_all<E: Engine, S: Source, K: Sink>(
     Ok(())
 }
 
-/// Answers each line of the source by one line to the sink. At `Ok` all of the answer text was written.
-///
-/// 1 where memory ran out: the answers of some first lines were written, whole. 2 only where the source failed during
-/// the call: the answers to the lines that were read with their LF were written, whole. 3 only where the sink failed
-/// during the call: a beginning of the answers was written, which may end within a line.
+/// Answers each line of the source by one line to the sink, by any engine. The refusals, and what is written, are as
+/// [`serve`](crate::first::serve) says.
 pub fn serve_lines<E: Engine, S: Source, K: Sink>(
     engine: &E,
     alloc: Global,

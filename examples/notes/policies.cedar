@@ -1,4 +1,5 @@
-// A shared notebook. Ann keeps it, Bob may read it, and nobody may delete it.
+// A shared notebook. Ann may do all with it but delete it, and Bob may read it. Deleting it is forbidden to everybody
+// but the admin, whom no policy permits it either.
 permit(principal == User::"ann", action, resource == Notebook::"plans");
 
 permit(principal == User::"bob", action == Action::"read", resource == Notebook::"plans");

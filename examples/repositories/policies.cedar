@@ -1,4 +1,5 @@
 // A source-hosting service: repositories have readers, writers and maintainers, which are teams or users.
+// The requests beside this file name teams as principals: no entities are read yet, so only a team itself is in it.
 
 // What is public is read by everybody.
 @id("public")
@@ -14,6 +15,13 @@ when { resource has readers && principal in resource.readers };
 permit (principal, action == Action::"push", resource is Repository)
 when { resource has writers && principal in resource.writers };
 
+// Writers push to the branches of their repository, too.
+@id("branches")
+permit (principal, action == Action::"push", resource is Branch)
+when {
+  resource has repository && resource.repository has writers && principal in resource.repository.writers
+};
+
 @id("maintain")
 permit (principal, action, resource is Repository)
 when { resource has maintainers && principal in resource.maintainers };
@@ -22,6 +30,11 @@ when { resource has maintainers && principal in resource.maintainers };
 @id("platform")
 permit (principal in Team::"platform", action, resource in Organization::"platform");
 
+// The team of the website writes the website and the branches that are named here.
+@id("website")
+permit (principal in Team::"website", action in [Action::"pull", Action::"push"], resource)
+when { resource in [Repository::"website", Branch::"website/main", Branch::"website/release"] };
+
 // A bot pushes only where the request scores its trust, and scores it well.
 @id("bots")
 forbid (principal is Bot, action == Action::"push", resource)
@@ -29,7 +42,10 @@ unless {
   context has trust && context.trust.greaterThanOrEqual(decimal("0.9500"))
 };
 
-// Release branches are pushed by nobody, whoever maintains the repository.
+// Release branches are pushed by nobody, whoever writes or maintains the repository.
 @id("release")
 forbid (principal, action == Action::"push", resource is Branch)
-when { if resource has name then resource.name like "release/*" else false };
+when {
+  resource == Branch::"website/release" ||
+  (if resource has name then resource.name like "release/*" else false)
+};

@@ -162,7 +162,7 @@ action_answers P {us = us} (g.among {vs = vs} {ws = ws} {list = list} w t l h c)
     (arguments_complete P Entity entity 1 entity_moves b.entity_starts (entity_complete P) k.RightBracket (omega arith) refl b.not_bracket _ _ _ _ _ h c) given))))))
 
 scope_answers : (P : Type 0) {ts us : Marks} {s : WrittenScope} → Scopes ts s us → Answers P (r.scope ts) s us
-unfolding r.scope
+unfolding r.scope r.behind_principal r.behind_action
 scope_answers P (g.scope {t3 = t3} {t4 = t4} {a = a} l p c i d j e) =
     expect_then _ l (known_then _ (principal_or_resource_yes p (ends_by c refl refl refl refl)) (expect_then _ c (answers_then (r.action t3) a t4 _ _ _ (action_answers P i (ends_by d refl refl refl refl))
     (expect_then _ d (known_then _ (principal_or_resource_yes j (ends_by e refl refl refl refl)) (expect_then _ e given))))))

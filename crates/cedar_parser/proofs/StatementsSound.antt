@@ -154,7 +154,7 @@ action_reads D ts =
     (λ e2. g.any hw)))
 
 scope_reads : (D : Type 0) (ts : Marks) → Meets (λ s us. Scopes ts s us) D (r.scope ts)
-unfolding r.scope
+unfolding r.scope r.behind_principal r.behind_action
 scope_reads D ts =
     let S : WrittenScope → Marks → Type 0 = λ s us. Scopes ts s us in
     meets_then (λ t us. Takes k.LeftParen t ts us) S D (expect k.LeftParen ts) _ (expect_takes k.LeftParen D ts)

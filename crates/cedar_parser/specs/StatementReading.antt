@@ -79,11 +79,18 @@ action ts =
     and_then (word (codes "action") ts) (λ w us. if sees k.Equal us then and_then (entity (next us)) (λ u vs. Ok (action_scope.Equal u, vs))
     else (if sees k.In us then entities (next us) else Ok (action_scope.Any, us)))
 
+-- the scope from the resource on
+unfoldable pub behind_action : WrittenEntityScope → WrittenActionScope → Parser WrittenScope
+behind_action p a ts =
+    and_then (principal_or_resource (codes "resource") ts) (λ q us. and_then (expect k.RightParen us) (λ r vs. Ok (record { principal = p; action = a; resource = q }, vs)))
+
+-- the scope from the action on
+unfoldable pub behind_principal : WrittenEntityScope → Parser WrittenScope
+behind_principal p ts = and_then (action ts) (λ a us. and_then (expect k.Comma us) (λ c vs. behind_action p a vs))
+
 unfoldable pub scope : Parser WrittenScope
 scope ts =
-    and_then (expect k.LeftParen ts) (λ l t1. and_then (principal_or_resource (codes "principal") t1) (λ p t2. and_then (expect k.Comma t2) (λ c t3. and_then (action t3) (λ a t4.
-    and_then (expect k.Comma t4) (λ d t5. and_then (principal_or_resource (codes "resource") t5) (λ q t6. and_then (expect k.RightParen t6) (λ r us.
-    Ok (record { principal = p; action = a; resource = q }, us))))))))
+    and_then (expect k.LeftParen ts) (λ l us. and_then (principal_or_resource (codes "principal") us) (λ p vs. and_then (expect k.Comma vs) (λ c ws. behind_principal p ws)))
 
 -- ---- conditions
 

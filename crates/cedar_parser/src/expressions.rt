@@ -7,7 +7,7 @@ ghost use Rattle.cedar_parser.specs.Nests.{Nests};
 use crate::content::{Content, Word};
 use crate::cursor::Cursor;
 use crate::making::{
-    chained, choice, is_in, minus, not, push_field, push_item, push_link, related,
+    chained, choice, has, is, is_in, like, minus, not, push_field, push_item, push_link, related,
 };
 use crate::names::{key, path, text, uid_of};
 use crate::parse_fault::ParseFault;
@@ -86,24 +86,31 @@ impl<F: Fn(Global, &mut Cursor<'_>, u8) -> Result<Written, ParseFault>> Expressi
         Ok(chained(self.alloc, first, links)?)
     }
 
-    #[tactic(auto, unfolding(crate::specs::Reading::relation, crate::specs::Reading::relation_from))]
+    #[tactic(auto, unfolding(crate::specs::Reading::relation))]
     fn relation(&self, tokens: &mut Cursor<'_>) -> Result<Written, ParseFault>
         requires { Nests self.now.depth (F.pre self.now.inner) (F.post self.now.inner) }
         ensures { Reads (spec.relation self.now.depth (spec.nested self.now.depth) tokens.old) result tokens.new }
     {
         let left = self.sums(tokens)?;
+        self.relation_from(tokens, left)
+    }
+
+    // What stands behind the left operand.
+    #[tactic(auto, unfolding(crate::specs::Reading::relation_from))]
+    fn relation_from(&self, tokens: &mut Cursor<'_>, left: Written) -> Result<Written, ParseFault>
+        requires { Nests self.now.depth (F.pre self.now.inner) (F.post self.now.inner) }
+        ensures { Reads (spec.relation_from self.now.depth (spec.nested self.now.depth) left tokens.old) result tokens.new }
+    {
         if tokens.sees(TokenKind::Has) {
             tokens.skip();
             let key = key(self.alloc, tokens)?;
-            let left = Box::new(self.alloc, left)?;
-            return Ok(Written::new(WrittenKind::Has(left, key)));
+            return Ok(has(self.alloc, left, key)?);
         }
         if tokens.sees(TokenKind::Like) {
             tokens.skip();
             let token = tokens.expect(TokenKind::String)?;
             let pattern = token.pattern(self.alloc)?;
-            let left = Box::new(self.alloc, left)?;
-            return Ok(Written::new(WrittenKind::Like(left, pattern)));
+            return Ok(like(self.alloc, left, pattern)?);
         }
         if tokens.sees(TokenKind::Is) {
             tokens.skip();
@@ -125,8 +132,7 @@ impl<F: Fn(Global, &mut Cursor<'_>, u8) -> Result<Written, ParseFault>> Expressi
             let right = self.sums(tokens)?;
             return Ok(is_in(self.alloc, left, ty, right)?);
         }
-        let left = Box::new(self.alloc, left)?;
-        Ok(Written::new(WrittenKind::Is(left, ty)))
+        Ok(is(self.alloc, left, ty)?)
     }
 
     // A second operand behind its sign, if one comes.

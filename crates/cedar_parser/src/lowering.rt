@@ -1,17 +1,18 @@
 //! The expression that is written.
 ghost use Rattle.std.specs.Prelude.{◌≡◌, ◌≢◌, ◌≤◌, ◌^◌, ◌++◌, ◌∷◌, [], IfOk, OnOk, MatchOption, length, pos, neg_ℤ};
-ghost use Rattle.cedar_ast.specs.Expression.{expressions_of, entries_of, unary, binary, record_with};
+ghost use Rattle.cedar_ast.specs.Expression.{expressions_of, entries_of, unary, binary, and, record_with};
 ghost use Rattle.cedar_ast.specs.Keys.{AreDistinct, keys_of};
-ghost use Rattle.cedar_ast.specs.declared.operator.UnaryOperator.TheVariants.{Not};
+ghost use Rattle.cedar_ast.specs.declared.operator.UnaryOperator.TheVariants.{Not, Get, Is};
+ghost use Rattle.cedar_ast.specs.declared.operator.BinaryOperator.TheVariants.{In};
 ghost use Rattle.cedar_parser.specs.declared.side_condition.SideCondition.TheVariants.{Numbers, Keys};
 ghost use Rattle.cedar_parser.specs.Written as tree;
 ghost use Rattle.cedar_parser.specs.Written.{chain, members_of};
 ghost use Rattle.cedar_parser.specs.WrittenKind.{links_of, fields_of};
-ghost use Rattle.cedar_parser.specs.Meaning.{expression_of, expressions_in, entries_in, related, linked, called, applied, function_of, method_of, uid_told};
+ghost use Rattle.cedar_parser.specs.Meaning.{expression_of, expressions_in, entries_in, related, linked, called, applied, function_of, method_of, told, uid_told};
 ghost use Rattle.cedar_parser.specs.Limits.{Keeps, KeepMembers, KeepFields};
 ghost use Rattle.cedar_parser.specs.Parts.{KeepLink, behind, pairs_of};
 
-use crate::content::WrittenUid;
+use crate::content::{Content, WrittenUid};
 use crate::named::{function_of, method_of};
 use crate::sign::{ChainSign, RelationSign};
 use crate::written::{Field, Link, Written, WrittenKind};
@@ -85,11 +86,23 @@ fn is_in(alloc: Global, left: &Written, ty: &Name, right: &Written) -> Result<Ex
     requires keys { Keeps Keys (tree.is_in left.now ty.now right.now) }
     ensures { IfOk result (λ e. e ≡ expression_of (tree.is_in left.now ty.now right.now)) }
 {
-    let operator = UnaryOperator::Is(ty.try_clone(alloc)?);
-    let asked = expression(alloc, left)?;
-    let asked = Expr::unary(alloc, operator, asked)?;
+    let asked = typed(alloc, expression(alloc, left)?, ty)?;
     let left = expression(alloc, left)?;
     let right = expression(alloc, right)?;
+    asked_within(alloc, asked, left, right)
+}
+
+fn typed(alloc: Global, operand: Expr, ty: &Name) -> Result<Expr, AllocError>
+    ensures { IfOk result (λ e. e ≡ unary (Is ty.now) operand) }
+{
+    let operator = UnaryOperator::Is(ty.try_clone(alloc)?);
+    Expr::unary(alloc, operator, operand)
+}
+
+// What is asked first, and whether the left operand is in the right one.
+fn asked_within(alloc: Global, asked: Expr, left: Expr, right: Expr) -> Result<Expr, AllocError>
+    ensures { IfOk result (λ e. e ≡ and asked (binary In left right)) }
+{
     let within = Expr::binary(alloc, BinaryOperator::In, left, right)?;
     Expr::and(alloc, asked, within)
 }
@@ -137,15 +150,19 @@ fn link_expression(alloc: Global, left: Expr, link: &Link) -> Result<Expr, Alloc
             let right = expression(alloc, operand)?;
             linked(alloc, *sign, left, right)
         }
-        Link::Attribute(key) => {
-            let key = key.told(alloc)?;
-            Expr::unary(alloc, UnaryOperator::Get(key), left)
-        }
+        Link::Attribute(key) => attribute(alloc, left, key),
         Link::Method(name, arguments) => {
             let arguments = expressions(alloc, arguments.items())?;
             applied(alloc, name.as_str(), left, arguments)
         }
     }
+}
+
+fn attribute(alloc: Global, left: Expr, key: &Content) -> Result<Expr, AllocError>
+    ensures { IfOk result (λ e. e ≡ unary (Get (told key.now)) left) }
+{
+    let key = key.told(alloc)?;
+    Expr::unary(alloc, UnaryOperator::Get(key), left)
 }
 
 #[cycle(expression)]

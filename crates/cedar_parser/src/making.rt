@@ -3,8 +3,10 @@ ghost use Rattle.std.specs.Prelude.{◌≡◌, ◌++◌, ◌∷◌, [], IfOk, On
 ghost use Rattle.cedar_parser.specs.Written as tree;
 ghost use Rattle.cedar_parser.specs.Grammar as grammar;
 
+use crate::content::Content;
 use crate::sign::RelationSign;
 use crate::written::{Field, Link, Written, WrittenKind};
+use cedar_ext::Pattern;
 use cedar_value::Name;
 use std::alloc::{AllocError, Global};
 
@@ -62,6 +64,43 @@ pub fn minus(alloc: Global, operand: Written) -> Result<Written, AllocError>
     Ok(Written::new(WrittenKind::Negated(operand)))
 }
 
+// Two expressions, each in a box of its own.
+fn boxed(
+    alloc: Global,
+    left: Written,
+    right: Written,
+) -> Result<(Box<Written>, Box<Written>), AllocError>
+    ensures { IfOk result (λ pair. (pair.0).value ≡ left × (pair.1).value ≡ right) }
+{
+    let left = Box::new(alloc, left)?;
+    let right = Box::new(alloc, right)?;
+    Ok((left, right))
+}
+
+/// `has`
+pub fn has(alloc: Global, operand: Written, key: Content) -> Result<Written, AllocError>
+    ensures { IfOk result (λ w. w ≡ tree.has operand key) }
+{
+    let operand = Box::new(alloc, operand)?;
+    Ok(Written::new(WrittenKind::Has(operand, key)))
+}
+
+/// `like`
+pub fn like(alloc: Global, operand: Written, pattern: Pattern) -> Result<Written, AllocError>
+    ensures { IfOk result (λ w. w ≡ tree.like operand pattern) }
+{
+    let operand = Box::new(alloc, operand)?;
+    Ok(Written::new(WrittenKind::Like(operand, pattern)))
+}
+
+/// `is`
+pub fn is(alloc: Global, operand: Written, ty: Name) -> Result<Written, AllocError>
+    ensures { IfOk result (λ w. w ≡ tree.is operand ty) }
+{
+    let operand = Box::new(alloc, operand)?;
+    Ok(Written::new(WrittenKind::Is(operand, ty)))
+}
+
 /// Two operands with a sign between them.
 pub fn related(
     alloc: Global,
@@ -71,8 +110,7 @@ pub fn related(
 ) -> Result<Written, AllocError>
     ensures { IfOk result (λ w. w ≡ tree.relation sign left right) }
 {
-    let left = Box::new(alloc, left)?;
-    let right = Box::new(alloc, right)?;
+    let (left, right) = boxed(alloc, left, right)?;
     Ok(Written::new(WrittenKind::Relation(sign, left, right)))
 }
 
@@ -80,8 +118,7 @@ pub fn related(
 pub fn is_in(alloc: Global, left: Written, ty: Name, right: Written) -> Result<Written, AllocError>
     ensures { IfOk result (λ w. w ≡ tree.is_in left ty right) }
 {
-    let left = Box::new(alloc, left)?;
-    let right = Box::new(alloc, right)?;
+    let (left, right) = boxed(alloc, left, right)?;
     Ok(Written::new(WrittenKind::IsIn(left, ty, right)))
 }
 
@@ -94,8 +131,7 @@ pub fn choice(
 ) -> Result<Written, AllocError>
     ensures { IfOk result (λ w. w ≡ tree.choice condition if_true if_false) }
 {
+    let (if_true, if_false) = boxed(alloc, if_true, if_false)?;
     let condition = Box::new(alloc, condition)?;
-    let if_true = Box::new(alloc, if_true)?;
-    let if_false = Box::new(alloc, if_false)?;
     Ok(Written::new(WrittenKind::If(condition, if_true, if_false)))
 }

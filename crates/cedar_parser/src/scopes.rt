@@ -24,8 +24,33 @@ pub fn scope(alloc: Global, tokens: &mut Cursor<'_>) -> Result<WrittenScope, Par
     tokens.expect(TokenKind::LeftParen)?;
     let principal = principal_or_resource(alloc, tokens, "principal")?;
     tokens.expect(TokenKind::Comma)?;
+    behind_principal(alloc, tokens, principal)
+}
+
+// The scope from the action on.
+#[tactic(auto, unfolding(crate::specs::StatementReading::behind_principal))]
+fn behind_principal(
+    alloc: Global,
+    tokens: &mut Cursor<'_>,
+    principal: WrittenEntityScope,
+) -> Result<WrittenScope, ParseFault>
+    ensures { Reads (spec.behind_principal principal tokens.old) result tokens.new }
+{
     let action = action(alloc, tokens)?;
     tokens.expect(TokenKind::Comma)?;
+    behind_action(alloc, tokens, principal, action)
+}
+
+// The scope from the resource on.
+#[tactic(auto, unfolding(crate::specs::StatementReading::behind_action))]
+fn behind_action(
+    alloc: Global,
+    tokens: &mut Cursor<'_>,
+    principal: WrittenEntityScope,
+    action: WrittenActionScope,
+) -> Result<WrittenScope, ParseFault>
+    ensures { Reads (spec.behind_action principal action tokens.old) result tokens.new }
+{
     let resource = principal_or_resource(alloc, tokens, "resource")?;
     tokens.expect(TokenKind::RightParen)?;
     Ok(WrittenScope {

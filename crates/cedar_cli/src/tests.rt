@@ -20,6 +20,8 @@ const ALL: &[u8] = b"permit(principal, action, resource);";
 
 const ALLOWED: &[u8] = b"{\"decision\":\"allow\",\"determining\":[\"policy0\"],\"erring\":[]}\n";
 
+const REFUSED: &[u8] = b"{\"refused\":501}\n";
+
 const DENIED: &[u8] = b"{\"decision\":\"deny\",\"determining\":[],\"erring\":[]}\n";
 
 fn policies(text: &[u8]) -> MemoryFiles<'_> {
@@ -91,11 +93,10 @@ fn answers_worked_examples(rt: HostRuntime) {
 #[test]
 fn cuts_lines_at_line_feeds(rt: HostRuntime) -> Result<(), Fail> {
     let alloc = rt.alloc();
-    let refused: &[u8] = b"{\"refused\":501}\n";
     let mut input = Vec::from_slice(alloc, b"{\"principal\":\n\n")?;
     input.extend_from_slice(Q0)?;
-    let mut wanted = Vec::from_slice(alloc, refused)?;
-    wanted.extend_from_slice(refused)?;
+    let mut wanted = Vec::from_slice(alloc, REFUSED)?;
+    wanted.extend_from_slice(REFUSED)?;
     wanted.extend_from_slice(ALLOWED)?;
     assert_answers(&rt, alloc, ALL, &input, &wanted);
     assert_answers(&rt, alloc, ALL, b"", b"");
@@ -131,59 +132,96 @@ fn refuses_policy_files(rt: HostRuntime) {
     assert!(rt; sink.bytes().is_empty());
 }
 
-#[test]
-fn each_read_and_each_write_may_fail(rt: HostRuntime) -> Result<(), Fail> {
-    let files = policies(ALL);
-    let mut input = Vec::from_slice(rt.alloc(), b"{}\n\n{\n")?;
+/// Three lines that are refused, and one that is answered: 89 bytes.
+fn four_lines(alloc: Global) -> Result<Vec<u8>, Fail> {
+    let mut input = Vec::from_slice(alloc, b"{}\n\n{\n")?;
     input.extend_from_slice(Q0)?;
-    let (_, whole) = authorized(rt.alloc(), &files, &input);
-    for k in 1..40u64 {
-        let mut source = PiecewiseSource::new(&input, 7, k);
-        let mut sink = PiecewiseSink::new(rt.alloc(), 5, 0);
-        let end = authorize(rt.alloc(), &files, &mut source, &mut sink);
-        let failed = end == End::Device;
-        assert!(rt;
-            failed || (end == End::Done && sink.bytes() == whole.bytes()),
-            "read {k}"
-        );
-        assert!(rt; whole.bytes().starts_with(sink.bytes()), "read {k}");
-        // 89 bytes in pieces of 7, and the end: 14 reads.
-        assert_eq!(rt; failed, k <= 14, "read {k}");
+    Ok(input)
+}
 
-        let mut source = PiecewiseSource::new(&input, 7, 0);
-        let mut sink = PiecewiseSink::new(rt.alloc(), 5, k);
-        let end = authorize(rt.alloc(), &files, &mut source, &mut sink);
-        assert!(rt;
-            end == End::Device || (end == End::Done && sink.bytes() == whole.bytes()),
-            "write {k}"
-        );
-        assert_eq!(rt; sink.failures() == 1, end == End::Device, "write {k}");
-        assert!(rt; whole.bytes().starts_with(sink.bytes()), "write {k}");
+/// How the call ends over a source that gives 7 bytes a read and fails at a read (0: at none), and over a sink that takes
+/// 5 bytes a write and fails at a write, and what it writes.
+fn piecewise(alloc: Global, input: &[u8], read: u64, write: u64) -> (End, PiecewiseSink) {
+    let mut source = PiecewiseSource::new(input, 7, read);
+    let mut sink = PiecewiseSink::new(alloc, 5, write);
+    let end = authorize(alloc, &policies(ALL), &mut source, &mut sink);
+    (end, sink)
+}
+
+#[test]
+fn each_read_may_fail(rt: HostRuntime) -> Result<(), Fail> {
+    let input = four_lines(rt.alloc())?;
+    let (_, whole) = authorized(rt.alloc(), &policies(ALL), &input);
+    for k in 1..40u64 {
+        let (end, sink) = piecewise(rt.alloc(), &input, k, 0);
+        // 89 bytes in pieces of 7, and the end: 14 reads.
+        let wanted = if k <= 14 { End::Device } else { End::Done };
+        assert_eq!(rt; end, wanted, "read {k}");
+        let is_whole = sink.bytes() == whole.bytes();
+        assert!(rt; is_whole || end == End::Device, "read {k}");
+        assert!(rt; whole.bytes().starts_with(sink.bytes()), "read {k}");
     }
-    let mut source = SliceSource::new(&input);
-    let mut sink = PiecewiseSink::new(rt.alloc(), 0, 0);
-    assert_eq!(rt;
-        authorize(rt.alloc(), &files, &mut source, &mut sink),
-        End::Device
-    );
     Ok(())
 }
 
 #[test]
-fn answers_hostile_lines(rt: HostRuntime) -> Result<(), Fail> {
+fn each_write_may_fail(rt: HostRuntime) -> Result<(), Fail> {
+    let input = four_lines(rt.alloc())?;
+    let (_, whole) = authorized(rt.alloc(), &policies(ALL), &input);
+    for k in 1..40u64 {
+        let (end, sink) = piecewise(rt.alloc(), &input, 0, k);
+        let wanted = if sink.failures() == 1 {
+            End::Device
+        } else {
+            End::Done
+        };
+        assert_eq!(rt; end, wanted, "write {k}");
+        let is_whole = sink.bytes() == whole.bytes();
+        assert!(rt; is_whole || end == End::Device, "write {k}");
+        assert!(rt; whole.bytes().starts_with(sink.bytes()), "write {k}");
+    }
+    Ok(())
+}
+
+#[test]
+fn a_sink_may_take_nothing(rt: HostRuntime) {
+    let mut source = SliceSource::new(Q0);
+    let mut sink = PiecewiseSink::new(rt.alloc(), 0, 0);
+    let end = authorize(rt.alloc(), &policies(ALL), &mut source, &mut sink);
+    assert_eq!(rt; end, End::Device);
+}
+
+#[test]
+fn answers_lines_that_are_no_json(rt: HostRuntime) -> Result<(), Fail> {
     let alloc = rt.alloc();
-    let refused: &[u8] = b"{\"refused\":501}\n";
-    assert_answers(&rt, alloc, ALL, b"\xff\xfe", refused);
+    assert_answers(&rt, alloc, ALL, b"\xff\xfe", REFUSED);
     let letters = vec![in alloc; b'a'; 1_000_000]?;
-    assert_answers(&rt, alloc, ALL, &letters, refused);
-    let brackets = vec![in alloc; b'['; 100_000]?;
-    assert_answers(&rt, alloc, ALL, &brackets, refused);
-    let mut long_id = Vec::from_slice(alloc, b"{\"principal\":\"User::\\\"")?;
-    long_id.extend_from_slice(&letters)?;
-    long_id.extend_from_slice(
+    assert_answers(&rt, alloc, ALL, &letters, REFUSED);
+    Ok(())
+}
+
+#[test]
+fn answers_a_line_of_brackets(rt: HostRuntime) -> Result<(), Fail> {
+    let brackets = vec![in rt.alloc(); b'['; 100_000]?;
+    assert_answers(&rt, rt.alloc(), ALL, &brackets, REFUSED);
+    Ok(())
+}
+
+/// A request line whose principal has an id of a million letters.
+fn long_id(alloc: Global) -> Result<Vec<u8>, Fail> {
+    let letters = vec![in alloc; b'a'; 1_000_000]?;
+    let mut line = Vec::from_slice(alloc, b"{\"principal\":\"User::\\\"")?;
+    line.extend_from_slice(&letters)?;
+    line.extend_from_slice(
         b"\\\"\",\"action\":\"Action::\\\"a\\\"\",\"resource\":\"Doc::\\\"d\\\"\"}",
     )?;
-    assert_answers(&rt, alloc, ALL, &long_id, ALLOWED);
+    Ok(line)
+}
+
+#[test]
+fn answers_a_long_id(rt: HostRuntime) -> Result<(), Fail> {
+    let line = long_id(rt.alloc())?;
+    assert_answers(&rt, rt.alloc(), ALL, &line, ALLOWED);
     Ok(())
 }
 

@@ -42,6 +42,3 @@ pub use template::Template;
 pub use template_scope::{EntityReference, TemplateEntityScope, TemplateScope};
 pub use uids::Uids;
 pub use variable::Variable;
-
-#[cfg(test)]
-mod tests;

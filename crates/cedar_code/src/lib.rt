@@ -16,6 +16,3 @@ pub use fault::CodeFault;
 pub use instruction::Instruction;
 pub use law::execution_is_evaluation;
 pub use outcome::Outcome;
-
-#[cfg(test)]
-mod tests;

@@ -9,6 +9,3 @@ mod pattern;
 
 pub use decimal::Decimal;
 pub use pattern::{Element, Pattern};
-
-#[cfg(test)]
-mod tests;

@@ -13,6 +13,3 @@ mod state;
 
 pub use execution::Run;
 pub use machine::{Machine, Progress, run};
-
-#[cfg(test)]
-mod tests;

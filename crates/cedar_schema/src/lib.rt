@@ -38,8 +38,3 @@ pub use schema::Schema;
 pub use schema_fault::SchemaFault;
 pub use truth::Truth;
 pub use types::{Attribute, Type, TypeKind};
-
-#[cfg(test)]
-mod size_tests;
-#[cfg(test)]
-mod tests;

@@ -19,6 +19,3 @@ pub use law::below_is_a_chain_of_links;
 pub use no_entities::NoEntities;
 pub use store::Store;
 pub use store_fault::StoreFault;
-
-#[cfg(test)]
-mod tests;

@@ -103,7 +103,8 @@ const ROWS: [Row; 8] = [
     },
 ];
 
-fn uid(alloc: Global, ty: &str, id: &str) -> Result<Uid, AllocError> {
+/// The entity of a type and an id.
+pub fn uid(alloc: Global, ty: &str, id: &str) -> Result<Uid, AllocError> {
     Ok(Uid {
         ty: Name::new(Text::read(alloc, ty)?),
         id: Text::read(alloc, id)?,

@@ -10,8 +10,6 @@ mod number;
 mod piece;
 mod sign;
 mod spelling;
-#[cfg(test)]
-mod tests;
 mod text_fault;
 mod token;
 mod token_kind;

@@ -21,6 +21,3 @@ pub use uid::Uid;
 pub use value::{Value, ValueKind};
 pub use value_record::Record;
 pub use value_set::ValueSet;
-
-#[cfg(test)]
-mod tests;

@@ -1,20 +1,18 @@
-//! Worked examples: the set of policies, and what each call gives with ample memory.
-use super::*;
-use cedar_value::{Name, Text, Uid, Value};
+//! The set of policies, and what each call gives with ample memory.
+use crate::world::uid;
+use cedar_ast::{
+    ActionScope, AddFault, BinaryOperator, Condition, ConditionKind, Effect, EntityReference,
+    EntityScope, Expr, ExprKind, Policy, PolicySet, Scope, Statement, Template,
+    TemplateEntityScope, TemplateScope, UnaryOperator, Variable, first_repeated,
+};
+use cedar_value::{Text, Value};
 use std::alloc::{AllocError, Global};
 use std::test::Fail;
-
-fn uid(alloc: Global, id: &str) -> Result<Uid, AllocError> {
-    Ok(Uid {
-        ty: Name::new(Text::read(alloc, "User")?),
-        id: Text::read(alloc, id)?,
-    })
-}
 
 /// `principal == User::"ann", action, resource`
 fn scope(alloc: Global) -> Result<Scope, AllocError> {
     Ok(Scope {
-        principal: EntityScope::Equal(uid(alloc, "ann")?),
+        principal: EntityScope::Equal(uid(alloc, "User", "ann")?),
         action: ActionScope::Any,
         resource: EntityScope::Any,
     })

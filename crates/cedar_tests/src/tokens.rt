@@ -1,6 +1,8 @@
-//! Expected values are those of the Cedar language reference and of Unicode's character database.
-
-use super::*;
+//! Tokens: expected values are those of the Cedar language reference and of Unicode's character database.
+use cedar_text::{
+    Letter, TextFault, TokenKind, every_string_is_spelled, letters, one_list, one_spelling, tokens,
+    unescape,
+};
 use std::alloc::Global;
 use std::test::Fail;
 

@@ -1,19 +1,13 @@
 //! Values from the language's documents, and each call once on its way.
-use crate::{Glance, Name, Record, Request, Text, Uid, Value, ValueKind, ValueSet};
+use crate::world::{request, uid};
 use cedar_ext::Decimal;
+use cedar_value::{Glance, Name, Record, Text, Value, ValueKind, ValueSet};
 use std::alloc::{AllocError, Global};
 use std::cmp::Ordering;
 use std::test::Fail;
 
 fn text(alloc: Global, content: &str) -> Result<Value, AllocError> {
     Ok(Value::string(Text::read(alloc, content)?))
-}
-
-fn entity(alloc: Global, ty: &str, id: &str) -> Result<Uid, AllocError> {
-    Ok(Uid {
-        ty: Name::new(Text::read(alloc, ty)?),
-        id: Text::read(alloc, id)?,
-    })
 }
 
 fn longs(alloc: Global, numbers: &[i64]) -> Result<ValueSet, AllocError> {
@@ -42,7 +36,7 @@ fn ascending(alloc: Global) -> Result<Vec<Value>, Fail> {
         values.push(text(alloc, content)?)?;
     }
     for (ty, id) in [("A", "a"), ("A", "b"), ("A1", ""), ("A::B", ""), ("B", "")] {
-        values.push(Value::uid(entity(alloc, ty, id)?))?;
+        values.push(Value::uid(uid(alloc, ty, id)?))?;
     }
     for numbers in [
         [].as_slice(),
@@ -165,24 +159,32 @@ fn names_are_read(rt: HostRuntime) -> Result<(), Fail> {
 }
 
 #[test]
-fn a_request_is_held(rt: HostRuntime) -> Result<(), Fail> {
+fn uids_stand_in_order(rt: HostRuntime) -> Result<(), Fail> {
     let alloc = rt.alloc();
-    let request = Request {
-        principal: entity(alloc, "User", "ann")?,
-        action: entity(alloc, "Action", "view")?,
-        resource: entity(alloc, "Doc", "d")?,
-        context: record(alloc, &["n"])?.ok_or("keys differ")?,
-    };
-    let copy = request.principal.try_clone(alloc)?;
-    assert!(rt; copy == request.principal);
-    assert!(rt; copy.cmp(&request.action) == Ordering::Greater);
-    assert!(rt; request.context.get("n").is_some());
-    let owner = Value::uid(request.resource.try_clone(alloc)?);
+    let principal = uid(alloc, "User", "ann")?;
+    let copy = principal.try_clone(alloc)?;
+    assert!(rt; copy == principal);
+    let action = uid(alloc, "Action", "view")?;
+    assert!(rt; copy.cmp(&action) == Ordering::Greater);
+    Ok(())
+}
+
+#[test]
+fn a_uid_is_a_value(rt: HostRuntime) -> Result<(), Fail> {
+    let owner = Value::uid(uid(rt.alloc(), "Doc", "d")?);
     match owner.kind() {
         ValueKind::Uid(uid) => assert_eq!(rt; uid.id.as_str(), "d"),
         _ => assert!(rt; false),
     }
     assert!(rt; matches!(owner.glance(), Glance::Uid(_)));
+    Ok(())
+}
+
+#[test]
+fn a_request_has_its_context(rt: HostRuntime) -> Result<(), Fail> {
+    let request = request(rt.alloc())?;
+    assert!(rt; request.context.get("n").is_some());
+    assert!(rt; request.context.get("m").is_none());
     Ok(())
 }
 

@@ -1,5 +1,5 @@
-//! Worked examples: small hierarchies by hand, refusals, and large ones.
-use super::*;
+//! Stores: small hierarchies by hand, refusals, and large ones.
+use cedar_store::{Entity, Hierarchy, NoEntities, Store, StoreFault};
 use cedar_value::{Name, Record, Text, Uid, Value, ValueSet};
 use std::alloc::{AllocError, Global};
 use std::process::Abort;

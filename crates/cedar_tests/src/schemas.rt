@@ -1,4 +1,5 @@
-use crate::{Attribute, Schema, SchemaFault, Truth, Type, TypeKind, join};
+//! Schemas: each refusal, each kind of name, the order of environments, descents, joins.
+use cedar_schema::{Attribute, Schema, SchemaFault, Truth, Type, TypeKind, join};
 use cedar_value::{Name, Text, Uid};
 use std::alloc::Global;
 use std::test::Fail;
@@ -24,6 +25,36 @@ fn action(alloc: Global, id: &str) -> Result<Uid, SchemaFault> {
         ty: name(alloc, "Action")?,
         id: Text::read(alloc, id)?,
     })
+}
+
+// Whether the one type is declared as a member of the other, over links.
+fn type_descends(
+    alloc: Global,
+    schema: &Schema,
+    low: &str,
+    high: &str,
+) -> Result<bool, SchemaFault> {
+    let low = name(alloc, low)?;
+    let high = name(alloc, high)?;
+    Ok(schema.type_descends(&low, &high))
+}
+
+// The same of actions of these ids.
+fn action_descends(
+    alloc: Global,
+    schema: &Schema,
+    low: &str,
+    high: &str,
+) -> Result<bool, SchemaFault> {
+    let low = action(alloc, low)?;
+    let high = action(alloc, high)?;
+    Ok(schema.action_descends(&low, &high))
+}
+
+// Whether the type has attributes declared.
+fn has_attributes(alloc: Global, schema: &Schema, ty: &str) -> Result<bool, SchemaFault> {
+    let ty = name(alloc, ty)?;
+    Ok(schema.attributes(&ty).is_some())
 }
 
 // An environment's action, principal and resource as texts with blanks between.
@@ -54,18 +85,21 @@ const SMALL: &str = r#"{"":{"entityTypes":{
 fn a_small_schema(rt: HostRuntime) -> Result<(), Fail> {
     let alloc = rt.alloc();
     let schema = read(alloc, SMALL)?;
+    assert!(rt; type_descends(alloc, &schema, "User", "Team")?);
+    assert!(rt; !type_descends(alloc, &schema, "User", "User")?);
+    assert!(rt; has_attributes(alloc, &schema, "User")?);
+    assert!(rt; action_descends(alloc, &schema, "view", "read")?);
+    assert!(rt; !action_descends(alloc, &schema, "read", "view")?);
+    assert!(rt; schema.actions().count() == 3);
+    Ok(())
+}
+
+#[test]
+fn the_environments_of_a_small_schema(rt: HostRuntime) -> Result<(), Fail> {
+    let alloc = rt.alloc();
+    let schema = read(alloc, SMALL)?;
     let all = listed(alloc, &schema)?;
     assert!(rt; all.as_str() == "delete User Doc;view Admin Doc;view User Doc;");
-    let user = name(alloc, "User")?;
-    let team = name(alloc, "Team")?;
-    assert!(rt; schema.type_descends(&user, &team));
-    assert!(rt; !schema.type_descends(&user, &user));
-    assert!(rt; schema.attributes(&user).is_some());
-    let view = action(alloc, "view")?;
-    let reading = action(alloc, "read")?;
-    assert!(rt; schema.action_descends(&view, &reading));
-    assert!(rt; !schema.action_descends(&reading, &view));
-    assert!(rt; schema.actions().count() == 3);
     Ok(())
 }
 
@@ -162,29 +196,40 @@ fn sets_join(alloc: Global) -> Result<bool, SchemaFault> {
     }
 }
 
-// A type of records with a Long at `n`.
-fn record_of_long(alloc: Global, required: bool) -> Result<Type, SchemaFault> {
-    let attribute = Attribute {
-        name: Text::read(alloc, "n")?,
-        ty: Type::new(TypeKind::Long),
-        required,
-    };
+// The type of records with a Long at `n`, which is required or not, and the type of the empty record.
+fn record_type(alloc: Global, required: Option<bool>) -> Result<Type, SchemaFault> {
     let mut attributes = Vec::new(alloc);
-    attributes.push(attribute)?;
+    if let Some(required) = required {
+        attributes.push(Attribute {
+            name: Text::read(alloc, "n")?,
+            ty: Type::new(TypeKind::Long),
+            required,
+        })?;
+    }
     Ok(Type::new(TypeKind::Record(attributes)))
+}
+
+// Whether such types join.
+fn records_join(
+    alloc: Global,
+    left: Option<bool>,
+    right: Option<bool>,
+) -> Result<bool, SchemaFault> {
+    let left = record_type(alloc, left)?;
+    let right = record_type(alloc, right)?;
+    Ok(join(alloc, &left, &right)?.is_some())
 }
 
 #[test]
 fn records_join_where_they_require_the_same(rt: HostRuntime) -> Result<(), Fail> {
     let alloc = rt.alloc();
-    let required = record_of_long(alloc, true)?;
-    let optional = record_of_long(alloc, false)?;
-    let empty = Type::new(TypeKind::Record(Vec::new(alloc)));
-    assert!(rt; join(alloc, &required, &required)?.is_some());
-    assert!(rt; join(alloc, &optional, &optional)?.is_some());
-    assert!(rt; join(alloc, &required, &optional)?.is_none());
-    assert!(rt; join(alloc, &optional, &required)?.is_none());
-    assert!(rt; join(alloc, &optional, &empty)?.is_none());
+    let required = Some(true);
+    let optional = Some(false);
+    assert!(rt; records_join(alloc, required, required)?);
+    assert!(rt; records_join(alloc, optional, optional)?);
+    assert!(rt; !records_join(alloc, required, optional)?);
+    assert!(rt; !records_join(alloc, optional, required)?);
+    assert!(rt; !records_join(alloc, optional, None)?);
     Ok(())
 }
 
@@ -193,9 +238,8 @@ fn joins(rt: HostRuntime) -> Result<(), Fail> {
     let alloc = rt.alloc();
     assert!(rt; sets_join(alloc)?);
     let long = Type::new(TypeKind::Long);
-    let copy = long.try_clone(alloc)?;
     let string = Type::new(TypeKind::String);
-    assert!(rt; join(alloc, &long, &copy)?.is_some());
+    assert!(rt; join(alloc, &long, &long)?.is_some());
     assert!(rt; join(alloc, &long, &string)?.is_none());
     Ok(())
 }
@@ -309,12 +353,10 @@ fn types_of_actions_descend_by_their_actions(rt: HostRuntime) -> Result<(), Fail
     let alloc = rt.alloc();
     let schema = read(alloc, TWO_NAMESPACES)?;
     schema.well_formedness();
-    let low = name(alloc, "N::Action")?;
-    let high = name(alloc, "M::Action")?;
-    assert!(rt; schema.type_descends(&low, &high));
-    assert!(rt; !schema.type_descends(&high, &low));
-    assert!(rt; !schema.type_descends(&low, &low));
-    assert!(rt; schema.attributes(&low).is_none());
+    assert!(rt; type_descends(alloc, &schema, "N::Action", "M::Action")?);
+    assert!(rt; !type_descends(alloc, &schema, "M::Action", "N::Action")?);
+    assert!(rt; !type_descends(alloc, &schema, "N::Action", "N::Action")?);
+    assert!(rt; !has_attributes(alloc, &schema, "N::Action")?);
     let all = listed(alloc, &schema)?;
     assert!(rt; all.as_str() == "view N::U N::R;");
     Ok(())
@@ -327,8 +369,7 @@ fn entity_types_may_form_circles(rt: HostRuntime) -> Result<(), Fail> {
         alloc,
         r#"{"":{"entityTypes":{"Folder":{"memberOfTypes":["Folder"]}}}}"#,
     )?;
-    let folder = name(alloc, "Folder")?;
-    assert!(rt; schema.type_descends(&folder, &folder));
+    assert!(rt; type_descends(alloc, &schema, "Folder", "Folder")?);
     Ok(())
 }
 

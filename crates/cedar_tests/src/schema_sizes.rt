@@ -1,4 +1,5 @@
-use crate::{Schema, SchemaFault};
+//! Schemas at the limits of size, from both sides.
+use cedar_schema::{Schema, SchemaFault};
 use std::alloc::Global;
 use std::test::Fail;
 

@@ -1,9 +1,9 @@
-//! Worked examples: instructions, jumps, lengths and heights.
-use super::*;
+//! Codes: instructions, jumps, lengths and heights.
 use cedar_ast::{
     ActionScope, BinaryOperator, Condition, ConditionKind, Effect, EntityScope, Expr, Policy,
     Scope, UnaryOperator, Variable,
 };
+use cedar_code::{CodeFault, Instruction, compile};
 use cedar_value::{Text, Value};
 use std::alloc::{AllocError, Global};
 use std::process::Abort;

@@ -1,18 +1,12 @@
-//! Worked examples: ends and counts.
-use super::*;
+//! Runs: ends and counts.
+use crate::world::uid;
 use cedar_ast::{BinaryOperator, EvaluationError, Expr, UnaryOperator, Variable};
 use cedar_code::{Code, CodeFault, Outcome, compile};
+use cedar_machine::run;
 use cedar_store::{Entity, NoEntities, Store};
-use cedar_value::{Name, Record, Request, Text, Uid, Value, ValueKind};
+use cedar_value::{Record, Request, Text, Value, ValueKind};
 use std::alloc::{AllocError, Global};
 use std::test::Fail;
-
-fn uid(alloc: Global, ty: &str, id: &str) -> Result<Uid, AllocError> {
-    Ok(Uid {
-        ty: Name::new(Text::read(alloc, ty)?),
-        id: Text::read(alloc, id)?,
-    })
-}
 
 fn request(alloc: Global) -> Result<Request, AllocError> {
     Ok(Request {

@@ -1,5 +1,5 @@
-//! Texts and patterns from the language's documents.
-use crate::{Decimal, Element, Pattern};
+//! Decimals and patterns from the language's documents.
+use cedar_ext::{Decimal, Element, Pattern};
 use std::alloc::{AllocError, Global};
 use std::test::Fail;
 
@@ -87,35 +87,42 @@ fn orders_decimals(rt: HostRuntime) -> Result<(), Fail> {
     Ok(())
 }
 
+/// A pattern with `*` for its stars, a text, and whether it matches.
+const PATTERNS: [(&str, &str, bool); 18] = [
+    ("", "", true),
+    ("", "a", false),
+    ("*", "", true),
+    ("*", "anything", true),
+    ("**", "", true),
+    ("**", "ab", true),
+    ("a*b*", "ab", true),
+    ("a*b*", "axxbyy", true),
+    ("a*b*", "axx", false),
+    ("*ab", "aab", true),
+    ("*ab", "aba", false),
+    ("*a*", "bab", true),
+    ("*a*", "bbb", false),
+    ("a*", "ba", false),
+    ("*a", "ab", false),
+    ("*aab*aac", "xaaabyaaaac", true),
+    ("*é*", "café!", true),
+    ("caf", "café", false),
+];
+
 #[test]
 fn matches_patterns(rt: HostRuntime) -> Result<(), Fail> {
-    for (elements, text, want) in [
-        ("", "", true),
-        ("", "a", false),
-        ("*", "", true),
-        ("*", "anything", true),
-        ("**", "", true),
-        ("**", "ab", true),
-        ("a*b*", "ab", true),
-        ("a*b*", "axxbyy", true),
-        ("a*b*", "axx", false),
-        ("*ab", "aab", true),
-        ("*ab", "aba", false),
-        ("*a*", "bab", true),
-        ("*a*", "bbb", false),
-        ("a*", "ba", false),
-        ("*a", "ab", false),
-        ("*aab*aac", "xaaabyaaaac", true),
-        ("*é*", "café!", true),
-        ("caf", "café", false),
-    ] {
+    for (elements, text, want) in &PATTERNS {
         let like = pattern(rt.alloc(), elements)?;
-        assert_eq!(rt; like.matches(text), want, "{elements} on {text}");
-        assert_eq!(rt;
-            like.try_clone(rt.alloc())?.matches(text),
-            want,
-            "a copy of {elements}"
-        );
+        assert_eq!(rt; like.matches(text), *want, "{elements} on {text}");
+    }
+    Ok(())
+}
+
+#[test]
+fn copies_match_alike(rt: HostRuntime) -> Result<(), Fail> {
+    for (elements, text, want) in &PATTERNS {
+        let copy = pattern(rt.alloc(), elements)?.try_clone(rt.alloc())?;
+        assert_eq!(rt; copy.matches(text), *want, "{elements} on {text}");
     }
     Ok(())
 }

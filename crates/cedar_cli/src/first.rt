@@ -6,6 +6,7 @@ pub mod line_fault;
 pub mod lines;
 pub mod memory;
 pub(crate) mod output;
+#[cfg(test)]
 pub mod piecewise;
 pub mod ready;
 pub mod request_line;

@@ -171,19 +171,19 @@ fn conditions(alloc: Global) -> Result<Vec<Condition>, AllocError> {
     Ok(conditions)
 }
 
-/// A policy of one entity with these conditions.
-fn conditional(alloc: Global) -> Result<Policy, AllocError> {
+/// The condition of a policy of one entity with these conditions.
+fn condition(alloc: Global) -> Result<Expr, AllocError> {
     let conditions = conditions(alloc)?;
     let scope = scope(alloc)?;
     let id = Text::new(String::new(alloc));
-    Ok(Policy::new(id, Vec::new(alloc), Effect::Permit, scope, conditions))
+    let policy = Policy::new(id, Vec::new(alloc), Effect::Permit, scope, conditions);
+    policy.condition(alloc)
 }
 
 #[test]
 fn a_condition_asks_the_scope_before_the_rest(rt: HostRuntime) -> Result<(), Fail> {
-    let alloc = rt.alloc();
-    let condition = conditional(alloc)?.condition(alloc)?;
-    let shape = shape(alloc, &condition)?;
+    let condition = condition(rt.alloc())?;
+    let shape = shape(rt.alloc(), &condition)?;
     assert_eq!(rt;
         shape.as_str(),
         "((principal == v) && (v && (v && ((action || v) && !resource))))"

@@ -1,7 +1,7 @@
 //! Schemas: each refusal, each kind of name, the order of environments, descents, joins.
-use cedar_schema::{Attribute, Schema, SchemaFault, Truth, Type, TypeKind, join};
+use cedar_schema::{Attribute, Environment, Schema, SchemaFault, Truth, Type, TypeKind, join};
 use cedar_value::{Name, Text, Uid};
-use std::alloc::Global;
+use std::alloc::{AllocError, Global};
 use std::test::Fail;
 
 // The number that reading the text answers, 0 where it is read.
@@ -27,13 +27,9 @@ fn action(alloc: Global, id: &str) -> Result<Uid, SchemaFault> {
     })
 }
 
-// Whether the one type is declared as a member of the other, over links.
-fn type_descends(
-    alloc: Global,
-    schema: &Schema,
-    low: &str,
-    high: &str,
-) -> Result<bool, SchemaFault> {
+// Whether by a schema of this text the one type is declared as a member of the other, over links.
+fn type_descends(alloc: Global, source: &str, low: &str, high: &str) -> Result<bool, SchemaFault> {
+    let schema = read(alloc, source)?;
     let low = name(alloc, low)?;
     let high = name(alloc, high)?;
     Ok(schema.type_descends(&low, &high))
@@ -42,31 +38,37 @@ fn type_descends(
 // The same of actions of these ids.
 fn action_descends(
     alloc: Global,
-    schema: &Schema,
+    source: &str,
     low: &str,
     high: &str,
 ) -> Result<bool, SchemaFault> {
+    let schema = read(alloc, source)?;
     let low = action(alloc, low)?;
     let high = action(alloc, high)?;
     Ok(schema.action_descends(&low, &high))
 }
 
 // Whether the type has attributes declared.
-fn has_attributes(alloc: Global, schema: &Schema, ty: &str) -> Result<bool, SchemaFault> {
+fn has_attributes(alloc: Global, source: &str, ty: &str) -> Result<bool, SchemaFault> {
+    let schema = read(alloc, source)?;
     let ty = name(alloc, ty)?;
     Ok(schema.attributes(&ty).is_some())
 }
 
-// An environment's action, principal and resource as texts with blanks between.
-fn listed(alloc: Global, schema: &Schema) -> Result<String, SchemaFault> {
+// An environment's action, principal and resource as a text.
+fn shown(alloc: Global, environment: &Environment) -> Result<String, AllocError> {
+    let action = environment.action.id.as_str();
+    let principal = environment.principal.as_str();
+    let resource = environment.resource.as_str();
+    format!(in alloc; "{action} {principal} {resource};")
+}
+
+// The environments of a schema of this text.
+fn environments(alloc: Global, source: &str) -> Result<String, SchemaFault> {
+    let schema = read(alloc, source)?;
     let mut all = String::new(alloc);
     for environment in schema.environments() {
-        all.push_str(environment.action.id.as_str())?;
-        all.push_str(" ")?;
-        all.push_str(environment.principal.as_str())?;
-        all.push_str(" ")?;
-        all.push_str(environment.resource.as_str())?;
-        all.push_str(";")?;
+        all.push_str(shown(alloc, environment)?.as_str())?;
     }
     Ok(all)
 }
@@ -84,21 +86,18 @@ const SMALL: &str = r#"{"":{"entityTypes":{
 #[test]
 fn a_small_schema(rt: HostRuntime) -> Result<(), Fail> {
     let alloc = rt.alloc();
-    let schema = read(alloc, SMALL)?;
-    assert!(rt; type_descends(alloc, &schema, "User", "Team")?);
-    assert!(rt; !type_descends(alloc, &schema, "User", "User")?);
-    assert!(rt; has_attributes(alloc, &schema, "User")?);
-    assert!(rt; action_descends(alloc, &schema, "view", "read")?);
-    assert!(rt; !action_descends(alloc, &schema, "read", "view")?);
-    assert!(rt; schema.actions().count() == 3);
+    assert!(rt; type_descends(alloc, SMALL, "User", "Team")?);
+    assert!(rt; !type_descends(alloc, SMALL, "User", "User")?);
+    assert!(rt; has_attributes(alloc, SMALL, "User")?);
+    assert!(rt; action_descends(alloc, SMALL, "view", "read")?);
+    assert!(rt; !action_descends(alloc, SMALL, "read", "view")?);
+    assert!(rt; read(alloc, SMALL)?.actions().count() == 3);
     Ok(())
 }
 
 #[test]
 fn the_environments_of_a_small_schema(rt: HostRuntime) -> Result<(), Fail> {
-    let alloc = rt.alloc();
-    let schema = read(alloc, SMALL)?;
-    let all = listed(alloc, &schema)?;
+    let all = environments(rt.alloc(), SMALL)?;
     assert!(rt; all.as_str() == "delete User Doc;view Admin Doc;view User Doc;");
     Ok(())
 }
@@ -351,36 +350,33 @@ const TWO_NAMESPACES: &str = r#"{"M":{"actions":{"g":{},"h":{}}},
 #[test]
 fn types_of_actions_descend_by_their_actions(rt: HostRuntime) -> Result<(), Fail> {
     let alloc = rt.alloc();
-    let schema = read(alloc, TWO_NAMESPACES)?;
-    schema.well_formedness();
-    assert!(rt; type_descends(alloc, &schema, "N::Action", "M::Action")?);
-    assert!(rt; !type_descends(alloc, &schema, "M::Action", "N::Action")?);
-    assert!(rt; !type_descends(alloc, &schema, "N::Action", "N::Action")?);
-    assert!(rt; !has_attributes(alloc, &schema, "N::Action")?);
-    let all = listed(alloc, &schema)?;
+    assert!(rt; type_descends(alloc, TWO_NAMESPACES, "N::Action", "M::Action")?);
+    assert!(rt; !type_descends(alloc, TWO_NAMESPACES, "M::Action", "N::Action")?);
+    assert!(rt; !type_descends(alloc, TWO_NAMESPACES, "N::Action", "N::Action")?);
+    assert!(rt; !has_attributes(alloc, TWO_NAMESPACES, "N::Action")?);
+    let all = environments(alloc, TWO_NAMESPACES)?;
     assert!(rt; all.as_str() == "view N::U N::R;");
     Ok(())
 }
 
 #[test]
+fn a_schema_is_well_formed(rt: HostRuntime) -> Result<(), Fail> {
+    read(rt.alloc(), TWO_NAMESPACES)?.well_formedness();
+    Ok(())
+}
+
+#[test]
 fn entity_types_may_form_circles(rt: HostRuntime) -> Result<(), Fail> {
-    let alloc = rt.alloc();
-    let schema = read(
-        alloc,
-        r#"{"":{"entityTypes":{"Folder":{"memberOfTypes":["Folder"]}}}}"#,
-    )?;
-    assert!(rt; type_descends(alloc, &schema, "Folder", "Folder")?);
+    let source = r#"{"":{"entityTypes":{"Folder":{"memberOfTypes":["Folder"]}}}}"#;
+    assert!(rt; type_descends(rt.alloc(), source, "Folder", "Folder")?);
     Ok(())
 }
 
 #[test]
 fn environments_stand_in_the_order_of_the_texts(rt: HostRuntime) -> Result<(), Fail> {
-    let alloc = rt.alloc();
-    let schema = read(
-        alloc,
-        r#"{"":{"entityTypes":{"A1":{},"R":{}},"actions":{"b":{"appliesTo":{"principalTypes":["A::B","A1","A1"],"resourceTypes":["R"]}},"a":{"appliesTo":{"principalTypes":[],"resourceTypes":["R"]}}}},"A":{"entityTypes":{"B":{}}}}"#,
-    )?;
-    let all = listed(alloc, &schema)?;
+    let source =
+        r#"{"":{"entityTypes":{"A1":{},"R":{}},"actions":{"b":{"appliesTo":{"principalTypes":["A::B","A1","A1"],"resourceTypes":["R"]}},"a":{"appliesTo":{"principalTypes":[],"resourceTypes":["R"]}}}},"A":{"entityTypes":{"B":{}}}}"#;
+    let all = environments(rt.alloc(), source)?;
     assert!(rt; all.as_str() == "b A1 R;b A::B R;");
     Ok(())
 }

@@ -1,15 +1,13 @@
 //! Stores: small hierarchies by hand, refusals, and large ones.
+use crate::world;
 use cedar_store::{Entity, Hierarchy, NoEntities, Store, StoreFault};
-use cedar_value::{Name, Record, Text, Uid, Value, ValueSet};
+use cedar_value::{Record, Uid, Value, ValueSet};
 use std::alloc::{AllocError, Global};
 use std::process::Abort;
 use std::test::Fail;
 
 fn uid(alloc: Global, id: &str) -> Result<Uid, AllocError> {
-    Ok(Uid {
-        ty: Name::new(Text::read(alloc, "User")?),
-        id: Text::read(alloc, id)?,
-    })
+    world::uid(alloc, "User", id)
 }
 
 fn uids(alloc: Global, ids: &[&str]) -> Result<Vec<Uid>, AllocError> {

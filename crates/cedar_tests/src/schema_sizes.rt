@@ -59,7 +59,7 @@ fn records_have_9999_parts(rt: HostRuntime) -> Result<(), Fail> {
     Ok(())
 }
 
-// T1 to so many, each a record of two of the next, and the last a Long.
+// So many types, each a record of two of the next, and the last a Long.
 fn doubling(alloc: Global, types: u32) -> Result<String, SchemaFault> {
     let mut text = String::new(alloc);
     for i in 1..types {

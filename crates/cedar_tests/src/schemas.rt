@@ -360,12 +360,6 @@ fn types_of_actions_descend_by_their_actions(rt: HostRuntime) -> Result<(), Fail
 }
 
 #[test]
-fn a_schema_is_well_formed(rt: HostRuntime) -> Result<(), Fail> {
-    read(rt.alloc(), TWO_NAMESPACES)?.well_formedness();
-    Ok(())
-}
-
-#[test]
 fn entity_types_may_form_circles(rt: HostRuntime) -> Result<(), Fail> {
     let source = r#"{"":{"entityTypes":{"Folder":{"memberOfTypes":["Folder"]}}}}"#;
     assert!(rt; type_descends(rt.alloc(), source, "Folder", "Folder")?);

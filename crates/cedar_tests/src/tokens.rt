@@ -1,8 +1,5 @@
 //! Tokens: expected values are those of the Cedar language reference and of Unicode's character database.
-use cedar_text::{
-    Letter, TextFault, TokenKind, every_string_is_spelled, letters, one_list, one_spelling, tokens,
-    unescape,
-};
+use cedar_text::{Letter, TextFault, TokenKind, letters, tokens, unescape};
 use std::alloc::Global;
 use std::test::Fail;
 
@@ -292,13 +289,6 @@ fn spells_patterns(rt: HostRuntime) -> Result<(), Fail> {
     ];
     assert_eq!(rt; found.as_slice(), want.as_slice());
     Ok(())
-}
-
-#[test]
-fn names_laws() {
-    one_list();
-    one_spelling();
-    every_string_is_spelled();
 }
 
 #[test]

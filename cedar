@@ -1,15 +1,49 @@
 #!/usr/bin/env bash
-# Runs the program `cedar` with the words given. Where it is not built yet, or is older than a source, a definition or a
-# proof, it is built first, which proves it: from nothing half an hour or more on two processors.
+# Runs the program `cedar` with the words given: the proved one, where `./build` has made it and no source of it is newer. Else
+# the program is built without proof for this run alone, which takes about a minute and is told on standard error; it then has
+# an hour, and its output, of at most 1 MiB, comes when it has ended.
 set -eu
 top=$(cd "$(dirname "$0")" && pwd)
-program=$top/crates/cedar_cli/out/cedar_cli
-if [ ! -x "$program" ] || [ -n "$(find "$top"/crates/*/{src,specs,proofs} -newer "$program" -print -quit)" ]; then
-  began=$(date +%s)
-  echo "cedar: proving and building the program; from nothing this takes half an hour or more on two processors" >&2
-  rm -f "$program"
-  (cd "$top/crates/cedar_cli" && rt run < /dev/null) > "$top/crates/cedar_cli/build.log" 2>&1 || true
-  [ -x "$program" ] || { echo "cedar: the build failed; see crates/cedar_cli/build.log" >&2; exit 1; }
-  echo "cedar: built in $(($(date +%s) - began)) seconds" >&2
+folder=$top/crates/cedar_cli
+program=$folder/out/cedar_cli
+
+is_current() {
+  [ -x "$program" ] || return 1
+  local crate part parts=("$top/crates.txt")
+  for crate in $("$top/tools/crates.py" cedar_cli); do
+    for part in "$top/crates/$crate/"{src,specs,proofs}; do
+      [ ! -d "$part" ] || parts+=("$part")
+    done
+  done
+  [ -z "$(find "${parts[@]}" -newer "$program" -print -quit)" ]
+}
+
+if is_current; then
+  exec "$program" "$@"
 fi
-exec "$program" "$@"
+echo "cedar: this run is of a build that is not proved; ./build makes the proved one" >&2
+
+# Such a build runs in a folder of its own, so the file that an option names is handed to it under a name there.
+room=$(mktemp -d)
+trap 'rm -rf "$room"' EXIT
+words=() files=() before=
+for word in "$@"; do
+  name=${word#--*=}
+  if [[ $before = --* || $word = --*=* ]] && [ -r "$name" ] && [ ! -d "$name" ]; then
+    held=file${#files[@]}
+    cat -- "$name" > "$room/$held"
+    files+=(--data "$held=$room/$held")
+    word=${word%"$name"}$held
+  fi
+  words+=("$word")
+  before=$word
+done
+status=0
+(cd "$folder" && rt try --seconds 3600 ${files[@]+"${files[@]}"} -- ${words[@]+"${words[@]}"}) 2> "$room/told" || status=$?
+if ! grep -q '^run=ended ' "$room/told"; then
+  cat "$room/told" >&2
+  exit 1
+fi
+# What the program told on standard error stands between lines of `rt try`.
+sed '/^\(interpreter\|checked\|races\|run\|rt\)[:=]/d' "$room/told" >&2
+exit "$status"

@@ -6,6 +6,7 @@ use Rattle.cedar_ext.specs.declared.pattern.Element.TheVariants.{Character, Star
 use Rattle.cedar_ext.specs.Matching.{is_match}
 use Rattle.cedar_value.specs.Datum.{Datum, boolean, long, text, uid, set, decimal, members_of}
 use Rattle.cedar_value.specs.World.{World, EntityTree}
+use Rattle.cedar_value.specs.World.{leads}
 use Rattle.cedar_value.specs.World as above
 use Rattle.cedar_value.specs.declared.uid.Uid.{Uid}
 use Rattle.cedar_value.specs.declared.request.Request.{Request}
@@ -190,11 +191,11 @@ in_itself : value (binary two.In (the c) (the c)) ≡ Ok (boolean true)
 in_itself = refl
 
 in_above : value (binary two.In (the a) (the c)) ≡ Ok (boolean true)
-unfolding above.below above.reaches
+unfolding above.below leads
 in_above = refl
 
 in_below : value (binary two.In (the c) (the a)) ≡ Ok (boolean false)
-unfolding above.below above.reaches
+unfolding above.below leads
 in_below = refl
 
 in_set : value (binary two.In (the a) (a_set (uid (entity a) ∷ uid (entity b) ∷ []))) ≡ Ok (boolean true)

@@ -15,7 +15,7 @@ use Rattle.std.proofs.lemmas.Map.Text.{is_eq-slice_cmp}
 use Rattle.std.proofs.lemmas.Map.Views.{Contains-from_any}
 use Rattle.std.proofs.lemmas.Option.{get_or_from_slice_get, slice_get-get_or, slice_get_within}
 use Rattle.std.proofs.lemmas.Slice.Eq.{bytes_eq-Decides}
-use Rattle.cedar_value.specs.Equality.{text_equivalence}
+use Rattle.cedar_value.specs.Private.Equality.{text_equivalence}
 use Rattle.cedar_ast.specs.Keys.{AreDistinct, IsFirstRepeated}
 
 abbrev pub texts : List (Bor (List ℕ)) → List (List ℕ)

@@ -1,3 +1,5 @@
-pub mod KeyLemmas
-pub mod PolicyIdLemmas
 mod EvaluationExamples
+pub mod KeyLemmas
+pub mod Lists
+pub mod PolicyIdLemmas
+pub mod Sizes

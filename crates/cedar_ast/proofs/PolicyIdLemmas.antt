@@ -15,11 +15,11 @@ use Rattle.std.proofs.lemmas.Map.Keys.{IsDistinct-push, IsDistinct-IsPermutation
 use Rattle.std.proofs.lemmas.Map.Made.{AllPairs-from_IsDistinct, IsDistinct-from_AllPairs}
 use Rattle.std.proofs.lemmas.Slice.Eq.{bytes_eq-Decides}
 use Rattle.std.proofs.lemmas.Map.Views.{list_any-from_Contains, Contains-from_any}
-use Rattle.cedar_value.specs.Equality.{text_equivalence}
+use Rattle.cedar_value.specs.Private.Equality.{text_equivalence}
 use Rattle.cedar_ast.specs.Keys.{AreDistinct}
-use Rattle.cedar_ast.specs.PolicyIds.{keys_of, values_in, StandAtTheirIds, AreById}
+use Rattle.cedar_ast.specs.Private.PolicyIds.{keys_of, values_in, StandAtTheirIds, AreById}
 use Rattle.cedar_ast.specs.PolicyTree.{PolicyTree}
-use Rattle.cedar_ast.specs.TemplateTree.{TemplateTree}
+use Rattle.cedar_ast.specs.PolicyTree.{TemplateTree}
 
 is_some-cond : {X : Type 0} (t : Bool) (x : X) (o : Option X) (b : Bool) → is_some o ≡ b → is_some (cond t (Some x) o) ≡ (t || b)
 is_some-cond true x o b e = refl

@@ -4,12 +4,12 @@ use Rattle.cedar_ast.specs.declared.statement.Statement.{Statement}
 use Rattle.cedar_ast.specs.declared.add_fault.AddFault.{AddFault}
 use Rattle.cedar_ast.specs.declared.add_fault.AddFault.TheVariants.{OutOfMemory, DuplicateId}
 
--- its number
+-- The number of a refusal (this project).
 abbrev pub number_of : AddFault → ℕ
 number_of (OutOfMemory s) = 1
 number_of (DuplicateId s) = 204
 
--- what was handed in
+-- What was handed in (this project).
 abbrev pub refused : AddFault → Statement
 refused (OutOfMemory s) = s
 refused (DuplicateId s) = s

@@ -5,8 +5,9 @@ use Rattle.cedar_ast.specs.declared.variable.Variable.{Variable}
 use Rattle.cedar_ast.specs.declared.operator.UnaryOperator.{UnaryOperator}
 use Rattle.cedar_ast.specs.declared.operator.BinaryOperator.{BinaryOperator}
 
--- The members of a set and the entries of a record stand as they are written.
 mutual
+  -- An expression: a value, a part of the request, or an operator or constructor with its parts (Cedar language
+  -- reference, expressions; cedar-spec, Lean: Cedar.Spec.Expr).
   pub data Expression : Type 0 where
     literal : Datum → Expression
     variable : Variable → Expression
@@ -18,19 +19,22 @@ mutual
     set_with : Expressions → Expression
     record_with : Entries → Expression
 
+  -- The members of a set, as they are written (Cedar language reference, sets).
   pub data Expressions : Type 0 where
     no_more : Expressions
     and_then : Expression → Expressions → Expressions
 
+  -- The entries of a record, as they are written (Cedar language reference, records).
   pub data Entries : Type 0 where
     no_entries : Entries
     entry : (key : List ℕ) (value : Expression) → Entries → Entries
 
--- the expressions of a list, and the entries of a list of pairs
+-- The expressions of a list, as members (Cedar language reference, sets).
 abbrev pub expressions_of : List Expression → Expressions
 expressions_of [] = no_more
 expressions_of (e ∷ es) = and_then e (expressions_of es)
 
+-- The pairs of a list, as entries (Cedar language reference, records).
 abbrev pub entries_of : List (List ℕ × Expression) → Entries
 entries_of [] = no_entries
 entries_of (p ∷ ps) = entry p.0 p.1 (entries_of ps)

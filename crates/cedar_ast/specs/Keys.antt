@@ -2,16 +2,18 @@
 use Rattle.std.specs.Prelude.{◌≡◌, ◌≢◌, ℕ, List, Some, map, take, slice_get, AllPairs, Contains}
 use Rattle.cedar_ast.specs.Expression.{Expression}
 
--- no key stands twice
+-- No key stands twice (Cedar language reference, records).
 abbrev pub AreDistinct : List (List ℕ) → Type 0
 AreDistinct ks = AllPairs (λ k l. k ≢ l) ks
 
--- the key at a position, from 0, stands among those before it, of which none stands twice
+-- The key at a position, from 0, stands among those before it, of which none stands twice (Cedar language reference,
+-- records).
 pub record IsFirstRepeated (ks : List (List ℕ)) (place : ℕ) : Type 0 where
   pub distinct : AreDistinct (take place ks)
   pub key : List ℕ
   pub here : slice_get ks place ≡ Some key
   pub before : Contains (take place ks) key
 
+-- The keys of pairs, in order (Cedar language reference, records).
 abbrev pub keys_of : List (List ℕ × Expression) → List (List ℕ)
 keys_of ps = map (λ p. p.0) ps

@@ -4,12 +4,12 @@ use Rattle.cedar_ast.specs.Expression.{Expression}
 use Rattle.cedar_ast.specs.declared.record_fault.RecordFault.{RecordFault}
 use Rattle.cedar_ast.specs.declared.record_fault.RecordFault.TheVariants.{OutOfMemory, DuplicateKey}
 
--- its number
+-- The number of a refusal (this project).
 abbrev pub number_of : RecordFault → ℕ
 number_of (OutOfMemory ps) = 1
 number_of (DuplicateKey ps) = 203
 
--- the pairs that were handed in
+-- The pairs that were handed in (this project).
 abbrev pub refused : RecordFault → List (List ℕ × Expression)
 refused (OutOfMemory ps) = ps.items
 refused (DuplicateKey ps) = ps.items

@@ -22,14 +22,14 @@ impl Model for Entries {
     ghost use Rattle.std.specs.Prelude.{List, ℕ};
     ghost use Rattle.std.specs.Coded.{coded_list, coded×, coded_ℕ};
     ghost use Rattle.cedar_ast.specs.Expression.{Expression};
-    ghost use Rattle.cedar_ast.specs.ExpressionCode.{expression_code};
+    ghost use Rattle.cedar_ast.specs.Private.ExpressionCode.{expression_code};
 
     ghost Value = { List (List ℕ × Expression) };
 
     ghost coded = { coded_list (coded× (coded_list coded_ℕ) expression_code) };
 
     ghost use Rattle.cedar_ast.specs.Keys.{AreDistinct, keys_of};
-    ghost use Rattle.cedar_ast.specs.Depth.{depth, pairs_depth};
+    ghost use Rattle.cedar_ast.specs.Private.Depth.{depth, pairs_depth};
 
     ghost view = { λ r. r.pairs.items };
 
@@ -39,7 +39,7 @@ impl Model for Entries {
 
     ghost use Rattle.std.specs.Prelude.{◌+◌, max};
     ghost use Rattle.std.proofs.Common.{arith};
-    ghost use Rattle.cedar_ast.specs.Depth.{most_entries};
+    ghost use Rattle.cedar_ast.specs.Private.Depth.{most_entries};
 
     ghost size_decreases = { λ r _. omega (arith, most_entries (λ f. max 0 (max (depth f.1 + 1) 0)) (λ f. omega arith) r.pairs.items) };
 }
@@ -58,6 +58,16 @@ impl Entries {
             Ok(false) => Err(RecordFault::DuplicateKey(pairs)),
             Err(_) => Err(RecordFault::OutOfMemory(pairs)),
         }
+    }
+
+    /// Entries with the keys of others, in the same order.
+    pub(crate) fn with_keys_of(others: &Entries, pairs: Vec<(Text, Expr)>) -> Self
+        requires { keys_of pairs.items ≡ keys_of others.now }
+        ensures { result ≡ pairs.items }
+    {
+        // That the others' keys are distinct is a law of theirs.
+        let _others = others.pairs();
+        Entries { pairs }
     }
 
     /// The entries in order, lent.

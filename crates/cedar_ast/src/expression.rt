@@ -4,12 +4,14 @@ ghost use Rattle.cedar_ast.specs.Expression.{literal, variable, and, or, if_else
 ghost use Rattle.cedar_ast.specs.ExprKind.{expression_of};
 ghost use Rattle.cedar_ast.specs.Keys.{AreDistinct, keys_of};
 ghost use Rattle.cedar_ast.specs.RecordFault.{number_of, refused};
+ghost use Rattle.cedar_ast.specs.Replacement.{replace};
 
 use crate::entries::Entries;
 use crate::operator::{BinaryOperator, UnaryOperator};
 use crate::record_fault::RecordFault;
+use crate::replacement::replaced;
 use crate::variable::Variable;
-use cedar_value::{Text, Value};
+use cedar_value::{Text, Uid, Value};
 use std::alloc::{AllocError, Global};
 use std::marker::Model;
 
@@ -46,20 +48,20 @@ pub struct Expr {
 
 impl Model for Expr {
     ghost use Rattle.cedar_ast.specs.Expression.{Expression};
-    ghost use Rattle.cedar_ast.specs.ExpressionCode.{expression_code};
+    ghost use Rattle.cedar_ast.specs.Private.ExpressionCode.{expression_code};
 
     ghost Value = { Expression };
 
     ghost coded = { expression_code };
 
-    ghost use Rattle.cedar_ast.specs.Depth.{depth};
+    ghost use Rattle.cedar_ast.specs.Private.Depth.{depth};
     ghost use Rattle.cedar_ast.specs.ExprKind.{expression_of};
 
     ghost view = { λ e. expression_of e.kind };
 
     ghost size = { depth };
 
-    ghost use Rattle.cedar_ast.specs.Falls.{deep_le-depth};
+    ghost use Rattle.cedar_ast.specs.Private.Falls.{deep_le-depth};
 
     ghost size_decreases = { λ e _. deep_le-depth e.kind };
 }
@@ -158,6 +160,14 @@ impl Expr {
     {
         let entries = Entries::new(alloc, pairs)?;
         Ok(Expr::new(ExprKind::Record(entries)))
+    }
+
+    /// A copy in which the variable `action` is replaced by a uid wherever it stands, as the strict checker types a
+    /// condition in an environment. 1: memory was refused.
+    pub fn with_action(&self, alloc: Global, action: &Uid) -> Result<Self, AllocError>
+        ensures { IfOk result (λ e. e ≡ replace action.now self.now) }
+    {
+        replaced(alloc, self, action)
     }
 
     /// The form, with its parts, lent.

@@ -1,5 +1,17 @@
 //! Expressions and policies of the Cedar policy language, and what they mean.
 //!
+//! ```rust
+//! use cedar_ast::{BinaryOperator, Effect, Expr, Policy, Variable};
+//!
+//! // `permit(principal, action, resource);`, with the id `policy0` and a scope that asks nothing
+//! let policy = Policy::new(id, annotations, Effect::Permit, scope, conditions);
+//! let condition: Expr = policy.condition(alloc)?;
+//! // `principal in resource`
+//! let (low, high) = (Expr::variable(Variable::Principal), Expr::variable(Variable::Resource));
+//! let within = Expr::binary(alloc, BinaryOperator::In, low, high)?;
+//! assert!(rt; within != condition);
+//! ```
+//!
 //! The definitions of evaluation, of a policy's condition and of the response stand in `specs/`.
 #![tactic(auto)]
 
@@ -9,6 +21,7 @@ mod condition;
 mod decision;
 mod effect;
 mod entries;
+mod equality;
 mod error;
 mod expression;
 mod keys;
@@ -16,9 +29,9 @@ mod operator;
 mod policy;
 mod policy_set;
 mod record_fault;
+mod replacement;
 mod scope;
 mod statement;
-mod template;
 mod template_scope;
 mod uids;
 mod variable;
@@ -33,12 +46,11 @@ pub use error::EvaluationError;
 pub use expression::{Expr, ExprKind};
 pub use keys::{Keys, first_repeated};
 pub use operator::{BinaryOperator, UnaryOperator};
-pub use policy::Policy;
+pub use policy::{Policy, PolicyOver, Template};
 pub use policy_set::PolicySet;
 pub use record_fault::RecordFault;
 pub use scope::{ActionScope, EntityScope, Scope};
 pub use statement::Statement;
-pub use template::Template;
 pub use template_scope::{EntityReference, TemplateEntityScope, TemplateScope};
 pub use uids::Uids;
 pub use variable::Variable;

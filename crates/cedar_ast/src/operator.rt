@@ -1,5 +1,5 @@
 //! Operators.
-ghost use Rattle.std.specs.Prelude.{◌≡◌, IfOk};
+ghost use Rattle.std.specs.Prelude.{◌≡◌, ◌↔◌, IfOk, IsTrue};
 
 use cedar_ext::Pattern;
 use cedar_value::{Name, Text};
@@ -38,6 +38,45 @@ impl UnaryOperator {
             UnaryOperator::Is(ty) => Ok(UnaryOperator::Is(ty.try_clone(alloc)?)),
             UnaryOperator::Decimal => Ok(UnaryOperator::Decimal),
         }
+    }
+}
+
+impl PartialEq for UnaryOperator {
+    ghost use Rattle.std.specs.Cmp.{partial_equiv_from_equiv};
+    ghost use Rattle.cedar_ast.specs.Private.SameExpression.{same_unary, unary_equivalence};
+
+    ghost eq = { same_unary };
+
+    ghost laws = { partial_equiv_from_equiv unary_equivalence };
+
+    /// Whether the two are one operator, with the same key, pattern or name. Takes no memory.
+    fn eq(&self, other: &Self) -> bool
+        ensures gives { result ≡ same_unary self.now other.now }
+        ensures equal { IsTrue result ↔ (self.now ≡ other.now) }
+    {
+        same_operator(self, other)
+    }
+}
+
+impl Eq for UnaryOperator {
+    ghost use Rattle.cedar_ast.specs.Private.SameExpression.{unary_equivalence};
+
+    ghost laws = { unary_equivalence };
+}
+
+// Whether the two operators are equal.
+pub(crate) fn same_operator(one: &UnaryOperator, two: &UnaryOperator) -> bool
+    ensures { IsTrue result ↔ (one.now ≡ two.now) }
+{
+    match (one, two) {
+        (UnaryOperator::Not, UnaryOperator::Not) => true,
+        (UnaryOperator::Negate, UnaryOperator::Negate) => true,
+        (UnaryOperator::Decimal, UnaryOperator::Decimal) => true,
+        (UnaryOperator::Has(first), UnaryOperator::Has(second)) => first == second,
+        (UnaryOperator::Get(first), UnaryOperator::Get(second)) => first == second,
+        (UnaryOperator::Is(first), UnaryOperator::Is(second)) => first == second,
+        (UnaryOperator::Like(first), UnaryOperator::Like(second)) => first == second,
+        _ => false,
     }
 }
 

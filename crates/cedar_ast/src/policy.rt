@@ -9,30 +9,39 @@ use crate::effect::Effect;
 use crate::expression::Expr;
 use crate::operator::{BinaryOperator, UnaryOperator};
 use crate::scope::{ActionScope, EntityScope, Scope};
+use crate::template_scope::TemplateScope;
 use crate::variable::Variable;
 use cedar_value::{Name, Text, Uid, Value};
 use std::alloc::{AllocError, Global};
 use std::fmt;
 use std::marker::Model;
 
-/// A policy, which contracts see as a `PolicyTree` (Cedar language reference, policies).
+/// What a policy and a template share, over what a scope is of. Contracts see a `PolicyRecord`
+/// (Cedar language reference, policies and policy templates).
 #[derive(Drop)]
-pub struct Policy {
+pub struct PolicyOver<S> {
     id: Text,
     annotations: Vec<Annotation>,
     effect: Effect,
-    scope: Scope,
+    scope: S,
     conditions: Vec<Condition>,
 }
 
-impl Model for Policy {
+/// A policy, which contracts see as a `PolicyTree` (Cedar language reference, policies).
+pub type Policy = PolicyOver<Scope>;
+
+/// A policy whose scope has slots in the place of entities, which contracts see as a `TemplateTree` (Cedar language
+/// reference, policy templates).
+pub type Template = PolicyOver<TemplateScope>;
+
+impl<S> Model for PolicyOver<S> {
     ghost use Rattle.std.specs.Coded.{codes};
-    ghost use Rattle.cedar_ast.specs.ExpressionCode.{expression_code};
-    ghost use Rattle.cedar_ast.specs.PolicyTree.{PolicyTree};
+    ghost use Rattle.cedar_ast.specs.Private.ExpressionCode.{expression_code};
+    ghost use Rattle.cedar_ast.specs.PolicyTree.{PolicyRecord};
 
-    ghost Value = { PolicyTree };
+    ghost Value = { PolicyRecord S };
 
-    ghost coded = { Prim.hlevel (codes, expression_code) };
+    ghost coded = { Prim.hlevel (codes, expression_code, S.code) };
 
     ghost view = { λ p. record {
       id = p.id;
@@ -43,13 +52,13 @@ impl Model for Policy {
     } };
 }
 
-impl Policy {
-    /// A policy of this id, with its annotations and its conditions in order. Takes no memory.
+impl<S> PolicyOver<S> {
+    /// A policy or a template of this id, with its annotations and its conditions in order. Takes no memory.
     pub fn new(
         id: Text,
         annotations: Vec<Annotation>,
         effect: Effect,
-        scope: Scope,
+        scope: S,
         conditions: Vec<Condition>,
     ) -> Self
         ensures id { result.id ≡ id }
@@ -58,7 +67,7 @@ impl Policy {
         ensures scope { result.scope ≡ scope }
         ensures conditions { result.conditions ≡ conditions.items }
     {
-        Policy {
+        PolicyOver {
             id,
             annotations,
             effect,
@@ -81,13 +90,22 @@ impl Policy {
         &self.annotations
     }
 
-    /// What the policy does where it is satisfied.
+    /// What the policy, or one that is linked to the template, does where it is satisfied.
     pub fn effect(&self) -> Effect
         ensures { result ≡ self.now.effect }
     {
         self.effect
     }
 
+    /// What the scope asks, slots of a template included, lent.
+    pub fn scope(&self) -> &S
+        ensures { result.now ≡ self.now.scope }
+    {
+        &self.scope
+    }
+}
+
+impl PolicyOver<Scope> {
     /// The expression that is true where the policy is satisfied: what the scope asks of principal, action and
     /// resource, and then the conditions in order (Cedar language reference, policy scope and conditions).
     pub fn condition(&self, alloc: Global) -> Result<Expr, AllocError>
@@ -99,7 +117,7 @@ impl Policy {
     }
 }
 
-impl fmt::Debug for Policy {
+impl fmt::Debug for PolicyOver<Scope> {
     fn fmt<W: fmt::Write>(&self, f: &mut fmt::Formatter<W>) -> fmt::Result {
         let id = self.id.as_str();
         write!(f, "Policy({id:?})")

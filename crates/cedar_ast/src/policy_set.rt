@@ -3,13 +3,12 @@ ghost use Rattle.std.specs.Prelude.{◌≡◌, [], ◌∷◌, ◌++◌, length, 
 ghost use Rattle.indexmap.specs.IndexMap.{get_by_text};
 ghost use Rattle.cedar_ast.specs.PolicySetTree.{no_policies, entered, ids_in, id_of};
 ghost use Rattle.cedar_ast.specs.Keys.{AreDistinct};
-ghost use Rattle.cedar_ast.specs.PolicyIds.{keys_of};
+ghost use Rattle.cedar_ast.specs.Private.PolicyIds.{keys_of};
 ghost use Rattle.cedar_ast.specs.AddFault.{refused, number_of};
 
 use crate::add_fault::AddFault;
-use crate::policy::Policy;
+use crate::policy::{Policy, Template};
 use crate::statement::Statement;
-use crate::template::Template;
 use indexmap::IndexMap;
 use std::alloc::{AllocFailed, Global};
 use std::marker::Model;
@@ -24,14 +23,14 @@ pub struct PolicySet {
 
 impl Model for PolicySet {
     ghost use Rattle.std.specs.Coded.{codes};
-    ghost use Rattle.cedar_ast.specs.ExpressionCode.{expression_code};
+    ghost use Rattle.cedar_ast.specs.Private.ExpressionCode.{expression_code};
     ghost use Rattle.cedar_ast.specs.PolicySetTree.{PolicySetTree};
 
     ghost Value = { PolicySetTree };
 
     ghost coded = { Prim.hlevel (codes, expression_code) };
 
-    ghost use Rattle.cedar_ast.specs.PolicyIds.{values_in, AreById};
+    ghost use Rattle.cedar_ast.specs.Private.PolicyIds.{values_in, AreById};
 
     ghost view = { λ s. record { policies = values_in s.policies.entries; templates = values_in s.templates.entries } };
 

@@ -2,8 +2,7 @@
 ghost use Rattle.std.specs.Prelude.{◌≡◌};
 ghost use Rattle.cedar_ast.specs.PolicySetTree.{id_of};
 
-use crate::policy::Policy;
-use crate::template::Template;
+use crate::policy::{Policy, Template};
 use cedar_value::Text;
 use std::fmt;
 

@@ -1,12 +1,9 @@
 pub mod Answerable
-pub mod Cuts
-pub mod Steps
 pub mod MemberCounts
 pub mod Pairs
 pub mod PolicyFiles
 pub mod Requests
 pub mod Responses
-pub mod Serving
+pub mod Taken
 pub mod Tallies
 pub mod Texts
-pub mod Whole

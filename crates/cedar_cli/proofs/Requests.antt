@@ -1,36 +1,24 @@
 -- Lemmas on request lines.
-use Rattle.std.proofs.Common.{◌≡◌, List, ℕ, Bool, true, false, Option, None, Some, Err, if◌then◌else◌, refl, subst, inl, inr}
-use Rattle.std.specs.Str.{IsUtf8, is_utf8}
-use Rattle.std.proofs.lemmas.Str.{IsUtf8-from_is_utf8, is_utf8-from_IsUtf8}
+use Rattle.std.proofs.Common.{◌≡◌, List, ℕ, None, Some, Err, refl, subst, inl, inr}
 use Rattle.serde_json.specs.Data.{Data}
-use Rattle.serde_json.specs.Read.{read}
+use Rattle.cedar_json.specs.JsonTree.{json_of}
 use Rattle.cedar_value.specs.declared.request.Request.{Request}
 use Rattle.cedar_value.specs.declared.uid.Uid.{Uid}
-use Rattle.cedar_parser.specs.declared.parse_fault.ParseFault.{ParseFault}
-use Rattle.cedar_parser.specs.declared.parse_fault.ParseFault.TheVariants.{OutOfMemory}
-use Rattle.cedar_parser.specs.PolicyText.{IsUidText, AnswersUid}
-use Rattle.cedar_cli.specs.RequestLine.{json_of, RequestTexts, HoldsTexts, NamesRequest, HasFault}
+use Rattle.cedar_tokens.specs.declared.parse_fault.ParseFault.{ParseFault}
+use Rattle.cedar_tokens.specs.declared.parse_fault.ParseFault.TheVariants.{OutOfMemory}
+use Rattle.cedar_tokens.specs.UidText.{IsUidText, AnswersUid}
+use Rattle.cedar_cli.specs.RequestLine.{RequestTexts, HoldsTexts, NamesRequest, HasLineFault}
 
 -- a refusal but that of memory says that the text is that of no uid
 pub refused_text : (fault : ParseFault) (u : Uid) → (fault ≡ OutOfMemory → ⊥) → AnswersUid u (Err fault) → ⊥
 refused_text OutOfMemory u other h = other refl
 refused_text _ u other h = h
 
-none_unless : {X : Type 0} (b : Bool) (o : Option X) → (b ≡ true → o ≡ None) → (if b then o else None) ≡ None
-none_unless true o h = h refl
-none_unless false o h = refl
-
-pub json_of-none : (line : List ℕ) → (IsUtf8 line → read line ≡ None) → json_of line ≡ None
-json_of-none line h = none_unless (is_utf8 line) (read line) (λ e. h (IsUtf8-from_is_utf8 line e))
-
-pub json_of-some : (line : List ℕ) (d : Data) → IsUtf8 line → read line ≡ Some d → json_of line ≡ Some d
-json_of-some line d u e = rw (is_utf8-from_IsUtf8 line u) e
-
-pub no_json : (line : List ℕ) → json_of line ≡ None → HasFault line 501
+pub no_json : (line : List ℕ) → json_of line ≡ None → HasLineFault line 501
 no_json line e = inl (refl, e)
 
 -- JSON without the texts of a request denotes none
-pub no_texts : (line : List ℕ) (d : Data) → json_of line ≡ Some d → ((t : RequestTexts) → HoldsTexts d t → ⊥) → HasFault line 502
+pub no_texts : (line : List ℕ) (d : Data) → json_of line ≡ Some d → ((t : RequestTexts) → HoldsTexts d t → ⊥) → HasLineFault line 502
 no_texts line d e none = inr (
   refl,
   (
@@ -53,7 +41,7 @@ same_names d s t q h k n =
     }
 
 -- texts that name no request
-pub no_names : (line : List ℕ) (d : Data) (t : RequestTexts) → json_of line ≡ Some d → HoldsTexts d t → ((q : Request) → NamesRequest t q → ⊥) → HasFault line 502
+pub no_names : (line : List ℕ) (d : Data) (t : RequestTexts) → json_of line ≡ Some d → HoldsTexts d t → ((q : Request) → NamesRequest t q → ⊥) → HasLineFault line 502
 no_names line d t e k none = inr (
   refl,
   (

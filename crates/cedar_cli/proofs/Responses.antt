@@ -5,7 +5,7 @@ use Rattle.cedar_value.specs.declared.request.Request.{Request}
 use Rattle.cedar_ast.specs.declared.decision.Decision.TheVariants.{Allow, Deny}
 use Rattle.cedar_ast.specs.PolicyTree.{PolicyTree}
 use Rattle.cedar_ast.specs.Response.{ResponseTree, permits, forbids, erring_of, allows, decided, response}
-use Rattle.cedar_cli.specs.Tally.{ids_where, tally_of, response_by}
+use Rattle.cedar_cli.specs.Private.Tally.{ids_where, tally_of, response_by}
 
 not_not : (b : Bool) → not (not b) ≡ b
 not_not true = refl

@@ -1,10 +1,10 @@
 -- Lemmas on what the policies gather.
-use Rattle.std.proofs.Common.{◌≡◌, ℕ, ◌+◌, ◌<◌, Bool, true, false, not, ◌&&◌, if◌then◌else◌, List, [], ◌∷◌, ◌++◌, length, map, filter, take, Some, Ok, Err, refl, sym, ap, ap₂, option_map, ◌∙◌, add-one, append-nil, get_or}
+use Rattle.std.proofs.Common.{◌≡◌, ℕ, ◌+◌, Bool, true, false, not, ◌&&◌, if◌then◌else◌, List, [], ◌∷◌, ◌++◌, map, filter, take, Some, Ok, Err, refl, sym, ap, ◌∙◌, add-one, append-nil}
 use Rattle.std.specs.List.{slice_get, cons_option}
 use Rattle.std.proofs.Math.Seq.{take-suc}
 use Rattle.std.proofs.lemmas.List.{map-append}
 use Rattle.std.proofs.lemmas.List.Elements.{filter-append, filter_map-append}
-use Rattle.std.proofs.lemmas.Option.{slice_get_within, get_or_from_slice_get, slice_get_read, slice_get-map}
+use Rattle.std.proofs.lemmas.Option.{slice_get_within, get_or_from_slice_get}
 use Rattle.cedar_value.specs.Datum.{Datum, boolean}
 use Rattle.cedar_value.specs.declared.request.Request.{Request}
 use Rattle.cedar_ast.specs.declared.effect.Effect.{Effect}
@@ -12,10 +12,8 @@ use Rattle.cedar_ast.specs.declared.effect.Effect.TheVariants.{Permit, Forbid}
 use Rattle.cedar_ast.specs.Answer.{Answer}
 use Rattle.cedar_ast.specs.PolicyTree.{PolicyTree}
 use Rattle.cedar_ast.specs.Response.{ErringTree, meaning, is_true, is_permit, permits, forbids, erring_by, erring_of}
-use Rattle.cedar_code.specs.declared.instruction.Instruction.{Instruction}
-use Rattle.cedar_code.specs.CodeView.{CodeView}
-use Rattle.cedar_cli.specs.Codes.{policy_code, AreCodesOf}
-use Rattle.cedar_cli.specs.Tally.{TallyTree, ids_where, tally_of, Verdict, verdict_of, entered}
+use Rattle.cedar_machine.specs.Verdict.{Verdict, verdict_of}
+use Rattle.cedar_cli.specs.Private.Tally.{TallyTree, ids_where, tally_of, entered}
 
 -- one more element of a list
 pub take-next : {X : Type 0} (xs : List X) (i : ℕ) (x : X) → slice_get xs i ≡ Some x → take (i + 1) xs ≡ take i xs ++ x ∷ []
@@ -70,25 +68,3 @@ tally_of-next q ps i p t t' id effect v at was is same_id same_effect same_verdi
     ∙ rw (was, same_id, same_effect, same_verdict) refl
     ∙ sym (tally_of-append q (take i ps) p)
     ∙ ap (tally_of q) (sym (take-next ps i p (sym at)))
-
--- the code at a policy's place is the policy's
-pub code_at_place : (ps : List PolicyTree) (cs : List CodeView) (i : ℕ) (p : PolicyTree) (c : CodeView)
-    → AreCodesOf ps cs → Some p ≡ slice_get ps i → i < length cs → c ≡ get_or cs i c → c.instructions ≡ policy_code p
-code_at_place ps cs i p c h at low is =
-    let here : slice_get cs i ≡ Some c = slice_get_read cs (length cs) i c refl low is in
-    let code : Some c.instructions ≡ slice_get (map (λ (c : CodeView). c.instructions) cs) i =
-    sym (slice_get-map (λ (c : CodeView). c.instructions) cs i ∙ ap (option_map (λ (c : CodeView). c.instructions)) here) in
-    let policy : slice_get (map policy_code ps) i ≡ Some (policy_code p) =
-    slice_get-map policy_code ps i ∙ ap (option_map policy_code) (sym at) in
-    let both : Some c.instructions ≡ Some (policy_code p) = code ∙ ap (λ (codes : List (List Instruction)). slice_get codes i) h ∙ policy in
-    cc both
-
--- one more code
-pub AreCodesOf-next : (ps : List PolicyTree) (i : ℕ) (p : PolicyTree) (cs cs' : List CodeView) (c : CodeView)
-    → AreCodesOf (take i ps) cs → Some p ≡ slice_get ps i → cs' ≡ cs ++ c ∷ [] → c.instructions ≡ policy_code p → AreCodesOf (take (i + 1) ps) cs'
-AreCodesOf-next ps i p cs cs' c h at is same =
-    ap (map (λ (c : CodeView). c.instructions)) is
-    ∙ map-append (λ (c : CodeView). c.instructions) cs (c ∷ [])
-    ∙ ap₂ (λ (xs ys : List (List Instruction)). xs ++ ys) h (ap (λ (code : List Instruction). code ∷ []) same)
-    ∙ sym (map-append policy_code (take i ps) (p ∷ []))
-    ∙ ap (map policy_code) (sym (take-next ps i p (sym at)))

@@ -5,7 +5,7 @@ use Rattle.json.specs.Print.{print}
 use Rattle.serde_json.specs.Data.{Data}
 use Rattle.serde_json.specs.Written.{compact_text}
 use Rattle.serde_json.proofs.Texts.{print-outline}
-use Rattle.cedar_cli.specs.Tokens.{data_tokens}
+use Rattle.cedar_cli.specs.Private.Tokens.{data_tokens}
 
 -- the tokens of a value, printed behind what stood before, are its compact text there
 pub text_behind : {E : Type 0} (r w : Result (Unit {0}) E) (new old before : List ℕ) (none tokens : List Token) (d : Data)

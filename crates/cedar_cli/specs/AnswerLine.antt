@@ -1,35 +1,15 @@
--- The JSON of an answer (Cedar language reference, authorization; RFC 8259).
-use Rattle.std.specs.Prelude.{ℕ, List, codes, map}
-use Rattle.serde_json.specs.Data.{Data, number, unsigned, string, array, object, no_members, member}
-use Rattle.serde_json.specs.View.{items_of}
-use Rattle.cedar_ast.specs.declared.decision.Decision.{Decision}
-use Rattle.cedar_ast.specs.declared.decision.Decision.TheVariants.{Allow, Deny}
-use Rattle.cedar_ast.specs.declared.error.EvaluationError.{EvaluationError}
-use Rattle.cedar_ast.specs.declared.error.EvaluationError.TheVariants.{Overflow, MissingEntity, MissingAttribute, «Type», Decimal}
-use Rattle.cedar_ast.specs.Response.{ErringTree, ResponseTree}
+-- What answers a request line.
+use Rattle.std.specs.Prelude.{◌≡◌, ◌⊎◌, ℕ, List, []}
+use Rattle.serde_json.specs.Written.{compact_text}
+use Rattle.cedar_value.specs.declared.request.Request.{Request}
+use Rattle.cedar_ast.specs.PolicyTree.{PolicyTree}
+use Rattle.cedar_ast.specs.Response.{response}
+use Rattle.cedar_cli.specs.AnswerJson.{response_data, refused_data}
+use Rattle.cedar_cli.specs.RequestLine.{Denotes, HasLineFault}
 
-abbrev pub decision_name : Decision → List ℕ
-decision_name Allow = codes "allow"
-decision_name Deny = codes "deny"
-
-abbrev pub error_name : EvaluationError → List ℕ
-error_name Overflow = codes "overflow"
-error_name MissingEntity = codes "missing_entity"
-error_name MissingAttribute = codes "missing_attribute"
-error_name «Type» = codes "type"
-error_name Decimal = codes "decimal"
-
--- `{"error":E,"policy":ID}`
-abbrev pub erring_data : ErringTree → Data
-erring_data e = object (member (codes "error") (string (error_name e.error)) (member (codes "policy") (string e.id) no_members))
-
--- `{"decision":D,"determining":[ID, ..],"erring":[..]}`
-abbrev pub response_data : ResponseTree → Data
-response_data r =
-    object (member (codes "decision") (string (decision_name r.decision))
-    (member (codes "determining") (array (items_of (map string r.determining)))
-    (member (codes "erring") (array (items_of (map erring_data r.erring))) no_members)))
-
--- `{"refused":N}`
-abbrev pub refused_data : ℕ → Data
-refused_data n = object (member (codes "refused") (number (unsigned n)) no_members)
+-- The text answers the line by these policies: it is the response to the request that the line denotes, over a world without
+-- entities, or it is the refusal whose fault the line has (Cedar language reference, authorization).
+abbrev pub AnswersLine : List PolicyTree → List ℕ → List ℕ → Type 0
+AnswersLine policies line text =
+    ((q : Request) × Denotes line q × (text ≡ compact_text (response_data (response policies q []))))
+    ⊎ ((number : ℕ) × HasLineFault line number × (text ≡ compact_text (refused_data number)))

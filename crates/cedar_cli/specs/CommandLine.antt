@@ -3,14 +3,14 @@ use Rattle.std.specs.Prelude.{Bool, true, codes, Some}
 use Rattle.clap.specs.Words.{App, Rule, Text, new_app, new_rule, with_rule, with_subcommand}
 use Rattle.clap.specs.Simple.{on_top}
 
--- `--name FILE`
+-- The option `--name FILE`, which takes one value, called FILE in the help, and has to be there where it is required (clap, `Arg::long`).
 abbrev pub file_rule : Text → Bool → Rule
-file_rule name required = record (new_rule name) { long = Some name; required = required }
+file_rule name required = record (new_rule name) { long = Some name; value_names = 1; required = required }
 
--- `authorize --policies FILE`
+-- The subcommand `authorize --policies FILE` (own).
 abbrev pub authorize_app : App
 authorize_app = with_rule (new_app (codes "authorize")) (file_rule (codes "policies") true)
 
--- `cedar` with a subcommand
+-- The program: `cedar` and one subcommand, which has to be there; `--version` tells its version (own).
 abbrev pub program : App
-program = with_subcommand (on_top (λ s. record s { subcommand_required = true }) (new_app (codes "cedar"))) authorize_app.top
+program = with_subcommand (on_top (λ s. record s { has_version = true; subcommand_required = true }) (new_app (codes "cedar"))) authorize_app.top

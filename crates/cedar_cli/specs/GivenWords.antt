@@ -6,10 +6,12 @@ use Rattle.cedar_cli.specs.declared.options.Subcommand.{Subcommand}
 use Rattle.cedar_cli.specs.declared.options.Subcommand.TheVariants.{Authorize}
 use Rattle.cedar_cli.specs.declared.options.Words.{Words}
 
+-- The word that names a subcommand (own).
 abbrev pub subcommand_name : Subcommand → Text
 subcommand_name Authorize = codes "authorize"
 
--- the words name this subcommand, and these files in its options
+-- The words name this subcommand, and these files in its options: its rows of matches hold each file at its option's name,
+-- and none where the option isn't used (clap, `ArgMatches::subcommand` and `ArgMatches::get_one`).
 pub record AreGiven (words : List Text) (w : Words) : Type 0 where
   pub rows : List Row
   pub subcommand : subcommand_of program words ≡ Some (subcommand_name w.subcommand, rows)

@@ -2,7 +2,7 @@
 use Rattle.cedar_cli.specs.declared.files.Role.{Role}
 use Rattle.cedar_cli.specs.declared.files.Role.TheVariants.{Schema, Policies, Links, Entities}
 
--- one of four, by its role
+-- The one of four that belongs to a role: schema, policies, links, entities (own).
 abbrev pub by_role : {X : Type 0} → X → X → X → X → Role → X
 by_role s p l e Schema = s
 by_role s p l e Policies = p

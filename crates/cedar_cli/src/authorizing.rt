@@ -3,24 +3,22 @@ ghost use Rattle.std.specs.Prelude.{◌≡◌, ◌⊎◌, ◌-◌, ◌<◌, ◌^
 ghost use Rattle.std.specs.Io.KnownBytes.{Keeps};
 ghost use Rattle.serde_json.specs.Written.{compact_text};
 ghost use Rattle.cedar_ast.specs.PolicySetTree.{PolicySetTree};
-ghost use Rattle.cedar_cli.specs.Answers.{Answers};
-ghost use Rattle.cedar_cli.specs.AnswerText.{IsAnswerText, Writes};
-ghost use Rattle.cedar_cli.specs.Lines.{line_feed};
+ghost use Rattle.cedar_cli.specs.AnswerLine.{AnswersLine};
+ghost use Rattle.cedar_lines.specs.AnswerText.{IsAnswerText, Writes};
+ghost use Rattle.cedar_lines.specs.Lines.{line_feed};
 ghost use Rattle.cedar_cli.specs.PolicyFile.{HasRefusal, HoldsPolicies};
 ghost use Rattle.cedar_cli.specs.Refusal.{refusal_data};
 ghost use Rattle.cedar_cli.specs.Standing.{BeginsRefusal, Stands, StandsWhole};
-ghost use Rattle.cedar_cli.specs.Unread.{IfRefused};
+ghost use Rattle.cedar_cli.specs.Private.Unread.{IfRefused};
 
 use crate::ending::End;
 use crate::files::{FileFault, Files, Role};
-use crate::first::fault::ServeFault;
-use crate::first::output::flush;
-use crate::first::sink::Sink;
-use crate::first::source::Source;
-use crate::first::{Ready, serve};
+use crate::ready::Ready;
 use crate::refusal::{FileRefusal, refusal_line};
+use crate::serving::serve;
 use cedar_ast::PolicySet;
 use cedar_code::CodeFault;
+use cedar_lines::{ServeFault, Sink, Source, flush};
 use cedar_parser::parse;
 use std::alloc::Global;
 
@@ -94,7 +92,8 @@ fn refuse<K: Sink>(alloc: Global, role: Role, refusal: FileRefusal, sink: &mut K
 ///
 /// `Done` where all lines were answered. `Refused` where the policy file is refused: one line, as
 /// `{"file":"policies","offset":43,"refused":104}`, tells by which number and where the fault is (105, with no place, where
-/// it is no UTF-8; 701, with none, where the code of a policy is too long). `CommandLine` where no policy file is named.
+/// it is no UTF-8; 701, with none, where the code of a policy is too long), and nothing of the source is read. `CommandLine`
+/// where no policy file is named: nothing is read, and nothing written.
 /// `Device` where it can't be read, or where the source or the sink failed; `Memory` where memory ran out. What was
 /// answered before stays written: whole lines after `Memory`, and after `Device` perhaps a part of a line too.
 pub fn authorize<F: Files, S: Source, K: Sink>(
@@ -108,11 +107,13 @@ pub fn authorize<F: Files, S: Source, K: Sink>(
 
     ensures done { result ≡ End.Done → (set : PolicySetTree)
         × IfSome (F.holds files.now Role.Policies) (λ held. HoldsPolicies held set) × IfSome (S.left source.old) (λ input.
-        Writes (K.written sink.old) (K.written sink.new) (IsAnswerText (Answers set.policies) input)) }
+        Writes (K.written sink.old) (K.written sink.new) (IsAnswerText (AnswersLine set.policies) input)) }
     ensures refused { result ≡ End.Refused → (refusal : FileRefusal)
         × IfSome (F.holds files.now Role.Policies) (λ held. HasRefusal held refusal)
         × Writes (K.written sink.old) (K.written sink.new) (λ text. text ≡ compact_text (refusal_data Role.Policies refusal) ++ line_feed ∷ []) }
+    ensures unread { result ≡ End.Refused → source.new ≡ source.old }
     ensures unnamed { result ≡ End.CommandLine → IfSome (F.holds files.now Role.Policies) (λ held. held ≡ None) }
+    ensures untouched { result ≡ End.CommandLine → (source.new ≡ source.old) × (sink.new ≡ sink.old) }
     ensures device { result ≡ End.Device → (F.holds files.now Role.Policies ≡ None)
         ⊎ (S.failed source.old < S.failed source.new) ⊎ (K.failed sink.old < K.failed sink.new) }
     ensures stands { result ≡ End.Device

@@ -1,23 +1,30 @@
 //! `cedar`, the program: answers request lines by policies.
 #![tactic(auto)]
 
+pub mod answer;
 pub mod authorizing;
 mod command;
 pub mod command_line;
 pub mod ending;
 pub mod files;
-pub mod first;
+pub mod line_fault;
 pub mod options;
+mod part;
+pub mod ready;
 pub mod refusal;
+pub mod request_line;
+pub mod response;
+pub mod serving;
+pub mod tally;
 #[cfg(test)]
 mod tests;
 
 use authorizing::authorize;
+use cedar_lines::{StdSink, StdSource};
 use clap::error::ErrorKind;
 use command_line::words;
 use ending::End;
 use files::NamedFiles;
-use first::standard::{StdSink, StdSource};
 use options::Subcommand;
 use std::process::ExitCode;
 use std::{env, io};

@@ -1,9 +1,9 @@
 //! The line that tells which file is refused.
 ghost use Rattle.std.specs.Prelude.{◌≡◌, List, ◌++◌, [], ◌∷◌, None, Some, IfOk, OnOk};
 ghost use Rattle.serde_json.specs.Written.{compact_text};
-ghost use Rattle.cedar_cli.specs.Lines.{line_feed};
+ghost use Rattle.cedar_lines.specs.Lines.{line_feed};
 ghost use Rattle.cedar_cli.specs.Refusal.{file_name, refusal_of, refusal_data};
-ghost use Rattle.cedar_cli.specs.Tokens.{data_tokens};
+ghost use Rattle.cedar_cli.specs.Private.Tokens.{data_tokens};
 
 use crate::files::Role;
 use json::Writer;

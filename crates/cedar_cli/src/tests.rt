@@ -3,13 +3,15 @@ use crate::authorizing::authorize;
 use crate::command_line::words;
 use crate::ending::End;
 use crate::files::MemoryFiles;
-use crate::first::memory::{SliceSource, VecSink};
-use crate::first::piecewise::{PiecewiseSink, PiecewiseSource};
-use crate::first::sink::Sink;
 use crate::options::Subcommand;
+use cedar_lines::{PiecewiseSink, PiecewiseSource, Sink, SliceSource, VecSink};
+use peer::{PeerSink, PeerSource};
 use std::alloc::Global;
+use std::cell::Cell;
 use std::process::Abort;
 use std::test::Fail;
+
+mod peer;
 
 /// A request line.
 const Q0: &[u8] =
@@ -184,6 +186,24 @@ fn each_write_may_fail(rt: HostRuntime) -> Result<(), Fail> {
 }
 
 #[test]
+fn answers_each_line_before_it_reads_on(rt: HostRuntime) -> Result<(), Fail> {
+    let alloc = rt.alloc();
+    let mut input = Vec::new(alloc);
+    for _ in 0..3 {
+        input.extend_from_slice(Q0)?;
+        input.push(b'\n')?;
+    }
+    let answered = Cell::new(0);
+    let mut source = PeerSource::new(&input, Q0.len() + 1, &answered);
+    let mut sink = PeerSink::new(&answered);
+    let end = authorize(alloc, &policies(ALL), &mut source, &mut sink);
+    assert_eq!(rt; end, End::Done);
+    assert_eq!(rt; answered.get(), 3);
+    assert!(rt; !source.has_waited());
+    Ok(())
+}
+
+#[test]
 fn a_sink_may_take_nothing(rt: HostRuntime) {
     let mut source = SliceSource::new(Q0);
     let mut sink = PiecewiseSink::new(rt.alloc(), 0, 0);
@@ -250,7 +270,13 @@ fn reads_the_command_line(rt: HostRuntime) -> Result<(), Fail> {
     for given in refused {
         assert!(rt; words(rt.alloc(), given).is_err_and(|error| error.use_stderr()));
     }
-    let help = ["cedar", "--help"];
-    assert!(rt; words(rt.alloc(), &help).is_err_and(|error| !error.use_stderr()));
+    let told: [&[&str]; 3] = [
+        &["cedar", "--help"],
+        &["cedar", "authorize", "--help"],
+        &["cedar", "--version"],
+    ];
+    for given in told {
+        assert!(rt; words(rt.alloc(), given).is_err_and(|error| !error.use_stderr()));
+    }
     Ok(())
 }

@@ -1,6 +1,7 @@
-mod Falls
-mod Taken
-mod Sizes
-mod Members
 mod Emitted
+mod Falls
+mod Members
+pub mod OneEnd
 mod Runs
+mod Sizes
+mod Taken

@@ -6,6 +6,7 @@ ghost use Rattle.cedar_code.specs.Code.{code_at, code_all, code_entries, code_of
 use crate::code::Code;
 use crate::fault::CodeFault;
 use crate::instruction::Instruction;
+use crate::literal_set::literal_sets;
 use cedar_ast::{Expr, ExprKind};
 use cedar_value::Text;
 use std::alloc::{AllocError, Global};
@@ -26,9 +27,11 @@ pub fn compile(alloc: Global, expression: &Expr) -> Result<Code, CodeFault>
     let mut instructions = Vec::new(alloc);
     emit(alloc, &mut instructions, expression)?;
     let height = greatest_height(expression);
+    let sets = literal_sets(alloc, &instructions)?;
     Ok(Code {
         instructions,
         height,
+        sets,
     })
 }
 

@@ -1,5 +1,13 @@
 //! Flat code, its compiler, and the law that joins an execution to evaluation.
 //!
+//! ```rust
+//! use cedar_code::compile;
+//!
+//! // `true && false`: `Push true`, `And 4`, `Push false`, `Test`
+//! let code = compile(alloc, &expression)?;
+//! assert_eq!(rt; (code.instructions().len(), code.height()), (4, 1));
+//! ```
+//!
 //! The code of an expression and the steps of an execution stand in `specs/`.
 #![tactic(auto)]
 
@@ -8,6 +16,7 @@ mod compiler;
 mod fault;
 mod instruction;
 mod law;
+mod literal_set;
 mod outcome;
 
 pub use code::Code;
@@ -15,4 +24,5 @@ pub use compiler::{MOST_INSTRUCTIONS, compile};
 pub use fault::CodeFault;
 pub use instruction::Instruction;
 pub use law::execution_is_evaluation;
+pub use literal_set::LiteralSet;
 pub use outcome::Outcome;

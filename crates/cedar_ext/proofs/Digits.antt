@@ -7,7 +7,7 @@ use Rattle.std.proofs.lemmas.List.{take_more}
 use Rattle.std.proofs.lemmas.Grind.{common_steps}
 use Rattle.cedar_ext.specs.Decimals.{number_after, number_of, is_number, signed_units}
 use Rattle.cedar_ext.specs.DecimalOf.{units_of}
-use Rattle.cedar_ext.specs.DigitsWithin.{number_within}
+use Rattle.cedar_ext.specs.Private.DigitsWithin.{number_within}
 use Rattle.std.proofs.lemmas.Bool.Decides.{nat_tests}
 
 pub number_after-push : (n : ℕ) (ds : List ℕ) (d : ℕ) → number_after n (ds ++ d ∷ []) ≡ number_after n ds * 10 + (d - 48)

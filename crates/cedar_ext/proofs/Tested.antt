@@ -1,6 +1,7 @@
 -- The test of matching decides whether a text can be cut.
 use Rattle.std.proofs.Common.{◌≡◌, ℕ, Bool, true, false, List, [], ◌∷◌, ◌++◌, refl, sym, ap, ◌∙◌, ◌↔◌, ◌⊎◌, inl, inr}
-use Rattle.std.specs.Prelude.{IsTrue, ◌&&◌, ◌||◌, nat_eq}
+use Rattle.std.specs.Prelude.{IsTrue, ◌&&◌, nat_eq}
+use Rattle.std.specs.Bool.{Decides}
 use Rattle.std.specs.Cmp.Derive.{both_true}
 use Rattle.std.proofs.lemmas.Bool.{or_left, or_right, or_cases, eqb-true, eq-eqb}
 use Rattle.cedar_ext.specs.declared.pattern.Element.{Element}
@@ -59,3 +60,6 @@ same_truth false false go back = refl
 -- what answers whether a text can be cut answers as the test does
 pub is_match-gives : (b : Bool) (es : List Element) (cs : List ℕ) → (IsTrue b ↔ IsMatch es cs) → b ≡ is_match es cs
 is_match-gives b es cs both = same_truth b (is_match es cs) (λ e. cut-tested es cs (both.0 e)) (λ e. both.1 (tested-cut es cs e))
+
+pub is_match-Decides : (es : List Element) (cs : List ℕ) → Decides (is_match es cs) (IsMatch es cs)
+is_match-Decides es cs = (tested-cut es cs, cut-tested es cs)

@@ -1,4 +1,4 @@
 pub mod DecimalOf
 pub mod Decimals
-pub mod DigitsWithin
 pub mod Matching
+pub mod Private

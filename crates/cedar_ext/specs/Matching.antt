@@ -3,22 +3,24 @@ use Rattle.std.specs.Prelude.{◌≡◌, ℕ, nat_eq, Bool, true, false, ◌&&�
 use Rattle.cedar_ext.specs.declared.pattern.Element.{Element}
 use Rattle.cedar_ext.specs.declared.pattern.Element.TheVariants.{Character, Star}
 
--- the piece of the text that an element may have: a character that one alone, a star any
+-- The piece of a text that an element may have: a character that one alone, a star any (Cedar language reference, like).
 abbrev pub IsPiece : Element → List ℕ → Type 0
 IsPiece (Character c) piece = piece ≡ c ∷ []
 IsPiece Star piece = Unit {0}
 
--- the characters can be cut into pieces, one for each element
+-- The characters can be cut into pieces, one for each element (Cedar language reference, like; cedar-spec, Lean:
+-- Cedar.Spec.Wildcard).
 abbrev pub IsMatch : List Element → List ℕ → Type 0
 IsMatch [] cs = cs ≡ []
 IsMatch (e ∷ es) cs = (piece rest : List ℕ) × (cs ≡ piece ++ rest) × IsPiece e piece × IsMatch es rest
 
--- whether the test holds of the characters, or of what is left behind some of the first ones
+-- Whether a test holds of the characters, or of what is left behind some of the first ones (a step of `is_match`).
 abbrev pub on_some_rest : (List ℕ → Bool) → List ℕ → Bool
 on_some_rest test [] = test []
 on_some_rest test (c ∷ cs) = test (c ∷ cs) || on_some_rest test cs
 
--- whether the characters can be so cut: the test that evaluation computes with
+-- Whether the characters can be so cut: the test that evaluation computes with; `is_match_tells_cuts` ties it to
+-- `IsMatch` (Cedar language reference, like).
 abbrev pub is_match : List Element → List ℕ → Bool
 is_match [] [] = true
 is_match [] (c ∷ cs) = false

@@ -2,7 +2,7 @@
 ghost use Rattle.std.specs.Prelude.{◌≡◌, ◌<◌, ◌≤◌, ◌-◌, ◌^◌, ◌==◌, position, length, IfSome, IfNone, ℤ};
 ghost use Rattle.cedar_ext.specs.Decimals.{IsDecimal, signed_units};
 ghost use Rattle.cedar_ext.specs.DecimalOf.{decimal_of, units_of};
-ghost use Rattle.cedar_ext.specs.DigitsWithin.{number_within};
+ghost use Rattle.cedar_ext.specs.Private.DigitsWithin.{number_within};
 
 use std::marker::Model;
 

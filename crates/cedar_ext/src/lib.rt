@@ -1,11 +1,22 @@
 //! Decimals and patterns of the Cedar policy language.
 //!
+//! ```rust
+//! use cedar_ext::{Decimal, Element, Pattern};
+//!
+//! let price = Decimal::read("1.5").unwrap();
+//! assert_eq!(rt; price.units(), 15000);
+//! let jpg = Pattern::new(vec![in alloc; Element::Star, Element::Character('j'), Element::Character('p')]?);
+//! assert!(rt; jpg.matches("a.jp"));
+//! ```
+//!
 //! A contract sees a decimal as its number of ten-thousandths, and a pattern as the list of its elements.
 //! Nothing here takes memory but the copy of a pattern.
 #![tactic(auto)]
 
 mod decimal;
+mod laws;
 mod pattern;
 
 pub use decimal::Decimal;
+pub use laws::{decimal_of_tells_decimals, is_match_tells_cuts};
 pub use pattern::{Element, Pattern};

@@ -67,6 +67,29 @@ impl Pattern {
     }
 }
 
+impl PartialEq for Pattern {
+    ghost use Rattle.std.specs.Cmp.{partial_equiv_from_equiv};
+    ghost use Rattle.cedar_ext.specs.Private.SamePattern.{pattern_equivalence, same_pattern};
+
+    ghost eq = { same_pattern };
+
+    ghost laws = { partial_equiv_from_equiv pattern_equivalence };
+
+    /// Whether the two have the same elements. Takes no memory.
+    fn eq(&self, other: &Self) -> bool
+        ensures gives { result ≡ same_pattern self.now other.now }
+        ensures equal { IsTrue result ↔ (self.now ≡ other.now) }
+    {
+        self.elements == other.elements
+    }
+}
+
+impl Eq for Pattern {
+    ghost use Rattle.cedar_ext.specs.Private.SamePattern.{pattern_equivalence};
+
+    ghost laws = { pattern_equivalence };
+}
+
 // Whether the elements match the text: each character up to the first star, and then what follows it.
 fn matches_elements(elements: &[Element], text: &str) -> bool
     ensures { IsTrue result ↔ IsMatch elements.now (chars text.now) }

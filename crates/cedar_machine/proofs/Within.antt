@@ -1,8 +1,8 @@
 -- Being in a set of entities: being one of them, or below one of them.
-use Rattle.std.proofs.Common.{◌≡◌, Bool, true, false, ◌||◌, List, [], ◌∷◌, Ok, Err, refl, sym, ap, ap₂, ◌∙◌}
+use Rattle.std.proofs.Common.{◌≡◌, Bool, true, false, ◌||◌, List, [], ◌∷◌, Ok, Err, refl, ap, ap₂, ◌∙◌}
 use Rattle.std.specs.List.{list_all, list_any}
-use Rattle.cedar_value.specs.Datum.{Datum, boolean, long, text, uid, set, record_of, decimal, same, members_of, list_of}
-use Rattle.cedar_value.specs.Lists.{list_of-members_of}
+use Rattle.cedar_value.specs.Datum.{Datum, boolean, long, text, uid, set, record_of, decimal, same, members_of}
+use Rattle.cedar_value.specs.Private.Lists.{list_of-members_of}
 use Rattle.cedar_value.specs.Sets.{has_member}
 use Rattle.cedar_value.specs.World.{World, below_datum, below_any}
 use Rattle.cedar_value.specs.declared.uid.Uid.{Uid}

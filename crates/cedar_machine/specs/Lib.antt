@@ -1,5 +1,4 @@
-pub mod Held
 pub mod MachineView
+pub mod Private
 pub mod Progress
-pub mod StackView
-pub mod State
+pub mod Verdict

@@ -1,8 +1,22 @@
 //! The machine that runs flat code.
 //!
+//! ```rust
+//! use cedar_machine::{Machine, Operands, Progress, run};
+//!
+//! // All at once, with the end and the count of instructions:
+//! let run = run(alloc, &code, &request, &store)?;
+//! // Only whether a condition is true, over a stack that the next one uses again:
+//! let satisfied = Operands::new(alloc).decide(alloc, &code, &request, &store)?;
+//! // Or one instruction after another:
+//! let mut machine = Machine::new(alloc, &code, &request, &store)?;
+//! while machine.step()? == Progress::Going {}
+//! ```
+//!
 //! What contracts see of a machine stands in `specs/`; the steps of an execution stand in `cedar_code`.
 #![tactic(auto)]
 
+mod deciding;
+mod driving;
 mod entry;
 mod execution;
 mod machine;
@@ -11,5 +25,6 @@ mod operators;
 mod stack;
 mod state;
 
+pub use deciding::Operands;
 pub use execution::Run;
 pub use machine::{Machine, Progress, run};

@@ -8,12 +8,12 @@ ghost use Rattle.cedar_code.specs.Code.{code_of};
 ghost use Rattle.cedar_ast.specs.Evaluation.{eval};
 ghost use Rattle.cedar_ast.specs.Expression.{Expression};
 
+use crate::driving::{drive, outcome_at};
 use crate::execution::Run;
 use crate::stack::Stack;
 use crate::state::{State, perform};
 use cedar_code::{Code, Outcome, execution_is_evaluation};
-use cedar_store::Hierarchy;
-use cedar_value::Request;
+use cedar_value::{Hierarchy, Request};
 use std::alloc::{AllocError, Global};
 use std::marker::Model;
 
@@ -42,15 +42,15 @@ pub struct Machine<'a, H: Hierarchy> {
 impl<'a, H: Hierarchy> Model for Machine<'a, H> {
     ghost use Rattle.cedar_machine.specs.MachineView.{MachineView};
     ghost use Rattle.std.specs.Coded.{codes};
-    ghost use Rattle.cedar_value.specs.DatumCode.{datum_code};
+    ghost use Rattle.cedar_value.specs.Private.DatumCode.{datum_code};
 
     ghost Value = { MachineView };
 
     ghost coded = { Prim.hlevel (codes, datum_code) };
 
     ghost use Rattle.cedar_code.specs.Machine.{Steps, start};
-    ghost use Rattle.cedar_machine.specs.State.{configuration_of};
-    ghost use Rattle.cedar_machine.specs.MachineView.{IsSound};
+    ghost use Rattle.cedar_machine.specs.Private.State.{configuration_of};
+    ghost use Rattle.cedar_machine.specs.Private.Sound.{IsSound};
 
     ghost view = { λ m. record {
       code = m.code.now;
@@ -77,7 +77,6 @@ impl<'a, H: Hierarchy> Machine<'a, H> {
         ensures world { IfOk result (λ m. m.world ≡ H.world hierarchy.now) }
         ensures configuration { IfOk result (λ m. m.configuration ≡ start) }
         ensures executed { IfOk result (λ m. m.executed ≡ 0) }
-        ensures came { IfOk result CameBySteps }
         ensures succeeds { code.now.height ≤ 16 → IsOk result }
     {
         let stack = Stack::with_room(alloc, code.height())?;
@@ -99,8 +98,8 @@ impl<'a, H: Hierarchy> Machine<'a, H> {
         ensures progress { IfOk result (λ p. p ≡ progress_of self.new.configuration) }
         ensures refused { OnErr result (self.new ≡ self.old) }
         ensures succeeds { StepTakesNoMemory self.old → IsOk result }
-        ensures came { CameBySteps self.new }
     {
+        // The law of the code: it runs nothing.
         execution_is_evaluation();
         let State::Going(place) = self.state else {
             return Ok(Progress::Ended);
@@ -108,6 +107,7 @@ impl<'a, H: Hierarchy> Machine<'a, H> {
         self.state = perform(
             self.alloc,
             self.code.instructions(),
+            self.code.literal_sets(),
             self.request,
             self.hierarchy,
             place,
@@ -122,11 +122,19 @@ impl<'a, H: Hierarchy> Machine<'a, H> {
 
     /// How many instructions have been executed.
     pub fn executed(&self) -> u32
-        ensures value { result ≡ self.now.executed }
-        ensures came { CameBySteps self.now }
+        ensures { result ≡ self.now.executed }
     {
-        execution_is_evaluation();
         self.executed
+    }
+
+    /// A machine came to where it is by as many steps as it counts, and they are no more than its code has instructions.
+    /// It is a law of each machine, and the function does nothing.
+    pub fn well_formedness(&self)
+        ensures { CameBySteps self.now }
+    {
+        // The law of the code: it runs nothing.
+        execution_is_evaluation();
+        let _state = &self.state;
     }
 
     /// A copy of the end, or none before it. 1: memory was refused; of a Boolean, a number or an error it takes none.
@@ -163,14 +171,11 @@ pub fn run<H: Hierarchy>(
         → EachEndIsPlain code.now.instructions request.now (H.world hierarchy.now) → IsOk result }
 {
     execution_is_evaluation();
-    let mut machine = Machine::new(alloc, code, request, hierarchy)?;
-    let mut progress = Progress::Going;
-    'steps: while progress == Progress::Going {
-        progress = machine.step()?;
-    }
-    let executed = machine.executed();
-    match machine.outcome(alloc)? {
-        Some(outcome) => Ok(Run { outcome, executed }),
-        None => unreachable!(),
-    }
+    let mut stack = Stack::with_room(alloc, code.height())?;
+    let end = drive(alloc, code, request, hierarchy, &mut stack)?;
+    let outcome = outcome_at(alloc, end.state, &stack)?;
+    Ok(Run {
+        outcome,
+        executed: end.executed,
+    })
 }

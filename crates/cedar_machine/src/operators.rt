@@ -10,8 +10,7 @@ ghost use Rattle.cedar_ast.specs.Operators.{unary_of, binary_of, not_of, negativ
 use crate::entry::Entry;
 use cedar_ast::{BinaryOperator, EvaluationError, UnaryOperator};
 use cedar_ext::{Decimal, Pattern};
-use cedar_store::Hierarchy;
-use cedar_value::{Glance, Name, Uid, Value, ValueSet};
+use cedar_value::{Glance, Hierarchy, Name, Uid, Value, ValueSet};
 
 /// An operator's answer for its operand.
 pub fn unary<'a, H: Hierarchy>(
@@ -21,36 +20,35 @@ pub fn unary<'a, H: Hierarchy>(
 ) -> Result<Entry<'a>, EvaluationError>
     ensures { result ≡ unary_of (H.world hierarchy.now) operator.now operand.entry }
 {
-    let value = match operator {
-        UnaryOperator::Get(key) => return operand.into_attribute(key.as_str(), hierarchy),
-        UnaryOperator::Not => not(operand.glance())?,
-        UnaryOperator::Negate => negative(operand.glance())?,
-        UnaryOperator::Has(key) => has(hierarchy, key.as_str(), operand.glance())?,
-        UnaryOperator::Like(pattern) => like(pattern, operand.glance())?,
-        UnaryOperator::Is(ty) => is(ty, operand.glance())?,
-        UnaryOperator::Decimal => decimal(operand.glance())?,
-    };
-    Ok(Entry::made(value))
+    match operator {
+        UnaryOperator::Get(key) => operand.into_attribute(key.as_str(), hierarchy),
+        UnaryOperator::Not => not(operand.glance()),
+        UnaryOperator::Negate => negative(operand.glance()),
+        UnaryOperator::Has(key) => has(hierarchy, key.as_str(), operand.glance()),
+        UnaryOperator::Like(pattern) => like(pattern, operand.glance()),
+        UnaryOperator::Is(ty) => is(ty, operand.glance()),
+        UnaryOperator::Decimal => decimal(operand.glance()),
+    }
 }
 
 // `!`
-fn not(operand: Glance<'_>) -> Result<Value, EvaluationError>
+fn not(operand: Glance<'_>) -> Result<Entry<'static>, EvaluationError>
     ensures { result ≡ not_of (datum_seen operand.entry) }
 {
     match operand {
-        Glance::Boolean(truth) => Ok(Value::boolean(!truth)),
+        Glance::Boolean(truth) => Ok(Entry::boolean(!truth)),
         _ => Err(EvaluationError::Type),
     }
 }
 
 // `-`
-fn negative(operand: Glance<'_>) -> Result<Value, EvaluationError>
+fn negative(operand: Glance<'_>) -> Result<Entry<'static>, EvaluationError>
     ensures { result ≡ negative_of (datum_seen operand.entry) }
 {
     match operand {
         Glance::Long(number) => {
             let negative = number.checked_neg().ok_or(EvaluationError::Overflow)?;
-            Ok(Value::long(negative))
+            Ok(Entry::long(negative))
         }
         _ => Err(EvaluationError::Type),
     }
@@ -61,46 +59,46 @@ fn has<H: Hierarchy>(
     hierarchy: &H,
     key: &str,
     operand: Glance<'_>,
-) -> Result<Value, EvaluationError>
+) -> Result<Entry<'static>, EvaluationError>
     ensures { result ≡ has_in key.now (source (H.world hierarchy.now) (datum_seen operand.entry)) }
 {
     match operand {
-        Glance::Record(pairs) => Ok(Value::boolean(pairs.get(key).is_some())),
+        Glance::Record(pairs) => Ok(Entry::boolean(pairs.get(key).is_some())),
         Glance::Uid(entity) => match hierarchy.attributes(entity) {
-            Some(pairs) => Ok(Value::boolean(pairs.get(key).is_some())),
-            None => Ok(Value::boolean(false)),
+            Some(pairs) => Ok(Entry::boolean(pairs.get(key).is_some())),
+            None => Ok(Entry::boolean(false)),
         },
         _ => Err(EvaluationError::Type),
     }
 }
 
 // `like`
-fn like(pattern: &Pattern, operand: Glance<'_>) -> Result<Value, EvaluationError>
+fn like(pattern: &Pattern, operand: Glance<'_>) -> Result<Entry<'static>, EvaluationError>
     ensures { result ≡ like_of (datum_seen operand.entry) (is_match pattern.now) }
 {
     match operand {
-        Glance::String(text) => Ok(Value::boolean(pattern.matches(text.as_str()))),
+        Glance::String(text) => Ok(Entry::boolean(pattern.matches(text.as_str()))),
         _ => Err(EvaluationError::Type),
     }
 }
 
 // `is`
-fn is(ty: &Name, operand: Glance<'_>) -> Result<Value, EvaluationError>
+fn is(ty: &Name, operand: Glance<'_>) -> Result<Entry<'static>, EvaluationError>
     ensures { result ≡ is_of ty.now (datum_seen operand.entry) }
 {
     match operand {
-        Glance::Uid(entity) => Ok(Value::boolean(entity.ty == *ty)),
+        Glance::Uid(entity) => Ok(Entry::boolean(entity.ty == *ty)),
         _ => Err(EvaluationError::Type),
     }
 }
 
 // `decimal`
-fn decimal(operand: Glance<'_>) -> Result<Value, EvaluationError>
+fn decimal(operand: Glance<'_>) -> Result<Entry<'static>, EvaluationError>
     ensures { result ≡ decimal_of_value (datum_seen operand.entry) }
 {
     match operand {
         Glance::String(text) => match Decimal::read(text.as_str()) {
-            Some(number) => Ok(Value::decimal(number)),
+            Some(number) => Ok(Entry::decimal(number)),
             None => Err(EvaluationError::Decimal),
         },
         _ => Err(EvaluationError::Type),
@@ -113,11 +111,11 @@ pub fn binary<H: Hierarchy>(
     operator: BinaryOperator,
     left: Glance<'_>,
     right: Glance<'_>,
-) -> Result<Value, EvaluationError>
+) -> Result<Entry<'static>, EvaluationError>
     ensures { result ≡ binary_of (H.world hierarchy.now) operator (datum_seen left.entry) (datum_seen right.entry) }
 {
     match operator {
-        BinaryOperator::Equal => Ok(Value::boolean(left.same(right))),
+        BinaryOperator::Equal => Ok(Entry::boolean(left.same(right))),
         BinaryOperator::Less => less(left, right),
         BinaryOperator::LessEqual => less_equal(left, right),
         BinaryOperator::Add => add(left, right),
@@ -135,110 +133,113 @@ pub fn binary<H: Hierarchy>(
 }
 
 // `<`
-fn less(left: Glance<'_>, right: Glance<'_>) -> Result<Value, EvaluationError>
+fn less(left: Glance<'_>, right: Glance<'_>) -> Result<Entry<'static>, EvaluationError>
     ensures { result ≡ of_longs (λ m n. Ok (boolean (int_lt m n))) (datum_seen left.entry) (datum_seen right.entry) }
 {
     match (left, right) {
-        (Glance::Long(left), Glance::Long(right)) => Ok(Value::boolean(left < right)),
+        (Glance::Long(left), Glance::Long(right)) => Ok(Entry::boolean(left < right)),
         _ => Err(EvaluationError::Type),
     }
 }
 
 // `<=`
-fn less_equal(left: Glance<'_>, right: Glance<'_>) -> Result<Value, EvaluationError>
+fn less_equal(left: Glance<'_>, right: Glance<'_>) -> Result<Entry<'static>, EvaluationError>
     ensures { result ≡ of_longs (λ m n. Ok (boolean (int_le m n))) (datum_seen left.entry) (datum_seen right.entry) }
 {
     match (left, right) {
-        (Glance::Long(left), Glance::Long(right)) => Ok(Value::boolean(left <= right)),
+        (Glance::Long(left), Glance::Long(right)) => Ok(Entry::boolean(left <= right)),
         _ => Err(EvaluationError::Type),
     }
 }
 
 // `+`
-fn add(left: Glance<'_>, right: Glance<'_>) -> Result<Value, EvaluationError>
+fn add(left: Glance<'_>, right: Glance<'_>) -> Result<Entry<'static>, EvaluationError>
     ensures { result ≡ of_longs (λ m n. long_or_overflow (m +ℤ n)) (datum_seen left.entry) (datum_seen right.entry) }
 {
     match (left, right) {
         (Glance::Long(left), Glance::Long(right)) => {
             let sum = left.checked_add(right).ok_or(EvaluationError::Overflow)?;
-            Ok(Value::long(sum))
+            Ok(Entry::long(sum))
         }
         _ => Err(EvaluationError::Type),
     }
 }
 
 // `-`
-fn subtract(left: Glance<'_>, right: Glance<'_>) -> Result<Value, EvaluationError>
+fn subtract(left: Glance<'_>, right: Glance<'_>) -> Result<Entry<'static>, EvaluationError>
     ensures { result ≡ of_longs (λ m n. long_or_overflow (m -ℤ n)) (datum_seen left.entry) (datum_seen right.entry) }
 {
     match (left, right) {
         (Glance::Long(left), Glance::Long(right)) => {
             let difference = left.checked_sub(right).ok_or(EvaluationError::Overflow)?;
-            Ok(Value::long(difference))
+            Ok(Entry::long(difference))
         }
         _ => Err(EvaluationError::Type),
     }
 }
 
 // `*`
-fn multiply(left: Glance<'_>, right: Glance<'_>) -> Result<Value, EvaluationError>
+fn multiply(left: Glance<'_>, right: Glance<'_>) -> Result<Entry<'static>, EvaluationError>
     ensures { result ≡ of_longs (λ m n. long_or_overflow (m *ℤ n)) (datum_seen left.entry) (datum_seen right.entry) }
 {
     match (left, right) {
         (Glance::Long(left), Glance::Long(right)) => {
             let product = left.checked_mul(right).ok_or(EvaluationError::Overflow)?;
-            Ok(Value::long(product))
+            Ok(Entry::long(product))
         }
         _ => Err(EvaluationError::Type),
     }
 }
 
 // `lessThan`
-fn decimal_less(left: Glance<'_>, right: Glance<'_>) -> Result<Value, EvaluationError>
+fn decimal_less(left: Glance<'_>, right: Glance<'_>) -> Result<Entry<'static>, EvaluationError>
     ensures { result ≡ of_decimals int_lt (datum_seen left.entry) (datum_seen right.entry) }
 {
     match (left, right) {
-        (Glance::Decimal(left), Glance::Decimal(right)) => Ok(Value::boolean(left < right)),
+        (Glance::Decimal(left), Glance::Decimal(right)) => Ok(Entry::boolean(left < right)),
         _ => Err(EvaluationError::Type),
     }
 }
 
 // `lessThanOrEqual`
-fn decimal_less_equal(left: Glance<'_>, right: Glance<'_>) -> Result<Value, EvaluationError>
+fn decimal_less_equal(
+    left: Glance<'_>,
+    right: Glance<'_>,
+) -> Result<Entry<'static>, EvaluationError>
     ensures { result ≡ of_decimals int_le (datum_seen left.entry) (datum_seen right.entry) }
 {
     match (left, right) {
-        (Glance::Decimal(left), Glance::Decimal(right)) => Ok(Value::boolean(left <= right)),
+        (Glance::Decimal(left), Glance::Decimal(right)) => Ok(Entry::boolean(left <= right)),
         _ => Err(EvaluationError::Type),
     }
 }
 
 // `contains`
-fn contains(left: Glance<'_>, right: Glance<'_>) -> Result<Value, EvaluationError>
+fn contains(left: Glance<'_>, right: Glance<'_>) -> Result<Entry<'static>, EvaluationError>
     ensures { result ≡ of_set (λ ms. has_member ms (datum_seen right.entry)) (datum_seen left.entry) }
 {
     match left {
-        Glance::Set(members) => Ok(Value::boolean(members.has(right))),
+        Glance::Set(members) => Ok(Entry::boolean(members.has(right))),
         _ => Err(EvaluationError::Type),
     }
 }
 
 // `containsAll`
-fn contains_all(left: Glance<'_>, right: Glance<'_>) -> Result<Value, EvaluationError>
+fn contains_all(left: Glance<'_>, right: Glance<'_>) -> Result<Entry<'static>, EvaluationError>
     ensures { result ≡ of_sets (λ ms ns. list_all (has_member ms) ns) (datum_seen left.entry) (datum_seen right.entry) }
 {
     match (left, right) {
-        (Glance::Set(left), Glance::Set(right)) => Ok(Value::boolean(left.contains_all(right))),
+        (Glance::Set(left), Glance::Set(right)) => Ok(Entry::boolean(left.contains_all(right))),
         _ => Err(EvaluationError::Type),
     }
 }
 
 // `containsAny`
-fn contains_any(left: Glance<'_>, right: Glance<'_>) -> Result<Value, EvaluationError>
+fn contains_any(left: Glance<'_>, right: Glance<'_>) -> Result<Entry<'static>, EvaluationError>
     ensures { result ≡ of_sets (λ ms ns. list_any (has_member ms) ns) (datum_seen left.entry) (datum_seen right.entry) }
 {
     match (left, right) {
-        (Glance::Set(left), Glance::Set(right)) => Ok(Value::boolean(left.contains_any(right))),
+        (Glance::Set(left), Glance::Set(right)) => Ok(Entry::boolean(left.contains_any(right))),
         _ => Err(EvaluationError::Type),
     }
 }
@@ -248,12 +249,12 @@ fn within<H: Hierarchy>(
     hierarchy: &H,
     left: Glance<'_>,
     right: Glance<'_>,
-) -> Result<Value, EvaluationError>
+) -> Result<Entry<'static>, EvaluationError>
     ensures { result ≡ in_of (H.world hierarchy.now) (datum_seen left.entry) (datum_seen right.entry) }
 {
     match (left, right) {
         (Glance::Uid(low), Glance::Uid(high)) => {
-            Ok(Value::boolean(low == high || hierarchy.is_below(low, high)))
+            Ok(Entry::boolean(low == high || hierarchy.is_below(low, high)))
         }
         (Glance::Uid(low), Glance::Set(highs)) => within_set(hierarchy, low, highs),
         _ => Err(EvaluationError::Type),
@@ -265,16 +266,16 @@ fn within_set<H: Hierarchy>(
     hierarchy: &H,
     low: &Uid,
     highs: &ValueSet,
-) -> Result<Value, EvaluationError>
+) -> Result<Entry<'static>, EvaluationError>
     ensures { result ≡ in_of (H.world hierarchy.now) (uid low.now) (set (members_of highs.now)) }
 {
     if !all_uids(highs.members()) {
         return Err(EvaluationError::Type);
     }
     if highs.has(Glance::Uid(low)) {
-        return Ok(Value::boolean(true));
+        return Ok(Entry::boolean(true));
     }
-    Ok(Value::boolean(hierarchy.is_below_any(low, highs)))
+    Ok(Entry::boolean(hierarchy.is_below_any(low, highs)))
 }
 
 // Whether it is a uid.

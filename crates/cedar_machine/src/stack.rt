@@ -1,5 +1,5 @@
 //! The operand stack.
-ghost use Rattle.std.specs.Prelude.{◌≡◌, ◌+◌, ◌<◌, ◌≤◌, ◌↔◌, max, [], ◌∷◌, length, take, drop, reverse, IsSome, IfSome, IfNone, IfOk, IsOk, MatchOption, IsTrue};
+ghost use Rattle.std.specs.Prelude.{◌≡◌, ◌+◌, ◌<◌, ◌≤◌, ◌↔◌, max, [], ◌∷◌, length, take, drop, reverse, IsSome, IfSome, IfNone, IfOk, IsOk, MatchOption, IsTrue, OnOk};
 ghost use Rattle.std.specs.Prelude.{List};
 ghost use Rattle.cedar_value.specs.Datum.{Datum};
 
@@ -19,9 +19,9 @@ pub struct Stack<'a> {
 
 impl<'a> Model for Stack<'a> {
     ghost use Rattle.std.specs.Prelude.{reverse};
-    ghost use Rattle.cedar_machine.specs.StackView.{StackView};
+    ghost use Rattle.cedar_machine.specs.Private.StackView.{StackView};
     ghost use Rattle.std.specs.Coded.{codes};
-    ghost use Rattle.cedar_value.specs.DatumCode.{datum_code};
+    ghost use Rattle.cedar_value.specs.Private.DatumCode.{datum_code};
 
     ghost Value = { StackView };
 
@@ -31,6 +31,15 @@ impl<'a> Model for Stack<'a> {
 }
 
 impl<'a> Stack<'a> {
+    /// An empty stack.
+    pub fn new(alloc: Global) -> Self
+        ensures { result.values ≡ [] }
+    {
+        Stack {
+            entries: SmallVec::new(alloc),
+        }
+    }
+
     /// An empty stack with room for so many entries.
     pub fn with_room(alloc: Global, room: usize) -> Result<Self, AllocError>
         ensures values { IfOk result (λ s. s.values ≡ []) }
@@ -42,7 +51,23 @@ impl<'a> Stack<'a> {
         })
     }
 
+    /// Empties the stack and makes room for so many entries. Where there was room it takes no memory.
+    pub fn restart(&mut self, room: usize) -> Result<(), AllocError>
+        ensures values { OnOk result (self.new.values ≡ []) }
+        ensures capacity { OnOk result (room ≤ self.new.capacity) }
+        ensures succeeds { room ≤ INLINE_PLACES → IsOk result }
+    {
+        if !self.entries.is_empty() {
+            self.entries.clear();
+        }
+        if self.entries.capacity() < room {
+            self.entries.reserve_exact(room)?;
+        }
+        Ok(())
+    }
+
     /// Puts an entry on top, for which there is room.
+    #[inline(always)]
     pub fn push(&mut self, entry: Entry<'a>)
         requires { length self.old.values < self.old.capacity }
         ensures values { self.new.values ≡ entry.entry ∷ self.old.values }
@@ -52,6 +77,7 @@ impl<'a> Stack<'a> {
     }
 
     /// Takes the top, if there is one.
+    #[inline(always)]
     pub fn pop(&mut self) -> Option<Entry<'a>>
         ensures value { MatchOption result ((self.old.values ≡ []) × (self.new.values ≡ [])) (λ e. self.old.values ≡ e ∷ self.new.values) }
         ensures capacity { self.new.capacity ≡ self.old.capacity }
@@ -78,6 +104,7 @@ impl<'a> Stack<'a> {
     }
 
     /// How many entries there are.
+    #[inline(always)]
     pub fn len(&self) -> usize
         ensures value { result ≡ length self.now.values }
     {
@@ -85,6 +112,7 @@ impl<'a> Stack<'a> {
     }
 
     /// The top, if there is one.
+    #[inline(always)]
     pub fn top(&self) -> Option<&Entry<'a>>
         ensures { MatchOption result (self.now.values ≡ []) (λ e. (rest : List Datum) × (self.now.values ≡ e.now ∷ rest)) }
     {

@@ -1,17 +1,17 @@
 //! Where a machine is, and one instruction.
 ghost use Rattle.std.specs.Prelude.{◌≡◌, ◌+◌, ◌<◌, ◌≤◌, ◌∷◌, length, slice_get, Some, IsOk, IfOk, OnErr};
 ghost use Rattle.cedar_code.specs.Machine.{arrive, give, and_else, or_else, branch, on_top, on_operands, test, next};
-ghost use Rattle.cedar_machine.specs.State.{configuration_of, Pushes, TakesNoMemory};
+ghost use Rattle.cedar_machine.specs.Private.State.{configuration_of, Pushes};
+ghost use Rattle.cedar_machine.specs.Progress.{TakesNoMemory};
 ghost use Rattle.cedar_ast.specs.Operators.{unary_of, binary_of};
 
 use crate::entry::Entry;
-use crate::making::{make_record, make_set};
+use crate::making::{made_for, make_record, make_set};
 use crate::operators::{binary, unary};
 use crate::stack::Stack;
 use cedar_ast::{BinaryOperator, EvaluationError, UnaryOperator};
-use cedar_code::Instruction;
-use cedar_store::Hierarchy;
-use cedar_value::{Glance, Request};
+use cedar_code::{Instruction, LiteralSet};
+use cedar_value::{Glance, Hierarchy, Request};
 use std::alloc::{AllocError, Global};
 
 /// Where a machine is.
@@ -26,6 +26,7 @@ pub enum State {
 }
 
 /// Comes to a place.
+#[inline(always)]
 pub fn arrive(code: &[Instruction], place: usize, stack: &Stack<'_>) -> State
     ensures { configuration_of result stack.now.values ≡ arrive code.now place stack.now.values }
 {
@@ -39,6 +40,7 @@ pub fn arrive(code: &[Instruction], place: usize, stack: &Stack<'_>) -> State
 }
 
 /// Pushes an entry, or ends with an error.
+#[inline(always)]
 pub fn give<'a>(
     code: &[Instruction],
     place: usize,
@@ -59,9 +61,11 @@ pub fn give<'a>(
 }
 
 /// One instruction at a place. Want of memory leaves the stack as it was; only sets and records take memory.
+#[inline(always)]
 pub fn perform<'a, H: Hierarchy>(
     alloc: Global,
     code: &'a [Instruction],
+    sets: &'a [LiteralSet],
     request: &'a Request,
     hierarchy: &'a H,
     place: usize,
@@ -93,7 +97,14 @@ pub fn perform<'a, H: Hierarchy>(
         Instruction::Test => test(code, place, stack),
         Instruction::Branch(other) => branch(code, place, *other, stack),
         Instruction::Jump(end) => arrive(code, *end, stack),
-        Instruction::Set(count) => make_set(alloc, code, place + 1, stack, *count)?,
+        Instruction::Set(count) => make_set(
+            alloc,
+            code,
+            place + 1,
+            stack,
+            *count,
+            made_for(sets, place),
+        )?,
         Instruction::Record(keys) => make_record(alloc, code, place + 1, stack, keys)?,
     };
     Ok(state)
@@ -137,13 +148,16 @@ pub fn combine<'a, H: Hierarchy>(
     let Some(left) = stack.pop() else {
         return State::Faulted;
     };
-    match binary(hierarchy, operator, left.glance(), right.glance()) {
-        Ok(value) => give(code, next, stack, Ok(Entry::made(value))),
-        Err(error) => State::Failed(error),
-    }
+    give(
+        code,
+        next,
+        stack,
+        binary(hierarchy, operator, left.glance(), right.glance()),
+    )
 }
 
 /// The jump of `&&`.
+#[inline(always)]
 pub fn and_else(code: &[Instruction], place: usize, end: usize, stack: &mut Stack<'_>) -> State
     requires { place < length code.now }
     ensures configuration { configuration_of result stack.new.values
@@ -164,6 +178,7 @@ pub fn and_else(code: &[Instruction], place: usize, end: usize, stack: &mut Stac
 }
 
 /// The jump of `||`.
+#[inline(always)]
 pub fn or_else(code: &[Instruction], place: usize, end: usize, stack: &mut Stack<'_>) -> State
     requires { place < length code.now }
     ensures configuration { configuration_of result stack.new.values
@@ -184,6 +199,7 @@ pub fn or_else(code: &[Instruction], place: usize, end: usize, stack: &mut Stack
 }
 
 /// The test of the right side.
+#[inline(always)]
 pub fn test(code: &[Instruction], place: usize, stack: &Stack<'_>) -> State
     requires { place < length code.now }
     ensures { configuration_of result stack.now.values
@@ -199,6 +215,7 @@ pub fn test(code: &[Instruction], place: usize, stack: &Stack<'_>) -> State
 }
 
 /// The branch of `if`.
+#[inline(always)]
 pub fn branch(code: &[Instruction], place: usize, other: usize, stack: &mut Stack<'_>) -> State
     requires { place < length code.now }
     ensures configuration { configuration_of result stack.new.values

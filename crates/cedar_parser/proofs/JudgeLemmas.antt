@@ -1,14 +1,14 @@
 -- Side conditions, one by one, and limits.
 use Rattle.std.proofs.Common.{◌≡◌, ap, ◌<◌, ◌≤◌, Result, Ok, Err, arith}
 use Rattle.std.specs.Prelude.{OnOk, IfErr}
-use Rattle.cedar_parser.specs.declared.parse_fault.ParseFault.{ParseFault}
-use Rattle.cedar_parser.specs.declared.parse_fault.ParseFault.TheVariants as f
-use Rattle.cedar_parser.specs.Entering.{BreaksSize}
+use Rattle.cedar_tokens.specs.declared.parse_fault.ParseFault.{ParseFault}
+use Rattle.cedar_tokens.specs.declared.parse_fault.ParseFault.TheVariants as f
+use Rattle.cedar_parser.specs.Private.Entering.{BreaksSize}
 use Rattle.cedar_parser.specs.declared.side_condition.SideCondition.{SideCondition}
 use Rattle.cedar_parser.specs.declared.side_condition.SideCondition.TheVariants.{Strings, Numbers, Keys, Names, Counts, Slots, Annotations}
 use Rattle.cedar_parser.specs.declared.size.Size.{Size}
-use Rattle.cedar_parser.specs.Capped.{capped}
-use Rattle.cedar_parser.specs.StatementTree.{StatementTree}
+use Rattle.cedar_parser.specs.Private.Capped.{capped}
+use Rattle.cedar_grammar.specs.StatementTree.{StatementTree}
 use Rattle.cedar_parser.specs.StatementLimits.{KeepsStatement, condition_size, Breaks}
 
 pub keeps_all : (s : StatementTree) → KeepsStatement Strings s → KeepsStatement Numbers s → KeepsStatement Keys s → KeepsStatement Names s → KeepsStatement Counts s → KeepsStatement Slots s → KeepsStatement Annotations s

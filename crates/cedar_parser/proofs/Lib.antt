@@ -1,16 +1,6 @@
-pub mod Turns
-pub mod Outcomes
-pub mod Moves
-pub mod Binds
-pub mod Sound
-pub mod Complete
 pub mod PartLemmas
-pub mod MarkLemmas
-pub mod StatementMoves
-pub mod StatementsSound
-pub mod StatementsComplete
 pub mod TextLemmas
 pub mod Refusals
 pub mod ParseLemmas
-pub mod StepLemmas
 pub mod JudgeLemmas
+pub mod OneReading

@@ -1,24 +1,31 @@
 -- Lists of parts, one by one.
+use Rattle.std.specs.Prelude.{◌≢◌, All, IsSome}
+use Rattle.std.proofs.lemmas.List.Elements.{All-cons, All-nil}
+use Rattle.std.proofs.lemmas.List.Kept.{AllPairs-cons}
 use Rattle.std.proofs.Common.{◌≡◌, refl, sym, ap, subst, ◌∙◌, false, ℕ, zero, suc, ◌+◌, ◌<◌, ◌≤◌, min, max, List, [], ◌∷◌, ◌++◌, length, get_or, take, drop, drop-cons, add-one, fold, map, Option, Some, None, arith}
 use Rattle.cedar_value.specs.Datum.{boolean}
-use Rattle.cedar_ast.specs.Keys.{keys_of}
+use Rattle.cedar_ast.specs.Keys.{AreDistinct, keys_of}
 use Rattle.cedar_ast.specs.declared.operator.UnaryOperator.{UnaryOperator}
 use Rattle.cedar_ast.specs.declared.operator.BinaryOperator.{BinaryOperator}
 use Rattle.cedar_parser.specs.declared.size.Size.{Size}
-use Rattle.cedar_parser.specs.Capped.{capped}
+use Rattle.cedar_parser.specs.Private.Capped.{capped}
 use Rattle.cedar_ast.specs.Condition.{entity_literal}
-use Rattle.cedar_parser.specs.declared.content.WrittenUid.{WrittenUid}
+use Rattle.cedar_tokens.specs.declared.content.WrittenUid.{WrittenUid}
 use Rattle.cedar_ast.specs.Expression as e
 use Rattle.cedar_ast.specs.Expression.{Expression, entries_of}
 use Rattle.cedar_parser.specs.declared.side_condition.SideCondition.{SideCondition}
-use Rattle.cedar_parser.specs.declared.written.Field.{Field}
-use Rattle.cedar_parser.specs.declared.written.Link.{Link}
-use Rattle.cedar_parser.specs.declared.written.Link.TheVariants.{Operand, Attribute, Method}
-use Rattle.cedar_parser.specs.Written.{Written, parts, link_parts, member_parts, field_parts, members_of}
-use Rattle.cedar_parser.specs.WrittenKind.{links_of, fields_of}
-use Rattle.cedar_parser.specs.Meaning.{told, uid_told, expression_of, expressions_in, entries_in, grouped, applied, called}
+use Rattle.cedar_parser.specs.declared.side_condition.SideCondition.TheVariants.{Strings}
+use Rattle.cedar_grammar.specs.declared.written.Field.{Field}
+use Rattle.cedar_grammar.specs.declared.written.Link.{Link}
+use Rattle.cedar_grammar.specs.declared.written.Link.TheVariants.{Operand, Attribute, Method}
+use Rattle.cedar_grammar.specs.Written.{Written, Fields, field, parts, link_parts, member_parts, field_parts, members_of}
+use Rattle.cedar_grammar.specs.WrittenKind.{links_of, fields_of}
+use Rattle.cedar_tokens.specs.Content.{Content, text_of}
+use Rattle.cedar_tokens.proofs.MarkLemmas.{take_next, take_whole}
+use Rattle.cedar_tokens.specs.Names.{to_uid}
+use Rattle.cedar_parser.specs.Meaning.{to_expression, to_expressions, to_entries, grouped, applied, called}
 use Rattle.cedar_parser.specs.Limits.{KeepLinks, KeepMembers, KeepFields, Keeps, count_of, keys_in, nothing, both, leaf, size_of, size_of_all, size_of_entries}
-use Rattle.cedar_parser.specs.Parts.{KeepLink, KeepField, behind, pairs_of}
+use Rattle.cedar_parser.specs.Private.Parts.{KeepLink, KeepField, behind, pairs_of}
 
 -- how many parts a link has
 abbrev pub link_weight : Link → ℕ
@@ -120,20 +127,6 @@ grouped-fold a (l ∷ ls) = step_grouped a l ls ∙ grouped-fold (behind a l) ls
 
 -- ---- the parts up to a place
 
-take_next_at : {A : Type 0} (xs : List A) (i : ℕ) (x : A) → i < length xs → x ≡ get_or xs i x → take (suc i) xs ≡ take i xs ++ x ∷ []
-take_next_at [] i x lt e = absurd (omega arith)
-take_next_at (y ∷ xs) zero x lt e = ap (λ z. z ∷ []) (sym e)
-take_next_at (y ∷ xs) (suc i) x lt e = ap (λ zs. y ∷ zs) (take_next_at xs i x (omega arith) e)
-
-pub take_next : {A : Type 0} (xs : List A) (i : ℕ) (x : A) → i < length xs → x ≡ get_or xs i x → take (i + 1) xs ≡ take i xs ++ x ∷ []
-take_next xs i x lt e = ap (λ n. take n xs) (add-one i) ∙ take_next_at xs i x lt e
-
-pub take_whole : {A : Type 0} (xs : List A) (i : ℕ) → length xs ≤ i → take i xs ≡ xs
-take_whole [] zero le = refl
-take_whole [] (suc i) le = refl
-take_whole (x ∷ xs) zero le = absurd (omega arith)
-take_whole (x ∷ xs) (suc i) le = ap (λ ys. x ∷ ys) (take_whole xs i (omega arith))
-
 fold-one : {A B : Type 0} (f : A → B → A) (a : A) (xs : List B) (x : B) → fold f a (xs ++ x ∷ []) ≡ f (fold f a xs) x
 fold-one f a [] x = refl
 fold-one f a (y ∷ xs) x = fold-one f (f a y) xs x
@@ -151,17 +144,41 @@ pub count_members : (xs : List Written) → count_of (members_of xs) ≡ length 
 count_members [] = refl
 count_members (x ∷ xs) = ap suc (count_members xs)
 
-pub keys_map : (fs : List Field) → keys_in (fields_of fs) ≡ map (λ (f : Field). told f.key) fs
-keys_map [] = refl
-keys_map (f ∷ fs) = ap (λ ks. told f.key ∷ ks) (keys_map fs)
+keys_one : (key : Content) (a : Written) (fs : Fields) → IsSome key → keys_in (field key a fs) ≡ text_of key ∷ keys_in fs
+keys_one (Some k) a fs h = refl
+keys_one None a fs h = absurd cc
 
-pub keys_of_pairs : (fs : List Field) → keys_of (pairs_of fs) ≡ keys_in (fields_of fs)
-keys_of_pairs [] = refl
-keys_of_pairs (f ∷ fs) = ap (λ ks. told f.key ∷ ks) (keys_of_pairs fs)
+-- Where each key stands for a text, the keys are these texts.
+pub keys_map : (fs : List Field) → KeepFields Strings (fields_of fs) → keys_in (fields_of fs) ≡ map (λ (f : Field). text_of f.key) fs
+keys_map [] h = refl
+keys_map (f ∷ fs) h = keys_one f.key f.value (fields_of fs) h.0.0 ∙ ap (λ ks. text_of f.key ∷ ks) (keys_map fs h.1)
 
-pub entries_of_pairs : (fs : List Field) → entries_of (pairs_of fs) ≡ entries_in (fields_of fs)
+pub keys_of_pairs : (fs : List Field) → KeepFields Strings (fields_of fs) → keys_of (pairs_of fs) ≡ keys_in (fields_of fs)
+keys_of_pairs [] h = refl
+keys_of_pairs (f ∷ fs) h = ap (λ ks. text_of f.key ∷ ks) (keys_of_pairs fs h.1) ∙ sym (keys_one f.key f.value (fields_of fs) h.0.0)
+
+all_with : (P : List ℕ → Type 0) (key : Content) (a : Written) (fs : Fields) → P (text_of key) → All P (keys_in fs) → All P (keys_in (field key a fs))
+all_with P None a fs p h = h
+all_with P (Some k) a fs p h = All-cons P k (keys_in fs) p h
+
+all_keys : (P : List ℕ → Type 0) (fs : List Field) → All P (map (λ (f : Field). text_of f.key) fs) → All P (keys_in (fields_of fs))
+all_keys P [] h = All-nil P
+all_keys P (f ∷ fs) h = all_with P f.key f.value (fields_of fs) (h 0 [] (omega arith)) (all_keys P fs (λ k d lt. h (suc k) d (omega arith)))
+
+distinct_with : (key : Content) (a : Written) (fs : Fields) → All (λ k. text_of key ≢ k) (keys_in fs) → AreDistinct (keys_in fs) → AreDistinct (keys_in (field key a fs))
+distinct_with None a fs p h = h
+distinct_with (Some k) a fs p h = AllPairs-cons (λ x y. x ≢ y) k (keys_in fs) p h
+
+-- Where no two texts are the same, what stands for none counted as the empty one, no key stands twice.
+pub distinct_keys : (fs : List Field) → AreDistinct (map (λ (f : Field). text_of f.key) fs) → AreDistinct (keys_in (fields_of fs))
+distinct_keys [] h = h
+distinct_keys (f ∷ fs) h =
+    distinct_with f.key f.value (fields_of fs) (all_keys (λ k. text_of f.key ≢ k) fs (λ k d lt. h zero (suc k) d (omega arith) (omega arith)))
+    (distinct_keys fs (λ i j d lt within. h (suc i) (suc j) d (omega arith) (omega arith)))
+
+pub entries_of_pairs : (fs : List Field) → entries_of (pairs_of fs) ≡ to_entries (fields_of fs)
 entries_of_pairs [] = refl
-entries_of_pairs (f ∷ fs) = ap (e.entry (told f.key) (expression_of f.value)) (entries_of_pairs fs)
+entries_of_pairs (f ∷ fs) = ap (e.entry (text_of f.key) (to_expression f.value)) (entries_of_pairs fs)
 
 map_next : {A B : Type 0} (f : A → B) (xs : List A) (x : A) → map f (xs ++ x ∷ []) ≡ map f xs ++ f x ∷ []
 map_next f [] x = refl
@@ -170,32 +187,32 @@ map_next f (y ∷ xs) x = ap (λ ys. f y ∷ ys) (map_next f xs x)
 pub map_taken : {A B : Type 0} (f : A → B) (xs : List A) (i : ℕ) (x : A) → i < length xs → x ≡ get_or xs i x → map f (take (i + 1) xs) ≡ map f (take i xs) ++ f x ∷ []
 map_taken f xs i x lt e = ap (map f) (take_next xs i x lt e) ∙ map_next f (take i xs) x
 
-expressions_one : (xs : List Expression) (x : Expression) (ys : List Written) (y : Written) → e.expressions_of xs ≡ expressions_in (members_of ys) → x ≡ expression_of y
-    → e.expressions_of (xs ++ x ∷ []) ≡ expressions_in (members_of (ys ++ y ∷ []))
+expressions_one : (xs : List Expression) (x : Expression) (ys : List Written) (y : Written) → e.expressions_of xs ≡ to_expressions (members_of ys) → x ≡ to_expression y
+    → e.expressions_of (xs ++ x ∷ []) ≡ to_expressions (members_of (ys ++ y ∷ []))
 expressions_one [] x [] y h q = ap (λ z. e.and_then z e.no_more) q
 expressions_one [] x (z ∷ ys) y h q = absurd cc
 expressions_one (w ∷ xs) x [] y h q = absurd cc
 expressions_one (w ∷ xs) x (z ∷ ys) y h q = λ k. e.and_then (heads h k) (expressions_one xs x ys y (tails h) q k)
   where
-    heads : e.and_then w (e.expressions_of xs) ≡ e.and_then (expression_of z) (expressions_in (members_of ys)) → w ≡ expression_of z
+    heads : e.and_then w (e.expressions_of xs) ≡ e.and_then (to_expression z) (to_expressions (members_of ys)) → w ≡ to_expression z
     heads h = cc
 
-    tails : e.and_then w (e.expressions_of xs) ≡ e.and_then (expression_of z) (expressions_in (members_of ys)) → e.expressions_of xs ≡ expressions_in (members_of ys)
+    tails : e.and_then w (e.expressions_of xs) ≡ e.and_then (to_expression z) (to_expressions (members_of ys)) → e.expressions_of xs ≡ to_expressions (members_of ys)
     tails h = cc
 
-pub expressions_next : (xs : List Expression) (x : Expression) (ys : List Written) (i : ℕ) (y : Written) → i < length ys → y ≡ get_or ys i y → e.expressions_of xs ≡ expressions_in (members_of (take i ys)) → x ≡ expression_of y
-    → e.expressions_of (xs ++ x ∷ []) ≡ expressions_in (members_of (take (i + 1) ys))
-expressions_next xs x ys i y lt at h q = expressions_one xs x (take i ys) y h q ∙ ap (λ (zs : List Written). expressions_in (members_of zs)) (sym (take_next ys i y lt at))
+pub expressions_next : (xs : List Expression) (x : Expression) (ys : List Written) (i : ℕ) (y : Written) → i < length ys → y ≡ get_or ys i y → e.expressions_of xs ≡ to_expressions (members_of (take i ys)) → x ≡ to_expression y
+    → e.expressions_of (xs ++ x ∷ []) ≡ to_expressions (members_of (take (i + 1) ys))
+expressions_next xs x ys i y lt at h q = expressions_one xs x (take i ys) y h q ∙ ap (λ (zs : List Written). to_expressions (members_of zs)) (sym (take_next ys i y lt at))
 
 -- ---- one argument
 
-pub applied_other : (o : Option BinaryOperator) (a : Expression) (xs : List Written) → (length xs ≡ 1 → ⊥) → applied o a (expressions_in (members_of xs)) ≡ a
+pub applied_other : (o : Option BinaryOperator) (a : Expression) (xs : List Written) → (length xs ≡ 1 → ⊥) → applied o a (to_expressions (members_of xs)) ≡ a
 applied_other None a xs n = refl
 applied_other (Some op) a [] n = refl
 applied_other (Some op) a (x ∷ []) n = absurd (n refl)
 applied_other (Some op) a (x ∷ y ∷ xs) n = refl
 
-pub called_other : (o : Option UnaryOperator) (xs : List Written) → (length xs ≡ 1 → ⊥) → called o (expressions_in (members_of xs)) ≡ e.literal (boolean false)
+pub called_other : (o : Option UnaryOperator) (xs : List Written) → (length xs ≡ 1 → ⊥) → called o (to_expressions (members_of xs)) ≡ e.literal (boolean false)
 called_other None xs n = refl
 called_other (Some op) [] n = refl
 called_other (Some op) (x ∷ []) n = absurd (n refl)
@@ -250,33 +267,33 @@ both_none a = λ k. record { nodes = add_none a.nodes k; height = max_none a.hei
 both_three : (a b c : Size) → both a (both b c) ≡ both (both a b) c
 both_three a b c = λ k. record { nodes = add_three a.nodes b.nodes c.nodes k; height = max_three a.height b.height c.height k }
 
-size_all-one : (xs : List Written) (x : Written) → size_of_all (expressions_in (members_of (xs ++ x ∷ []))) ≡ both (size_of_all (expressions_in (members_of xs))) (size_of (expression_of x))
-size_all-one [] x = both_none (size_of (expression_of x))
-size_all-one (y ∷ xs) x = ap (both (size_of (expression_of y))) (size_all-one xs x) ∙ both_three (size_of (expression_of y)) (size_of_all (expressions_in (members_of xs))) (size_of (expression_of x))
+size_all-one : (xs : List Written) (x : Written) → size_of_all (to_expressions (members_of (xs ++ x ∷ []))) ≡ both (size_of_all (to_expressions (members_of xs))) (size_of (to_expression x))
+size_all-one [] x = both_none (size_of (to_expression x))
+size_all-one (y ∷ xs) x = ap (both (size_of (to_expression y))) (size_all-one xs x) ∙ both_three (size_of (to_expression y)) (size_of_all (to_expressions (members_of xs))) (size_of (to_expression x))
 
-size_fields-one : (xs : List Field) (x : Field) → size_of_entries (entries_in (fields_of (xs ++ x ∷ []))) ≡ both (size_of_entries (entries_in (fields_of xs))) (size_of (expression_of x.value))
-size_fields-one [] x = both_none (size_of (expression_of x.value))
+size_fields-one : (xs : List Field) (x : Field) → size_of_entries (to_entries (fields_of (xs ++ x ∷ []))) ≡ both (size_of_entries (to_entries (fields_of xs))) (size_of (to_expression x.value))
+size_fields-one [] x = both_none (size_of (to_expression x.value))
 size_fields-one (y ∷ xs) x =
-    ap (both (size_of (expression_of y.value))) (size_fields-one xs x) ∙ both_three (size_of (expression_of y.value)) (size_of_entries (entries_in (fields_of xs))) (size_of (expression_of x.value))
+    ap (both (size_of (to_expression y.value))) (size_fields-one xs x) ∙ both_three (size_of (to_expression y.value)) (size_of_entries (to_entries (fields_of xs))) (size_of (to_expression x.value))
 
-pub members_step : (xs : List Written) (i : ℕ) (x : Written) (whole s more : Size) → i < length xs → x ≡ get_or xs i x → whole ≡ capped (size_of_all (expressions_in (members_of (take i xs))))
-    → s ≡ capped (size_of (expression_of x)) → more ≡ capped (both whole s) → more ≡ capped (size_of_all (expressions_in (members_of (take (i + 1) xs))))
+pub members_step : (xs : List Written) (i : ℕ) (x : Written) (whole s more : Size) → i < length xs → x ≡ get_or xs i x → whole ≡ capped (size_of_all (to_expressions (members_of (take i xs))))
+    → s ≡ capped (size_of (to_expression x)) → more ≡ capped (both whole s) → more ≡ capped (size_of_all (to_expressions (members_of (take (i + 1) xs))))
 members_step xs i x whole s more lt at w h m =
-    m ∙ (λ k. capped (both (w k) (h k))) ∙ capped_both (size_of_all (expressions_in (members_of (take i xs)))) (size_of (expression_of x)) ∙ ap capped (sym (size_all-one (take i xs) x))
-    ∙ ap (λ (ys : List Written). capped (size_of_all (expressions_in (members_of ys)))) (sym (take_next xs i x lt at))
+    m ∙ (λ k. capped (both (w k) (h k))) ∙ capped_both (size_of_all (to_expressions (members_of (take i xs)))) (size_of (to_expression x)) ∙ ap capped (sym (size_all-one (take i xs) x))
+    ∙ ap (λ (ys : List Written). capped (size_of_all (to_expressions (members_of ys)))) (sym (take_next xs i x lt at))
 
-pub fields_step : (xs : List Field) (i : ℕ) (x : Field) (whole s more : Size) → i < length xs → x ≡ get_or xs i x → whole ≡ capped (size_of_entries (entries_in (fields_of (take i xs))))
-    → s ≡ capped (size_of (expression_of x.value)) → more ≡ capped (both whole s) → more ≡ capped (size_of_entries (entries_in (fields_of (take (i + 1) xs))))
+pub fields_step : (xs : List Field) (i : ℕ) (x : Field) (whole s more : Size) → i < length xs → x ≡ get_or xs i x → whole ≡ capped (size_of_entries (to_entries (fields_of (take i xs))))
+    → s ≡ capped (size_of (to_expression x.value)) → more ≡ capped (both whole s) → more ≡ capped (size_of_entries (to_entries (fields_of (take (i + 1) xs))))
 fields_step xs i x whole s more lt at w h m =
-    m ∙ (λ k. capped (both (w k) (h k))) ∙ capped_both (size_of_entries (entries_in (fields_of (take i xs)))) (size_of (expression_of x.value)) ∙ ap capped (sym (size_fields-one (take i xs) x))
-    ∙ ap (λ (ys : List Field). capped (size_of_entries (entries_in (fields_of ys)))) (sym (take_next xs i x lt at))
+    m ∙ (λ k. capped (both (w k) (h k))) ∙ capped_both (size_of_entries (to_entries (fields_of (take i xs)))) (size_of (to_expression x.value)) ∙ ap capped (sym (size_fields-one (take i xs) x))
+    ∙ ap (λ (ys : List Field). capped (size_of_entries (to_entries (fields_of ys)))) (sym (take_next xs i x lt at))
 
-uids_one : (us : List WrittenUid) (u : WrittenUid) → size_of_all (e.expressions_of (map entity_literal (map uid_told (us ++ u ∷ [])))) ≡ both (size_of_all (e.expressions_of (map entity_literal (map uid_told us)))) leaf
+uids_one : (us : List WrittenUid) (u : WrittenUid) → size_of_all (e.expressions_of (map entity_literal (map to_uid (us ++ u ∷ [])))) ≡ both (size_of_all (e.expressions_of (map entity_literal (map to_uid us)))) leaf
 uids_one [] u = both_none leaf
-uids_one (v ∷ us) u = ap (both leaf) (uids_one us u) ∙ both_three leaf (size_of_all (e.expressions_of (map entity_literal (map uid_told us)))) leaf
+uids_one (v ∷ us) u = ap (both leaf) (uids_one us u) ∙ both_three leaf (size_of_all (e.expressions_of (map entity_literal (map to_uid us)))) leaf
 
-pub uids_step : (us : List WrittenUid) (i : ℕ) (u : WrittenUid) (whole s more : Size) → i < length us → u ≡ get_or us i u → whole ≡ capped (size_of_all (e.expressions_of (map entity_literal (map uid_told (take i us)))))
-    → s ≡ leaf → more ≡ capped (both whole s) → more ≡ capped (size_of_all (e.expressions_of (map entity_literal (map uid_told (take (i + 1) us)))))
+pub uids_step : (us : List WrittenUid) (i : ℕ) (u : WrittenUid) (whole s more : Size) → i < length us → u ≡ get_or us i u → whole ≡ capped (size_of_all (e.expressions_of (map entity_literal (map to_uid (take i us)))))
+    → s ≡ leaf → more ≡ capped (both whole s) → more ≡ capped (size_of_all (e.expressions_of (map entity_literal (map to_uid (take (i + 1) us)))))
 uids_step us i u whole s more lt at w h m =
-    m ∙ (λ k. capped (both (w k) (h k))) ∙ capped_both (size_of_all (e.expressions_of (map entity_literal (map uid_told (take i us))))) leaf ∙ ap capped (sym (uids_one (take i us) u))
-    ∙ ap (λ (vs : List WrittenUid). capped (size_of_all (e.expressions_of (map entity_literal (map uid_told vs))))) (sym (take_next us i u lt at))
+    m ∙ (λ k. capped (both (w k) (h k))) ∙ capped_both (size_of_all (e.expressions_of (map entity_literal (map to_uid (take i us))))) leaf ∙ ap capped (sym (uids_one (take i us) u))
+    ∙ ap (λ (vs : List WrittenUid). capped (size_of_all (e.expressions_of (map entity_literal (map to_uid vs))))) (sym (take_next us i u lt at))

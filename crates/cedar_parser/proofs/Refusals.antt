@@ -1,41 +1,37 @@
 -- What the end of a text and each refusal show.
 use Rattle.std.proofs.lemmas.Bool.{eqb-true}
-use Rattle.std.proofs.Common.{Bool, true, false, cond, eqb, ◌≡◌, refl, sym, ap, subst, ◌∙◌, ℕ, ◌+◌, ◌<◌, List, [], ◌∷◌, ◌++◌, length, get_or, Option, Some, None, Result, Ok, Err, length-append, arith}
-use Rattle.std.specs.Prelude.{All, Contains, IsSome, IfErr}
+use Rattle.std.proofs.Common.{Bool, true, false, cond, eqb, ◌≡◌, refl, sym, ap, subst, ◌∙◌, ℕ, zero, suc, Option, Some, None, ◌+◌, ◌<◌, List, [], ◌∷◌, ◌++◌, length, get_or, Result, Ok, Err, length-append, arith}
+use Rattle.std.specs.Prelude.{All, Contains, IfErr, IsSome, unwrap_or, codes, decimal}
+use Rattle.std.specs.Str.{bytes_eq}
 use Rattle.std.proofs.lemmas.List.{append-nil, get_or_append_left}
-use Rattle.cedar_value.specs.declared.uid.Uid.{Uid}
 use Rattle.cedar_ast.specs.Keys.{AreDistinct}
 use Rattle.cedar_ast.specs.PolicySetTree.{PolicySetTree, no_policies, ids_in, id_of}
 use Rattle.cedar_ast.specs.declared.statement.Statement.{Statement as Entry}
-use Rattle.cedar_parser.specs.Marks.{Marks}
+use Rattle.cedar_tokens.specs.Marks.{Marks}
 use Rattle.cedar_parser.specs.declared.side_condition.SideCondition.TheVariants.{Strings, Numbers, Keys, Names, Counts, Slots, Annotations}
-use Rattle.cedar_parser.specs.declared.parse_fault.ParseFault.{ParseFault}
-use Rattle.cedar_parser.specs.declared.parse_fault.ParseFault.TheVariants as f
-use Rattle.cedar_parser.specs.declared.content.WrittenUid.{WrittenUid}
-use Rattle.cedar_parser.specs.Grammar.{Entity}
-use Rattle.cedar_parser.specs.Statements.{Statement, Statements, end, next}
-use Rattle.cedar_parser.specs.StatementTree.{StatementTree}
-use Rattle.cedar_parser.specs.Meaning.{told, uid_told}
-use Rattle.cedar_parser.specs.StatementMeaning.{id_at, entered_from, ids_from}
-use Rattle.cedar_parser.specs.StatementLimits.{IsWithinLimits, Breaks}
+use Rattle.cedar_tokens.specs.declared.parse_fault.ParseFault.{ParseFault}
+use Rattle.cedar_tokens.specs.declared.parse_fault.ParseFault.TheVariants as f
+use Rattle.cedar_grammar.specs.Statements.{Statement, Statements, end, next}
+use Rattle.cedar_grammar.specs.StatementTree.{StatementTree}
+use Rattle.cedar_parser.specs.StatementMeaning.{id_in, id_at, written_id, written_ids_from, entered_from, ids_from}
+use Rattle.cedar_tokens.specs.Content.{Content, text_of}
+use Rattle.cedar_grammar.specs.declared.written_statement.WrittenAnnotation.{WrittenAnnotation}
+use Rattle.cedar_parser.specs.StatementLimits.{KeepAnnotations, IsWithinLimits, Breaks}
 use Rattle.cedar_parser.specs.PolicyText.{ArePolicies, BreaksLimit, TokensFault, Answers}
-use Rattle.cedar_parser.specs.Reading as r
-use Rattle.cedar_parser.specs.Reading.{Syntax, TooDeep, Outcome}
-use Rattle.cedar_parser.specs.StatementReading as st
-use Rattle.cedar_parser.specs.Contract.{Refuses}
-use Rattle.cedar_parser.specs.Entering.{RefusesEntry, RefusesAdd, RefusesWhere, refusal_for}
-use Rattle.cedar_parser.proofs.Outcomes.{Meets}
-use Rattle.cedar_parser.proofs.Moves.{shorter, IsOver, over_after, over_deep}
-use Rattle.cedar_parser.proofs.StatementMoves.{statement_moves}
-use Rattle.cedar_parser.proofs.Sound.{entity_reads}
-use Rattle.cedar_parser.proofs.Complete.{entity_yes}
-use Rattle.cedar_parser.proofs.StatementsSound.{statement_reads, statement_is}
-use Rattle.cedar_parser.proofs.StatementsComplete.{statement_none, statement_too_deep}
+use Rattle.cedar_tokens.specs.Private.Reading.{Syntax, TooDeep}
+use Rattle.cedar_grammar.specs.Private.StatementReading as st
+use Rattle.cedar_tokens.specs.Private.Contract.{Refuses}
+use Rattle.cedar_parser.specs.Private.Entering.{RefusesEntry, RefusesAdd, RefusesWhere, refusal_for}
+use Rattle.cedar_tokens.proofs.Outcomes.{Meets}
+use Rattle.cedar_grammar.proofs.Moves.{shorter, IsOver, over_after, over_deep}
+use Rattle.cedar_grammar.proofs.StatementMoves.{statement_moves}
+use Rattle.cedar_grammar.proofs.StatementsSound.{statement_reads, statement_is}
+use Rattle.cedar_grammar.proofs.StatementsComplete.{statement_none, statement_too_deep}
 use Rattle.cedar_parser.proofs.TextLemmas.{IsReadSoFar, GoesOn, comes_next, goes_more, one_behind, ids-append, from_statements}
 
 -- ---- the end
 
-nothing_behind : (d : ℕ) (us : Marks) (ss : List StatementTree) → length us ≡ 0 → Statements d us ss [] → ss ≡ []
+pub nothing_behind : (d : ℕ) (us : Marks) (ss : List StatementTree) → length us ≡ 0 → Statements d us ss [] → ss ≡ []
 nothing_behind d us _ e end = refl
 nothing_behind d us _ e (next i h) = absurd (let less = shorter (statement_moves d _ _ _ i) in omega arith)
 
@@ -135,6 +131,27 @@ repeated ts us n ps s so c =
     subst (λ m. Contains (ids_from 0 so.are_policies.statements) (id_at m s)) (sym so.all)
     (from_statements so.are_policies.statements (id_at n s) (subst (λ (q : PolicySetTree). Contains (ids_in q) (id_at n s)) so.are_policies.meaning c))
 
+-- Where strings stand for texts, so do ids.
+chosen : (d : List ℕ) (b : Bool) (c : Content) (o : Option Content) → IsSome c → unwrap_or o (Some d) ≡ Some (text_of (unwrap_or o (Some d)))
+    → unwrap_or (cond b (Some c) o) (Some d) ≡ Some (text_of (unwrap_or (cond b (Some c) o) (Some d)))
+chosen d true (Some k) o h e = refl
+chosen d true None o h e = absurd cc
+chosen d false c o h e = e
+
+noted : (d : List ℕ) (notes : List WrittenAnnotation) → KeepAnnotations Strings notes → unwrap_or (id_in notes) (Some d) ≡ Some (text_of (unwrap_or (id_in notes) (Some d)))
+noted d [] h = refl
+noted d (a ∷ notes) h = chosen d (bytes_eq a.name (codes "id")) a.value (id_in notes) h.0 (noted d notes h.1)
+
+id_stands : (n : ℕ) (s : StatementTree) → IsWithinLimits s → written_id n s ≡ Some (id_at n s)
+id_stands n s w = noted (codes "policy" ++ decimal n) s.annotations (w.keeps Strings).annotations
+
+ids_stand : (n : ℕ) (ss : List StatementTree) (id : List ℕ) → All IsWithinLimits ss → Contains (ids_from n ss) id → Contains (written_ids_from n ss) (Some id)
+ids_stand n [] id w c = absurd (omega (arith, c.1))
+ids_stand n (s ∷ ss) id w (zero, lt, e) = (0, omega arith, id_stands n s (w 0 s (omega arith)) ∙ ap Some e)
+ids_stand n (s ∷ ss) id w (suc k, lt, e) =
+    let c = ids_stand (n + 1) ss id (λ i d less. w (suc i) d (omega arith)) (k, omega arith, e) in
+    (suc c.0, omega (arith, c.1), c.2)
+
 pub unentered_only : (ts us vs : Marks) (n : ℕ) (ps : PolicySetTree) (s : StatementTree) → IsReadSoFar ts us n ps → IsRead us vs s → (x : ParseFault) → RefusesEntry ps n s x → (set : PolicySetTree) → ArePolicies ts [] set → Answers set (Err x)
 unentered_only ts us vs n ps s so i x e set h = go x e
   where
@@ -146,7 +163,7 @@ unentered_only ts us vs n ps s so i x e set h = go x e
 
     go : (x : ParseFault) → RefusesEntry ps n s x → Answers set (Err x)
     go f.OutOfMemory e = tt
-    go (f.DuplicateId at) e = keeps_ids so.are_policies.statements g.behind h.statements s g.whole h.distinct (repeated ts us n ps s so e)
+    go (f.DuplicateId at) e = keeps_ids so.are_policies.statements g.behind h.statements s g.whole h.distinct (repeated ts us n ps s so e.1)
     go (f.EscapedStar at) e = e (kept.keeps Strings)
     go (f.NumberTooLarge at) e = e (kept.keeps Numbers)
     go (f.DuplicateKey at) e = e (kept.keeps Keys)
@@ -171,7 +188,16 @@ unentered_fault ts us vs n ps s so i x e = go x e
 
     go : (x : ParseFault) → RefusesEntry ps n s x → TokensFault ts x
     go f.OutOfMemory e = tt
-    go (f.DuplicateId at) e = record { statements = so.are_policies.statements; last = s; rest = vs; reading = there; repeated = repeated ts us n ps s so e }
+    go (f.DuplicateId at) e =
+        record {
+          statements = so.are_policies.statements;
+          last = s;
+          rest = vs;
+          reading = there;
+          id = id_at (length so.are_policies.statements) s;
+          own = id_stands (length so.are_policies.statements) s e.0;
+          repeated = ids_stand 0 so.are_policies.statements (id_at (length so.are_policies.statements) s) so.are_policies.limits (repeated ts us n ps s so e.1);
+        }
     go (f.EscapedStar at) e = broken (f.EscapedStar at) e
     go (f.NumberTooLarge at) e = broken (f.NumberTooLarge at) e
     go (f.DuplicateKey at) e = broken (f.DuplicateKey at) e
@@ -185,61 +211,25 @@ unentered_fault ts us vs n ps s so i x e = go x e
     go (f.Syntax at) e = absurd e
     go (f.TooDeep at) e = absurd e
 
--- ---- uids
+refused_add : (set : PolicySetTree) (n : ℕ) (s : StatementTree) (y : Entry) → IsWithinLimits s → id_of y ≡ id_at n s → (x : ParseFault) → RefusesAdd set y x → RefusesEntry set n s x
+refused_add set n s y w e f.OutOfMemory h = tt
+refused_add set n s y w e (f.DuplicateId at) h = (w, subst (λ id. Contains (ids_in set) id) e h)
+refused_add set n s y w e (f.Text at) h = absurd h
+refused_add set n s y w e (f.EscapedStar at) h = absurd h
+refused_add set n s y w e (f.NumberTooLarge at) h = absurd h
+refused_add set n s y w e (f.Syntax at) h = absurd h
+refused_add set n s y w e (f.TooDeep at) h = absurd h
+refused_add set n s y w e (f.TooHigh at) h = absurd h
+refused_add set n s y w e (f.DuplicateKey at) h = absurd h
+refused_add set n s y w e (f.UnknownFunction at) h = absurd h
+refused_add set n s y w e (f.Arity at) h = absurd h
+refused_add set n s y w e (f.SlotMisplaced at) h = absurd h
+refused_add set n s y w e (f.DuplicateAnnotation at) h = absurd h
+refused_add set n s y w e (f.TooLarge at) h = absurd h
 
-abbrev okay : WrittenUid × Marks → Outcome WrittenUid
-okay p = Ok p
-
-pub no_deep_uid : (ts : Marks) → r.entity ts ≡ Err TooDeep → ⊥
-no_deep_uid ts e = subst (Meets (λ u us. Entity ts u us) (⊥)) e (entity_reads (⊥) ts)
-
-uid_pair : {u v : WrittenUid} {us vs : Marks} → okay (u, us) ≡ okay (v, vs) → (u ≡ v) × (us ≡ vs)
-uid_pair {u = u} {v = v} {us = us} {vs = vs} e = let p : ◌≡◌ {A = WrittenUid × Marks} (u, us) (v, vs) = cc in (ap (λ q. q.0) p, ap (λ q. q.1) p)
-
-pub uid_only : (ts : Marks) (found uid : WrittenUid) (us : Marks) → Entity ts uid [] → r.entity ts ≡ Ok (found, us) → found ≡ uid
-uid_only ts found uid us h e = (uid_pair (sym e ∙ entity_yes h)).0
-
--- Where tokens are left the whole is no uid.
-pub uid_longer : (ts us : Marks) (found : WrittenUid) → 0 < length us → r.entity ts ≡ Ok (found, us) → (uid : WrittenUid) → Entity ts uid [] → ⊥
-uid_longer ts us found some e uid h = let p = ap length (uid_pair (sym e ∙ entity_yes h)).1 in omega arith
-
--- no uid is there where its syntax is refused
-pub uid_none : (ts : Marks) → r.entity ts ≡ Err Syntax → (uid : WrittenUid) → Entity ts uid [] → ⊥
-uid_none ts e uid h = let g = entity_yes h in absurd cc
-
-some_told : (t : List ℕ) (c : Option (List ℕ)) → Some t ≡ c → told c ≡ t
-some_told t c e = sym (ap told e)
-
--- the uid whose id is told
-pub uid_told_is : (u : Uid) (w : WrittenUid) → u.ty ≡ w.ty → Some u.id ≡ w.id → uid_told w ≡ u
-uid_told_is u w t e = λ k. record { ty = sym t k; id = some_told u.id w.id e k }
-
-pub told_some : (c : Option (List ℕ)) → IsSome c → Some (told c) ≡ c
-told_some None h = absurd cc
-told_some (Some s) h = refl
-
-pub is_some_of : (t : List ℕ) (c : Option (List ℕ)) → Some t ≡ c → IsSome c
-is_some_of t c e = subst (λ (o : Option (List ℕ)). IsSome o) e refl
-
-refused_add : (set : PolicySetTree) (n : ℕ) (s : StatementTree) (y : Entry) → id_of y ≡ id_at n s → (x : ParseFault) → RefusesAdd set y x → RefusesEntry set n s x
-refused_add set n s y e f.OutOfMemory h = tt
-refused_add set n s y e (f.DuplicateId at) h = subst (λ id. Contains (ids_in set) id) e h
-refused_add set n s y e (f.Text at) h = absurd h
-refused_add set n s y e (f.EscapedStar at) h = absurd h
-refused_add set n s y e (f.NumberTooLarge at) h = absurd h
-refused_add set n s y e (f.Syntax at) h = absurd h
-refused_add set n s y e (f.TooDeep at) h = absurd h
-refused_add set n s y e (f.TooHigh at) h = absurd h
-refused_add set n s y e (f.DuplicateKey at) h = absurd h
-refused_add set n s y e (f.UnknownFunction at) h = absurd h
-refused_add set n s y e (f.Arity at) h = absurd h
-refused_add set n s y e (f.SlotMisplaced at) h = absurd h
-refused_add set n s y e (f.DuplicateAnnotation at) h = absurd h
-refused_add set n s y e (f.TooLarge at) h = absurd h
-
-pub not_entered : (set : PolicySetTree) (n : ℕ) (s : StatementTree) (y : Entry) (r : Result (Unit {0}) ParseFault) → id_of y ≡ id_at n s → IfErr r (RefusesAdd set y) → IfErr r (RefusesEntry set n s)
-not_entered set n s y (Ok u) e h = tt
-not_entered set n s y (Err x) e h = refused_add set n s y e x h
+pub not_entered : (set : PolicySetTree) (n : ℕ) (s : StatementTree) (y : Entry) (r : Result (Unit {0}) ParseFault) → IsWithinLimits s → id_of y ≡ id_at n s → IfErr r (RefusesAdd set y) → IfErr r (RefusesEntry set n s)
+not_entered set n s y (Ok u) w e h = tt
+not_entered set n s y (Err x) w e h = refused_add set n s y w e x h
 
 refused_by : (P : Type 0) (n start : ℕ) (b : Bool) → eqb n 204 ≡ b → (n ≡ 204 → P) → RefusesWhere P (cond b (f.DuplicateId start) f.OutOfMemory)
 refused_by P n start true e h = h (eqb-true n 204 e)

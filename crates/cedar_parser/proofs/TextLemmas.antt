@@ -8,30 +8,26 @@ use Rattle.std.proofs.lemmas.Map.Keys.{IsDistinct-push}
 use Rattle.std.proofs.lemmas.Map.Made.{AllPairs-from_IsDistinct, IsDistinct-from_AllPairs}
 use Rattle.std.proofs.lemmas.Map.Views.{Contains-from_any}
 use Rattle.std.proofs.lemmas.Slice.Eq.{bytes_eq-Decides}
-use Rattle.cedar_value.specs.Equality.{text_equivalence}
+use Rattle.cedar_value.specs.Private.Equality.{text_equivalence}
 use Rattle.std.proofs.lemmas.List.Elements.{All-append, All-cons, All-nil, Contains-append_cases}
 use Rattle.cedar_ast.specs.declared.statement.Statement.{Statement as Entry}
 use Rattle.cedar_ast.specs.declared.statement.Statement.TheVariants as entry
 use Rattle.cedar_ast.specs.PolicyTree.{PolicyTree}
-use Rattle.cedar_ast.specs.TemplateTree.{TemplateTree}
+use Rattle.cedar_ast.specs.PolicyTree.{TemplateTree}
 use Rattle.cedar_ast.specs.Keys.{AreDistinct}
 use Rattle.cedar_ast.specs.PolicySetTree.{PolicySetTree, no_policies, entered, ids_in, ids_of, id_of}
-use Rattle.cedar_text.specs.Lexeme.{Lexeme, Lexemes}
-use Rattle.cedar_text.specs.declared.letter.Letter.{Letter}
-use Rattle.cedar_text.specs.declared.token_kind.TokenKind.{TokenKind}
-use Rattle.cedar_text.specs.declared.token_kind.TokenKind.TheVariants as k
-use Rattle.cedar_text.specs.Letters.{IsSpelled}
-use Rattle.cedar_parser.specs.Marks.{Mark, Marks, mark_of, HasLetters, IsMark, AreMarks}
-use Rattle.cedar_parser.specs.Statements.{Statement, Statements, end, next}
-use Rattle.cedar_parser.specs.StatementTree.{StatementTree}
-use Rattle.cedar_parser.specs.StatementMeaning.{has_slot, policy_of, template_of, statement_of, id_at, entered_from, ids_from}
+use Rattle.cedar_tokens.specs.Marks.{Marks}
+use Rattle.cedar_grammar.specs.Statements.{Statement, Statements, end, next}
+use Rattle.cedar_grammar.specs.StatementTree.{StatementTree}
+use Rattle.cedar_parser.specs.StatementMeaning.{has_slot, to_policy, to_template, statement_of, id_at, entered_from, ids_from}
 use Rattle.cedar_parser.specs.StatementLimits.{IsWithinLimits}
-use Rattle.cedar_parser.specs.StatementReading as r
-use Rattle.cedar_parser.proofs.StatementsSound.{statement_is}
-use Rattle.cedar_parser.proofs.StatementsComplete.{statement_same}
+use Rattle.cedar_grammar.specs.Private.StatementReading as r
+use Rattle.cedar_tokens.proofs.MarkLemmas.{none_left}
+use Rattle.cedar_grammar.proofs.StatementsSound.{statement_is}
+use Rattle.cedar_grammar.proofs.StatementsComplete.{statement_same}
 use Rattle.cedar_parser.specs.PolicyText.{ArePolicies}
 
-All-one : (s : StatementTree) → IsWithinLimits s → All IsWithinLimits (s ∷ [])
+pub All-one : (s : StatementTree) → IsWithinLimits s → All IsWithinLimits (s ∷ [])
 All-one s w = All-cons IsWithinLimits s [] w (All-nil IsWithinLimits)
 
 -- one more statement behind others
@@ -126,12 +122,12 @@ entered_only s (entry.Template t) y c =
       | inr h ↦ either_one templates (old ++ templates) t.id y (Contains-append_cases templates (t.id ∷ []) y h) (λ g. in_right old templates y g)
     ]
 
-told_id : (b : Bool) (id : List ℕ) (s : StatementTree) → id_of (cond b (entry.Template (template_of id s)) (entry.Policy (policy_of id s))) ≡ id
-told_id true id s = refl
-told_id false id s = refl
+id_kept : (b : Bool) (id : List ℕ) (s : StatementTree) → id_of (cond b (entry.Template (to_template id s)) (entry.Policy (to_policy id s))) ≡ id
+id_kept true id s = refl
+id_kept false id s = refl
 
 pub id_of_statement : (n : ℕ) (s : StatementTree) → id_of (statement_of n s) ≡ id_at n s
-id_of_statement n s = told_id (has_slot s.scope) (id_at n s) s
+id_of_statement n s = id_kept (has_slot s.scope) (id_at n s) s
 
 -- ---- statements, entered one after the other
 
@@ -232,64 +228,5 @@ read_more ts us vs n set more s so some i w none e =
     }
 
 -- no token is left
-pub none_left : (us : Marks) → length us ≡ 0 → us ≡ []
-none_left [] e = refl
-none_left (u ∷ us) e = absurd (omega arith)
-
 pub read_all : (ts us : Marks) (n : ℕ) (ps : PolicySetTree) → IsReadSoFar ts us n ps → length us ≡ 0 → ArePolicies ts [] ps
 read_all ts us n ps so e = subst (λ (xs : Marks). ArePolicies ts xs ps) (none_left us e) so.are_policies
-
--- ---- tokens and their letters
-
-letters_same : (law : (text : List ℕ) (letters others : List Letter) → IsSpelled text letters → IsSpelled text others → letters ≡ others)
-    → (q : TokenKind) (text : List ℕ) (a b : List Letter) → HasLetters q text a → HasLetters q text b → a ≡ b
-letters_same law k.String text a b h g = law text a b h g
-letters_same law k.True text a b h g = h ∙ sym g
-letters_same law k.False text a b h g = h ∙ sym g
-letters_same law k.If text a b h g = h ∙ sym g
-letters_same law k.Then text a b h g = h ∙ sym g
-letters_same law k.Else text a b h g = h ∙ sym g
-letters_same law k.In text a b h g = h ∙ sym g
-letters_same law k.Is text a b h g = h ∙ sym g
-letters_same law k.Like text a b h g = h ∙ sym g
-letters_same law k.Has text a b h g = h ∙ sym g
-letters_same law k.Identifier text a b h g = h ∙ sym g
-letters_same law k.Number text a b h g = h ∙ sym g
-letters_same law k.Slot text a b h g = h ∙ sym g
-letters_same law k.DoubleColon text a b h g = h ∙ sym g
-letters_same law k.Equal text a b h g = h ∙ sym g
-letters_same law k.NotEqual text a b h g = h ∙ sym g
-letters_same law k.LessEqual text a b h g = h ∙ sym g
-letters_same law k.GreaterEqual text a b h g = h ∙ sym g
-letters_same law k.AndAnd text a b h g = h ∙ sym g
-letters_same law k.OrOr text a b h g = h ∙ sym g
-letters_same law k.At text a b h g = h ∙ sym g
-letters_same law k.LeftParen text a b h g = h ∙ sym g
-letters_same law k.RightParen text a b h g = h ∙ sym g
-letters_same law k.LeftBrace text a b h g = h ∙ sym g
-letters_same law k.RightBrace text a b h g = h ∙ sym g
-letters_same law k.LeftBracket text a b h g = h ∙ sym g
-letters_same law k.RightBracket text a b h g = h ∙ sym g
-letters_same law k.Comma text a b h g = h ∙ sym g
-letters_same law k.Semicolon text a b h g = h ∙ sym g
-letters_same law k.Dot text a b h g = h ∙ sym g
-letters_same law k.Colon text a b h g = h ∙ sym g
-letters_same law k.Less text a b h g = h ∙ sym g
-letters_same law k.Greater text a b h g = h ∙ sym g
-letters_same law k.Plus text a b h g = h ∙ sym g
-letters_same law k.Minus text a b h g = h ∙ sym g
-letters_same law k.Star text a b h g = h ∙ sym g
-letters_same law k.Not text a b h g = h ∙ sym g
-
-mark_same : (law : (text : List ℕ) (letters others : List Letter) → IsSpelled text letters → IsSpelled text others → letters ≡ others) → (t : Lexeme) (m n : Mark) → IsMark t m → IsMark t n → m ≡ n
-mark_same law t m n h g = h.0 ∙ ap (mark_of t) (letters_same law t.kind t.text m.letters n.letters h.1 g.1) ∙ sym g.0
-
--- No tokens have two lists of letters.
-pub marks_same : (law : (text : List ℕ) (letters others : List Letter) → IsSpelled text letters → IsSpelled text others → letters ≡ others) → (ts : Lexemes) (ms ns : Marks)
-    → AreMarks ts ms → AreMarks ts ns → ms ≡ ns
-marks_same law [] [] [] h g = refl
-marks_same law [] [] (n ∷ ns) h g = absurd g
-marks_same law [] (m ∷ ms) ns h g = absurd h
-marks_same law (t ∷ ts) [] ns h g = absurd h
-marks_same law (t ∷ ts) (m ∷ ms) [] h g = absurd g
-marks_same law (t ∷ ts) (m ∷ ms) (n ∷ ns) h g = λ k. mark_same law t m n h.0 g.0 k ∷ marks_same law ts ms ns h.1 g.1 k

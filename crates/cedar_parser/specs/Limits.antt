@@ -1,13 +1,14 @@
 -- What a statement must keep beside the grammar: side conditions, and the limits of its condition.
-use Rattle.std.specs.Prelude.{ℕ, suc, ◌+◌, ◌<◌, ◌≤◌, ◌^◌, ◌≡◌, max, List, [], ◌∷◌, Option, IsSome}
+use Rattle.std.specs.Prelude.{ℕ, suc, ◌+◌, ◌<◌, ◌≤◌, ◌^◌, ◌≡◌, max, List, [], ◌∷◌, Option, Some, None, IsSome, is_some, Bool, true}
 use Rattle.cedar_ast.specs.Expression as e
 use Rattle.cedar_ast.specs.Expression.{Expression, Expressions, Entries}
 use Rattle.cedar_ast.specs.Keys.{AreDistinct}
 use Rattle.cedar_parser.specs.declared.side_condition.SideCondition.{SideCondition}
 use Rattle.cedar_parser.specs.declared.side_condition.SideCondition.TheVariants.{Strings, Numbers, Keys, Names, Counts, Slots}
 use Rattle.cedar_parser.specs.declared.size.Size.{Size}
-use Rattle.cedar_parser.specs.Written.{Content, Written, truth, number, negative, text, entity, variable, slot, group, not, negated, relation, has, like, is, is_in, chain, choice, set, record_of, call, Links, no_links, operand, attribute, method, Members, no_members, member, Fields, no_fields, field}
-use Rattle.cedar_parser.specs.Meaning.{told, function_of, method_of}
+use Rattle.cedar_tokens.specs.Content.{Content}
+use Rattle.cedar_grammar.specs.Written.{Written, truth, number, negative, text, entity, variable, slot, group, not, negated, relation, has, like, is, is_in, chain, choice, set, record_of, call, Links, no_links, operand, attribute, method, Members, no_members, member, Fields, no_fields, field}
+use Rattle.cedar_parser.specs.Meaning.{function_of, method_of}
 
 -- ---- side conditions
 
@@ -34,14 +35,16 @@ abbrev pub count_of : Members → ℕ
 count_of no_members = 0
 count_of (member a ms) = suc (count_of ms)
 
--- A function or method has one argument.
-abbrev pub HasOne : SideCondition → Members → Type 0
-HasOne Counts ms = count_of ms ≡ 1
-HasOne _ ms = Unit {0}
+-- A function or method that there is has one argument; of one that there is not nothing is said.
+abbrev pub HasOne : SideCondition → Bool → Members → Type 0
+HasOne Counts true ms = count_of ms ≡ 1
+HasOne _ known ms = Unit {0}
 
+-- The keys of a record, in order: those that stand for texts. What stands for no text is no key.
 abbrev pub keys_in : Fields → List (List ℕ)
 keys_in no_fields = []
-keys_in (field key a fs) = told key ∷ keys_in fs
+keys_in (field None a fs) = keys_in fs
+keys_in (field (Some key) a fs) = key ∷ keys_in fs
 
 -- No key of a record stands twice.
 abbrev pub HasDistinctKeys : SideCondition → Fields → Type 0
@@ -75,13 +78,13 @@ abbrev mutual
   Keeps c (choice q a b) = Keeps c q × Keeps c a × Keeps c b
   Keeps c (set ms) = KeepMembers c ms
   Keeps c (record_of fs) = HasDistinctKeys c fs × KeepFields c fs
-  Keeps c (call name ms) = IsKnown c (function_of name) × HasOne c ms × KeepMembers c ms
+  Keeps c (call name ms) = IsKnown c (function_of name) × HasOne c (is_some (function_of name)) ms × KeepMembers c ms
 
   pub KeepLinks : SideCondition → Links → Type 0
   KeepLinks c no_links = Unit {0}
   KeepLinks c (operand sign a ls) = Keeps c a × KeepLinks c ls
   KeepLinks c (attribute s ls) = Stands c s × KeepLinks c ls
-  KeepLinks c (method name ms ls) = (IsKnown c (method_of name) × HasOne c ms × KeepMembers c ms) × KeepLinks c ls
+  KeepLinks c (method name ms ls) = (IsKnown c (method_of name) × HasOne c (is_some (method_of name)) ms × KeepMembers c ms) × KeepLinks c ls
 
   pub KeepMembers : SideCondition → Members → Type 0
   KeepMembers c no_members = Unit {0}

@@ -1,27 +1,20 @@
 -- The expression that is written (Cedar language reference, grammar, operators).
-use Rattle.std.specs.Prelude.{false, ℕ, pos, neg_ℤ, List, [], Option, Some, None, codes, unwrap_or, if◌then◌else◌}
+use Rattle.std.specs.Prelude.{false, ℕ, pos, neg_ℤ, List, Option, Some, None, codes, if◌then◌else◌}
 use Rattle.std.specs.Str.{bytes_eq}
 use Rattle.cedar_value.specs.Datum as datum
-use Rattle.cedar_value.specs.declared.uid.Uid.{Uid}
 use Rattle.cedar_ast.specs.declared.operator.UnaryOperator.{UnaryOperator}
 use Rattle.cedar_ast.specs.declared.operator.UnaryOperator.TheVariants.{Not, Negate, Has, Get, Like, Is, Decimal}
 use Rattle.cedar_ast.specs.declared.operator.BinaryOperator.{BinaryOperator}
 use Rattle.cedar_ast.specs.declared.operator.BinaryOperator.TheVariants as operator
 use Rattle.cedar_ast.specs.Expression as e
 use Rattle.cedar_ast.specs.Expression.{Expression, Expressions, Entries}
-use Rattle.cedar_parser.specs.declared.content.WrittenUid.{WrittenUid}
-use Rattle.cedar_parser.specs.declared.sign.ChainSign.{ChainSign}
-use Rattle.cedar_parser.specs.declared.sign.ChainSign.TheVariants as chain_sign
-use Rattle.cedar_parser.specs.declared.sign.RelationSign.{RelationSign}
-use Rattle.cedar_parser.specs.declared.sign.RelationSign.TheVariants as relation_sign
-use Rattle.cedar_parser.specs.Written.{Content, Written, truth, number, negative, text, entity, variable, slot, group, not, negated, relation, has, like, is, is_in, chain, choice, set, record_of, call, Links, no_links, operand, attribute, method, Members, no_members, member, Fields, no_fields, field}
-
--- the text that a string stands for, empty where it stands for none
-abbrev pub told : Content → List ℕ
-told c = unwrap_or c []
-
-abbrev pub uid_told : WrittenUid → Uid
-uid_told u = record { ty = u.ty; id = told u.id }
+use Rattle.cedar_grammar.specs.declared.sign.ChainSign.{ChainSign}
+use Rattle.cedar_grammar.specs.declared.sign.ChainSign.TheVariants as chain_sign
+use Rattle.cedar_grammar.specs.declared.sign.RelationSign.{RelationSign}
+use Rattle.cedar_grammar.specs.declared.sign.RelationSign.TheVariants as relation_sign
+use Rattle.cedar_tokens.specs.Content.{text_of}
+use Rattle.cedar_tokens.specs.Names.{to_uid}
+use Rattle.cedar_grammar.specs.Written.{Written, truth, number, negative, text, entity, variable, slot, group, not, negated, relation, has, like, is, is_in, chain, choice, set, record_of, call, Links, no_links, operand, attribute, method, Members, no_members, member, Fields, no_fields, field}
 
 -- two operands with this sign between them
 abbrev pub linked : ChainSign → Expression → Expression → Expression
@@ -68,39 +61,39 @@ applied _ left _ = left
 
 -- Brackets are gone; chains group to the left; `x is T in e` asks both of x. A slot stands in no accepted expression.
 abbrev mutual
-  pub expression_of : Written → Expression
-  expression_of (truth b) = e.literal (datum.boolean b)
-  expression_of (number n) = e.literal (datum.long (pos n))
-  expression_of (negative n) = e.literal (datum.long (neg_ℤ (pos n)))
-  expression_of (text c) = e.literal (datum.text (told c))
-  expression_of (entity u) = e.literal (datum.uid (uid_told u))
-  expression_of (variable x) = e.variable x
-  expression_of (slot x) = e.variable x
-  expression_of (group a) = expression_of a
-  expression_of (not a) = e.unary Not (expression_of a)
-  expression_of (negated a) = e.unary Negate (expression_of a)
-  expression_of (relation sign a b) = related sign (expression_of a) (expression_of b)
-  expression_of (has a c) = e.unary (Has (told c)) (expression_of a)
-  expression_of (like a p) = e.unary (Like p) (expression_of a)
-  expression_of (is a ty) = e.unary (Is ty) (expression_of a)
-  expression_of (is_in a ty b) = e.and (e.unary (Is ty) (expression_of a)) (e.binary operator.In (expression_of a) (expression_of b))
-  expression_of (chain a ls) = grouped (expression_of a) ls
-  expression_of (choice c a b) = e.if_else (expression_of c) (expression_of a) (expression_of b)
-  expression_of (set ms) = e.set_with (expressions_in ms)
-  expression_of (record_of fs) = e.record_with (entries_in fs)
-  expression_of (call name ms) = called (function_of name) (expressions_in ms)
+  pub to_expression : Written → Expression
+  to_expression (truth b) = e.literal (datum.boolean b)
+  to_expression (number n) = e.literal (datum.long (pos n))
+  to_expression (negative n) = e.literal (datum.long (neg_ℤ (pos n)))
+  to_expression (text c) = e.literal (datum.text (text_of c))
+  to_expression (entity u) = e.literal (datum.uid (to_uid u))
+  to_expression (variable x) = e.variable x
+  to_expression (slot x) = e.variable x
+  to_expression (group a) = to_expression a
+  to_expression (not a) = e.unary Not (to_expression a)
+  to_expression (negated a) = e.unary Negate (to_expression a)
+  to_expression (relation sign a b) = related sign (to_expression a) (to_expression b)
+  to_expression (has a c) = e.unary (Has (text_of c)) (to_expression a)
+  to_expression (like a p) = e.unary (Like p) (to_expression a)
+  to_expression (is a ty) = e.unary (Is ty) (to_expression a)
+  to_expression (is_in a ty b) = e.and (e.unary (Is ty) (to_expression a)) (e.binary operator.In (to_expression a) (to_expression b))
+  to_expression (chain a ls) = grouped (to_expression a) ls
+  to_expression (choice c a b) = e.if_else (to_expression c) (to_expression a) (to_expression b)
+  to_expression (set ms) = e.set_with (to_expressions ms)
+  to_expression (record_of fs) = e.record_with (to_entries fs)
+  to_expression (call name ms) = called (function_of name) (to_expressions ms)
 
   -- what stands to the left, and the links behind it
   pub grouped : Expression → Links → Expression
   grouped left no_links = left
-  grouped left (operand sign a ls) = grouped (linked sign left (expression_of a)) ls
-  grouped left (attribute c ls) = grouped (e.unary (Get (told c)) left) ls
-  grouped left (method name ms ls) = grouped (applied (method_of name) left (expressions_in ms)) ls
+  grouped left (operand sign a ls) = grouped (linked sign left (to_expression a)) ls
+  grouped left (attribute c ls) = grouped (e.unary (Get (text_of c)) left) ls
+  grouped left (method name ms ls) = grouped (applied (method_of name) left (to_expressions ms)) ls
 
-  pub expressions_in : Members → Expressions
-  expressions_in no_members = e.no_more
-  expressions_in (member a ms) = e.and_then (expression_of a) (expressions_in ms)
+  pub to_expressions : Members → Expressions
+  to_expressions no_members = e.no_more
+  to_expressions (member a ms) = e.and_then (to_expression a) (to_expressions ms)
 
-  pub entries_in : Fields → Entries
-  entries_in no_fields = e.no_entries
-  entries_in (field key a fs) = e.entry (told key) (expression_of a) (entries_in fs)
+  pub to_entries : Fields → Entries
+  to_entries no_fields = e.no_entries
+  to_entries (field key a fs) = e.entry (text_of key) (to_expression a) (to_entries fs)

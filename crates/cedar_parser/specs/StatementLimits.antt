@@ -4,22 +4,22 @@ use Rattle.cedar_ast.specs.Condition.{condition_of}
 use Rattle.cedar_ast.specs.Keys.{AreDistinct}
 use Rattle.cedar_ast.specs.declared.variable.Variable.{Variable}
 use Rattle.cedar_ast.specs.declared.variable.Variable.TheVariants.{Principal, Resource}
-use Rattle.cedar_parser.specs.declared.parse_fault.ParseFault.{ParseFault}
-use Rattle.cedar_parser.specs.declared.parse_fault.ParseFault.TheVariants as f
+use Rattle.cedar_tokens.specs.declared.parse_fault.ParseFault.{ParseFault}
+use Rattle.cedar_tokens.specs.declared.parse_fault.ParseFault.TheVariants as f
 use Rattle.cedar_parser.specs.declared.side_condition.SideCondition.{SideCondition}
 use Rattle.cedar_parser.specs.declared.side_condition.SideCondition.TheVariants.{Strings, Numbers, Keys, Names, Counts, Slots, Annotations}
 use Rattle.cedar_parser.specs.declared.size.Size.{Size}
-use Rattle.cedar_parser.specs.declared.content.WrittenUid.{WrittenUid}
-use Rattle.cedar_parser.specs.declared.statement.Reference.{Reference}
-use Rattle.cedar_parser.specs.declared.statement.Reference.TheVariants as reference
-use Rattle.cedar_parser.specs.declared.statement.WrittenAnnotation.{WrittenAnnotation}
-use Rattle.cedar_parser.specs.declared.statement.WrittenCondition.{WrittenCondition}
-use Rattle.cedar_parser.specs.declared.statement.WrittenEntityScope.{WrittenEntityScope}
-use Rattle.cedar_parser.specs.declared.statement.WrittenEntityScope.TheVariants as written
-use Rattle.cedar_parser.specs.declared.statement.WrittenActionScope.{WrittenActionScope}
-use Rattle.cedar_parser.specs.declared.statement.WrittenActionScope.TheVariants as written_action
-use Rattle.cedar_parser.specs.StatementTree.{StatementTree}
-use Rattle.cedar_parser.specs.StatementMeaning.{policy_of}
+use Rattle.cedar_tokens.specs.declared.content.WrittenUid.{WrittenUid}
+use Rattle.cedar_grammar.specs.declared.written_statement.Reference.{Reference}
+use Rattle.cedar_grammar.specs.declared.written_statement.Reference.TheVariants as reference
+use Rattle.cedar_grammar.specs.declared.written_statement.WrittenAnnotation.{WrittenAnnotation}
+use Rattle.cedar_grammar.specs.declared.written_statement.WrittenCondition.{WrittenCondition}
+use Rattle.cedar_grammar.specs.declared.written_statement.WrittenEntityScope.{WrittenEntityScope}
+use Rattle.cedar_grammar.specs.declared.written_statement.WrittenEntityScope.TheVariants as written
+use Rattle.cedar_grammar.specs.declared.written_statement.WrittenActionScope.{WrittenActionScope}
+use Rattle.cedar_grammar.specs.declared.written_statement.WrittenActionScope.TheVariants as written_action
+use Rattle.cedar_grammar.specs.StatementTree.{StatementTree}
+use Rattle.cedar_parser.specs.StatementMeaning.{to_policy}
 use Rattle.cedar_parser.specs.Limits.{Stands, Keeps, size_of, max_height, max_nodes}
 
 -- A slot stands in the scope of its own variable.
@@ -72,14 +72,14 @@ pub record KeepsStatement (c : SideCondition) (s : StatementTree) : Type 0 where
 
 -- the size of the condition of the statement's policy
 unfoldable pub condition_size : StatementTree → Size
-condition_size s = size_of (condition_of (policy_of [] s))
+condition_size s = size_of (condition_of (to_policy [] s))
 
 pub record IsWithinLimits (s : StatementTree) : Type 0 where
   pub keeps : (c : SideCondition) → KeepsStatement c s
   pub low : (condition_size s).height ≤ max_height
   pub small : (condition_size s).nodes ≤ max_nodes
 
--- what a refused statement breaks; want of memory says nothing of it
+-- What a refused statement breaks. Want of memory says nothing of a statement.
 abbrev pub Breaks : StatementTree → ParseFault → Type 0
 Breaks s f.OutOfMemory = Unit {0}
 Breaks s (f.EscapedStar at) = KeepsStatement Strings s → ⊥

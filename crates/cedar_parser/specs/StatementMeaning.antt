@@ -17,56 +17,58 @@ use Rattle.cedar_ast.specs.declared.template_scope.TemplateScope.{TemplateScope}
 use Rattle.cedar_ast.specs.declared.statement.Statement.{Statement}
 use Rattle.cedar_ast.specs.declared.statement.Statement.TheVariants as statement
 use Rattle.cedar_ast.specs.PolicyTree.{PolicyTree}
-use Rattle.cedar_ast.specs.TemplateTree.{TemplateTree}
+use Rattle.cedar_ast.specs.PolicyTree.{TemplateTree}
 use Rattle.cedar_ast.specs.PolicySetTree.{PolicySetTree, entered}
-use Rattle.cedar_parser.specs.Meaning.{told, uid_told, expression_of}
-use Rattle.cedar_parser.specs.declared.statement.Reference.{Reference}
-use Rattle.cedar_parser.specs.declared.statement.Reference.TheVariants as reference
-use Rattle.cedar_parser.specs.declared.statement.WrittenAnnotation.{WrittenAnnotation}
-use Rattle.cedar_parser.specs.declared.statement.WrittenCondition.{WrittenCondition}
-use Rattle.cedar_parser.specs.declared.statement.WrittenEntityScope.{WrittenEntityScope}
-use Rattle.cedar_parser.specs.declared.statement.WrittenEntityScope.TheVariants as written
-use Rattle.cedar_parser.specs.declared.statement.WrittenActionScope.{WrittenActionScope}
-use Rattle.cedar_parser.specs.declared.statement.WrittenActionScope.TheVariants as written_action
-use Rattle.cedar_parser.specs.declared.statement.WrittenScope.{WrittenScope}
-use Rattle.cedar_parser.specs.StatementTree.{StatementTree}
+use Rattle.cedar_tokens.specs.Content.{Content, text_of}
+use Rattle.cedar_tokens.specs.Names.{to_uid}
+use Rattle.cedar_parser.specs.Meaning.{to_expression}
+use Rattle.cedar_grammar.specs.declared.written_statement.Reference.{Reference}
+use Rattle.cedar_grammar.specs.declared.written_statement.Reference.TheVariants as reference
+use Rattle.cedar_grammar.specs.declared.written_statement.WrittenAnnotation.{WrittenAnnotation}
+use Rattle.cedar_grammar.specs.declared.written_statement.WrittenCondition.{WrittenCondition}
+use Rattle.cedar_grammar.specs.declared.written_statement.WrittenEntityScope.{WrittenEntityScope}
+use Rattle.cedar_grammar.specs.declared.written_statement.WrittenEntityScope.TheVariants as written
+use Rattle.cedar_grammar.specs.declared.written_statement.WrittenActionScope.{WrittenActionScope}
+use Rattle.cedar_grammar.specs.declared.written_statement.WrittenActionScope.TheVariants as written_action
+use Rattle.cedar_grammar.specs.declared.written_statement.WrittenScope.{WrittenScope}
+use Rattle.cedar_grammar.specs.StatementTree.{StatementTree}
 
 -- ---- scopes
 
 -- the entity that is referred to; a slot counts as a literal
-abbrev pub uid_referred : Reference → Uid
-uid_referred (reference.Entity u) = uid_told u
-uid_referred (reference.Slot at x) = record { ty = []; id = [] }
+abbrev pub to_entity : Reference → Uid
+to_entity (reference.Entity u) = to_uid u
+to_entity (reference.Slot at x) = record { ty = []; id = [] }
 
-abbrev pub reference_told : Reference → EntityReference
-reference_told (reference.Entity u) = entity_reference.Entity (uid_told u)
-reference_told (reference.Slot at x) = entity_reference.Slot
+abbrev pub to_reference : Reference → EntityReference
+to_reference (reference.Entity u) = entity_reference.Entity (to_uid u)
+to_reference (reference.Slot at x) = entity_reference.Slot
 
-abbrev pub entity_scope_told : WrittenEntityScope → EntityScope
-entity_scope_told written.Any = entity_scope.Any
-entity_scope_told (written.Equal q) = entity_scope.Equal (uid_referred q)
-entity_scope_told (written.In q) = entity_scope.In (uid_referred q)
-entity_scope_told (written.Is ty) = entity_scope.Is ty
-entity_scope_told (written.IsIn ty q) = entity_scope.IsIn ty (uid_referred q)
+abbrev pub to_entity_scope : WrittenEntityScope → EntityScope
+to_entity_scope written.Any = entity_scope.Any
+to_entity_scope (written.Equal q) = entity_scope.Equal (to_entity q)
+to_entity_scope (written.In q) = entity_scope.In (to_entity q)
+to_entity_scope (written.Is ty) = entity_scope.Is ty
+to_entity_scope (written.IsIn ty q) = entity_scope.IsIn ty (to_entity q)
 
-abbrev pub template_entity_scope_told : WrittenEntityScope → TemplateEntityScope
-template_entity_scope_told written.Any = template_scope.Any
-template_entity_scope_told (written.Equal q) = template_scope.Equal (reference_told q)
-template_entity_scope_told (written.In q) = template_scope.In (reference_told q)
-template_entity_scope_told (written.Is ty) = template_scope.Is ty
-template_entity_scope_told (written.IsIn ty q) = template_scope.IsIn ty (reference_told q)
+abbrev pub to_template_entity_scope : WrittenEntityScope → TemplateEntityScope
+to_template_entity_scope written.Any = template_scope.Any
+to_template_entity_scope (written.Equal q) = template_scope.Equal (to_reference q)
+to_template_entity_scope (written.In q) = template_scope.In (to_reference q)
+to_template_entity_scope (written.Is ty) = template_scope.Is ty
+to_template_entity_scope (written.IsIn ty q) = template_scope.IsIn ty (to_reference q)
 
-abbrev pub action_scope_told : WrittenActionScope → ActionScope
-action_scope_told written_action.Any = action_scope.Any
-action_scope_told (written_action.Equal u) = action_scope.Equal (uid_told u)
-action_scope_told (written_action.In u) = action_scope.In (uid_told u)
-action_scope_told (written_action.InSet us) = action_scope.InSet (map uid_told us)
+abbrev pub to_action_scope : WrittenActionScope → ActionScope
+to_action_scope written_action.Any = action_scope.Any
+to_action_scope (written_action.Equal u) = action_scope.Equal (to_uid u)
+to_action_scope (written_action.In u) = action_scope.In (to_uid u)
+to_action_scope (written_action.InSet us) = action_scope.InSet (map to_uid us)
 
-abbrev pub scope_told : WrittenScope → Scope
-scope_told s = record { principal = entity_scope_told s.principal; action = action_scope_told s.action; resource = entity_scope_told s.resource }
+abbrev pub to_scope : WrittenScope → Scope
+to_scope s = record { principal = to_entity_scope s.principal; action = to_action_scope s.action; resource = to_entity_scope s.resource }
 
-abbrev pub template_scope_told : WrittenScope → TemplateScope
-template_scope_told s = record { principal = template_entity_scope_told s.principal; action = action_scope_told s.action; resource = template_entity_scope_told s.resource }
+abbrev pub to_template_scope : WrittenScope → TemplateScope
+to_template_scope s = record { principal = to_template_entity_scope s.principal; action = to_action_scope s.action; resource = to_template_entity_scope s.resource }
 
 abbrev pub is_slot : Reference → Bool
 is_slot (reference.Entity u) = false
@@ -84,40 +86,50 @@ has_slot s = asks_slot s.principal || asks_slot s.resource
 
 -- ---- statements
 
-abbrev pub annotation_told : WrittenAnnotation → Annotation
-annotation_told a = record { name = a.name; value = told a.value }
+abbrev pub to_annotation : WrittenAnnotation → Annotation
+to_annotation a = record { name = a.name; value = text_of a.value }
 
-abbrev pub condition_told : WrittenCondition → Condition
-condition_told c = record { kind = c.kind; body = expression_of c.body }
+abbrev pub to_condition : WrittenCondition → Condition
+to_condition c = record { kind = c.kind; body = to_expression c.body }
 
 -- the policy of this id, where the scope has no slot
-abbrev pub policy_of : List ℕ → StatementTree → PolicyTree
-policy_of id s = record { id = id; annotations = map annotation_told s.annotations; effect = s.effect; scope = scope_told s.scope; conditions = map condition_told s.conditions }
+abbrev pub to_policy : List ℕ → StatementTree → PolicyTree
+to_policy id s = record { id = id; annotations = map to_annotation s.annotations; effect = s.effect; scope = to_scope s.scope; conditions = map to_condition s.conditions }
 
-abbrev pub template_of : List ℕ → StatementTree → TemplateTree
-template_of id s = record { id = id; annotations = map annotation_told s.annotations; effect = s.effect; scope = template_scope_told s.scope; conditions = map condition_told s.conditions }
+abbrev pub to_template : List ℕ → StatementTree → TemplateTree
+to_template id s = record { id = id; annotations = map to_annotation s.annotations; effect = s.effect; scope = to_template_scope s.scope; conditions = map to_condition s.conditions }
 
 -- A statement with a slot is a template.
-abbrev pub statement_told : List ℕ → StatementTree → Statement
-statement_told id s = if has_slot s.scope then statement.Template (template_of id s) else statement.Policy (policy_of id s)
+abbrev pub to_statement : List ℕ → StatementTree → Statement
+to_statement id s = if has_slot s.scope then statement.Template (to_template id s) else statement.Policy (to_policy id s)
 
--- the value of the annotation `id`
-abbrev pub id_in : List WrittenAnnotation → Option (List ℕ)
+-- the value of the annotation `id`, as it is written
+abbrev pub id_in : List WrittenAnnotation → Option Content
 id_in [] = None
-id_in (a ∷ xs) = if bytes_eq a.name (codes "id") then Some (told a.value) else id_in xs
+id_in (a ∷ xs) = if bytes_eq a.name (codes "id") then Some a.value else id_in xs
+
+-- The id of the statement at a position from 0, as it is written: none where its annotation `id` stands for no text.
+abbrev pub written_id : ℕ → StatementTree → Content
+written_id n s = unwrap_or (id_in s.annotations) (Some (codes "policy" ++ decimal n))
+
+-- the ids of statements, as they are written, the first of which stands at this position
+abbrev pub written_ids_from : ℕ → List StatementTree → List Content
+written_ids_from n [] = []
+written_ids_from n (s ∷ ss) = written_id n s ∷ written_ids_from (n + 1) ss
 
 -- the id of the statement at a position from 0
 abbrev pub id_at : ℕ → StatementTree → List ℕ
-id_at n s = unwrap_or (id_in s.annotations) (codes "policy" ++ decimal n)
+id_at n s = text_of (written_id n s)
 
 abbrev pub statement_of : ℕ → StatementTree → Statement
-statement_of n s = statement_told (id_at n s) s
+statement_of n s = to_statement (id_at n s) s
 
 -- statements, the first of which stands at this position, entered one after the other
 abbrev pub entered_from : PolicySetTree → ℕ → List StatementTree → PolicySetTree
 entered_from set n [] = set
 entered_from set n (s ∷ ss) = entered_from (entered set (statement_of n s)) (n + 1) ss
 
+-- the ids of statements, the first of which stands at this position
 abbrev pub ids_from : ℕ → List StatementTree → List (List ℕ)
 ids_from n [] = []
 ids_from n (s ∷ ss) = id_at n s ∷ ids_from (n + 1) ss

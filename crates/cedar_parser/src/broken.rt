@@ -1,27 +1,30 @@
 //! Side conditions of expressions.
 ghost use Rattle.std.specs.Prelude.{◌≡◌, IfOk, MatchOption, map};
-ghost use Rattle.cedar_parser.specs.Written.{members_of};
-ghost use Rattle.cedar_parser.specs.WrittenKind.{links_of, fields_of};
-ghost use Rattle.cedar_parser.specs.Meaning.{told, function_of, method_of};
+ghost use Rattle.cedar_grammar.specs.Written.{members_of};
+ghost use Rattle.cedar_grammar.specs.WrittenKind.{links_of, fields_of};
+ghost use Rattle.cedar_tokens.specs.Content.{text_of};
+ghost use Rattle.cedar_parser.specs.Meaning.{function_of, method_of};
 ghost use Rattle.cedar_parser.specs.Limits.{Stands, Fits, FitsNegative, IsKnown, HasOne, HasDistinctKeys, HasNoSlot, Keeps, KeepLinks, KeepMembers, KeepFields, keys_in};
-ghost use Rattle.cedar_parser.specs.Parts.{KeepLink, KeepField};
+ghost use Rattle.cedar_parser.specs.declared.side_condition.SideCondition.TheVariants.{Strings};
+ghost use Rattle.cedar_parser.specs.Private.Parts.{KeepLink, KeepField};
 
-use crate::content::{Content, Word};
-use crate::named::{function_of, method_of};
+use crate::functions::{function_of, is_function, is_method, method_of};
 use crate::side_condition::SideCondition;
-use crate::written::{Field, Link, Written, WrittenKind};
 use cedar_ast::first_repeated;
+use cedar_grammar::{Field, Link, Written, WrittenKind};
+use cedar_tokens::{Content, Word};
 use cedar_value::Name;
 use std::alloc::{AllocError, Global};
 
-/// Where an expression breaks a side condition, in bytes from 0, if it does.
+/// Where an expression breaks a side condition, in bytes from 0, if it does. A string that stands for no text counts as the
+/// empty key: that a key stands twice is true only where each string stands for a text.
 #[cycle(broken)]
 pub fn broken(
     alloc: Global,
     condition: SideCondition,
     written: &Written,
 ) -> Result<Option<usize>, AllocError>
-    ensures { IfOk result (λ o. MatchOption o (Keeps condition written.now) (λ at. Keeps condition written.now → ⊥)) }
+    ensures { IfOk result (λ o. MatchOption o (Keeps condition written.now) (λ at. Keeps Strings written.now → Keeps condition written.now → ⊥)) }
 {
     match written.kind() {
         WrittenKind::Truth(_) => Ok(None),
@@ -80,7 +83,8 @@ pub fn broken(
             if let Some(at) = function_broken(condition, *start, name) {
                 return Ok(Some(at));
             }
-            if let Some(at) = count_broken(condition, *start, arguments.items()) {
+            let known = is_function(name.as_str());
+            if let Some(at) = count_broken(condition, known, *start, arguments.items()) {
                 return Ok(Some(at));
             }
             members_broken(alloc, condition, arguments.items())
@@ -94,7 +98,7 @@ fn links_broken(
     condition: SideCondition,
     links: &[Link],
 ) -> Result<Option<usize>, AllocError>
-    ensures { IfOk result (λ o. MatchOption o (KeepLinks condition (links_of links.now)) (λ at. KeepLinks condition (links_of links.now) → ⊥)) }
+    ensures { IfOk result (λ o. MatchOption o (KeepLinks condition (links_of links.now)) (λ at. KeepLinks Strings (links_of links.now) → KeepLinks condition (links_of links.now) → ⊥)) }
 {
     for link in links {
         if let Some(at) = link_broken(alloc, condition, link)? {
@@ -110,7 +114,7 @@ fn link_broken(
     condition: SideCondition,
     link: &Link,
 ) -> Result<Option<usize>, AllocError>
-    ensures { IfOk result (λ o. MatchOption o (KeepLink condition link.now) (λ at. KeepLink condition link.now → ⊥)) }
+    ensures { IfOk result (λ o. MatchOption o (KeepLink condition link.now) (λ at. KeepLink Strings link.now → KeepLink condition link.now → ⊥)) }
 {
     match link {
         Link::Operand(_, operand) => broken(alloc, condition, operand),
@@ -119,7 +123,8 @@ fn link_broken(
             if let Some(at) = method_broken(condition, name) {
                 return Ok(Some(at));
             }
-            if let Some(at) = count_broken(condition, name.place(), arguments.items()) {
+            let known = is_method(name.as_str());
+            if let Some(at) = count_broken(condition, known, name.place(), arguments.items()) {
                 return Ok(Some(at));
             }
             members_broken(alloc, condition, arguments.items())
@@ -133,7 +138,7 @@ fn members_broken(
     condition: SideCondition,
     members: &[Written],
 ) -> Result<Option<usize>, AllocError>
-    ensures { IfOk result (λ o. MatchOption o (KeepMembers condition (members_of members.now)) (λ at. KeepMembers condition (members_of members.now) → ⊥)) }
+    ensures { IfOk result (λ o. MatchOption o (KeepMembers condition (members_of members.now)) (λ at. KeepMembers Strings (members_of members.now) → KeepMembers condition (members_of members.now) → ⊥)) }
 {
     for member in members {
         if let Some(at) = broken(alloc, condition, member)? {
@@ -149,7 +154,7 @@ fn fields_broken(
     condition: SideCondition,
     fields: &[Field],
 ) -> Result<Option<usize>, AllocError>
-    ensures { IfOk result (λ o. MatchOption o (KeepFields condition (fields_of fields.now)) (λ at. KeepFields condition (fields_of fields.now) → ⊥)) }
+    ensures { IfOk result (λ o. MatchOption o (KeepFields condition (fields_of fields.now)) (λ at. KeepFields Strings (fields_of fields.now) → KeepFields condition (fields_of fields.now) → ⊥)) }
 {
     for field in fields {
         if let Some(at) = field_broken(alloc, condition, field)? {
@@ -165,7 +170,7 @@ fn field_broken(
     condition: SideCondition,
     field: &Field,
 ) -> Result<Option<usize>, AllocError>
-    ensures { IfOk result (λ o. MatchOption o (KeepField condition field.now) (λ at. KeepField condition field.now → ⊥)) }
+    ensures { IfOk result (λ o. MatchOption o (KeepField condition field.now) (λ at. KeepField Strings field.now → KeepField condition field.now → ⊥)) }
 {
     if let Some(at) = content_broken(condition, &field.key) {
         return Ok(Some(at));
@@ -254,11 +259,19 @@ fn method_broken(condition: SideCondition, name: &Word) -> Option<usize>
 }
 
 #[tactic(auto, using(crate::proofs::PartLemmas::count_members))]
-fn count_broken(condition: SideCondition, start: usize, arguments: &[Written]) -> Option<usize>
-    ensures { MatchOption result (HasOne condition (members_of arguments.now)) (λ at. HasOne condition (members_of arguments.now) → ⊥) }
+fn count_broken(
+    condition: SideCondition,
+    known: bool,
+    start: usize,
+    arguments: &[Written],
+) -> Option<usize>
+    ensures { MatchOption result (HasOne condition known (members_of arguments.now)) (λ at. HasOne condition known (members_of arguments.now) → ⊥) }
 {
     match condition {
         SideCondition::Counts => {
+            if !known {
+                return None;
+            }
             if arguments.len() == 1 {
                 return None;
             }
@@ -268,13 +281,13 @@ fn count_broken(condition: SideCondition, start: usize, arguments: &[Written]) -
     }
 }
 
-#[tactic(auto, using(crate::proofs::PartLemmas::keys_map))]
+#[tactic(auto, using(crate::proofs::PartLemmas::keys_map, crate::proofs::PartLemmas::distinct_keys))]
 fn keys_broken(
     alloc: Global,
     condition: SideCondition,
     fields: &[Field],
 ) -> Result<Option<usize>, AllocError>
-    ensures { IfOk result (λ o. MatchOption o (HasDistinctKeys condition (fields_of fields.now)) (λ at. HasDistinctKeys condition (fields_of fields.now) → ⊥)) }
+    ensures { IfOk result (λ o. MatchOption o (HasDistinctKeys condition (fields_of fields.now)) (λ at. KeepFields Strings (fields_of fields.now) → HasDistinctKeys condition (fields_of fields.now) → ⊥)) }
 {
     match condition {
         SideCondition::Keys => {
@@ -290,7 +303,7 @@ fn keys_broken(
 
 // The keys, lent.
 fn lent_keys<'a>(alloc: Global, fields: &'a [Field]) -> Result<Vec<&'a str>, AllocError>
-    ensures { IfOk result (λ v. map (λ k. k.now) v.items ≡ map (λ f. told f.key) fields.now) }
+    ensures { IfOk result (λ v. map (λ k. k.now) v.items ≡ map (λ f. text_of f.key) fields.now) }
 {
     let mut keys = Vec::new(alloc);
     for field in fields {

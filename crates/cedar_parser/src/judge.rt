@@ -2,20 +2,20 @@
 ghost use Rattle.std.specs.Prelude.{◌≡◌, ◌≤◌, IfOk, IfErr, MatchOption, OnOk, map};
 ghost use Rattle.cedar_parser.specs.StatementLimits.{KeepsReference, KeepsEntityScope, KeepUids, KeepsActionScope, HasDistinctNames, KeepAnnotations, KeepConditions, KeepsStatement, condition_size, IsWithinLimits, Breaks};
 ghost use Rattle.cedar_parser.specs.Limits.{max_height, max_nodes};
-ghost use Rattle.cedar_parser.specs.Entering.{BreaksSize};
+ghost use Rattle.cedar_parser.specs.Private.Entering.{BreaksSize, KeepsBefore};
 ghost use Rattle.cedar_parser.specs.declared.side_condition.SideCondition.{SideCondition as Conditions};
+ghost use Rattle.cedar_parser.specs.declared.side_condition.SideCondition.TheVariants.{Strings};
 
 use crate::broken::{broken, content_broken};
-use crate::content::WrittenUid;
-use crate::parse_fault::ParseFault;
+use crate::condition_size::condition_size;
 use crate::side_condition::SideCondition;
 use crate::size::Size;
-use crate::statement::{
+use cedar_ast::{Variable, first_repeated};
+use cedar_grammar::{
     Reference, WrittenActionScope, WrittenAnnotation, WrittenCondition, WrittenEntityScope,
     WrittenStatement,
 };
-use crate::statement_size::condition_size;
-use cedar_ast::{Variable, first_repeated};
+use cedar_tokens::{ParseFault, WrittenUid};
 use std::alloc::{AllocError, Global};
 
 /// The height that the condition of a statement may have, in nodes.
@@ -83,6 +83,7 @@ fn judge_by(
     condition: SideCondition,
     statement: &WrittenStatement,
 ) -> Result<(), ParseFault>
+    requires { KeepsBefore condition statement.now }
     ensures kept { OnOk result (KeepsStatement condition statement.now) }
     ensures broken { IfErr result (Breaks statement.now) }
 {
@@ -106,7 +107,7 @@ fn statement_broken(
     condition: SideCondition,
     statement: &WrittenStatement,
 ) -> Result<Option<usize>, AllocError>
-    ensures { IfOk result (λ o. MatchOption o (KeepsStatement condition statement.now) (λ at. KeepsStatement condition statement.now → ⊥)) }
+    ensures { IfOk result (λ o. MatchOption o (KeepsStatement condition statement.now) (λ at. KeepsStatement Strings statement.now → KeepsStatement condition statement.now → ⊥)) }
 {
     if let Some(at) = names_broken(alloc, condition, &statement.annotations)? {
         return Ok(Some(at));
@@ -202,7 +203,7 @@ fn conditions_broken(
     condition: SideCondition,
     conditions: &[WrittenCondition],
 ) -> Result<Option<usize>, AllocError>
-    ensures { IfOk result (λ o. MatchOption o (KeepConditions condition conditions.now) (λ at. KeepConditions condition conditions.now → ⊥)) }
+    ensures { IfOk result (λ o. MatchOption o (KeepConditions condition conditions.now) (λ at. KeepConditions Strings conditions.now → KeepConditions condition conditions.now → ⊥)) }
 {
     for asked in conditions {
         if let Some(at) = broken(alloc, condition, &asked.body)? {

@@ -1,34 +1,25 @@
-//! The parser: policies, templates and uids of the Cedar policy language, read from text (Cedar language reference, grammar).
+//! The parser: policies and templates of the Cedar policy language, read from text (Cedar language reference, grammar).
 //!
-//! The grammar stands in `specs/Grammar.antt` and `specs/Statements.antt`, the expression that is written in
-//! `specs/Meaning.antt`, the policy or template that a statement is in `specs/StatementMeaning.antt`, side conditions and
-//! limits in `specs/Limits.antt` and `specs/StatementLimits.antt`, and all of it together in `specs/PolicyText.antt`.
+//! ```
+//! let set = parse(alloc, "permit(principal, action, resource) when { context.mfa };")?;
+//! assert_eq!(set.policies().len(), 1);
+//! ```
+//!
+//! The grammar stands in `cedar_grammar`. Here are the expression that is written, in `specs/Meaning.antt`, the policy or
+//! template that a statement is, in `specs/StatementMeaning.antt`, side conditions and limits, in `specs/Limits.antt` and
+//! `specs/StatementLimits.antt`, and all of it together in `specs/PolicyText.antt`.
 #![tactic(auto)]
 
 mod broken;
-mod content;
-mod cursor;
-mod expressions;
+mod condition_size;
+mod expression;
+mod expression_size;
+mod functions;
 mod judge;
-mod lowering;
-mod making;
-mod named;
-mod names;
-mod parse_fault;
 mod parser;
-mod scopes;
-mod series;
+mod policy;
 mod side_condition;
-mod sign;
-mod signs;
 mod size;
-mod sizes;
-mod spelled;
-mod statement;
-mod statement_size;
-mod statements;
-mod telling;
-mod written;
 
-pub use parse_fault::ParseFault;
-pub use parser::{parse, read_uid};
+pub use cedar_tokens::{ParseFault, read_uid};
+pub use parser::{one_policy_set, parse};

@@ -1,26 +1,18 @@
-//! Policy texts and uids.
-ghost use Rattle.std.specs.Prelude.{◌≡◌, [], IfOk, OnOk, IfErr, Contains, is_some};
+//! Policy texts.
+ghost use Rattle.std.specs.Prelude.{◌≡◌, [], ℕ, List, IfOk, OnOk, IfErr, Contains};
 ghost use Rattle.cedar_ast.specs.PolicySetTree.{PolicySetTree, entered, id_of, ids_in};
-ghost use Rattle.cedar_value.specs.declared.uid.Uid.{Uid};
-ghost use Rattle.cedar_parser.specs.PolicyText.{ArePolicies, IsPolicyText, TokensFault, HasFault, Answers, IsUidText, HasUidFault, AnswersUid};
-ghost use Rattle.cedar_parser.specs.Entering.{RefusesEntry, RefusesAdd, refusal_for};
+ghost use Rattle.cedar_parser.specs.PolicyText.{ArePolicies, IsPolicyText, TokensFault, HasFault, Answers};
+ghost use Rattle.cedar_parser.specs.Private.Entering.{RefusesEntry, RefusesAdd, refusal_for};
 ghost use Rattle.cedar_ast.specs.AddFault.{number_of};
 ghost use Rattle.cedar_parser.specs.StatementMeaning.{statement_of, id_at};
 ghost use Rattle.cedar_parser.specs.StatementLimits.{IsWithinLimits};
 
-use crate::content::Content;
-use crate::cursor::Cursor;
 use crate::judge::judge;
-use crate::lowering::told_uid;
-use crate::names::entity;
-use crate::parse_fault::ParseFault;
-use crate::spelled::spell_all;
-use crate::statement::WrittenStatement;
-use crate::statements::statement;
-use crate::telling::{id_of, statement_told};
+use crate::policy::{id_of, to_statement};
 use cedar_ast::{AddFault, PolicySet, Statement};
-use cedar_text::{one_spelling, tokens};
-use cedar_value::Uid;
+use cedar_grammar::{WrittenStatement, statement};
+use cedar_text::{one_list, one_spelling};
+use cedar_tokens::{Cursor, ParseFault, spelled_tokens};
 use std::alloc::{AllocError, Global};
 
 /// The policies and templates of a text, in order (Cedar language reference, grammar). The statement at position N, from
@@ -40,11 +32,18 @@ pub fn parse(alloc: Global, source: &str) -> Result<PolicySet, ParseFault>
     // Each fault comes only where it is.
     ensures fault { IfErr result (HasFault source.now) }
 {
-    one_spelling();
-    let tokens = tokens(alloc, source)?;
-    let spelled = spell_all(alloc, tokens)?;
+    let spelled = spelled_tokens(alloc, source)?;
     let mut cursor = Cursor::new(spelled.as_slice(), source.len());
     policies(alloc, &mut cursor)
+}
+
+/// The law that no text has two sets of policies (Cedar language reference, grammar). It runs nothing.
+pub fn one_policy_set()
+    ensures { (source : List ℕ) (set other : PolicySetTree) → IsPolicyText source set → IsPolicyText source other → set ≡ other }
+{
+    // Laws: they run nothing.
+    one_list();
+    one_spelling();
 }
 
 // The policies of all tokens.
@@ -91,7 +90,7 @@ fn entry(
     ensures { IfOk result (λ e. e ≡ statement_of position statement.now) }
 {
     let id = id_of(alloc, position, statement)?;
-    statement_told(alloc, id, statement)
+    to_statement(alloc, id, statement)
 }
 
 // Adds a policy or template, whose statement begins at the place.
@@ -113,42 +112,5 @@ fn refusal(fault: &AddFault, start: usize) -> ParseFault
     match fault {
         AddFault::OutOfMemory(_) => ParseFault::OutOfMemory,
         AddFault::DuplicateId(_) => ParseFault::DuplicateId(start),
-    }
-}
-
-/// The uid of a text, as `User::"ann"` (Cedar language reference, entity identifiers). White space and comments may stand
-/// in it.
-///
-/// Refusals: 1; 101 to 104 where the text has no tokens; 103 for the escape `\*` in the id; 201 where the tokens are no uid.
-pub fn read_uid(alloc: Global, source: &str) -> Result<Uid, ParseFault>
-    // What is answered is the uid of the text.
-    ensures found { IfOk result (IsUidText source.now) }
-    // The uid of the text is what is answered, unless memory runs out.
-    ensures only { (uid : Uid) → IsUidText source.now uid → AnswersUid uid result }
-    // Each fault comes only where it is.
-    ensures fault { IfErr result (HasUidFault source.now) }
-{
-    one_spelling();
-    let tokens = tokens(alloc, source)?;
-    let spelled = spell_all(alloc, tokens)?;
-    let mut cursor = Cursor::new(spelled.as_slice(), source.len());
-    let written = entity(alloc, &mut cursor)?;
-    if cursor.left() > 0 {
-        return Err(ParseFault::Syntax(cursor.offset()));
-    }
-    if !stands(&written.id) {
-        return Err(ParseFault::EscapedStar(written.id.place()));
-    }
-    let uid = told_uid(alloc, &written)?;
-    Ok(uid)
-}
-
-// Whether a string stands for a text.
-fn stands(content: &Content) -> bool
-    ensures { result ≡ is_some content.now }
-{
-    match content.text() {
-        Some(_) => true,
-        None => false,
     }
 }

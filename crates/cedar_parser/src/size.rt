@@ -1,7 +1,7 @@
 //! Sizes of trees, counted before the trees are built.
 ghost use Rattle.std.specs.Prelude.{◌≡◌};
 ghost use Rattle.cedar_parser.specs.Limits.{nothing, leaf, above, above_both, both};
-ghost use Rattle.cedar_parser.specs.Capped.{capped};
+ghost use Rattle.cedar_parser.specs.Private.Capped.{capped};
 
 /// How many nodes a tree has, and how many stand on its longest way down. Both stop at the greatest `usize`.
 #[derive(Clone, Copy, Debug)]

@@ -1,34 +1,38 @@
 -- What is declared one by one is well formed as a whole.
-use Rattle.std.proofs.Common.{◌≡◌, codes, ℕ, Bool, true, false, cond, nat_eq, List, [], ◌∷◌, Option, Some, None, option_map, unwrap_or, IsSome, IfSome, All, Contains, refl, sym, ap, ◌∙◌, subst, arith, Ordering, Less, Equal, Greater}
+use Rattle.std.proofs.Common.{◌≡◌, codes, ℕ, suc, bytes_eq, Bool, true, false, cond, nat_eq, List, [], ◌∷◌, Option, Some, None, option_map, unwrap_or, IfSome, All, Contains, refl, sym, ap, ◌∙◌, subst, Ordering, Less, Equal, Greater}
 use Rattle.std.proofs.lemmas.Cmp.{nat_list_cmp_total}
 use Rattle.std.proofs.lemmas.List.Elements.{All-nil, All-cons, All-head, All-tail, All-append, All-contains, All-weaker}
-use Rattle.std.proofs.lemmas.Map.Views.{All-values-insert_entry, All-keys-insert_entry, Contains-from_any, Contains-keys_from_lookup, tells_apart}
+use Rattle.std.proofs.lemmas.Slice.Eq.{bytes_eq-Decides}
+use Rattle.std.proofs.lemmas.Map.Views.{All-values-insert_entry, All-keys-insert_entry, Contains-from_any, tells_apart}
 use Rattle.std.specs.BTreeMap.{insert_entry, is_at}
 use Rattle.std.specs.BTreeSet.{insert_key}
 use Rattle.std.specs.Cmp.{IsTotalOrder}
-use Rattle.std.specs.List.{AllByRecursion, list_any}
+use Rattle.std.specs.List.{list_any}
 use Rattle.std.specs.List.Sorted.{IsStrictlySortedBy}
 use Rattle.std.specs.Map.{keys_of, values_of, lookup}
-use Rattle.std.specs.Ordering.{match_ordering, ordering_reverse}
+use Rattle.std.specs.Ordering.{match_ordering}
 use Rattle.serde_json.specs.Data.{Data, Items, no_items, item}
 use Rattle.serde_json.specs.Find.{get, as_str, as_array}
-use Rattle.cedar_value.specs.Laws.{uid_total}
+use Rattle.cedar_value.specs.Private.Laws.{uid_total}
 use Rattle.cedar_value.specs.Order.{text_cmp, uid_cmp}
-use Rattle.cedar_value.specs.Same.{uid_same}
+use Rattle.cedar_value.specs.Private.Same.{text_same, uid_same}
 use Rattle.cedar_value.specs.declared.uid.Uid.{Uid}
 use Rattle.cedar_schema.specs.declared.schema_fault.SchemaFault.{SchemaFault}
-use Rattle.cedar_schema.specs.declared.environment.Environment.{Environment}
-use Rattle.cedar_schema.specs.Naming.{qualified, or_else}
-use Rattle.cedar_schema.specs.Reading.{text_at}
-use Rattle.cedar_schema.specs.Entries.{EntryTree, entity_key_faults}
+use Rattle.cedar_schema.specs.declared.schema.environment.Environment.{Environment}
+use Rattle.cedar_schema.specs.Naming.{qualified, or_else, listed, place_from, resolved}
+use Rattle.cedar_schema.specs.Reading.{Scope, text_at}
+use Rattle.cedar_schema.specs.Entries.{EntryTree, names_of, entity_key_faults}
 use Rattle.cedar_schema.specs.Each.{each_faults, each_onto}
-use Rattle.cedar_schema.specs.Declaring.{ListRead, each_read, list_at, unless_null, listed_uid, with_type, typed_uid, found_uid, by_type, by_id, by_member, member_read, entity_type_of, entity_type_faults, action_of, uid_of}
+use Rattle.cedar_schema.specs.Declaring.{ListRead, each_read, list_at, name_read, some_name, names_at, set_onto, applies_read, unspecified, unless_null, listed_uid, with_type, typed_uid, found_uid, by_type, by_id, by_member, member_read, entity_type_of, entity_type_faults, action_of, uid_of}
 use Rattle.cedar_schema.specs.SchemaTree.{SchemaTree, EntityTypeTree, ActionTree, environments_of, with_principals, with_resources, parents_of_action}
 use Rattle.cedar_schema.specs.Schemas.{Setting, schema_in, add_entity, add_action, entity_faults, one_action_faults, scope_in, uids_onto}
-use Rattle.cedar_schema.specs.Descents.{ActionDescends, one_link, more_links}
-use Rattle.cedar_schema.specs.InOrder.{AreInOrder, IsInOrder}
+use Rattle.cedar_closure.specs.Closure.{one_link, more_links}
+use Rattle.cedar_schema.specs.Descents.{ActionDescends}
+use Rattle.cedar_schema.specs.Private.SettingView.{IsSettingOf}
 use Rattle.cedar_schema.specs.WellFormed.{IsOrderedRecord, AreMembersDeclared, IsWellFormed}
-use Rattle.cedar_schema.proofs.FormOrder.{AreFormsInOrder, shape_ordered, context_ordered}
+use Rattle.cedar_schema.proofs.ExpandedOrder.{shape_ordered, context_ordered}
+use Rattle.cedar_schema.specs.Private.Linked.{actions_listed}
+use Rattle.cedar_schema.proofs.InsertedKeys.{here, there, all_keys, kept_key, new_key, sorted_more}
 use Rattle.cedar_schema.proofs.NameEnds.{no_first, no_second, is_no_action}
 
 -- ---- entries that go into a map one by one
@@ -59,33 +63,10 @@ module _ {A K V : Type 0} (R : K → K → Ordering) (key : A → K) (value : A 
       at Greater h = ap (λ ks. e.0 ∷ ks) h
 
   module _ (o : IsTotalOrder R) where
-    less_all : (a b : K) (xs : List K) → R a b ≡ Less → AllByRecursion (λ x. R b x ≡ Less) xs → AllByRecursion (λ x. R a x ≡ Less) xs
-    less_all a b [] h all = tt
-    less_all a b (x ∷ xs) h all = (o.trans a b x h all.0, less_all a b xs h all.1)
-
-    above : (b k : K) (ks : List K) → R b k ≡ Less → AllByRecursion (λ x. R b x ≡ Less) ks → AllByRecursion (λ x. R b x ≡ Less) (insert_key R ks k)
-    above b k [] h all = (h, tt)
-    above b k (x ∷ xs) h all = at (R k x) (above b k xs h all.1)
-      where
-        at : (c : Ordering) → AllByRecursion (λ y. R b y ≡ Less) (insert_key R xs k) → AllByRecursion (λ y. R b y ≡ Less) (match_ordering c (k ∷ x ∷ xs) (x ∷ xs) (x ∷ insert_key R xs k))
-        at Less later = (h, all)
-        at Equal later = all
-        at Greater later = (all.0, later)
-
-    sorted_more : (k : K) (ks : List K) → IsStrictlySortedBy R ks → IsStrictlySortedBy R (insert_key R ks k)
-    unfolding IsStrictlySortedBy
-    sorted_more k [] up = (tt, tt)
-    sorted_more k (x ∷ xs) up = at (R k x) refl (sorted_more k xs up.1)
-      where
-        at : (c : Ordering) → R k x ≡ c → IsStrictlySortedBy R (insert_key R xs k) → IsStrictlySortedBy R (match_ordering c (k ∷ x ∷ xs) (x ∷ xs) (x ∷ insert_key R xs k))
-        at Less h later = ((h, less_all k x xs h up.0), up)
-        at Equal h later = up
-        at Greater h later = (above x k xs (o.antisymm x k ∙ ap ordering_reverse h) up.0, later)
-
     pub sorted_onto : (xs : List A) (done : List (K × V)) → IsStrictlySortedBy R (keys_of done) → IsStrictlySortedBy R (keys_of (each_onto add done xs))
     unfolding each_onto
     sorted_onto [] done up = up
-    sorted_onto (x ∷ xs) done up = sorted_onto xs (add done x) (subst (IsStrictlySortedBy R) (sym (keys_more (key x) (value x) done)) (sorted_more (key x) (keys_of done) up))
+    sorted_onto (x ∷ xs) done up = sorted_onto xs (add done x) (subst (IsStrictlySortedBy R) (sym (keys_more (key x) (value x) done)) (sorted_more R o (key x) (keys_of done) up))
 
 -- what holds of each value holds of one that a look-up finds
 All-values_lookup : {K V : Type 0} (P : V → Type 0) (test : K → Bool) (es : List (K × V)) → All P (values_of es) → IfSome (lookup test es) P
@@ -167,6 +148,122 @@ pub parents_in : (s : Setting) (e : EntryTree) → All (Contains s.uids) (action
 unfolding action_of
 parents_in s e = list_in s.uids e.namespace (unless_null (get (codes "memberOf") e.body))
 
+-- ---- the lists of an action
+
+abbrev AppliesToTypes : List (List ℕ) → ActionTree → Type 0
+AppliesToTypes types a = (IsStrictlySortedBy text_cmp a.principals × All (Contains types) a.principals) × (IsStrictlySortedBy text_cmp a.resources × All (Contains types) a.resources)
+
+placed : (names : List (List ℕ)) (i : ℕ) (name : List ℕ) → IfSome (option_map (λ place. (name, place)) (place_from i name names)) (λ (n : List ℕ × ℕ). Contains names n.0)
+placed [] i name = tt
+placed (n ∷ names) i name = at (bytes_eq n name) refl (placed names (suc i) name)
+  where
+    more : (o : Option ℕ) → IfSome (option_map (λ place. (name, place)) o) (λ (m : List ℕ × ℕ). Contains names m.0) → IfSome (option_map (λ place. (name, place)) o) (λ (m : List ℕ × ℕ). Contains (n ∷ names) m.0)
+    more None h = tt
+    more (Some p) h = there n names name h
+
+    at : (b : Bool) → bytes_eq n name ≡ b → IfSome (option_map (λ place. (name, place)) (place_from (suc i) name names)) (λ (m : List ℕ × ℕ). Contains names m.0)
+        → IfSome (option_map (λ place. (name, place)) (cond b (Some i) (place_from (suc i) name names))) (λ (m : List ℕ × ℕ). Contains (n ∷ names) m.0)
+    at true e h = subst (λ (x : List ℕ). Contains (n ∷ names) x) ((bytes_eq-Decides n name).0 e) (here n names)
+    at false e h = more (place_from (suc i) name names) h
+
+abbrev IsOf : List (List ℕ) → List ℕ × ℕ → Type 0
+IsOf names n = Contains names n.0
+
+one_of : (names : List (List ℕ)) (o p : Option (List ℕ × ℕ)) → IfSome o (IsOf names) → IfSome p (IsOf names) → IfSome (or_else o p) (IsOf names)
+one_of names None p h g = g
+one_of names (Some n) p h g = h
+
+resolved_in : (names : List (List ℕ)) (namespace name : List ℕ) → IfSome (resolved names namespace name) (IsOf names)
+unfolding resolved
+resolved_in names namespace name = at (list_any (nat_eq 58) name)
+  where
+    at : (b : Bool) → IfSome (cond b (listed names name) (or_else (listed names (qualified namespace name)) (listed names name))) (IsOf names)
+    at true = placed names 0 name
+    at false = one_of names (listed names (qualified namespace name)) (listed names name) (placed names 0 (qualified namespace name)) (placed names 0 name)
+
+item_in : (names : List (List ℕ)) (o : Option (List ℕ × ℕ)) → IfSome o (IsOf names) → All (Contains names) (unwrap_or (option_map (λ n. n.0 ∷ []) o) [])
+item_in names None h = All-nil (Contains names)
+item_in names (Some n) h = All-cons (Contains names) n.0 [] h (All-nil (Contains names))
+
+text_in : (names : List (List ℕ)) (namespace : List ℕ) (o : Option (List ℕ)) → All (Contains names) (some_name names namespace o).items
+text_in names namespace None = All-nil (Contains names)
+text_in names namespace (Some s) = item_in names (resolved names namespace s) (resolved_in names namespace s)
+
+names_in : (names : List (List ℕ)) (namespace : List ℕ) (ds : Items) → All (Contains names) (each_read (name_read names namespace) ds).items
+unfolding each_read
+names_in names namespace no_items = All-nil (Contains names)
+names_in names namespace (item d ds) = All-append (Contains names) (name_read names namespace d).items (each_read (name_read names namespace) ds).items (text_in names namespace (as_str d)) (names_in names namespace ds)
+
+names_at_in : (sc : Scope) (missing : List SchemaFault) (o : Option Data) → All (Contains sc.entities) (names_at sc missing o).items
+names_at_in sc missing None = All-nil (Contains sc.entities)
+names_at_in sc missing (Some d) = at (as_array d)
+  where
+    at : (o : Option Items) → All (Contains sc.entities) (Rattle.cedar_schema.specs.Declaring.list_in (name_read sc.entities sc.namespace) o).items
+    at None = All-nil (Contains sc.entities)
+    at (Some ds) = names_in sc.entities sc.namespace ds
+
+set_sorted : (ns done : List (List ℕ)) → IsStrictlySortedBy text_cmp done → IsStrictlySortedBy text_cmp (set_onto done ns)
+set_sorted [] done up = up
+set_sorted (n ∷ ns) done up = set_sorted ns (insert_key text_cmp done n) (sorted_more text_cmp nat_list_cmp_total n done up)
+
+set_all : (P : List ℕ → Type 0) (ns done : List (List ℕ)) → All P ns → All P done → All P (set_onto done ns)
+set_all P [] done h all = all
+set_all P (n ∷ ns) done h all = set_all P ns (insert_key text_cmp done n) (All-tail P n ns h) (all_keys text_cmp P n done (All-head P n ns h) all)
+
+none_sorted : IsStrictlySortedBy text_cmp []
+unfolding IsStrictlySortedBy
+none_sorted = tt
+
+-- the names of the entries are keys of what they declare
+module _ (s : Setting) where
+  kept_types : (es : List EntryTree) (done : List (List ℕ × EntityTypeTree)) (m : List ℕ) → Contains (keys_of done) m → Contains (keys_of (each_onto (add_entity s) done es)) m
+  unfolding each_onto
+  kept_types [] done m h = h
+  kept_types (e ∷ es) done m h =
+      kept_types es (add_entity s done e) m
+      (subst (λ (ks : List (List ℕ)). Contains ks m) (sym (keys_more {A = EntryTree} text_cmp (λ x. qualified x.namespace x.key) (λ x. entity_type_of (scope_in s x) s.table x) (qualified e.namespace e.key) (entity_type_of (scope_in s e) s.table e) done))
+      (kept_key text_cmp (qualified e.namespace e.key) m (keys_of done) h))
+
+  named_types : (es : List EntryTree) (done : List (List ℕ × EntityTypeTree)) → All (Contains (keys_of (each_onto (add_entity s) done es))) (names_of es)
+  unfolding each_onto
+  named_types [] done = All-nil (Contains (keys_of done))
+  named_types (e ∷ es) done =
+      All-cons (Contains (keys_of (each_onto (add_entity s) (add_entity s done e) es))) (qualified e.namespace e.key) (names_of es)
+      (kept_types es (add_entity s done e) (qualified e.namespace e.key)
+      (subst (λ (ks : List (List ℕ)). Contains ks (qualified e.namespace e.key)) (sym (keys_more {A = EntryTree} text_cmp (λ x. qualified x.namespace x.key) (λ x. entity_type_of (scope_in s x) s.table x) (qualified e.namespace e.key) (entity_type_of (scope_in s e) s.table e) done))
+      (new_key text_cmp text_same (qualified e.namespace e.key) (keys_of done))))
+      (named_types es (add_entity s done e))
+
+  module _ (es : List EntryTree) (names : s.entities ≡ names_of es) where
+    abbrev types_of : List (List ℕ)
+    types_of = keys_of (each_onto (add_entity s) [] es)
+
+    is_type : (n : List ℕ) → Contains s.entities n → Contains types_of n
+    is_type n h = All-contains (Contains types_of) (names_of es) n (named_types es []) (subst (λ (ks : List (List ℕ)). Contains ks n) names h)
+
+    list_applies : (sc : Scope) (missing : List SchemaFault) (o : Option Data) → sc.entities ≡ s.entities → IsStrictlySortedBy text_cmp (set_onto [] (names_at sc missing o).items) × All (Contains types_of) (set_onto [] (names_at sc missing o).items)
+    list_applies sc missing o same = (
+      set_sorted (names_at sc missing o).items [] none_sorted,
+      set_all (Contains types_of) (names_at sc missing o).items []
+          (All-weaker (Contains sc.entities) (Contains types_of) (λ n h. is_type n (subst (λ (ks : List (List ℕ)). Contains ks n) same h)) (names_at sc missing o).items (names_at_in sc missing o))
+          (All-nil (Contains types_of)),
+    )
+
+    read_applies : (sc : Scope) (o : Option Data) → sc.entities ≡ s.entities
+        → (IsStrictlySortedBy text_cmp (applies_read sc s.table o).principals × All (Contains types_of) (applies_read sc s.table o).principals)
+        × (IsStrictlySortedBy text_cmp (applies_read sc s.table o).resources × All (Contains types_of) (applies_read sc s.table o).resources)
+    unfolding applies_read
+    read_applies sc None same = ((none_sorted, All-nil (Contains types_of)), (none_sorted, All-nil (Contains types_of)))
+    read_applies sc (Some d) same = (list_applies sc (unspecified d) (get (codes "principalTypes") d) same, list_applies sc (unspecified d) (get (codes "resourceTypes") d) same)
+
+    applied : (e : EntryTree) → AppliesToTypes types_of (action_of (scope_in s e) s.table s.uids e)
+    unfolding action_of
+    applied e = read_applies (scope_in s e) (unless_null (get (codes "appliesTo") e.body)) refl
+
+    pub all_apply : (xs : List EntryTree) → All (λ e. AppliesToTypes types_of (action_of (scope_in s e) s.table s.uids e)) xs
+    all_apply [] = All-nil (λ (e : EntryTree). AppliesToTypes types_of (action_of (scope_in s e) s.table s.uids e))
+    all_apply (x ∷ xs) = All-cons (λ (e : EntryTree). AppliesToTypes types_of (action_of (scope_in s e) s.table s.uids e)) x xs (applied x) (all_apply xs)
+
 -- ---- names
 
 -- no action's type has this name
@@ -221,19 +318,15 @@ all_parents_in : (s : Setting) (xs : List EntryTree) → All (λ e. All (Contain
 all_parents_in s [] = All-nil (λ (e : EntryTree). All (Contains s.uids) (action_of (scope_in s e) s.table s.uids e).parents)
 all_parents_in s (x ∷ xs) = All-cons (λ (e : EntryTree). All (Contains s.uids) (action_of (scope_in s e) s.table s.uids e).parents) x xs (parents_in s x) (all_parents_in s xs)
 
-abbrev OrderedAndFine : (EntryTree → List SchemaFault) → EntryTree → Type 0
-OrderedAndFine f e = IsInOrder e.body × (f e ≡ [])
-
-both : (f : EntryTree → List SchemaFault) (es : List EntryTree) → AreInOrder es → each_faults f es ≡ [] → All (OrderedAndFine f) es
-both f es ordered fine k d h = (ordered k d h, each_fine f es fine k d h)
-
-pub all_well_formed : (s : Setting) (es as' : List EntryTree) → AreFormsInOrder s.table → s.uids ≡ uids_onto [] as' → AreInOrder es → AreInOrder as' → each_faults (entity_faults s) es ≡ [] → each_faults (one_action_faults s) as' ≡ [] → IsWellFormed (schema_in s es as')
+pub all_well_formed : (s : Setting) (es as' : List EntryTree) → IsSettingOf s es as' → each_faults (entity_faults s) es ≡ [] → each_faults (one_action_faults s) as' ≡ [] → IsWellFormed (schema_in s es as')
 unfolding schema_in IsStrictlySortedBy
-all_well_formed s es as' table uids eb ab fine right =
+all_well_formed s es as' of fine right =
     let shape = λ (e : EntryTree). entity_type_of (scope_in s e) s.table e in
     let act = λ (e : EntryTree). action_of (scope_in s e) s.table s.uids e in
     let name = λ (e : EntryTree). qualified e.namespace e.key in
-    let same : s.uids ≡ keys_of (each_onto (add_action s) [] as') = uids ∙ uids_are s as' [] in
+    let same : s.uids ≡ keys_of (each_onto (add_action s) [] as') = of.uids ∙ uids_are s as' [] in
+    let contexts = values_onto uid_cmp uid_of act (λ a. IsOrderedRecord a.context) as' [] (All-nil (λ (a : ActionTree). IsOrderedRecord a.context)) (All-weaker (λ e. one_action_faults s e ≡ []) (λ e. IsOrderedRecord (act e).context) (λ e h. context_ordered (scope_in s e) s.table s.uids e h) as' (each_fine (one_action_faults s) as' right)) in
+    let types = keys_of (each_onto (add_entity s) [] es) in
     record {
       in_order = (sorted_onto text_cmp name shape nat_list_cmp_total es [] tt, sorted_onto uid_cmp uid_of act uid_total as' [] tt);
       apart = types_apart (keys_of (each_onto (add_entity s) [] es)) (keys_of (each_onto (add_action s) [] as'))
@@ -241,20 +334,24 @@ all_well_formed s es as' table uids eb ab fine right =
           (keys_onto uid_cmp uid_of act HasActionType as' [] (All-nil HasActionType) (called as'));
       members = subst (λ us. All (λ (a : ActionTree). All (Contains us) a.parents) (values_of (each_onto (add_action s) [] as'))) same
           (values_onto uid_cmp uid_of act (λ a. All (Contains s.uids) a.parents) as' [] (All-nil (λ (a : ActionTree). All (Contains s.uids) a.parents)) (all_parents_in s as'));
-      shapes = values_onto text_cmp name shape (λ e. IsOrderedRecord e.shape) es [] (All-nil (λ (e : EntityTypeTree). IsOrderedRecord e.shape)) (All-weaker (OrderedAndFine (entity_faults s)) (λ e. IsOrderedRecord (shape e).shape) (λ e h. shape_ordered (scope_in s e) s.table table e h.0 h.1) es (both (entity_faults s) es eb fine));
-      contexts = environments_ascend (each_onto (add_action s) [] as')
-          (values_onto uid_cmp uid_of act (λ a. IsOrderedRecord a.context) as' [] (All-nil (λ (a : ActionTree). IsOrderedRecord a.context)) (All-weaker (OrderedAndFine (one_action_faults s)) (λ e. IsOrderedRecord (act e).context) (λ e h. context_ordered (scope_in s e) s.table table s.uids e h.0 h.1) as' (both (one_action_faults s) as' ab right)));
+      shapes = values_onto text_cmp name shape (λ e. IsOrderedRecord e.shape) es [] (All-nil (λ (e : EntityTypeTree). IsOrderedRecord e.shape)) (All-weaker (λ e. entity_faults s e ≡ []) (λ e. IsOrderedRecord (shape e).shape) (λ e h. shape_ordered (scope_in s e) s.table e h) es (each_fine (entity_faults s) es fine));
+      contexts = environments_ascend (each_onto (add_action s) [] as') contexts;
+      lists = values_onto uid_cmp uid_of act (AppliesToTypes types) as' [] (All-nil (AppliesToTypes types)) (all_apply s es of.names as');
+      action_contexts = contexts;
     }
+
+pub declared_well_formed : (s : Setting) (es as' : List EntryTree) (en : List (List ℕ × EntityTypeTree)) (ac : List (Uid × ActionTree)) → IsSettingOf s es as'
+    → (each_faults (entity_faults s) es ≡ []) × (en ≡ each_onto (add_entity s) [] es) → (each_faults (one_action_faults s) as' ≡ []) × (ac ≡ each_onto (add_action s) [] as') → IsWellFormed (record { entities = en; actions = ac })
+unfolding schema_in
+declared_well_formed s es as' en ac of entities actions =
+    let same : schema_in s es as' ≡ record { entities = en; actions = ac } = λ i. record { entities = sym entities.1 i; actions = sym actions.1 i } in
+    subst IsWellFormed same (all_well_formed s es as' of entities.0 actions.0)
 
 -- ---- what lies above an action
 
-has_parents : (actions : List (Uid × ActionTree)) (u v : Uid) (o : Option ActionTree) → lookup (is_at (uid_cmp u)) actions ≡ o → Contains (unwrap_or (option_map (λ a. a.parents) o) []) v → IsSome o
-has_parents actions u v None is h = absurd (omega (arith, h.1))
-has_parents actions u v (Some a) is h = refl
-
 module _ (s : SchemaTree) (members : AreMembersDeclared s) where
   pub low_declared : (u v : Uid) → Contains (parents_of_action s.actions u) v → Contains (keys_of s.actions) u
-  low_declared u v h = Contains-keys_from_lookup (tells_apart {R = uid_cmp} uid_same) u s.actions (has_parents s.actions u v (lookup (is_at (uid_cmp u)) s.actions) refl h)
+  low_declared u v h = actions_listed s.actions u v h
 
   parents_declared : (o : Option ActionTree) → IfSome o (λ a. All (Contains (keys_of s.actions)) a.parents) → All (Contains (keys_of s.actions)) (unwrap_or (option_map (λ a. a.parents) o) [])
   parents_declared None h = All-nil (Contains (keys_of s.actions))

@@ -1,19 +1,20 @@
 -- The faults of what is read part by part are those of its parts.
-use Rattle.std.proofs.Common.{◌≡◌, ℕ, codes, List, [], ◌∷◌, ◌++◌, Option, Some, sym, ap, ◌∙◌, subst}
-use Rattle.serde_json.specs.Data.{Data}
-use Rattle.serde_json.specs.Find.{get}
+use Rattle.std.proofs.Common.{◌≡◌, ℕ, codes, List, [], ◌∷◌, ◌++◌, Option, Some, None, is_some, refl, sym, ap, ◌∙◌, subst}
+use Rattle.serde_json.specs.Data.{Data, Members}
+use Rattle.serde_json.specs.Find.{get, as_object}
 use Rattle.cedar_value.specs.declared.uid.Uid.{Uid}
 use Rattle.cedar_schema.specs.declared.schema_fault.SchemaFault.{SchemaFault}
 use Rattle.cedar_schema.specs.declared.schema_fault.SchemaFault.TheVariants.{Unspecified}
-use Rattle.cedar_schema.specs.declared.part.Part.TheVariants.{EntityType, Action, AppliesTo}
-use Rattle.cedar_schema.specs.declared.action.AppliesTo.{AppliesTo as CodeApplies}
-use Rattle.cedar_schema.specs.Faults.{Told}
-use Rattle.cedar_schema.specs.Types.{TypeTree}
-use Rattle.cedar_schema.specs.Entries.{EntryTree, part_faults, entity_key_faults}
+use Rattle.cedar_schema.specs.declared.json.part.Part.TheVariants.{EntityType, Action, AppliesTo}
+use Rattle.cedar_schema.specs.declared.schema.action.AppliesTo.{AppliesTo as CodeApplies}
+use Rattle.cedar_schema.specs.Private.Faults.{Told}
+use Rattle.cedar_types.specs.Types.{TypeTree}
+use Rattle.cedar_schema.specs.Entries.{EntryTree, part_faults, faults_of_keys, entity_key_faults}
+use Rattle.cedar_schema.specs.Naming.{fault_if}
 use Rattle.cedar_schema.specs.Reading.{Scope}
 use Rattle.cedar_schema.specs.Expansion.{Table}
-use Rattle.cedar_schema.specs.ReadsApplies.{IsApplies}
-use Rattle.cedar_schema.specs.Declaring.{unless_null, record_type, names_at, list_at, member_read, set_onto, empty_faults, entity_type_of, entity_type_faults, applies_read, Applies, action_of, action_faults}
+use Rattle.cedar_schema.specs.Private.ReadsApplies.{IsApplies}
+use Rattle.cedar_schema.specs.Declaring.{unless_null, unspecified, record_or_empty, record_type, names_at, list_at, member_read, set_onto, empty_faults, entity_type_of, entity_type_faults, applies_read, Applies, action_of, action_faults}
 use Rattle.cedar_schema.proofs.FormLemmas.{told_first, told_then}
 
 module _ (sc : Scope) (t : Table) (e : EntryTree) where
@@ -38,7 +39,7 @@ module _ (sc : Scope) (t : Table) (e : EntryTree) where
   entity_tags o f is h = told_then (entity_key_faults e.key) _ f (told_then (part_faults EntityType e.body) _ f (told_then ((names_at sc [] (get (codes "memberOfTypes") e.body)).faults) _ f (told_then ((record_type sc t (get (codes "shape") e.body)).faults) _ f ((subst (λ (x : Option Data). Told (empty_faults x) f) is h)))))
 
   pub entity_fine : (m s g : Option Data) (parents : List (List ℕ)) (shape : TypeTree) → m ≡ get (codes "memberOfTypes") e.body → s ≡ get (codes "shape") e.body → g ≡ get (codes "tags") e.body
-      → entity_key_faults e.key ≡ [] → part_faults EntityType e.body ≡ [] → ((names_at sc [] m).faults ≡ []) × (parents ≡ (names_at sc [] m).items) → ((record_type sc t s).faults ≡ []) × (shape ≡ (record_type sc t s).ty) → empty_faults g ≡ []
+      → entity_key_faults e.key ≡ [] → part_faults EntityType e.body ≡ [] → ((names_at sc [] m).faults ≡ []) × (parents ≡ (names_at sc [] m).items) → ((record_type sc t s).faults ≡ []) × (Some shape ≡ (record_type sc t s).ty) → empty_faults g ≡ []
       → (entity_type_faults sc t e ≡ []) × (record { parents = parents; shape = shape } ≡ entity_type_of sc t e)
   unfolding entity_type_faults entity_type_of
   entity_fine m s g parents shape mi si gi key part names made tags =
@@ -46,7 +47,7 @@ module _ (sc : Scope) (t : Table) (e : EntryTree) where
       let r = ap (λ (x : Option Data). (record_type sc t x).faults) (sym si) ∙ made.0 in
       let w = ap empty_faults (sym gi) ∙ tags in
       let p = names.1 ∙ ap (λ (x : Option Data). (names_at sc [] x).items) mi in
-      let q = made.1 ∙ ap (λ (x : Option Data). (record_type sc t x).ty) si in
+      let q = ap record_or_empty (made.1 ∙ ap (λ (x : Option Data). (record_type sc t x).ty) si) in
       ((λ i. key i ++ (part i ++ (n i ++ (r i ++ w i)))), (λ i. record { parents = p i; shape = q i }))
 
 module _ (sc : Scope) (t : Table) (d : Data) where
@@ -54,31 +55,44 @@ module _ (sc : Scope) (t : Table) (d : Data) where
   unfolding applies_read
   applies_part f h = told_first (part_faults AppliesTo d) _ f h
 
-  pub applies_principals : (o : Option Data) (f : SchemaFault) → o ≡ get (codes "principalTypes") d → Told ((names_at sc (Unspecified ∷ []) o).faults) f → Told ((applies_read sc t (Some d)).faults) f
-  unfolding applies_read
-  applies_principals o f is h = told_then (part_faults AppliesTo d) _ f (told_first ((names_at sc (Unspecified ∷ []) (get (codes "principalTypes") d)).faults) _ f (subst (λ (x : Option Data). Told ((names_at sc (Unspecified ∷ []) x).faults) f) is h))
+  -- a list that is not there is a fault where there is an object
+  lists : part_faults AppliesTo d ≡ [] → unspecified d ≡ Unspecified ∷ []
+  lists h = at (as_object d) h
+    where
+      at : (o : Option Members) → faults_of_keys AppliesTo o ≡ [] → fault_if (is_some o) Unspecified ≡ Unspecified ∷ []
+      at None h = cc
+      at (Some ms) h = refl
 
-  pub applies_resources : (o : Option Data) (f : SchemaFault) → o ≡ get (codes "resourceTypes") d → Told ((names_at sc (Unspecified ∷ []) o).faults) f → Told ((applies_read sc t (Some d)).faults) f
+  pub applies_principals : (o : Option Data) (f : SchemaFault) → part_faults AppliesTo d ≡ [] → o ≡ get (codes "principalTypes") d → Told ((names_at sc (Unspecified ∷ []) o).faults) f → Told ((applies_read sc t (Some d)).faults) f
   unfolding applies_read
-  applies_resources o f is h = told_then (part_faults AppliesTo d) _ f (told_then ((names_at sc (Unspecified ∷ []) (get (codes "principalTypes") d)).faults) _ f (told_first ((names_at sc (Unspecified ∷ []) (get (codes "resourceTypes") d)).faults) _ f (subst (λ (x : Option Data). Told ((names_at sc (Unspecified ∷ []) x).faults) f) is h)))
+  applies_principals o f part is h =
+      told_then (part_faults AppliesTo d) _ f (told_first ((names_at sc (unspecified d) (get (codes "principalTypes") d)).faults) _ f
+      (subst (λ (m : List SchemaFault). Told ((names_at sc m (get (codes "principalTypes") d)).faults) f) (sym (lists part)) (subst (λ (x : Option Data). Told ((names_at sc (Unspecified ∷ []) x).faults) f) is h)))
+
+  pub applies_resources : (o : Option Data) (f : SchemaFault) → part_faults AppliesTo d ≡ [] → o ≡ get (codes "resourceTypes") d → Told ((names_at sc (Unspecified ∷ []) o).faults) f → Told ((applies_read sc t (Some d)).faults) f
+  unfolding applies_read
+  applies_resources o f part is h =
+      told_then (part_faults AppliesTo d) _ f (told_then ((names_at sc (unspecified d) (get (codes "principalTypes") d)).faults) _ f (told_first ((names_at sc (unspecified d) (get (codes "resourceTypes") d)).faults) _ f
+      (subst (λ (m : List SchemaFault). Told ((names_at sc m (get (codes "resourceTypes") d)).faults) f) (sym (lists part)) (subst (λ (x : Option Data). Told ((names_at sc (Unspecified ∷ []) x).faults) f) is h))))
 
   pub applies_context : (o : Option Data) (f : SchemaFault) → o ≡ get (codes "context") d → Told ((record_type sc t o).faults) f → Told ((applies_read sc t (Some d)).faults) f
   unfolding applies_read
-  applies_context o f is h = told_then (part_faults AppliesTo d) _ f (told_then ((names_at sc (Unspecified ∷ []) (get (codes "principalTypes") d)).faults) _ f (told_then ((names_at sc (Unspecified ∷ []) (get (codes "resourceTypes") d)).faults) _ f ((subst (λ (x : Option Data). Told ((record_type sc t x).faults) f) is h))))
+  applies_context o f is h = told_then (part_faults AppliesTo d) _ f (told_then ((names_at sc (unspecified d) (get (codes "principalTypes") d)).faults) _ f (told_then ((names_at sc (unspecified d) (get (codes "resourceTypes") d)).faults) _ f ((subst (λ (x : Option Data). Told ((record_type sc t x).faults) f) is h))))
 
   pub applies_fine : (m s g : Option Data) (a : CodeApplies) (ps rs : List (List ℕ)) → m ≡ get (codes "principalTypes") d → s ≡ get (codes "resourceTypes") d → g ≡ get (codes "context") d
       → part_faults AppliesTo d ≡ [] → ((names_at sc (Unspecified ∷ []) m).faults ≡ []) × (ps ≡ (names_at sc (Unspecified ∷ []) m).items) → ((names_at sc (Unspecified ∷ []) s).faults ≡ []) × (rs ≡ (names_at sc (Unspecified ∷ []) s).items)
-      → ((record_type sc t g).faults ≡ []) × (a.context ≡ (record_type sc t g).ty) → a.principals.keys ≡ set_onto [] ps → a.resources.keys ≡ set_onto [] rs → IsApplies a (applies_read sc t (Some d))
+      → ((record_type sc t g).faults ≡ []) × (Some a.context ≡ (record_type sc t g).ty) → a.principals.keys ≡ set_onto [] ps → a.resources.keys ≡ set_onto [] rs → IsApplies a (applies_read sc t (Some d))
   unfolding applies_read
   applies_fine m s g a ps rs mi si gi part one two made pset rset =
-      let n = ap (λ (x : Option Data). (names_at sc (Unspecified ∷ []) x).faults) (sym mi) ∙ one.0 in
-      let r = ap (λ (x : Option Data). (names_at sc (Unspecified ∷ []) x).faults) (sym si) ∙ two.0 in
+      let told = lists part in
+      let n = (λ i. (names_at sc (told i) (sym mi i)).faults) ∙ one.0 in
+      let r = (λ i. (names_at sc (told i) (sym si i)).faults) ∙ two.0 in
       let w = ap (λ (x : Option Data). (record_type sc t x).faults) (sym gi) ∙ made.0 in
       record {
         faults = λ i. part i ++ (n i ++ (r i ++ w i));
-        principals = pset ∙ ap (set_onto []) (one.1 ∙ ap (λ (x : Option Data). (names_at sc (Unspecified ∷ []) x).items) mi);
-        resources = rset ∙ ap (set_onto []) (two.1 ∙ ap (λ (x : Option Data). (names_at sc (Unspecified ∷ []) x).items) si);
-        context = made.1 ∙ ap (λ (x : Option Data). (record_type sc t x).ty) gi;
+        principals = pset ∙ ap (set_onto []) (one.1 ∙ (λ i. (names_at sc (sym told i) (mi i)).items));
+        resources = rset ∙ ap (set_onto []) (two.1 ∙ (λ i. (names_at sc (sym told i) (si i)).items));
+        context = ap record_or_empty (made.1 ∙ ap (λ (x : Option Data). (record_type sc t x).ty) gi);
       }
 
 module _ (sc : Scope) (t : Table) (uids : List Uid) (e : EntryTree) where

@@ -1,10 +1,10 @@
 -- A list is gone through one by one.
 use Rattle.std.proofs.Common.{◌≡◌, ℕ, ◌+◌, ◌<◌, List, [], ◌∷◌, ◌++◌, drop, length, get_or, refl, sym, ap, ◌∙◌, subst}
 use Rattle.cedar_schema.specs.declared.schema_fault.SchemaFault.{SchemaFault}
-use Rattle.cedar_schema.specs.declared.entry.Entry.{Entry}
-use Rattle.cedar_schema.specs.Faults.{Told}
+use Rattle.cedar_schema.specs.declared.json.entry.Entry.{Entry}
+use Rattle.cedar_schema.specs.Private.Faults.{Told}
 use Rattle.cedar_schema.specs.Each.{each_faults, each_onto}
-use Rattle.cedar_schema.specs.EntryView.{entries_view, entry_of}
+use Rattle.cedar_schema.specs.Private.EntryView.{entries_view, entry_of}
 use Rattle.cedar_schema.proofs.FormLemmas.{told_first}
 use Rattle.cedar_schema.proofs.Lookups.{drop_here}
 

@@ -1,22 +1,22 @@
 -- Depths of forms, and lists of fields from a place on.
-use Rattle.std.proofs.Common.{◌≡◌, ℕ, zero, suc, ◌+◌, ◌*◌, ◌<◌, ◌≤◌, max, Bool, true, false, List, [], ◌∷◌, ◌++◌, drop, length, get_or, Some, rules, Result, Ok, Err, Contains, nat_le, inl, inr, ◌⊎◌, ◌&&◌, refl, sym, ap, ap₂, ◌∙◌, subst, arith, add-one, drop-cons, cond}
+use Rattle.std.proofs.Common.{◌≡◌, ℕ, zero, suc, ◌+◌, ◌*◌, ◌<◌, ◌≤◌, max, Bool, true, false, List, [], ◌∷◌, ◌++◌, drop, length, get_or, Option, Some, rules, Result, Ok, Err, Contains, nat_le, inl, inr, ◌⊎◌, ◌&&◌, refl, sym, ap, ap₂, ◌∙◌, subst, arith, add-one, drop-cons, cond}
 use Rattle.std.proofs.Math.Nat.{mul-le-mul_right}
 use Rattle.std.proofs.lemmas.Bool.Decides.{nat_tests}
 use Rattle.std.proofs.lemmas.List.Elements.{Contains-append_left}
 use Rattle.std.specs.List.{slice_get}
 use Rattle.cedar_schema.specs.declared.schema_fault.SchemaFault.{SchemaFault}
-use Rattle.cedar_schema.specs.declared.schema_fault.SchemaFault.TheVariants.{CommonCycle, TooLarge}
+use Rattle.cedar_schema.specs.declared.schema_fault.SchemaFault.TheVariants.{TooLarge}
 use Rattle.cedar_schema.specs.declared.form.FormField.{FormField}
 use Rattle.cedar_schema.specs.declared.form.Form.{the_lemmas}
-use Rattle.cedar_schema.specs.declared.types.Attribute.{Attribute}
-use Rattle.cedar_schema.specs.Faults.{Told}
+use Rattle.cedar_types.specs.declared.attribute.Attribute.{Attribute}
+use Rattle.cedar_schema.specs.Private.Faults.{Told}
 use Rattle.cedar_schema.specs.Forms.{FormTree, FormRows, form_row}
-use Rattle.cedar_schema.specs.FormView.{form_of, field_of, fields_view}
-use Rattle.cedar_schema.specs.Types.{TypeTree, attribute, no_attributes}
-use Rattle.cedar_schema.specs.TypeKind.{attributes_of}
-use Rattle.cedar_schema.specs.Expansion.{Table, form_nodes, form_height, form_type, rows_type, rows_nodes, rows_height, ExpandedRows, Expanded, row_before, nodes, height, expanded, limit_faults, typed}
-use Rattle.cedar_schema.specs.Measures.{IsOver, Leaves}
-use Rattle.cedar_schema.specs.TableView.{Expands}
+use Rattle.cedar_schema.specs.Private.FormView.{form_of, field_of, fields_view}
+use Rattle.cedar_types.specs.Ordered.{with_attribute}
+use Rattle.cedar_types.specs.Types.{TypeTree, Attributes, no_attributes}
+use Rattle.cedar_schema.specs.Expansion.{Table, form_nodes, form_height, form_type, form_faults, rows_type, rows_nodes, rows_height, rows_faults, with_row, nodes, height, expanded, limit_faults, typed}
+use Rattle.cedar_schema.specs.Private.Measures.{IsOver, Leaves}
+use Rattle.cedar_schema.specs.Private.TableView.{Expands}
 use Rattle.cedar_schema.proofs.FormLemmas.{told_first, told_then, told_here}
 
 -- how deep a form itself nests
@@ -61,52 +61,43 @@ height_here names a i x h e = ap (rows_height names) (rows_here a i x h e) ∙ a
 pub own_form_here : (a : List FormField) (i : ℕ) (x : FormField) → i < length a → x ≡ get_or a i x → own (form_of x.form) ≤ own_rows (fields_view a)
 own_form_here a i x h e = subst (λ f. own f ≤ own_rows (fields_view a)) (field-form x) (own_here a i x h e)
 
--- attributes that were made, before rows that are left to make
-abbrev pub made : List Attribute → ExpandedRows → ExpandedRows
-made [] r = r
-made (f ∷ fs) r = record { attributes = attribute f.name f.required f.ty (made fs r).attributes; faults = (made fs r).faults }
+-- ---- an attribute more
 
-abbrev pub none_left : ExpandedRows
-none_left = record { attributes = no_attributes; faults = [] }
+row_type : (names : ℕ → Option TypeTree) (done : Option Attributes) (a : List FormField) (i : ℕ) (x : FormField) → i < length a → x ≡ get_or a i x
+    → rows_type names done (fields_view (drop i a)) ≡ rows_type names (with_row (field_of x).name (field_of x).required (form_type names (form_of x.form)) done) (fields_view (drop (i + 1) a))
+row_type names done a i x h e = ap (rows_type names done) (rows_here a i x h e) ∙ ap (λ f. rows_type names (with_row (field_of x).name (field_of x).required (form_type names f) done) (fields_view (drop (i + 1) a))) (field-form x)
 
-pub made-faults : (fs : List Attribute) (r : ExpandedRows) → (made fs r).faults ≡ r.faults
-made-faults [] r = refl
-made-faults (f ∷ fs) r = made-faults fs r
+row_faults : (names : ℕ → List SchemaFault) (a : List FormField) (i : ℕ) (x : FormField) → i < length a → x ≡ get_or a i x
+    → rows_faults names (fields_view (drop i a)) ≡ form_faults names (form_of x.form) ++ rows_faults names (fields_view (drop (i + 1) a))
+row_faults names a i x h e = ap (rows_faults names) (rows_here a i x h e) ∙ ap (λ f. form_faults names f ++ rows_faults names (fields_view (drop (i + 1) a))) (field-form x)
 
-pub made-end : (fs : List Attribute) → (made fs none_left).attributes ≡ attributes_of fs
-made-end [] = refl
-made-end (f ∷ fs) = ap (attribute f.name f.required f.ty) (made-end fs)
+one_row : (k l : List ℕ) (r q : Bool) (t : TypeTree) (o : Option TypeTree) (done next : Attributes) → l ≡ k → q ≡ r → Some t ≡ o → next ≡ with_attribute l q t done → with_row k r o (Some done) ≡ Some next
+one_row k l r q t o done next name needed ty is =
+    ap (λ (p : Option TypeTree). with_row k r p (Some done)) (sym ty)
+    ∙ ap (λ (m : List ℕ). Some (with_attribute m r t done)) (sym name)
+    ∙ ap (λ (b : Bool). Some (with_attribute l b t done)) (sym needed)
+    ∙ ap Some (sym is)
 
-pub made-more : (fs : List Attribute) (f : Attribute) (r : ExpandedRows) → made (fs ++ f ∷ []) r ≡ made fs (made (f ∷ []) r)
-made-more [] f r = refl
-made-more (g ∷ fs) f r = ap (λ (x : ExpandedRows). record { attributes = attribute g.name g.required g.ty x.attributes; faults = x.faults }) (made-more fs f r)
+pub attribute_made : (names : ℕ → Option TypeTree) (a : List FormField) (i : ℕ) (x : FormField) (f : Attribute) (done next : Attributes) (W : Option Attributes) → i < length a → x ≡ get_or a i x
+    → (f.name ≡ (field_of x).name) × (f.required ≡ (field_of x).required) × (Some f.ty ≡ form_type names (form_of x.form)) → next ≡ with_attribute f.name f.required f.ty done
+    → rows_type names (Some done) (fields_view (drop i a)) ≡ W → rows_type names (Some next) (fields_view (drop (i + 1) a)) ≡ W
+attribute_made names a i x f done next W h e made is all =
+    ap (λ (o : Option Attributes). rows_type names o (fields_view (drop (i + 1) a))) (sym (one_row (field_of x).name f.name (field_of x).required f.required f.ty (form_type names (form_of x.form)) done next made.0 made.1 made.2 is))
+    ∙ sym (row_type names (Some done) a i x h e) ∙ all
 
-type_here : (names : ℕ → Expanded) (a : List FormField) (i : ℕ) (x : FormField) → i < length a → x ≡ get_or a i x
-    → rows_type names (fields_view (drop i a)) ≡ row_before (field_of x).name (field_of x).required (form_type names (form_of x.form)) (rows_type names (fields_view (drop (i + 1) a)))
-type_here names a i x h e = ap (rows_type names) (rows_here a i x h e) ∙ ap (λ f. row_before (field_of x).name (field_of x).required (form_type names f) (rows_type names (fields_view (drop (i + 1) a)))) (field-form x)
+pub attribute_refused : (names : ℕ → List SchemaFault) (a : List FormField) (i : ℕ) (x : FormField) (fs : List SchemaFault) (e : SchemaFault) → i < length a → x ≡ get_or a i x
+    → fs ≡ rows_faults names (fields_view (drop i a)) → Told (form_faults names (form_of x.form)) e → Told fs e
+attribute_refused names a i x fs e h is all t =
+    subst (λ xs. Told xs e) (sym (all ∙ row_faults names a i x h is)) (told_first _ _ e t)
 
-one_made : (k : List ℕ) (q : Bool) (f : Attribute) (e : Expanded) (r : ExpandedRows) → f ≡ record { name = k; required = q; ty = e.ty } → e.faults ≡ [] → made (f ∷ []) r ≡ row_before k q e r
-one_made k q f e r is none =
-    ap (λ (x : Attribute). record { attributes = attribute x.name x.required x.ty r.attributes; faults = r.faults }) is
-    ∙ ap (λ (fs : List SchemaFault). record { attributes = attribute k q e.ty r.attributes; faults = fs ++ r.faults }) (sym none)
+pub rows_clean : (names : ℕ → List SchemaFault) (a : List FormField) (i : ℕ) (x : FormField) → i < length a → x ≡ get_or a i x → form_faults names (form_of x.form) ≡ []
+    → rows_faults names (fields_view (drop i a)) ≡ rows_faults names (fields_view (drop (i + 1) a))
+rows_clean names a i x h e none = row_faults names a i x h e ∙ ap (λ (fs : List SchemaFault). fs ++ rows_faults names (fields_view (drop (i + 1) a))) none
 
-pub attribute_made : (names : ℕ → Expanded) (a : List FormField) (i : ℕ) (x : FormField) (fs : List Attribute) (f : Attribute) (W : ExpandedRows) → i < length a → x ≡ get_or a i x
-    → f ≡ record { name = (field_of x).name; required = (field_of x).required; ty = (form_type names (form_of x.form)).ty } → (form_type names (form_of x.form)).faults ≡ []
-    → made fs (rows_type names (fields_view (drop i a))) ≡ W → made (fs ++ f ∷ []) (rows_type names (fields_view (drop (i + 1) a))) ≡ W
-attribute_made names a i x fs f W h e is none all =
-    made-more fs f _ ∙ ap (made fs) (one_made _ _ f (form_type names (form_of x.form)) _ is none ∙ sym (type_here names a i x h e)) ∙ all
-
-pub attribute_refused : (names : ℕ → Expanded) (a : List FormField) (i : ℕ) (x : FormField) (fs : List Attribute) (W : ExpandedRows) (e : SchemaFault) → i < length a → x ≡ get_or a i x
-    → made fs (rows_type names (fields_view (drop i a))) ≡ W → Told (form_type names (form_of x.form)).faults e → Told W.faults e
-attribute_refused names a i x fs W e h is all t =
-    let same : (form_type names (form_of x.form)).faults ++ (rows_type names (fields_view (drop (i + 1) a))).faults ≡ W.faults =
-    ap (λ (r : ExpandedRows). r.faults) (sym (type_here names a i x h is)) ∙ sym (made-faults fs (rows_type names (fields_view (drop i a)))) ∙ ap (λ (r : ExpandedRows). r.faults) all in
-    subst (λ xs. Told xs e) same (told_first _ _ e t)
-
-pub made_all : (names : ℕ → Expanded) (fs : List Attribute) (a : List FormField) (W : ExpandedRows) → a ≡ [] → made fs (rows_type names (fields_view a)) ≡ W → (W.faults ≡ []) × (attributes_of fs ≡ W.attributes)
-made_all names fs a W e all =
-    let end : made fs none_left ≡ W = ap (λ (xs : List FormField). made fs (rows_type names (fields_view xs))) (sym e) ∙ all in
-    (sym (ap (λ (r : ExpandedRows). r.faults) end) ∙ made-faults fs none_left, sym (made-end fs) ∙ ap (λ (r : ExpandedRows). r.attributes) end)
+pub made_all : (names : ℕ → Option TypeTree) (faults : ℕ → List SchemaFault) (a all : List FormField) (done : Attributes) → a ≡ [] → rows_type names (Some done) (fields_view a) ≡ rows_type names (Some no_attributes) (fields_view all)
+    → rows_faults faults (fields_view all) ≡ rows_faults faults (fields_view a) → (rows_faults faults (fields_view all) ≡ []) × (Some done ≡ rows_type names (Some no_attributes) (fields_view all))
+made_all names faults a all done e types fine =
+    (fine ∙ ap (λ (xs : List FormField). rows_faults faults (fields_view xs)) e, ap (λ (xs : List FormField). rows_type names (Some done) (fields_view xs)) (sym e) ∙ types)
 
 -- one name less, or more, is less, whatever the form behind it
 pub name_less : (m n most_of h : ℕ) → m < n → h ≤ most_of → m * (most_of + 1) + h < n * (most_of + 1)
@@ -117,21 +108,16 @@ name_less m (suc n) most_of h e le =
 
 -- ---- what has no room among rows has none in all of them
 pub over_row : (e : SchemaFault) (room left levels n later nodes_here all h higher height_here whole : ℕ) (f fs : List SchemaFault) → left + all ≡ room + nodes_here → nodes_here ≡ n + later → height_here ≡ max h higher → height_here ≤ whole
-    → (Contains f CommonCycle → Contains fs CommonCycle) → IsOver e left levels n h f → IsOver e room levels all whole fs
+    → (Contains f e → Contains fs e) → IsOver e left levels n h f → IsOver e room levels all whole fs
 over_row e room left levels n later nodes_here all h higher height_here whole f fs counted split high within faults over = elim over [
   | inl large ↦ inl (large.0, elim large.1 [ inl less ↦ inl (omega arith) | inr less ↦ inr (omega arith) ])
-  | inr cycle ↦ inr (cycle.0, faults cycle.1)
+  | inr has ↦ inr (faults has)
 ]
 
-pub rows_clean : (names : ℕ → Expanded) (a : List FormField) (i : ℕ) (x : FormField) → i < length a → x ≡ get_or a i x → (form_type names (form_of x.form)).faults ≡ []
-    → (rows_type names (fields_view (drop i a))).faults ≡ (rows_type names (fields_view (drop (i + 1) a))).faults
-rows_clean names a i x h e none =
-    ap (λ (r : ExpandedRows). r.faults) (type_here names a i x h e) ∙ ap (λ (fs : List SchemaFault). fs ++ (rows_type names (fields_view (drop (i + 1) a))).faults) none
-
-pub rows_cycle : (names : ℕ → Expanded) (a : List FormField) (i : ℕ) (x : FormField) (fs : List SchemaFault) → i < length a → x ≡ get_or a i x → fs ≡ (rows_type names (fields_view (drop i a))).faults
-    → Contains (form_type names (form_of x.form)).faults CommonCycle → Contains fs CommonCycle
-rows_cycle names a i x fs h e is has =
-    subst (λ (xs : List SchemaFault). Contains xs CommonCycle) (sym (is ∙ ap (λ (r : ExpandedRows). r.faults) (type_here names a i x h e))) (Contains-append_left _ _ CommonCycle has)
+pub rows_has : (names : ℕ → List SchemaFault) (a : List FormField) (i : ℕ) (x : FormField) (fs : List SchemaFault) (e : SchemaFault) → i < length a → x ≡ get_or a i x → fs ≡ rows_faults names (fields_view (drop i a))
+    → Contains (form_faults names (form_of x.form)) e → Contains fs e
+rows_has names a i x fs e h here is has =
+    subst (λ (xs : List SchemaFault). Contains xs e) (sym (is ∙ row_faults names a i x h here)) (Contains-append_left _ _ e has)
 
 pub leaves_as : (r : Result ℕ SchemaFault) (room levels n m h k : ℕ) (f g : List SchemaFault) → n ≡ m → h ≡ k → f ≡ g → Leaves r room levels n h f → Leaves r room levels m k g
 leaves_as r room levels n m h k f g p q s l = subst (λ x. Leaves r room levels x k g) p (subst (λ y. Leaves r room levels n y g) q (subst (λ z. Leaves r room levels n h z) s l))
@@ -174,7 +160,7 @@ judged_over t f n e same over = at (subst (λ (x : ℕ). IsOver e 10000 100 (nod
     at : IsOver e 10000 100 (nodes t (length t) f) (height t (length t) f) (expanded t (length t) f).faults → Told (limit_faults t f ++ (expanded t (length t) f).faults) e
     at (inl large) =
         told_first (limit_faults t f) _ e (subst (λ (xs : List SchemaFault). Told xs e) (sym (limits_broken (nodes t (length t) f) (height t (length t) f) large.1)) (subst (λ x. Told (TooLarge ∷ []) x) (sym large.0) (told_here TooLarge)))
-    at (inr cycle) = told_then (limit_faults t f) _ e (λ _. subst (λ x. Contains (expanded t (length t) f).faults x) (sym cycle.0) cycle.1)
+    at (inr has) = told_then (limit_faults t f) _ e (λ _. has)
 
 pub built : (t : Table) (f : FormTree) (n : ℕ) (r : Result TypeTree SchemaFault) → length t ≡ n → (typed t f).faults ≡ [] → Expands r (expanded t n f) → Expands r (typed t f)
 unfolding typed

@@ -2,7 +2,7 @@
 use Rattle.std.proofs.Common.{◌≡◌, ℕ, suc, ◌<◌, List, ◌∷◌, length, drop, get_or, Some, cond, sym, ap, ap₂, ◌∙◌, drop-cons}
 use Rattle.std.specs.BTreeMap.{BTreeMap, get, Updates}
 use Rattle.cedar_value.specs.Order.{text_cmp}
-use Rattle.cedar_value.specs.Laws.{text_ties}
+use Rattle.cedar_value.specs.Private.Laws.{text_ties}
 use Rattle.cedar_schema.specs.Naming.{place_from}
 
 pub placed_more : (old new : BTreeMap (List ℕ) ℕ) (names : List (List ℕ)) (i : ℕ) (x : List ℕ) → i < length names → x ≡ get_or names i x → Updates text_cmp old new x (Some i)

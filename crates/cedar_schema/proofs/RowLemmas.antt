@@ -8,8 +8,8 @@ use Rattle.std.specs.Ordering.{is_eq, ordering_reverse}
 use Rattle.std.specs.Cmp.{IsTotalOrder}
 use Rattle.std.specs.declared.cmp.Ordering.{Ordering}
 use Rattle.std.specs.declared.cmp.Ordering.TheVariants.{Less, Equal, Greater}
-use Rattle.cedar_schema.specs.Descents.{Above, one_link, more_links}
-use Rattle.cedar_schema.specs.Kept.{AreAbove, AreRows, has_row, links_of}
+use Rattle.cedar_closure.specs.Closure.{LeadsTo, one_link, more_links}
+use Rattle.cedar_schema.specs.Private.Kept.{AreAbove, AreRows, has_row, links_of}
 
 -- the rows that are there are right, and what has none and is not left is not declared
 pub record IsRowing {A B : Type 0} (R : A → A → Ordering) (up : A → List A) (rows : BTreeMap A (BTreeSet A)) (left all : List (A × B)) : Type 0 where
@@ -56,13 +56,13 @@ module _ {A : Type 0} {R : A → A → Ordering} (o : IsTotalOrder R) (same_at :
     absent = λ k h none. absent_case old new n k s v left all (is_at (R n) k) refl (updates.0 k) (λ gone rest. r.absent k gone (ap (lookup (is_at (R k))) is ∙ rest)) h none;
   }
 
-no_link : {A : Type 0} {up : A → List A} {u v : A} → up u ≡ [] → Above up u v → ⊥
+no_link : {A : Type 0} {up : A → List A} {u v : A} → up u ≡ [] → LeadsTo up u v → ⊥
 no_link {up = up} {u = u} none (one_link {v = v} l) = let h : Contains [] v = subst (λ us. Contains us v) none l in absurd (omega (arith, h.1))
 no_link {up = up} {u = u} none (more_links {p = p} l rest) = let h : Contains [] p = subst (λ us. Contains us p) none l in absurd (omega (arith, h.1))
 
 module _ {A B : Type 0} (R : A → A → Ordering) (par : B → List A) (all : List (A × B)) where
   row_of : (rows : BTreeMap A (BTreeSet A)) (low high : A) (found : Option (BTreeSet A)) → get R rows low ≡ found → ((s : BTreeSet A) → found ≡ Some s → AreAbove (links_of R par all) R low s) → (found ≡ None → lookup (is_at (R low)) all ≡ None)
-      → IsTrue (unwrap_or (option_map (λ s. contains R s high) found) false) ↔ Above (links_of R par all) low high
+      → IsTrue (unwrap_or (option_map (λ s. contains R s high) found) false) ↔ LeadsTo (links_of R par all) low high
   row_of rows low high (Some s) e right absent = right s refl high
   row_of rows low high None e right absent =
       (λ h. let no : false ≡ true = h in cc, λ a. absurd (no_link (ap (λ (x : Option B). unwrap_or (option_map par x) []) (absent refl)) a))
@@ -93,6 +93,6 @@ none_own_more R same_at old new n s updates own before k = own_case R old new n 
     from Equal h = refl
     from Greater h = cc
 
-pub acyclic : {A : Type 0} (R : A → A → Ordering) (up : A → List A) (rows : BTreeMap A (BTreeSet A)) → AreRows R up rows → NoneOwn R rows → (u : A) → Above up u u → ⊥
+pub acyclic : {A : Type 0} (R : A → A → Ordering) (up : A → List A) (rows : BTreeMap A (BTreeSet A)) → AreRows R up rows → NoneOwn R rows → (u : A) → LeadsTo up u u → ⊥
 unfolding NoneOwn
 acyclic R up rows are none u a = let own : has_row R rows u u ≡ true = (are u u).1 a in let no : true ≡ false = sym own ∙ none u in cc

@@ -6,13 +6,13 @@ use Rattle.serde_json.specs.View.{members_view}
 use Rattle.serde_json.proofs.Views.{Entry}
 use Rattle.cedar_schema.specs.declared.schema_fault.SchemaFault.{SchemaFault}
 use Rattle.cedar_schema.specs.declared.schema_fault.SchemaFault.TheVariants.{Shape}
-use Rattle.cedar_schema.specs.Faults.{Told}
+use Rattle.cedar_schema.specs.Private.Faults.{Told}
 use Rattle.cedar_schema.specs.Forms.{FormTree}
-use Rattle.cedar_schema.specs.Types.{TypeTree}
+use Rattle.cedar_types.specs.Types.{TypeTree}
 use Rattle.cedar_schema.specs.Naming.{fault_if}
 use Rattle.cedar_schema.specs.Reading.{Scope, type_read}
 use Rattle.cedar_schema.specs.Expansion.{Table, typed}
-use Rattle.cedar_schema.specs.Declaring.{record_type, is_record, empty_faults, holds_members}
+use Rattle.cedar_schema.specs.Declaring.{record_type, is_record, is_no_record, empty_faults, holds_members}
 use Rattle.cedar_schema.proofs.FormLemmas.{told_first, told_then, told_here}
 
 module _ (sc : Scope) (t : Table) (d : Data) where
@@ -24,19 +24,19 @@ module _ (sc : Scope) (t : Table) (d : Data) where
   unfolding record_type
   shape_type f e is h = told_then (type_read sc false d).faults _ e (told_first _ _ e (subst (λ (g : FormTree). Told (typed t g).faults e) is h))
 
-  pub shape_kind : (f : FormTree) (ty : TypeTree) (b : Bool) → f ≡ (type_read sc false d).form → ty ≡ (typed t f).ty → b ≡ is_record ty → b ≡ false → Told (record_type sc t (Some d)).faults Shape
+  pub shape_kind : (f : FormTree) (ty : TypeTree) (b : Bool) → f ≡ (type_read sc false d).form → Some ty ≡ (typed t f).ty → b ≡ is_record ty → b ≡ false → Told (record_type sc t (Some d)).faults Shape
   unfolding record_type
   shape_kind f ty b is made tested no' =
-      let none : is_record (typed t (type_read sc false d).form).ty ≡ false = ap (λ (g : FormTree). is_record (typed t g).ty) (sym is) ∙ ap is_record (sym made) ∙ sym tested ∙ no' in
-      told_then (type_read sc false d).faults _ Shape (told_then (typed t (type_read sc false d).form).faults _ Shape (subst (λ (x : Bool). Told (fault_if (not x) Shape) Shape) (sym none) (told_here Shape)))
+      let none : is_no_record (typed t (type_read sc false d).form).ty ≡ true = ap (λ (g : FormTree). is_no_record (typed t g).ty) (sym is) ∙ ap is_no_record (sym made) ∙ ap not (sym tested ∙ no') in
+      told_then (type_read sc false d).faults _ Shape (told_then (typed t (type_read sc false d).form).faults _ Shape (subst (λ (x : Bool). Told (fault_if x Shape) Shape) (sym none) (told_here Shape)))
 
-  pub shape_fine : (f : FormTree) (ty : TypeTree) (b : Bool) → (type_read sc false d).faults ≡ [] → f ≡ (type_read sc false d).form → (typed t f).faults ≡ [] → ty ≡ (typed t f).ty → b ≡ is_record ty → b ≡ true
-      → ((record_type sc t (Some d)).faults ≡ []) × (ty ≡ (record_type sc t (Some d)).ty)
+  pub shape_fine : (f : FormTree) (ty : TypeTree) (b : Bool) → (type_read sc false d).faults ≡ [] → f ≡ (type_read sc false d).form → (typed t f).faults ≡ [] → Some ty ≡ (typed t f).ty → b ≡ is_record ty → b ≡ true
+      → ((record_type sc t (Some d)).faults ≡ []) × (Some ty ≡ (record_type sc t (Some d)).ty)
   unfolding record_type
   shape_fine f ty b none is fine made tested yes' =
-      let all : is_record (typed t (type_read sc false d).form).ty ≡ true = ap (λ (g : FormTree). is_record (typed t g).ty) (sym is) ∙ ap is_record (sym made) ∙ sym tested ∙ yes' in
+      let all : is_no_record (typed t (type_read sc false d).form).ty ≡ false = ap (λ (g : FormTree). is_no_record (typed t g).ty) (sym is) ∙ ap is_no_record (sym made) ∙ ap not (sym tested ∙ yes') in
       let typed_fine : (typed t (type_read sc false d).form).faults ≡ [] = ap (λ (g : FormTree). (typed t g).faults) (sym is) ∙ fine in
-      ((λ i. none i ++ (typed_fine i ++ fault_if (not (all i)) Shape)), made ∙ ap (λ (g : FormTree). (typed t g).ty) is)
+      ((λ i. none i ++ (typed_fine i ++ fault_if (all i) Shape)), made ∙ ap (λ (g : FormTree). (typed t g).ty) is)
 
 some_members : (es : List Entry) → (length es ≡ 0 → ⊥) → holds_members (Some (members_view es)) ≡ true
 some_members [] h = absurd (h refl)

@@ -12,12 +12,12 @@ use Rattle.std.proofs.lemmas.List.Elements.{All-contains}
 use Rattle.std.proofs.lemmas.List.Folds.{Any-from_list_any, list_any-from_Any}
 use Rattle.std.proofs.lemmas.Map.Views.{All-set_contains}
 use Rattle.std.proofs.lemmas.Slice.Eq.{bytes_eq-Decides}
-use Rattle.cedar_value.specs.Laws.{uid_total}
+use Rattle.cedar_value.specs.Private.Laws.{uid_total}
 use Rattle.cedar_value.specs.Order.{uid_cmp}
-use Rattle.cedar_value.specs.Same.{uid_same}
+use Rattle.cedar_value.specs.Private.Same.{uid_same}
 use Rattle.cedar_value.specs.declared.uid.Uid.{Uid}
-use Rattle.cedar_schema.specs.Descents.{Above}
-use Rattle.cedar_schema.specs.Kept.{AreRows, has_row, links_types}
+use Rattle.cedar_closure.specs.Closure.{LeadsTo}
+use Rattle.cedar_schema.specs.Private.Kept.{AreRows, has_row, links_types}
 use Rattle.cedar_schema.proofs.Words.{and_first, and_second, and_both}
 
 equal_from : (x : Ordering) → is_eq x ≡ true → x ≡ Equal
@@ -57,7 +57,7 @@ row_found (e ∷ es) u v low high p q h = at (is_at (uid_cmp u) e.0) refl (row_f
     at false t rest h = or_right (links_types low high e) _ (rest h)
 
 module _ (rows : BTreeMap Uid (BTreeSet Uid)) (up : Uid → List Uid) (low high : List ℕ) where
-  sound : AreRows uid_cmp up rows → All (λ e. get uid_cmp rows e.0 ≡ Some e.1) rows.entries → list_any (links_types low high) rows.entries ≡ true → (u : Uid) × (v : Uid) × (u.ty ≡ low) × (v.ty ≡ high) × Above up u v
+  sound : AreRows uid_cmp up rows → All (λ e. get uid_cmp rows e.0 ≡ Some e.1) rows.entries → list_any (links_types low high) rows.entries ≡ true → (u : Uid) × (v : Uid) × (u.ty ≡ low) × (v.ty ≡ high) × LeadsTo up u v
   sound are found h =
       let some = Any-from_list_any (links_types low high) rows.entries h in
       let e = some.1 in
@@ -70,5 +70,5 @@ module _ (rows : BTreeMap Uid (BTreeSet Uid)) (up : Uid → List Uid) (low high 
       (e.0, v, (bytes_eq-Decides (e.0).ty low).0 one, (bytes_eq-Decides v.ty high).0 other.4, (are e.0 v).0 row)
 
   pub types_rows : (r : Bool) → AreRows uid_cmp up rows → All (λ e. get uid_cmp rows e.0 ≡ Some e.1) rows.entries → r ≡ list_any (links_types low high) rows.entries
-      → IsTrue r ↔ ((u : Uid) × (v : Uid) × (u.ty ≡ low) × (v.ty ≡ high) × Above up u v)
+      → IsTrue r ↔ ((u : Uid) × (v : Uid) × (u.ty ≡ low) × (v.ty ≡ high) × LeadsTo up u v)
   types_rows r are found is = (λ h. sound are found (sym is ∙ h), λ a. is ∙ row_found rows.entries a.0 a.1 low high a.2 a.3 ((are a.0 a.1).1 a.4))

@@ -1,11 +1,13 @@
 -- The words of a text tell whether it is a name.
-use Rattle.std.proofs.Common.{◌≡◌, ℕ, ◌&&◌, ◌||◌, not, Bool, true, false, cond, nat_eq, List, [], ◌∷◌, ◌++◌, refl, sym, ap, subst, ◌∙◌, arith, ◌↔◌, Option, Some, None, IsSome, IfSome, append_assoc, append-nil}
-use Rattle.std.specs.List.{list_all}
+use Rattle.std.proofs.Common.{◌≡◌, ℕ, suc, ◌<◌, ◌&&◌, ◌||◌, not, Bool, true, false, cond, nat_eq, List, [], ◌∷◌, ◌++◌, length, drop, refl, sym, ap, subst, ◌∙◌, arith, ◌↔◌, Option, Some, None, IsSome, IfSome, append_assoc, append-nil}
+use Rattle.std.specs.List.{list_any}
 use Rattle.std.proofs.lemmas.Bool.Decides.{nat_tests}
-use Rattle.cedar_value.specs.Names.{IsName, is_identifier, is_reserved, is_word, is_word_start, is_word_byte, joined}
+use Rattle.cedar_value.specs.Names.{IsName, words_from, is_name}
+use Rattle.cedar_value.proofs.NameWords.{is_name-Decides}
+use Rattle.cedar_value.proofs.Paths.{IsCut}
 use Rattle.cedar_schema.specs.declared.schema_fault.SchemaFault.TheVariants.{Shape, ReservedName}
-use Rattle.cedar_schema.specs.Faults.{Told}
-use Rattle.cedar_schema.specs.Naming.{words_from, is_name, is_reserved as has_reserved, text_faults, fault_if}
+use Rattle.cedar_schema.specs.Private.Faults.{Told}
+use Rattle.cedar_schema.specs.Naming.{is_reserved as has_reserved, text_faults, fault_if}
 use Rattle.cedar_schema.proofs.FormLemmas.{told_here, told_then}
 
 pub and_first : (b c : Bool) → (b && c) ≡ true → b ≡ true
@@ -20,77 +22,16 @@ pub and_both : (b c : Bool) → b ≡ true → c ≡ true → (b && c) ≡ true
 and_both true c h g = g
 and_both false c h g = cc
 
-or_first : (b c : Bool) → b ≡ true → (b || c) ≡ true
-or_first true c h = refl
-or_first false c h = cc
-
-cut_at : (b c : ℕ) (w bs : List ℕ) (t : Bool) → (nat_eq b 58 && nat_eq c 58) ≡ t → (list_all is_identifier (words_from [] bs) ≡ true → IsName bs) → (list_all is_identifier (words_from (w ++ b ∷ []) (c ∷ bs)) ≡ true → IsName ((w ++ b ∷ []) ++ c ∷ bs))
-    → list_all is_identifier (cond t (w ∷ words_from [] bs) (words_from (w ++ b ∷ []) (c ∷ bs))) ≡ true → IsName (w ++ b ∷ c ∷ bs)
-cut_at b c w bs true e rest go h =
-    let name = rest (and_second (is_identifier w) _ h) in
-    let p : nat_eq b 58 ≡ true = and_first (nat_eq b 58) (nat_eq c 58) e in
-    let q : nat_eq c 58 ≡ true = and_second (nat_eq b 58) (nat_eq c 58) e in
-    let one : b ≡ 58 = grind (arith, nat_tests) in
-    let two : c ≡ 58 = grind (arith, nat_tests) in
-    record {
-      first = w;
-      others = name.first ∷ name.others;
-      identifiers = and_both (is_identifier w) _ (and_first (is_identifier w) _ h) name.identifiers;
-      text_is = λ i. w ++ (one i ∷ two i ∷ name.text_is i);
-    }
-cut_at b c w bs false e rest go h = subst IsName (append_assoc w (b ∷ []) (c ∷ bs)) (go h)
-
-made_from : (s w : List ℕ) → list_all is_identifier (words_from w s) ≡ true → IsName (w ++ s)
-made_from [] w h = record { first = w; others = []; identifiers = h; text_is = append-nil w }
-made_from (b ∷ []) w h = record { first = w ++ b ∷ []; others = []; identifiers = h; text_is = refl }
-made_from (b ∷ c ∷ bs) w h = cut_at b c w bs (nat_eq b 58 && nat_eq c 58) refl (made_from bs []) (made_from (c ∷ bs) (w ++ b ∷ [])) h
-
-no_colon : (b : ℕ) (t : Bool) → nat_eq b 58 ≡ t → is_word_byte b ≡ true → nat_eq b 58 ≡ false
-no_colon b true e h = let is : b ≡ 58 = grind (arith, nat_tests) in let no : is_word_byte 58 ≡ true = rw is at h in cc
-no_colon b false e h = e
-
-step : (b : ℕ) (s w : List ℕ) → nat_eq b 58 ≡ false → words_from w (b ∷ s) ≡ words_from (w ++ b ∷ []) s
-step b [] w e = refl
-step b (c ∷ s) w e = ap (λ t. cond (t && nat_eq c 58) (w ∷ words_from [] s) (words_from (w ++ b ∷ []) (c ∷ s))) e
-
-walk : (v w rest : List ℕ) → list_all is_word_byte v ≡ true → words_from w (v ++ rest) ≡ words_from (w ++ v) rest
-walk [] w rest h = ap (λ x. words_from x rest) (sym (append-nil w))
-walk (b ∷ v) w rest h =
-    step b (v ++ rest) w (no_colon b (nat_eq b 58) refl (and_first (is_word_byte b) _ h))
-    ∙ walk v (w ++ b ∷ []) rest (and_second (is_word_byte b) _ h)
-    ∙ ap (λ x. words_from x rest) (append_assoc w (b ∷ []) v)
-
-word_bytes : (w : List ℕ) → is_identifier w ≡ true → list_all is_word_byte w ≡ true
-word_bytes [] h = cc
-word_bytes (b ∷ bs) h =
-    let word = and_first (is_word (b ∷ bs)) (not (is_reserved (b ∷ bs))) h in
-    and_both (is_word_byte b) (list_all is_word_byte bs) (or_first (is_word_start b) _ (and_first (is_word_start b) _ word)) (and_second (is_word_start b) _ word)
-
-told_by : (others : List (List ℕ)) (first : List ℕ) → list_all is_identifier (first ∷ others) ≡ true → list_all is_identifier (words_from [] (joined first others)) ≡ true
-told_by [] first h =
-    ap (list_all is_identifier) (ap (words_from []) (sym (append-nil first)) ∙ walk first [] [] (word_bytes first (and_first (is_identifier first) true h))) ∙ h
-told_by (next ∷ others) first h =
-    ap (list_all is_identifier) (walk first [] (58 ∷ 58 ∷ joined next others) (word_bytes first (and_first (is_identifier first) _ h)))
-    ∙ and_both (is_identifier first) _ (and_first (is_identifier first) _ h) (told_by others next (and_second (is_identifier first) _ h))
-
-pub is_name-from : (s : List ℕ) → IsName s → is_name s ≡ true
-unfolding is_name
-is_name-from s name = ap (λ t. list_all is_identifier (words_from [] t)) name.text_is ∙ told_by name.others name.first name.identifiers
-
-name_from : (s : List ℕ) → is_name s ≡ true → IsName s
-unfolding is_name
-name_from s h = made_from s [] h
-
 pub text_fine : (s : List ℕ) → has_reserved s ≡ false → IsName s → text_faults s ≡ []
 unfolding text_faults
-text_fine s none name = λ i. fault_if (none i) ReservedName ++ fault_if (not (is_name-from s name i)) Shape
+text_fine s none name = λ i. fault_if (none i) ReservedName ++ fault_if (not ((is_name-Decides s).1 name i)) Shape
 
 pub text_bad : (s : List ℕ) → (IsName s → ⊥) → Told (text_faults s) Shape
 unfolding text_faults
 text_bad s never = told_then (fault_if (has_reserved s) ReservedName) _ Shape (at (is_name s) refl)
   where
     at : (t : Bool) → is_name s ≡ t → Told (fault_if (not t) Shape) Shape
-    at true e = absurd (never (name_from s e))
+    at true e = absurd (never ((is_name-Decides s).0 e))
     at false e = told_here Shape
 
 pub read_some : (s n : List ℕ) (o : Option (List ℕ)) (r : Bool) → r ≡ has_reserved s → r ≡ false → (IsSome o ↔ IsName s) → IfSome o (λ m. m ≡ s) → o ≡ Some n → (text_faults s ≡ []) × (n ≡ s)
@@ -99,3 +40,51 @@ read_some s n o r tested no' given path is =
 
 pub read_none : (s : List ℕ) (o : Option (List ℕ)) → (IsSome o ↔ IsName s) → o ≡ None → Told (text_faults s) Shape
 read_none s o given is = text_bad s (λ name. let none : false ≡ true = subst (λ (x : Option (List ℕ)). IsSome x) is (given.1 name) in cc)
+
+-- ---- the words of a text that is cut at its first `::`
+
+colons : (b : ℕ) → nat_eq b 58 ≡ true → b ≡ 58
+colons b e = grind (arith, nat_tests)
+
+no_cut_here : (b c : ℕ) (s w : List ℕ) → (b ≡ 58 → c ≡ 58 → ⊥) → words_from w (b ∷ c ∷ s) ≡ words_from (w ++ b ∷ []) (c ∷ s)
+no_cut_here b c s w no' = at (nat_eq b 58) (nat_eq c 58) refl refl
+  where
+    at : (x y : Bool) → nat_eq b 58 ≡ x → nat_eq c 58 ≡ y → cond (x && y) (w ∷ words_from [] s) (words_from (w ++ b ∷ []) (c ∷ s)) ≡ words_from (w ++ b ∷ []) (c ∷ s)
+    at true true e f = absurd (no' (colons b e) (colons c f))
+    at true false e f = refl
+    at false y e f = refl
+
+cut_words : (v w rest : List ℕ) → ((k : ℕ) → k < length v → (r : List ℕ) → drop k (v ++ (58 ∷ 58 ∷ rest)) ≡ 58 ∷ 58 ∷ r → ⊥) → words_from w (v ++ (58 ∷ 58 ∷ rest)) ≡ (w ++ v) ∷ words_from [] rest
+cut_words [] w rest lacks = ap (λ x. x ∷ words_from [] rest) (sym (append-nil w))
+cut_words (b ∷ []) w rest lacks =
+    no_cut_here b 58 (58 ∷ rest) w (λ e f. lacks 0 (omega arith) (58 ∷ rest) (λ i. e i ∷ 58 ∷ 58 ∷ rest))
+cut_words (b ∷ c ∷ v) w rest lacks =
+    no_cut_here b c (v ++ (58 ∷ 58 ∷ rest)) w (λ e f. lacks 0 (omega arith) (v ++ (58 ∷ 58 ∷ rest)) (λ i. e i ∷ f i ∷ (v ++ (58 ∷ 58 ∷ rest))))
+    ∙ cut_words (c ∷ v) (w ++ b ∷ []) rest (λ k lt r is. lacks (suc k) (omega arith) r is)
+    ∙ ap (λ x. x ∷ words_from [] rest) (append_assoc w (b ∷ []) (c ∷ v))
+
+one_word : (v w : List ℕ) → ((xs ys : List ℕ) → v ≡ xs ++ (58 ∷ 58 ∷ ys) → ⊥) → words_from w v ≡ (w ++ v) ∷ []
+one_word [] w lacks = ap (λ x. x ∷ []) (sym (append-nil w))
+one_word (b ∷ []) w lacks = refl
+one_word (b ∷ c ∷ s) w lacks =
+    no_cut_here b c s w (λ e f. lacks [] s (λ i. e i ∷ f i ∷ s))
+    ∙ one_word (c ∷ s) (w ++ b ∷ []) (λ xs ys is. lacks (b ∷ xs) ys (λ i. b ∷ is i))
+    ∙ ap (λ x. x ∷ []) (append_assoc w (b ∷ []) (c ∷ s))
+
+pub cut_any : (f : List ℕ → Bool) (text word rest : List ℕ) → IsCut text word rest → list_any f (words_from [] text) ≡ (f word || list_any f (words_from [] rest))
+cut_any f text word rest cut =
+    ap (λ t. list_any f (words_from [] t)) cut.parts
+    ∙ ap (list_any f) (cut_words word [] rest (subst (λ t. (k : ℕ) → k < length word → (r : List ℕ) → drop k t ≡ 58 ∷ 58 ∷ r → ⊥) cut.parts cut.is_first))
+
+pub uncut_any : (f : List ℕ → Bool) (text : List ℕ) → ((xs ys : List ℕ) → text ≡ xs ++ (58 ∷ 58 ∷ ys) → ⊥) → list_any f (words_from [] text) ≡ f text
+uncut_any f text none = ap (list_any f) (one_word text [] none) ∙ alone (f text)
+  where
+    alone : (b : Bool) → (b || false) ≡ b
+    alone true = refl
+    alone false = refl
+
+pub or_true_first : (b c : Bool) → b ≡ true → (b || c) ≡ true
+or_true_first b c h = ap (λ x. x || c) h
+
+pub or_false_first : (b c : Bool) → b ≡ false → (b || c) ≡ c
+or_false_first b c h = ap (λ x. x || c) h

@@ -1,5 +1,5 @@
 -- What the JSON of entity types and actions says (Cedar documentation, JSON schema format).
-use Rattle.std.specs.Prelude.{ℕ, nat_eq, not, Bool, true, false, codes, List, [], ◌∷◌, ◌++◌, Option, Some, None, option_map, unwrap_or, if◌then◌else◌}
+use Rattle.std.specs.Prelude.{ℕ, nat_eq, not, Bool, true, false, codes, List, [], ◌∷◌, ◌++◌, Option, Some, None, option_map, unwrap_or, is_some, if◌then◌else◌}
 use Rattle.std.specs.List.{list_any}
 use Rattle.std.specs.BTreeSet.{insert_key}
 use Rattle.serde_json.specs.Data.{Data, null, Items, no_items, item, Members, no_members, member}
@@ -9,79 +9,98 @@ use Rattle.cedar_value.specs.Order.{text_cmp, uid_cmp}
 use Rattle.cedar_value.specs.declared.uid.Uid.{Uid}
 use Rattle.cedar_schema.specs.declared.schema_fault.SchemaFault.{SchemaFault}
 use Rattle.cedar_schema.specs.declared.schema_fault.SchemaFault.TheVariants.{Shape, UnknownType, Unspecified}
-use Rattle.cedar_schema.specs.declared.part.Part.TheVariants.{EntityType, Action, AppliesTo, Member}
-use Rattle.cedar_schema.specs.Types.{TypeTree, record_of, no_attributes}
+use Rattle.cedar_schema.specs.declared.json.part.Part.TheVariants.{EntityType, Action, AppliesTo, Member}
+use Rattle.cedar_types.specs.Types.{TypeTree, record_of, no_attributes}
 use Rattle.cedar_schema.specs.Naming.{resolved, name_faults, text_faults, qualified, fault_if, or_else}
 use Rattle.cedar_schema.specs.Reading.{Scope, type_read, text_at}
-use Rattle.cedar_schema.specs.Expansion.{Table, Expanded, plain, typed}
+use Rattle.cedar_schema.specs.Expansion.{Table, Expanded, typed}
 use Rattle.cedar_schema.specs.Entries.{EntryTree, part_faults, entity_key_faults}
 use Rattle.cedar_schema.specs.SchemaTree.{EntityTypeTree, ActionTree}
 
--- null counts as absent
+-- What stands at a key, where null counts as absent (own).
 abbrev pub unless_null : Option Data → Option Data
 unless_null (Some null) = None
 unless_null o = o
 
 -- ---- shapes and contexts
 
+-- Whether the type is one of records (Cedar documentation, JSON schema format: attribute types).
 abbrev pub is_record : TypeTree → Bool
 is_record (record_of a) = true
 is_record _ = false
 
--- a type that expands to a record, the empty one where there is none
+-- Whether it is a type, and no record.
+abbrev pub is_no_record : Option TypeTree → Bool
+is_no_record None = false
+is_no_record (Some t) = not (is_record t)
+
+-- The type that is there; where there is none, a fault is, and nothing rests on what stands here.
+abbrev pub record_or_empty : Option TypeTree → TypeTree
+record_or_empty None = record_of no_attributes
+record_or_empty (Some t) = t
+
+-- A type that has to expand to a record, the empty one where none is written (Cedar documentation, JSON schema format:
+-- shape, context).
 unfoldable pub record_type : Scope → Table → Option Data → Expanded
-record_type sc t None = plain (record_of no_attributes)
+record_type sc t None = record { ty = Some (record_of no_attributes); faults = [] }
 record_type sc t (Some d) = record {
   ty = (typed t (type_read sc false d).form).ty;
-  faults = (type_read sc false d).faults ++ ((typed t (type_read sc false d).form).faults ++ fault_if (not (is_record (typed t (type_read sc false d).form).ty)) Shape);
+  faults = (type_read sc false d).faults ++ ((typed t (type_read sc false d).form).faults ++ fault_if (is_no_record (typed t (type_read sc false d).form).ty) Shape);
 }
 
 -- ---- lists of entity types
 
--- what a list says, item by item, and the faults that are there
+-- What a list says, item by item, and the faults that are there.
 pub record ListRead (A : Type 0) : Type 0 where
   pub items : List A
   pub faults : List SchemaFault
 
+-- What the items of a list say, one after the other.
 unfoldable pub each_read : {A : Type 0} → (Data → ListRead A) → Items → ListRead A
 each_read f no_items = record { items = []; faults = [] }
 each_read f (item d ds) = record { items = (f d).items ++ (each_read f ds).items; faults = (f d).faults ++ (each_read f ds).faults }
 
+-- What a JSON says that has to be a list.
 abbrev pub list_in : {A : Type 0} → (Data → ListRead A) → Option Items → ListRead A
 list_in f None = record { items = []; faults = Shape ∷ [] }
 list_in f (Some ds) = each_read f ds
 
--- the list at a key; `missing` is what one that is not there is
+-- The list at a key; `missing` is the fault of one that is not there.
 abbrev pub list_at : {A : Type 0} → (Data → ListRead A) → List SchemaFault → Option Data → ListRead A
 list_at f missing None = record { items = []; faults = missing }
 list_at f missing (Some d) = list_in f (as_array d)
 
+-- The declared name that a text stands for; what is no text is 302, an undeclared name 303 (Cedar documentation, JSON schema format: namespaces).
 abbrev pub some_name : List (List ℕ) → List ℕ → Option (List ℕ) → ListRead (List ℕ)
 some_name declared namespace None = record { items = []; faults = Shape ∷ [] }
 some_name declared namespace (Some s) = record { items = unwrap_or (option_map (λ n. n.0 ∷ []) (resolved declared namespace s)) []; faults = name_faults declared namespace s }
 
+-- The declared name that an item of a list stands for.
 abbrev pub name_read : List (List ℕ) → List ℕ → Data → ListRead (List ℕ)
 name_read declared namespace d = some_name declared namespace (as_str d)
 
--- the declared entity types of a list
+-- The declared entity types of a list (Cedar documentation, JSON schema format: memberOfTypes, principalTypes, resourceTypes).
 abbrev pub names_at : Scope → List SchemaFault → Option Data → ListRead (List ℕ)
 names_at sc = list_at (name_read sc.entities sc.namespace)
 
 -- ---- entity types
 
--- an object without members, where there is one
+-- Whether it is no object, or one with members.
 abbrev pub holds_members : Option Members → Bool
 holds_members None = true
 holds_members (Some no_members) = false
 holds_members (Some (member k d ms)) = true
 
+-- Where it is there, it has to be an object without members (Cedar documentation, JSON schema format: attributes of actions, tags).
 abbrev pub empty_faults : Option Data → List SchemaFault
 empty_faults None = []
 empty_faults (Some d) = fault_if (holds_members (as_object d)) Shape
 
+-- The entity type that an entry declares: its parents, and its shape (Cedar documentation, JSON schema format: entityTypes).
 unfoldable pub entity_type_of : Scope → Table → EntryTree → EntityTypeTree
-entity_type_of sc t e = record { parents = (names_at sc [] (get (codes "memberOfTypes") e.body)).items; shape = (record_type sc t (get (codes "shape") e.body)).ty }
+entity_type_of sc t e = record { parents = (names_at sc [] (get (codes "memberOfTypes") e.body)).items; shape = record_or_empty (record_type sc t (get (codes "shape") e.body)).ty }
 
+-- The faults of the entry of an entity type: of its key, its keys, its parents, its shape and its tags.
 unfoldable pub entity_type_faults : Scope → Table → EntryTree → List SchemaFault
 entity_type_faults sc t e =
     entity_key_faults e.key ++ (part_faults EntityType e.body ++ ((names_at sc [] (get (codes "memberOfTypes") e.body)).faults
@@ -89,70 +108,83 @@ entity_type_faults sc t e =
 
 -- ---- actions
 
+-- The type of the actions of a namespace (Cedar documentation, JSON schema format: actions).
 abbrev pub action_type : List ℕ → List ℕ
 action_type namespace = qualified namespace (codes "Action")
 
+-- The uid of the action that an entry declares: `N::Action::"key"` (Cedar documentation, JSON schema format: actions).
 abbrev pub uid_of : EntryTree → Uid
 uid_of e = record { ty = action_type e.namespace; id = e.key }
 
--- a uid of the list, which the order of uids finds there
+-- A uid, where it is in the list.
 abbrev pub listed_uid : List Uid → Uid → Option Uid
 listed_uid uids u = if list_any (is_at (uid_cmp u)) uids then Some u else None
 
+-- The uid of a type and an id.
 abbrev pub with_type : List ℕ → List ℕ → Uid
 with_type id ty = record { ty = ty; id = id }
 
--- the declared action that a type and an id stand for: a type with `::` stands for itself, another for that in its own namespace, or else in the empty one
+-- The declared action that a type and an id stand for: a type with `::` stands for itself, another for that in its own
+-- namespace, or else in the empty one (Cedar documentation, JSON schema format: memberOf).
 unfoldable pub typed_uid : List Uid → List ℕ → List ℕ → List ℕ → Option Uid
 typed_uid uids namespace ty id =
     if list_any (nat_eq 58) ty then listed_uid uids (with_type id ty) else or_else (listed_uid uids (with_type id (qualified namespace ty))) (listed_uid uids (with_type id ty))
 
+-- The uid that was found; an undeclared one is 303.
 abbrev pub found_uid : List SchemaFault → Option Uid → ListRead Uid
 found_uid faults None = record { items = []; faults = faults ++ UnknownType ∷ [] }
 found_uid faults (Some u) = record { items = u ∷ []; faults = faults }
 
+-- The member of an id and a type; a type that is no text is 302.
 abbrev pub by_type : List Uid → List ℕ → List ℕ → Option (List ℕ) → ListRead Uid
 by_type uids namespace id None = record { items = []; faults = Shape ∷ [] }
 by_type uids namespace id (Some ty) = found_uid (text_faults ty) (typed_uid uids namespace ty id)
 
--- without a type it is of the same namespace
+-- The member of an id: without a type it is of the same namespace (Cedar documentation, JSON schema format: memberOf).
 abbrev pub by_id : List Uid → List ℕ → List ℕ → Option Data → ListRead Uid
 by_id uids namespace id None = found_uid [] (listed_uid uids (with_type id (action_type namespace)))
 by_id uids namespace id (Some d) = by_type uids namespace id (as_str d)
 
+-- The member of an object with an id; one without an id is 302.
 abbrev pub by_member : List Uid → List ℕ → Data → Option (List ℕ) → ListRead Uid
 by_member uids namespace d None = record { items = []; faults = Shape ∷ [] }
 by_member uids namespace d (Some id) = by_id uids namespace id (get (codes "type") d)
 
--- a member of `memberOf`
+-- What a member of `memberOf` says (Cedar documentation, JSON schema format: memberOf).
 unfoldable pub member_read : List Uid → List ℕ → Data → ListRead Uid
 member_read uids namespace d = record {
   items = (by_member uids namespace d (text_at (codes "id") d)).items;
   faults = part_faults Member d ++ (by_member uids namespace d (text_at (codes "id") d)).faults;
 }
 
--- the names in ascending order, each once
+-- The names in ascending order, each once.
 abbrev pub set_onto : List (List ℕ) → List (List ℕ) → List (List ℕ)
 set_onto done [] = done
 set_onto done (n ∷ names) = set_onto (insert_key text_cmp done n) names
 
+-- What an action applies to.
 pub record Applies : Type 0 where
   pub principals : List (List ℕ)
   pub resources : List (List ℕ)
   pub context : TypeTree
   pub faults : List SchemaFault
 
--- without `appliesTo` an action applies to nothing
+-- The fault of a list that an `appliesTo` lacks, where it is an object at all: 308 (Cedar documentation, JSON schema format: appliesTo).
+abbrev pub unspecified : Data → List SchemaFault
+unspecified d = fault_if (is_some (as_object d)) Unspecified
+
+-- What an `appliesTo` says; without one an action applies to nothing (Cedar documentation, JSON schema format: appliesTo; own).
 unfoldable pub applies_read : Scope → Table → Option Data → Applies
 applies_read sc t None = record { principals = []; resources = []; context = record_of no_attributes; faults = [] }
 applies_read sc t (Some d) = record {
-  principals = set_onto [] (names_at sc (Unspecified ∷ []) (get (codes "principalTypes") d)).items;
-  resources = set_onto [] (names_at sc (Unspecified ∷ []) (get (codes "resourceTypes") d)).items;
-  context = (record_type sc t (get (codes "context") d)).ty;
-  faults = part_faults AppliesTo d ++ ((names_at sc (Unspecified ∷ []) (get (codes "principalTypes") d)).faults
-      ++ ((names_at sc (Unspecified ∷ []) (get (codes "resourceTypes") d)).faults ++ (record_type sc t (get (codes "context") d)).faults));
+  principals = set_onto [] (names_at sc (unspecified d) (get (codes "principalTypes") d)).items;
+  resources = set_onto [] (names_at sc (unspecified d) (get (codes "resourceTypes") d)).items;
+  context = record_or_empty (record_type sc t (get (codes "context") d)).ty;
+  faults = part_faults AppliesTo d ++ ((names_at sc (unspecified d) (get (codes "principalTypes") d)).faults
+      ++ ((names_at sc (unspecified d) (get (codes "resourceTypes") d)).faults ++ (record_type sc t (get (codes "context") d)).faults));
 }
 
+-- The action that an entry declares (Cedar documentation, JSON schema format: actions).
 unfoldable pub action_of : Scope → Table → List Uid → EntryTree → ActionTree
 action_of sc t uids e = record {
   parents = (list_at (member_read uids sc.namespace) [] (unless_null (get (codes "memberOf") e.body))).items;
@@ -161,6 +193,7 @@ action_of sc t uids e = record {
   context = (applies_read sc t (unless_null (get (codes "appliesTo") e.body))).context;
 }
 
+-- The faults of the entry of an action: of its keys, its members, its `appliesTo` and its attributes.
 unfoldable pub action_faults : Scope → Table → List Uid → EntryTree → List SchemaFault
 action_faults sc t uids e =
     part_faults Action e.body ++ ((list_at (member_read uids sc.namespace) [] (unless_null (get (codes "memberOf") e.body))).faults

@@ -1,6 +1,8 @@
 -- Types as a schema's JSON writes them: a common type stands by its place among the common types.
 use Rattle.std.specs.Prelude.{ℕ, Bool, List}
 
+-- A type as it is written, with its names resolved: a common type stands by its place (Cedar documentation, JSON schema
+-- format: attribute types).
 mutual
   pub data FormTree : Type 0 where
     no_form : FormTree  -- what is no type
@@ -10,6 +12,7 @@ mutual
     record_form : FormRows → FormTree
     common_form : ℕ → FormTree  -- a declared common type, by its place
 
+  -- the attributes of a record as they are written
   pub data FormRows : Type 0 where
     no_form_rows : FormRows
     form_row : List ℕ → Bool → FormTree → FormRows → FormRows

@@ -6,37 +6,42 @@ use Rattle.serde_json.specs.Data.{Data, null, boolean, number, string, array, ob
 use Rattle.serde_json.specs.Find.{get, as_str, as_object}
 use Rattle.cedar_schema.specs.declared.schema_fault.SchemaFault.{SchemaFault}
 use Rattle.cedar_schema.specs.declared.schema_fault.SchemaFault.TheVariants.{Shape, UnknownType, OpenRecord}
-use Rattle.cedar_schema.specs.declared.kind.Kind.{Kind}
-use Rattle.cedar_schema.specs.declared.kind.Kind.TheVariants.{Boolean, Long, Text, Set, Record, Entity, Extension, Common}
+use Rattle.cedar_schema.specs.declared.form.kind.Kind.{Kind}
+use Rattle.cedar_schema.specs.declared.form.kind.Kind.TheVariants.{Boolean, Long, Text, Set, Record, Entity, Extension, Common}
 use Rattle.cedar_schema.specs.Naming.{Declared, resolved, text_faults, name_faults}
 use Rattle.cedar_schema.specs.Forms.{FormTree, no_form, boolean_form, long_form, string_form, decimal_form, entity_form, set_form, record_form, common_form, FormRows, no_form_rows, form_row}
 
+-- What the JSON of a type says: its form, and the faults that are there.
 pub record Read : Type 0 where
   pub form : FormTree
   pub faults : List SchemaFault
 
+-- What the JSON of attributes says: their rows, and the faults that are there.
 pub record RowsRead : Type 0 where
   pub rows : FormRows
   pub faults : List SchemaFault
 
--- where a type stands: its namespace, and the names that are declared in the schema
+-- Where a type stands: its namespace, and the names that are declared in the schema.
 pub record Scope : Type 0 where
   pub namespace : List ℕ
   pub entities : List (List ℕ)
   pub commons : List (List ℕ)
 
+-- A form without faults.
 abbrev pub fine : FormTree → Read
 fine f = record { form = f; faults = [] }
 
+-- No form, and a fault.
 abbrev pub bad : SchemaFault → Read
 bad e = record { form = no_form; faults = e ∷ [] }
 
--- the faults of an object itself, beside those inside it
+-- The faults of an object itself, before those inside it.
 abbrev pub with_faults : List SchemaFault → Read → Read
 with_faults es r = record { form = r.form; faults = es ++ r.faults }
 
 -- ---- one level
 
+-- The kind that the key `type` names: a built-in one, or a common type (Cedar documentation, JSON schema format: attribute types).
 unfoldable pub kind_named : List ℕ → Kind
 kind_named s =
     if bytes_eq s (codes "Boolean") then Boolean else (if bytes_eq s (codes "Long") then Long else (
@@ -44,7 +49,7 @@ kind_named s =
     if bytes_eq s (codes "Record") then Record else (if bytes_eq s (codes "Entity") then Entity else (
     if bytes_eq s (codes "Extension") then Extension else Common))))))
 
--- which keys a type of a kind may have
+-- Which keys a type of a kind may have (Cedar documentation, JSON schema format: attribute types).
 unfoldable pub allowed : Kind → List ℕ → Bool
 allowed Set k = bytes_eq k (codes "type") || bytes_eq k (codes "element")
 allowed Record k = bytes_eq k (codes "type") || bytes_eq k (codes "attributes") || bytes_eq k (codes "additionalAttributes")
@@ -52,45 +57,54 @@ allowed Entity k = bytes_eq k (codes "type") || bytes_eq k (codes "name")
 allowed Extension k = bytes_eq k (codes "type") || bytes_eq k (codes "name")
 allowed _ k = bytes_eq k (codes "type")
 
--- an attribute may have one key more
+-- An attribute may have one key more, `required`.
 abbrev pub may_have : Kind → Bool → List ℕ → Bool
 may_have kind attribute k = allowed kind k || (attribute && bytes_eq k (codes "required"))
 
--- a fault for each key that may not stand there
+-- A fault, 302, for each key that may not stand there.
 abbrev pub key_faults : (List ℕ → Bool) → Members → List SchemaFault
 key_faults may no_members = []
 key_faults may (member k d ms) = (if may k then [] else Shape ∷ []) ++ key_faults may ms
 
+-- The form of a name, none of one that is not declared.
 abbrev pub made : (Declared → FormTree) → Option Declared → FormTree
 made make None = no_form
 made make (Some n) = make n
 
+-- What a name says: the form that it stands for.
 abbrev pub name_read : (Declared → FormTree) → List (List ℕ) → List ℕ → List ℕ → Read
 name_read make names namespace s = record { form = made make (resolved names namespace s); faults = name_faults names namespace s }
 
+-- The text at a key.
 abbrev pub text_at : List ℕ → Data → Option (List ℕ)
 text_at k d = option_and_then as_str (get k d)
 
--- a text that has to be there
+-- What has to be there: without it there is a fault, 302.
 abbrev pub needed : {A : Type 0} → (A → Read) → Option A → Read
 needed f None = bad Shape
 needed f (Some x) = f x
 
+-- A declared entity type (Cedar documentation, JSON schema format: Entity).
 abbrev pub entity_read : Scope → Option (List ℕ) → Read
 entity_read sc o = needed (name_read (λ n. entity_form n.0) sc.entities sc.namespace) o
 
+-- The extension type `decimal`; another name is 303 (Cedar documentation, JSON schema format: Extension).
 abbrev pub extension_named : List ℕ → Read
 extension_named s = if bytes_eq s (codes "decimal") then fine decimal_form else record { form = no_form; faults = text_faults s ++ UnknownType ∷ [] }
 
+-- An extension type, by its name.
 abbrev pub extension_read : Option (List ℕ) → Read
 extension_read o = needed extension_named o
 
+-- A declared common type (Cedar documentation, JSON schema format: commonTypes).
 abbrev pub common_read : Scope → List ℕ → Read
 common_read sc s = name_read (λ n. common_form n.1) sc.commons sc.namespace s
 
+-- The type of sets of what is read (Cedar documentation, JSON schema format: Set).
 abbrev pub set_of : Read → Read
 set_of r = record { form = set_form r.form; faults = r.faults }
 
+-- `additionalAttributes` may be false alone: true is 307, all else 302 (Cedar documentation, JSON schema format: Record).
 abbrev pub closed_faults : Option Data → List SchemaFault
 closed_faults None = []
 closed_faults (Some null) = Shape ∷ []
@@ -101,11 +115,12 @@ closed_faults (Some (string s)) = Shape ∷ []
 closed_faults (Some (array ds)) = Shape ∷ []
 closed_faults (Some (object ms)) = Shape ∷ []
 
--- no attributes are written as the empty object
+-- The type of records of what is read; no attributes are the empty object (Cedar documentation, JSON schema format: Record; own).
 abbrev pub record_of : Option RowsRead → Read
 record_of None = fine (record_form no_form_rows)
 record_of (Some r) = record { form = record_form r.rows; faults = r.faults }
 
+-- What the JSON of a type of a kind says, with what its element and its attributes say.
 abbrev pub of_kind : Scope → Data → List ℕ → Kind → Option Read → Option RowsRead → Read
 of_kind sc d s Boolean el rs = fine boolean_form
 of_kind sc d s Long el rs = fine long_form
@@ -116,21 +131,25 @@ of_kind sc d s Entity el rs = entity_read sc (text_at (codes "name") d)
 of_kind sc d s Extension el rs = extension_read (text_at (codes "name") d)
 of_kind sc d s Common el rs = common_read sc s
 
+-- The faults of the keys of an object.
 abbrev pub keys_of : (List ℕ → Bool) → Data → List SchemaFault
 keys_of may d = unwrap_or (option_map (key_faults may) (as_object d)) []
 
+-- What an object says as a type: one without the text `type` is 302.
 abbrev pub of_type : Scope → Bool → Data → Option Read → Option RowsRead → Option (List ℕ) → Read
 of_type sc attribute d el rs None = bad Shape
 of_type sc attribute d el rs (Some s) = with_faults (keys_of (may_have (kind_named s) attribute) d) (of_kind sc d s (kind_named s) el rs)
 
+-- No attributes.
 abbrev pub no_rows_read : RowsRead
 no_rows_read = record { rows = no_form_rows; faults = [] }
 
--- `required` is true where it isn't there
+-- Whether the attribute is required: it is where nothing else is written (Cedar documentation, JSON schema format: Record).
 abbrev pub is_required : Option Data → Bool
 is_required (Some (boolean false)) = false
 is_required _ = true
 
+-- `required` has to be a Boolean.
 abbrev pub required_faults : Option Data → List SchemaFault
 required_faults None = []
 required_faults (Some null) = Shape ∷ []
@@ -140,6 +159,7 @@ required_faults (Some (string s)) = Shape ∷ []
 required_faults (Some (array ds)) = Shape ∷ []
 required_faults (Some (object ms)) = Shape ∷ []
 
+-- An attribute before others.
 abbrev pub row_then : List ℕ → Option Data → Read → RowsRead → RowsRead
 row_then k required r rest = record { rows = form_row k (is_required required) r.form rest.rows; faults = required_faults required ++ r.faults ++ rest.faults }
 

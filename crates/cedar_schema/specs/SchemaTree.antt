@@ -1,48 +1,74 @@
 -- A schema, as what it declares (cedar-spec, Lean: Cedar.Validation.Schema).
-use Rattle.std.specs.Prelude.{ℕ, List, [], ◌++◌, ◌∷◌, map, Option, option_map, unwrap_or}
+use Rattle.std.specs.Prelude.{◌≡◌, Contains, ℕ, List, [], ◌++◌, ◌∷◌, map, Option, option_map, unwrap_or}
 use Rattle.std.specs.Map.{lookup}
 use Rattle.std.specs.BTreeMap.{is_at}
 use Rattle.cedar_value.specs.Order.{text_cmp, uid_cmp}
 use Rattle.cedar_value.specs.declared.uid.Uid.{Uid}
-use Rattle.cedar_schema.specs.Types.{TypeTree}
-use Rattle.cedar_schema.specs.declared.environment.Environment.{Environment}
+use Rattle.cedar_types.specs.Types.{TypeTree}
+use Rattle.cedar_schema.specs.declared.schema.environment.Environment.{Environment}
 
--- an entity type: the types that its entities may be direct members of, and the shape of their attributes
+-- An entity type: the types that its entities may be direct members of, and the shape of their attributes (Cedar
+-- documentation, JSON schema format: entityTypes).
 pub record EntityTypeTree : Type 0 where
   pub parents : List (List ℕ)
   pub shape : TypeTree
 
--- an action: its direct parents, the types of the principals and of the resources that it applies to, ascending, and the type of its context
+-- An action: its direct parents, the types of the principals and of the resources that it applies to, and the type of its
+-- context (Cedar documentation, JSON schema format: actions).
 pub record ActionTree : Type 0 where
   pub parents : List Uid
   pub principals : List (List ℕ)
   pub resources : List (List ℕ)
   pub context : TypeTree
 
--- the entity types by their names and the actions by their uids, both ascending
+-- A schema: the entity types by their names and the actions by their uids (cedar-spec, Lean: Cedar.Validation.Schema).
 pub record SchemaTree : Type 0 where
   pub entities : List (List ℕ × EntityTypeTree)
   pub actions : List (Uid × ActionTree)
 
+-- The direct parents of an entity type, none of one that is not declared.
 abbrev pub parents_of_type : List (List ℕ × EntityTypeTree) → List ℕ → List (List ℕ)
 parents_of_type entities n = unwrap_or (option_map (λ e. e.parents) (lookup (is_at (text_cmp n)) entities)) []
 
+-- The direct parents of an action, none of one that is not declared.
 abbrev pub parents_of_action : List (Uid × ActionTree) → Uid → List Uid
 parents_of_action actions u = unwrap_or (option_map (λ a. a.parents) (lookup (is_at (uid_cmp u)) actions)) []
 
 -- ---- the environments: an action with a type of principals and a type of resources, ascending in this order
 
+-- The environments of an action with a type of principals.
 abbrev pub with_resources : Uid → List ℕ → TypeTree → List (List ℕ) → List Environment
 with_resources u p context = map (λ r. record { action = u; principal = p; resource = r; context = context })
 
+-- The environments of an action with these types of principals.
 abbrev pub with_principals : Uid → ActionTree → List (List ℕ) → List Environment
 with_principals u a [] = []
 with_principals u a (p ∷ ps) = with_resources u p a.context a.resources ++ with_principals u a ps
 
+-- The environments: an action with a type of principals and a type of resources, ascending in this order (Cedar
+-- documentation, JSON schema format: appliesTo).
 abbrev pub environments_of : List (Uid × ActionTree) → List Environment
 environments_of [] = []
 environments_of (x ∷ xs) = with_principals x.0 x.1 x.1.principals ++ environments_of xs
 
--- the shape of an entity type
+-- What a schema declares of an action.
+abbrev pub action_at : SchemaTree → Uid → Option ActionTree
+action_at s u = lookup (is_at (uid_cmp u)) s.actions
+
+-- The shape of an entity type, none where it is not declared (Cedar documentation, JSON schema format: shape).
 abbrev pub shape_of : SchemaTree → List ℕ → Option TypeTree
 shape_of s n = option_map (λ e. e.shape) (lookup (is_at (text_cmp n)) s.entities)
+
+-- An environment is that of an action with a type of principals and a type of resources.
+pub record IsEnvironmentOf (e : Environment) (action : Uid) (principal resource : List ℕ) : Type 0 where
+  pub action_is : e.action ≡ action
+  pub principal_is : e.principal ≡ principal
+  pub resource_is : e.resource ≡ resource
+
+-- The actions have no environment with these types.
+abbrev pub HasNoEnvironment : List (Uid × ActionTree) → Uid → List ℕ → List ℕ → Type 0
+HasNoEnvironment actions u p r = (e : Environment) → Contains (environments_of actions) e → ¬ IsEnvironmentOf e u p r
+
+-- The actions have the environment with these types and this context.
+abbrev pub HasEnvironment : List (Uid × ActionTree) → Uid → List ℕ → List ℕ → TypeTree → Type 0
+HasEnvironment actions u p r t = Contains (environments_of actions) (record { action = u; principal = p; resource = r; context = t })

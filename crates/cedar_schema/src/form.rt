@@ -1,4 +1,12 @@
 //! Types as a schema's JSON writes them: a common type stands by its place.
+pub(crate) mod chains;
+pub(crate) mod expansion;
+pub(crate) mod kind;
+pub(crate) mod measure;
+pub(crate) mod reading;
+pub(crate) mod shape;
+pub(crate) mod table;
+
 use cedar_value::Name;
 
 /// A type as it is written, with its names resolved.

@@ -1,40 +1,27 @@
-//! Types of the Cedar policy language, their join, and schemas.
+//! Schemas of the Cedar policy language, read from their JSON.
 //!
-//! A contract sees a type as a `TypeTree` and a schema as a `SchemaTree`.
+//! ```rust
+//! use cedar_schema::Schema;
+//!
+//! let schema = Schema::read(alloc, bytes)?;
+//! for environment in schema.environments() {
+//!     println!(rt; "{} may act on {}", environment.principal.as_str(), environment.resource.as_str())?;
+//! }
+//! ```
+//!
+//! A contract sees a schema as a `SchemaTree`. Types come from cedar_types.
 #![tactic(auto)]
 
-mod action;
-mod ancestors;
-mod chains;
-mod declarations;
-mod entity_type;
-mod entry;
-mod environment;
-mod expansion;
 mod form;
-mod form_reading;
-mod joining;
-mod kind;
-mod measure;
-mod members;
-mod name_table;
-mod names_list;
-mod naming;
-mod parse;
-mod part;
-mod rows;
+mod json;
+mod laws;
 mod schema;
 mod schema_fault;
-mod scope;
-mod shape;
-mod table;
-mod truth;
-mod types;
 
-pub use action::Action;
-pub use environment::Environment;
-pub use joining::{join, join_is_the_relation};
-pub use schema::Schema;
+pub use cedar_types::{
+    Attribute, RecordType, Truth, Type, TypeKind, join, join_is_the_relation,
+    members_of_joined_types,
+};
+pub use laws::{actions_conform, tests_of_schemas_decide};
+pub use schema::{Action, Environment, Schema};
 pub use schema_fault::SchemaFault;
-pub use truth::Truth;
-pub use types::{Attribute, Type, TypeKind};

@@ -1,37 +1,33 @@
 //! Schemas.
-ghost use Rattle.std.specs.Prelude.{◌≡◌, ◌≢◌, ◌↔◌, IfOk, IfErr, IsTrue, MatchResult, Some, None, option_copied, IsUtf8, ◌⊎◌, []};
-ghost use Rattle.serde_json.specs.Data.{Data};
-ghost use Rattle.serde_json.specs.Read.{read as read_text};
-ghost use Rattle.serde_json.specs.View.{view, members_view};
-ghost use Rattle.cedar_schema.specs.declared.schema_fault.SchemaFault.TheVariants.{OutOfMemory, Json};
+ghost use Rattle.std.specs.Prelude.{◌≡◌, ◌≢◌, ◌↔◌, IfOk, IfErr, IsTrue, MatchOption, option_copied, []};
+ghost use Rattle.cedar_schema.specs.declared.schema_fault.SchemaFault.TheVariants.{OutOfMemory};
+ghost use Rattle.cedar_schema.specs.Declarations.{IsAction, IsActionType};
+ghost use Rattle.cedar_schema.specs.Denotes.{BytesAreRefusedWith, BytesDenote};
+ghost use Rattle.cedar_schema.specs.Private.Answers.{Answers};
 ghost use Rattle.cedar_schema.specs.Descents.{ActionDescends, ActionTypeDescends, EntityTypeDescends, TypeDescends};
-ghost use Rattle.cedar_schema.specs.SchemaTree.{environments_of, shape_of};
-ghost use Rattle.cedar_schema.specs.Denotes.{Answers, Denotes, IsRefusedWith};
-ghost use Rattle.cedar_schema.specs.Entries.{names_of};
-ghost use Rattle.cedar_schema.specs.EntryView.{entries_view};
-ghost use Rattle.cedar_schema.specs.InOrder.{IsInOrder, ValuesInOrder, AreSectionsInOrder, IsSettingInOrder};
-ghost use Rattle.cedar_schema.specs.Measures.{AreEnds};
-ghost use Rattle.cedar_schema.specs.TableView.{table_of};
-ghost use Rattle.cedar_schema.specs.Schemas.{schema_in, schema_of, sections_faults, setting_faults, setting_of, written_faults};
-ghost use Rattle.cedar_schema.specs.SettingView.{setting_view, sections_view};
-ghost use Rattle.cedar_schema.specs.WellFormed.{AreContextsOrdered, AreMembersDeclared, AreShapesOrdered, AreTypesApart, IsHierarchy, IsListedInOrder, IsWellFormed};
+ghost use Rattle.cedar_schema.specs.SchemaTree.{HasEnvironment, HasNoEnvironment, action_at, environments_of, shape_of};
+ghost use Rattle.cedar_schema.specs.WellFormed.{AreActionContextsOrdered, AreContextsOrdered, AreListsDeclared, AreMembersDeclared, AreShapesOrdered, AreTypesApart, IsHierarchy, IsListedInOrder, IsWellFormed};
 
-use crate::action::Action;
-use crate::chains::ends_of;
-use crate::declarations::{Setting, judge_forms, read_actions, read_entities, read_forms};
-use crate::entity_type::EntityType;
-use crate::entry::{Entry, check_spaces, entries_of, names_of};
-use crate::environment::{Environment, environments_of};
-use crate::members::uids_of;
-use crate::name_table::NameTable;
-use crate::parse::parse_json;
-use crate::rows::{action_rows, some_descends, type_rows};
+mod action;
+mod ancestors;
+pub(crate) mod declarations;
+mod entity_type;
+mod environment;
+pub(crate) mod members;
+pub(crate) mod reading;
+mod rows;
+
+use crate::schema::entity_type::EntityType;
+use crate::schema::environment::environments_of;
+use crate::schema::reading::read_schema;
+use crate::schema::rows::{action_rows, action_types, some_descends, type_rows};
 use crate::schema_fault::SchemaFault;
-use crate::table::Table;
-use crate::types::Type;
+pub use action::Action;
+use cedar_json::read_json;
+use cedar_types::Type;
 use cedar_value::{Name, Uid};
-use serde_json::{Map, Value};
-use std::alloc::{AllocError, Global};
+pub use environment::Environment;
+use std::alloc::Global;
 use std::collections::btree_map::Iter;
 use std::collections::{BTreeMap, BTreeSet};
 use std::marker::Model;
@@ -45,13 +41,14 @@ pub struct Schema {
     environments: Vec<Environment>,
     types_above: BTreeMap<Name, BTreeSet<Name>>,
     actions_above: BTreeMap<Uid, BTreeSet<Uid>>,
+    action_types: BTreeSet<Name>,
 }
 
 impl Model for Schema {
     ghost use Rattle.std.specs.Coded.{codes};
-    ghost use Rattle.cedar_schema.specs.TypeCode.{type_code};
+    ghost use Rattle.cedar_types.specs.Private.TypeCode.{type_code};
     ghost use Rattle.cedar_schema.specs.SchemaTree.{SchemaTree};
-    ghost use Rattle.cedar_schema.specs.KeptSchema.{IsKept};
+    ghost use Rattle.cedar_schema.specs.Private.KeptSchema.{IsKept};
 
     ghost Value = { SchemaTree };
 
@@ -59,23 +56,24 @@ impl Model for Schema {
 
     ghost view = { λ s. record { entities = s.entities.entries; actions = s.actions.entries } };
 
-    ghost invariant = { λ s. IsKept (record { entities = s.entities.entries; actions = s.actions.entries }) s.environments.items s.types_above s.actions_above };
+    ghost invariant = { λ s. IsKept (record { entities = s.entities.entries; actions = s.actions.entries }) s.environments.items s.types_above s.actions_above s.action_types };
 }
 
 impl Schema {
     /// The schema that the bytes write (Cedar documentation, JSON schema format). Refused with 1 for
     /// want of memory, and else with 301 to 309 only where that fault is in the bytes.
     pub fn read(alloc: Global, bytes: &[u8]) -> Result<Self, SchemaFault>
-        ensures denotes { IfOk result (λ s. (d : Data) × (read_text bytes.now ≡ Some d) × Denotes d s) }
-        ensures refused { IfErr result (λ e. e ≢ OutOfMemory → ((e ≡ Json) × (IsUtf8 bytes.now → read_text bytes.now ≡ None))
-            ⊎ ((d : Data) × (read_text bytes.now ≡ Some d) × IsRefusedWith d e)) }
+        ensures denotes { IfOk result (BytesDenote bytes.now) }
+        ensures refused { IfErr result (λ e. e ≢ OutOfMemory → BytesAreRefusedWith bytes.now e) }
     {
-        let json = parse_json(alloc, bytes)?;
-        read_json(alloc, &json)
+        match read_json(alloc, bytes)? {
+            Some(json) => read_schema(alloc, &json),
+            None => Err(SchemaFault::Json),
+        }
     }
 
     // The schema of these entity types and actions, or 305 where an action is above itself.
-    fn new(
+    pub(crate) fn new(
         alloc: Global,
         entities: BTreeMap<Name, EntityType>,
         actions: BTreeMap<Uid, Action>,
@@ -86,12 +84,14 @@ impl Schema {
         let types_above = type_rows(alloc, &entities)?;
         let actions_above = action_rows(alloc, &actions)?;
         let environments = environments_of(alloc, &actions)?;
+        let action_types = action_types(alloc, &actions)?;
         Ok(Schema {
             entities,
             actions,
             environments,
             types_above,
             actions_above,
+            action_types,
         })
     }
 
@@ -107,6 +107,8 @@ impl Schema {
         ensures hierarchy { IsHierarchy self.now }
         ensures shapes { AreShapesOrdered self.now }
         ensures contexts { AreContextsOrdered self.now }
+        ensures lists { AreListsDeclared self.now }
+        ensures action_contexts { AreActionContextsOrdered self.now }
     {
         let _kept = &self.entities;
     }
@@ -134,6 +136,49 @@ impl Schema {
         match self.entities.get(name) {
             Some(found) => Some(&found.shape),
             None => None,
+        }
+    }
+
+    /// The declared action of this uid. Takes no memory, and comparisons by the logarithm of the number of
+    /// actions.
+    pub fn action(&self, uid: &Uid) -> Option<&Action>
+        ensures { option_copied result ≡ action_at self.now uid.now }
+    {
+        self.actions.get(uid)
+    }
+
+    /// Whether the action is declared. Takes no memory, and comparisons as `action` does.
+    pub fn has_action(&self, uid: &Uid) -> bool
+        ensures { IsTrue result ↔ IsAction self.now uid.now }
+    {
+        self.actions.contains_key(uid)
+    }
+
+    /// Whether some declared action is of this type. Takes no memory, and comparisons by the logarithm of
+    /// the number of types.
+    pub fn has_action_type(&self, name: &Name) -> bool
+        ensures { IsTrue result ↔ IsActionType self.now name.now }
+    {
+        self.action_types.contains(name)
+    }
+
+    /// The type of the context in the environment of an action with a type of principals and a type of
+    /// resources. None exactly where there is no such environment. Takes no memory, and comparisons by
+    /// the logarithm of the number of actions and of the types that the action applies to.
+    pub fn context(&self, action: &Uid, principal: &Name, resource: &Name) -> Option<&Type>
+        ensures { MatchOption result
+            (HasNoEnvironment self.now.actions action.now principal.now resource.now)
+            (λ context. HasEnvironment self.now.actions action.now principal.now resource.now context.now) }
+    {
+        // A law of schemas, which does nothing.
+        self.well_formedness();
+        let Some(found) = self.action(action) else {
+            return None;
+        };
+        if found.applies_to(principal, resource) {
+            Some(found.context())
+        } else {
+            None
         }
     }
 
@@ -174,76 +219,4 @@ impl Schema {
             None => false,
         }
     }
-}
-
-fn read_json(alloc: Global, json: &Value) -> Result<Schema, SchemaFault>
-    requires { IsInOrder (view json.now) }
-    ensures { MatchResult result (Denotes (view json.now)) (λ e. e ≢ OutOfMemory → IsRefusedWith (view json.now) e) }
-{
-    match json.as_object() {
-        Some(root) => read_root(alloc, root),
-        None => Err(SchemaFault::Shape),
-    }
-}
-
-fn read_root(alloc: Global, root: &Map<String, Value>) -> Result<Schema, SchemaFault>
-    requires { ValuesInOrder (members_view root.now.entries) }
-    ensures { Answers result (written_faults (members_view root.now.entries)) (schema_of (members_view root.now.entries)) }
-{
-    check_spaces(alloc, root)?;
-    let commons = entries_of(alloc, root, "commonTypes")?;
-    let entities = entries_of(alloc, root, "entityTypes")?;
-    let actions = entries_of(alloc, root, "actions")?;
-    read_sections(alloc, &commons, &entities, &actions)
-}
-
-// The schema of the entries of common types, entity types and actions.
-fn read_sections(
-    alloc: Global,
-    commons: &[Entry<'_>],
-    entities: &[Entry<'_>],
-    actions: &[Entry<'_>],
-) -> Result<Schema, SchemaFault>
-    requires { AreSectionsInOrder (sections_view commons.now entities.now actions.now) }
-    ensures { let x = sections_view commons.now entities.now actions.now in
-        Answers result (sections_faults x) (schema_in (setting_of x) x.entities x.actions) }
-{
-    let common_names = name_table(alloc, commons)?;
-    let entity_names = name_table(alloc, entities)?;
-    let forms = read_forms(alloc, &entity_names, &common_names, commons)?;
-    let ends = ends_of(alloc, &forms)?;
-    let uids = uids_of(alloc, actions)?;
-    let setting = Setting {
-        entities: &entity_names,
-        commons: &common_names,
-        table: Table {
-            forms: &forms,
-            ends: &ends,
-        },
-        uids: &uids,
-    };
-    read_setting(alloc, setting, entities, actions)
-}
-
-fn name_table(alloc: Global, entries: &[Entry<'_>]) -> Result<NameTable, AllocError>
-    ensures { IfOk result (λ t. t ≡ names_of (entries_view entries.now)) }
-{
-    NameTable::new(alloc, names_of(alloc, entries)?)
-}
-
-fn read_setting(
-    alloc: Global,
-    setting: Setting<'_>,
-    entities: &[Entry<'_>],
-    actions: &[Entry<'_>],
-) -> Result<Schema, SchemaFault>
-    requires ends { AreEnds (table_of setting.table.forms.now) setting.table.ends.now }
-    requires in_order { IsSettingInOrder (setting_view setting) (entries_view entities.now) (entries_view actions.now) }
-    ensures { Answers result (setting_faults (setting_view setting.entry) (entries_view entities.now) (entries_view actions.now))
-        (schema_in (setting_view setting.entry) (entries_view entities.now) (entries_view actions.now)) }
-{
-    judge_forms(setting.table)?;
-    let entity_types = read_entities(alloc, setting, entities)?;
-    let action_types = read_actions(alloc, setting, actions)?;
-    Schema::new(alloc, entity_types, action_types)
 }

@@ -1,4 +1,2 @@
-mod Empty
 pub mod Places
 pub mod Rows
-pub mod Search

@@ -9,13 +9,13 @@ use Rattle.std.specs.Ordering.{is_eq}
 use Rattle.std.proofs.lemmas.Option.{same_Some, slice_get-map, slice_get-get_or, slice_get_past}
 use Rattle.std.proofs.lemmas.List.{take_more, map-append, length-map, length-take-le}
 use Rattle.cedar_value.specs.Datum.{same_uid}
-use Rattle.cedar_value.specs.Equality.{same_uid-Decides}
-use Rattle.cedar_value.specs.Laws.{uid_ties}
+use Rattle.cedar_value.specs.Private.Equality.{same_uid-Decides}
+use Rattle.cedar_value.specs.Private.Laws.{uid_ties}
 use Rattle.cedar_value.specs.Order.{uid_cmp}
 use Rattle.cedar_value.specs.World.{EntityTree, World, entry_of, has_entity, IsParent}
 use Rattle.cedar_value.specs.declared.uid.Uid.{Uid}
 use Rattle.cedar_store.specs.Entities.{uids_of, StandsTwice, AreUidsDistinct}
-use Rattle.cedar_store.specs.Kept.{ArePlaces}
+use Rattle.cedar_store.specs.Private.Kept.{ArePlaces}
 
 -- ---- where the order of uids ties, they are equal
 

@@ -8,11 +8,12 @@ use Rattle.std.proofs.lemmas.Option.{same_Some}
 use Rattle.std.proofs.lemmas.List.Folds.{Any-from_list_any, list_any_at}
 use Rattle.cedar_value.specs.Datum.{Datum, boolean, long, text, uid, set, record_of, decimal}
 use Rattle.cedar_value.specs.Order.{uid_cmp}
-use Rattle.cedar_value.specs.Reach.{first_link, below-Decides}
+use Rattle.cedar_closure.proofs.Chains.{first_link}
+use Rattle.cedar_value.proofs.Reach.{below-Decides}
 use Rattle.cedar_value.specs.World.{EntityTree, World, Below, below, below_any, below_datum}
 use Rattle.cedar_value.specs.declared.uid.Uid.{Uid}
 use Rattle.cedar_store.specs.Entities.{uids_of, IsAcyclic}
-use Rattle.cedar_store.specs.Kept.{AreAncestors, HasAncestors, has_datum}
+use Rattle.cedar_store.specs.Private.Kept.{AreAncestors, HasAncestors, has_datum}
 use Rattle.cedar_store.proofs.Places.{listed}
 
 -- the set has the entity's ancestors, and not the entity

@@ -1,3 +1,3 @@
 pub mod Entities
 pub mod Faults
-pub mod Kept
+pub mod Private

@@ -16,7 +16,7 @@ pub struct Entity {
 
 impl Model for Entity {
     ghost use Rattle.std.specs.Coded.{codes};
-    ghost use Rattle.cedar_value.specs.DatumCode.{datum_code};
+    ghost use Rattle.cedar_value.specs.Private.DatumCode.{datum_code};
     ghost use Rattle.cedar_value.specs.World.{EntityTree};
 
     ghost Value = { EntityTree };

@@ -1,13 +1,14 @@
 //! Entities that are found by their uids.
 ghost use Rattle.std.specs.Prelude.{◌≡◌, ◌↔◌, ℕ, Some, IfOk, IfErr, OnOk, option_copied};
 ghost use Rattle.std.specs.List.{slice_get};
-ghost use Rattle.cedar_value.specs.World.{entry_of, parents_of};
+ghost use Rattle.cedar_value.specs.World.{entry_of};
 ghost use Rattle.cedar_store.specs.Entities.{uids_of, AreUidsDistinct};
 ghost use Rattle.cedar_store.specs.Faults.{IsThere};
-ghost use Rattle.cedar_store.specs.Kept.{ArePlaces};
+ghost use Rattle.cedar_store.specs.Private.Kept.{ArePlaces};
 
 use crate::entity::Entity;
 use crate::store_fault::StoreFault;
+use cedar_closure::Links;
 use cedar_value::Uid;
 use std::alloc::Global;
 use std::collections::BTreeMap;
@@ -22,10 +23,10 @@ pub(crate) struct EntityTable {
 
 impl Model for EntityTable {
     ghost use Rattle.std.specs.Coded.{codes};
-    ghost use Rattle.cedar_value.specs.DatumCode.{datum_code};
+    ghost use Rattle.cedar_value.specs.Private.DatumCode.{datum_code};
     ghost use Rattle.cedar_value.specs.World.{World};
     ghost use Rattle.cedar_store.specs.Entities.{uids_of};
-    ghost use Rattle.cedar_store.specs.Kept.{ArePlaces};
+    ghost use Rattle.cedar_store.specs.Private.Kept.{ArePlaces};
 
     ghost Value = { World };
 
@@ -70,16 +71,26 @@ impl EntityTable {
             None => None,
         }
     }
+}
 
-    /// The direct parents of an entity, none of what the table lacks.
-    pub(crate) fn parents(&self, uid: &Uid) -> &[Uid]
-        ensures { result.now ≡ parents_of self.now uid.now }
-    {
+impl Links<Uid> for EntityTable {
+    ghost use Rattle.cedar_value.specs.World.{parents_of};
+    ghost use Rattle.cedar_store.specs.Entities.{uids_of};
+    ghost use Rattle.cedar_value.proofs.Reach.{parents-listed};
+
+    ghost links = { parents_of };
+
+    ghost sources = { uids_of };
+
+    // The direct parents of an entity, none of what the table lacks.
+    fn links(&self, uid: &Uid) -> &[Uid] {
         match self.get(uid) {
             Some(entity) => &entity.parents,
             None => &[],
         }
     }
+
+    ghost listed = { parents-listed };
 }
 
 // The place of each entity, by its uid.

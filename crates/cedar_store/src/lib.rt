@@ -1,5 +1,14 @@
 //! Entities of the Cedar policy language, and what lies above them.
 //!
+//! ```rust
+//! use cedar_store::{Entity, Hierarchy, Store};
+//!
+//! // `alice` has the one parent `friends`, and no attributes.
+//! let entity = Entity { uid: alice.try_clone(alloc)?, attrs: Record::new(alloc), parents };
+//! let store = Store::build(alloc, vec![in alloc; entity]?)?;
+//! assert!(rt; store.is_below(&alice, &friends));
+//! ```
+//!
 //! A contract sees a hierarchy as a world: the list of its entities with their attributes and direct
 //! parents.
 #![tactic(auto)]
@@ -7,15 +16,10 @@
 mod ancestors;
 mod entity;
 mod entity_table;
-mod hierarchy;
-mod law;
-mod no_entities;
 mod store;
 mod store_fault;
 
+pub use cedar_value::{Hierarchy, NoEntities, below_is_a_chain_of_links};
 pub use entity::Entity;
-pub use hierarchy::Hierarchy;
-pub use law::below_is_a_chain_of_links;
-pub use no_entities::NoEntities;
 pub use store::Store;
 pub use store_fault::StoreFault;

@@ -4,14 +4,13 @@ ghost use Rattle.std.specs.List.{list_any};
 ghost use Rattle.cedar_value.specs.World.{Below};
 ghost use Rattle.cedar_store.specs.Entities.{AreUidsDistinct, IsAcyclic};
 ghost use Rattle.cedar_store.specs.Faults.{IsThere};
-ghost use Rattle.cedar_store.specs.Kept.{AreAncestors, has_datum};
+ghost use Rattle.cedar_store.specs.Private.Kept.{AreAncestors, has_datum};
 
 use crate::ancestors::all_ancestors;
 use crate::entity::Entity;
 use crate::entity_table::EntityTable;
-use crate::hierarchy::Hierarchy;
 use crate::store_fault::StoreFault;
-use cedar_value::{Record, Uid, ValueKind, ValueSet};
+use cedar_value::{Hierarchy, Record, Uid, ValueKind, ValueSet};
 use std::alloc::Global;
 use std::collections::BTreeSet;
 use std::marker::Model;
@@ -27,9 +26,9 @@ pub struct Store {
 impl Model for Store {
     ghost use Rattle.std.specs.List.{AllZip};
     ghost use Rattle.std.specs.Coded.{codes};
-    ghost use Rattle.cedar_value.specs.DatumCode.{datum_code};
+    ghost use Rattle.cedar_value.specs.Private.DatumCode.{datum_code};
     ghost use Rattle.cedar_value.specs.World.{World};
-    ghost use Rattle.cedar_store.specs.Kept.{HasAncestors};
+    ghost use Rattle.cedar_store.specs.Private.Kept.{HasAncestors};
 
     ghost Value = { World };
 

@@ -94,3 +94,7 @@ within (suc most) _ le u (s.escape {front = front} {bs = bs} {letter = letter} e
 
 pub every_string_by : (inner : List ℕ) → IsUtf8 inner → s.IsString inner → (letters : List Letter) × IsSpelled (34 ∷ inner ++ 34 ∷ []) letters
 every_string_by inner u i = let w = within (length inner) inner (omega arith) u i in (w.0, (inner, refl, w.1))
+
+-- What writes no letters is no string.
+pub no_string_stuck : (text inner : List ℕ) → IsUtf8 inner → text ≡ 34 ∷ inner ++ 34 ∷ [] → ((letters : List Letter) → IsSpelled text letters → ⊥) → s.IsString inner → ⊥
+no_string_stuck text inner u e none i = let w = every_string_by inner u i in none w.0 (subst (λ (x : List ℕ). IsSpelled x w.0) (sym e) w.1)

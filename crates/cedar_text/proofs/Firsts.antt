@@ -44,10 +44,10 @@ escape_found bs n letter e f =
 pub escape_known : (bs : List ℕ) (n : ℕ) → escape_len bs ≡ Some n → escaped_letter (take n bs) ≡ None → ⊥
 escape_known bs n e f = let h = found_at bs n e in no_letter h.2 (sym (letter_of h.0 h.2 h.5) ∙ sym (ap escaped_letter (take_front bs h.0 h.1 n h.3 h.4)) ∙ f)
 
-hex_ascii : (b : ℕ) → is_hex b ≡ true → b < 128
+pub hex_ascii : (b : ℕ) → is_hex b ≡ true → b < 128
 hex_ascii b h = let lt : digit_value b < 16 = ltb-true (digit_value b) 16 h in grind (arith, nat_tests)
 
-short_ascii : (b c : ℕ) → IsShort b c → b < 128
+pub short_ascii : (b c : ℕ) → IsShort b c → b < 128
 short_ascii b c line_feed = omega arith
 short_ascii b c carriage_return = omega arith
 short_ascii b c tab = omega arith
@@ -125,7 +125,7 @@ escape_none text h none front rest letter e w = clash front letter w (slashed �
 
 -- ---- the whole text
 
-inner_one : (text a b : List ℕ) → IsQuoted text a → IsQuoted text b → a ≡ b
+pub inner_one : (text a b : List ℕ) → IsQuoted text a → IsQuoted text b → a ≡ b
 inner_one text a b e f = append_cancel_right a b (34 ∷ []) (ap (drop 1) (sym e ∙ f))
 
 nothing_left : (left : List Letter) → AreWritten [] left → left ≡ []

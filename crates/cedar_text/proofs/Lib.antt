@@ -13,4 +13,5 @@ pub mod Spelled
 pub mod Firsts
 pub mod Unescaping
 pub mod EveryString
+pub mod LettersOrNone
 pub mod Turns

@@ -6,7 +6,7 @@ use Rattle.std.proofs.lemmas.List.{append-nil, at_drop_more, at_drop_all}
 use Rattle.cedar_text.specs.declared.letter.Letter.{Letter}
 use Rattle.cedar_text.specs.declared.text_fault.TextFault.{TextFault}
 use Rattle.cedar_text.specs.declared.text_fault.TextFault.TheVariants as f
-use Rattle.cedar_text.specs.Letters.{IsSpelled, is_plain, character_of, utf8_of, StandsFor, HasLetters, HasString}
+use Rattle.cedar_text.specs.Letters.{IsSpelled, is_plain, character_of, utf8_of, StandsFor, HasLetters, HasString, HasLettersFault, HasStringFault}
 use Rattle.cedar_text.proofs.Firsts.{one_spelling_by}
 
 pub utf8_turn : (bytes : List ℕ) (letters : List Letter) (i : ℕ) (l d : Letter) (c : ℕ) (total : List ℕ) → i < length letters → get_or letters i d ≡ l → c ≡ character_of l
@@ -40,6 +40,14 @@ refused text (f.BadCharacter at) only bytes s = only s.0 s.1
 refused text (f.UnclosedString at) only bytes s = only s.0 s.1
 refused text (f.BadEscape at) only bytes s = only s.0 s.1
 refused text (f.NumberTooLarge at) only bytes s = only s.0 s.1
+
+-- and its fault is one of the string
+pub refused_by : (text : List ℕ) (x : TextFault) → ((bytes : List ℕ) → StandsFor text bytes → HasString bytes (Err x)) → HasLettersFault text x → HasStringFault text x
+refused_by text f.OutOfMemory only h = tt
+refused_by text (f.BadCharacter at) only h = h
+refused_by text (f.UnclosedString at) only h = h
+refused_by text (f.BadEscape at) only h = ((h.0, h.1), only)
+refused_by text (f.NumberTooLarge at) only h = h
 
 differ : true ≡ false → ⊥
 differ e = absurd cc

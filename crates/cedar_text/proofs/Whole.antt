@@ -1,5 +1,5 @@
 -- Cutting from left to right gives the tokens of the text, and the fault that stands next.
-use Rattle.std.proofs.Common.{◌≡◌, ◌≢◌, refl, sym, ap, subst, ◌∙◌, ℕ, zero, suc, ◌+◌, ◌≤◌, ◌<◌, false, List, [], ◌∷◌, ◌++◌, length, take, drop, Option, Some, None, Result, Ok, Err, inl, inr, length-append, length-take, length-drop, arith}
+use Rattle.std.proofs.Common.{◌≡◌, ◌≢◌, refl, sym, ap, subst, ◌∙◌, ℕ, zero, suc, ◌+◌, ◌≤◌, ◌<◌, false, List, [], ◌∷◌, ◌++◌, length, take, drop, Option, Some, None, Result, Ok, Err, ◌⊎◌, inl, inr, length-append, length-take, length-drop, arith}
 use Rattle.std.specs.Prelude.{encode_utf8, IfOk, IfErr}
 use Rattle.std.specs.Global.{Vec}
 use Rattle.std.proofs.lemmas.List.{take_at, drop_at, take-append-drop}
@@ -152,6 +152,16 @@ whole_again source ts c = lex_again (length source) 0 source ts [] c refl (omega
 
 pub one_list_by : (source : List ℕ) (ts us : Lexemes) → AreTokens source ts → AreTokens source us → ts ≡ us
 one_list_by source ts us a b = oks_one ts us (sym (whole_again source ts a) ∙ whole_again source us b)
+
+abbrev HasOrLacks : List ℕ → Type 0
+HasOrLacks source = ((ts : Lexemes) × AreTokens source ts) ⊎ ((ts : Lexemes) → AreTokens source ts → ⊥)
+
+decided : (source : List ℕ) (r : Result Lexemes Refusal) → lex (length source) 0 source ≡ r → HasOrLacks source
+decided source (Ok ts) e = inl (ts, subst (LexIs 0 source) e (lex_is (length source) 0 source (omega arith)))
+decided source (Err x) e = inr (λ ts c. let h = whole_again source ts c in absurd cc)
+
+pub tokens_or_none_by : (source : List ℕ) → HasOrLacks source
+tokens_or_none_by source = decided source (lex (length source) 0 source) refl
 
 pub only_by : (source : List ℕ) (x : Result (Vec Token) TextFault) → Gives (λ v. lexemes v.items) (lex (length source) 0 source) x → (ts : Lexemes) → AreTokens source ts
     → HasTokens ts x

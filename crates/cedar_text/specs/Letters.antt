@@ -9,7 +9,7 @@ use Rattle.cedar_text.specs.declared.letter.Letter.{Letter}
 use Rattle.cedar_text.specs.declared.letter.Letter.TheVariants.{Character, Star, EscapedStar}
 use Rattle.cedar_text.specs.declared.text_fault.TextFault.{TextFault}
 use Rattle.cedar_text.specs.declared.text_fault.TextFault.TheVariants as f
-use Rattle.cedar_text.specs.Strings.{IsEscape}
+use Rattle.cedar_text.specs.Strings.{IsEscape, IsString}
 
 -- how a string writes one letter, in UTF-8
 pub data IsWritten : List ℕ → Letter → Type 0 where
@@ -63,3 +63,23 @@ HasString bytes (Err (f.BadCharacter at)) = ⊥
 HasString bytes (Err (f.UnclosedString at)) = ⊥
 HasString bytes (Err (f.BadEscape at)) = ⊥
 HasString bytes (Err (f.NumberTooLarge at)) = ⊥
+
+-- the text has quotes round this
+abbrev pub HasQuotes : List ℕ → List ℕ → Type 0
+HasQuotes text inner = text ≡ 34 ∷ inner ++ 34 ∷ []
+
+-- Why a text writes no letters: it has no quotes round it, or what stands between them is no string. Want of memory says nothing of it.
+abbrev pub HasLettersFault : List ℕ → TextFault → Type 0
+HasLettersFault text f.OutOfMemory = Unit {0}
+HasLettersFault text (f.UnclosedString at) = (inner : List ℕ) → HasQuotes text inner → ⊥
+HasLettersFault text (f.BadEscape at) = (inner : List ℕ) × HasQuotes text inner × (IsString inner → ⊥)
+HasLettersFault text (f.BadCharacter at) = ⊥
+HasLettersFault text (f.NumberTooLarge at) = ⊥
+
+-- Why a text stands for no string: it has no quotes round it, or what stands between them has no text. Want of memory says nothing of it.
+abbrev pub HasStringFault : List ℕ → TextFault → Type 0
+HasStringFault text f.OutOfMemory = Unit {0}
+HasStringFault text (f.UnclosedString at) = (inner : List ℕ) → HasQuotes text inner → ⊥
+HasStringFault text (f.BadEscape at) = ((inner : List ℕ) × HasQuotes text inner) × ((bytes : List ℕ) → StandsFor text bytes → ⊥)
+HasStringFault text (f.BadCharacter at) = ⊥
+HasStringFault text (f.NumberTooLarge at) = ⊥

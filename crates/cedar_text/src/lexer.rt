@@ -1,6 +1,6 @@
 //! All tokens of a text.
 
-ghost use Rattle.std.specs.Prelude.{◌≡◌, ◌<◌, ◌≤◌, length, take, drop, IfOk, IfErr, OnOk, All, List, ℕ};
+ghost use Rattle.std.specs.Prelude.{◌≡◌, ◌<◌, ◌≤◌, length, take, drop, IfOk, IfErr, OnOk, All, List, ℕ, ◌⊎◌};
 ghost use Rattle.std.specs.Str.{IsUtf8};
 ghost use Rattle.cedar_text.specs.Lexeme.{Lexemes, lexemes};
 ghost use Rattle.cedar_text.specs.Lexing as spec;
@@ -92,4 +92,9 @@ pub fn tokens(alloc: Global, source: &str) -> Result<Vec<Token<'_>>, TextFault>
 /// The law that no text has two lists of tokens. It does nothing.
 pub fn one_list()
     ensures { (source : List ℕ) (ts us : Lexemes) → AreTokens source ts → AreTokens source us → ts ≡ us }
+{}
+
+/// The law that a text has tokens or none. It does nothing.
+pub fn tokens_or_none()
+    ensures { (source : List ℕ) → ((ts : Lexemes) × AreTokens source ts) ⊎ ((ts : Lexemes) → AreTokens source ts → ⊥) }
 {}

@@ -16,8 +16,8 @@ mod token_kind;
 mod word;
 
 pub use letter::Letter;
-pub use lexer::{one_list, tokens};
-pub use spelling::{every_string_is_spelled, letters, one_spelling, unescape};
+pub use lexer::{one_list, tokens, tokens_or_none};
+pub use spelling::{every_string_is_spelled, letters, letters_or_none, one_spelling, unescape};
 pub use text_fault::TextFault;
 pub use token::Token;
 pub use token_kind::TokenKind;

@@ -1,12 +1,12 @@
 //! What a string token stands for.
 
-ghost use Rattle.std.specs.Prelude.{◌≡◌, ◌<◌, ◌≤◌, [], ◌∷◌, ◌++◌, List, ℕ, length, IfOk, IfSome, IfNone, IsSome};
+ghost use Rattle.std.specs.Prelude.{◌≡◌, ◌<◌, ◌≤◌, [], ◌∷◌, ◌++◌, List, ℕ, length, IfOk, IfErr, IfSome, IfNone, IsSome, ◌⊎◌};
 ghost use Rattle.std.specs.String.{string_bytes};
 ghost use Rattle.std.specs.Char.{IsScalar};
 ghost use Rattle.std.specs.Str.{IsUtf8};
 ghost use Rattle.cedar_text.specs.declared.letter.Letter.{Letter as Letters};
 ghost use Rattle.cedar_text.specs.Strings.{IsString};
-ghost use Rattle.cedar_text.specs.Letters.{IsSpelled, StandsFor, HasLetters, HasString};
+ghost use Rattle.cedar_text.specs.Letters.{IsSpelled, StandsFor, HasLetters, HasString, HasLettersFault, HasStringFault};
 ghost use Rattle.cedar_text.specs.FirstLetter.{BeginsWith, BeginsNone, StartsEscape, StartsNoEscape, IsFirst, IsQuoted};
 ghost use Rattle.cedar_text.specs.Lexing as spec;
 
@@ -124,6 +124,8 @@ pub fn letters(alloc: Global, text: &str) -> Result<Vec<Letter>, TextFault>
     ensures found { IfOk result (λ v. IsSpelled text.now v.items) }
     // The letters that the text writes are what is answered, unless memory runs out.
     ensures only { (letters : List Letters) → IsSpelled text.now letters → HasLetters letters result }
+    // Each fault comes only where it is.
+    ensures fault { IfErr result (HasLettersFault text.now) }
 {
     let Some(inner) = between_quotes(text) else {
         return Err(TextFault::UnclosedString(0));
@@ -149,6 +151,8 @@ pub fn unescape(alloc: Global, text: &str) -> Result<String, TextFault>
     ensures found { IfOk result (λ s. StandsFor text.now (string_bytes s)) }
     // The string that the text stands for is what is answered, unless memory runs out.
     ensures only { (bytes : List ℕ) → StandsFor text.now bytes → HasString bytes result }
+    // Each fault comes only where it is.
+    ensures fault { IfErr result (HasStringFault text.now) }
 {
     let spelled = letters(alloc, text)?;
     let mut value = String::new(alloc);
@@ -181,4 +185,9 @@ pub fn one_spelling()
 /// The law that what stands between the quotes of a string token always writes letters. It does nothing.
 pub fn every_string_is_spelled()
     ensures { (inner : List ℕ) → IsUtf8 inner → IsString inner → (letters : List Letters) × IsSpelled (34 ∷ inner ++ 34 ∷ []) letters }
+{}
+
+/// The law that a string token writes letters or none, where it may be no UTF-8. It does nothing.
+pub fn letters_or_none()
+    ensures { (inner : List ℕ) → IsString inner → ((letters : List Letters) × IsSpelled (34 ∷ inner ++ 34 ∷ []) letters) ⊎ ((letters : List Letters) → IsSpelled (34 ∷ inner ++ 34 ∷ []) letters → ⊥) }
 {}

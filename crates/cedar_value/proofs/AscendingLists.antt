@@ -123,3 +123,10 @@ module _ {A : Type 0} {R : A → A → Ordering} (o : IsTotalOrder R) where
     ascending_from-is xs ys up same =
         same_found xs (ascending_from R ys) up (ascending_from-ascending ys)
         (λ q. one_answer _ _ (found_in-Decides xs q) ((λ t. (same q).1 ((found_in-Decides ys q).0 t)), (λ m. (found_in-Decides ys q).1 ((same q).0 m))) ∙ sym (found_in-ascending_from ys q))
+
+    -- it has the elements of the list
+    pub ascending_from-Contains : (xs : List A) (q : A) → Contains (ascending_from R xs) q ↔ Contains xs q
+    ascending_from-Contains xs q = (
+      λ m. (found_in-Decides xs q).0 (sym (found_in-ascending_from xs q) ∙ (found_in-Decides (ascending_from R xs) q).1 m),
+      λ m. (found_in-Decides (ascending_from R xs) q).0 (found_in-ascending_from xs q ∙ (found_in-Decides xs q).1 m),
+    )

@@ -14,10 +14,10 @@ use Rattle.std.specs.List.{AllByRecursion, IsDistinct}
 use Rattle.std.specs.List.Sorted.{IsStrictlySortedBy, IsSorted, IsSortedBy, IsBinarySearchResult, IsPermutation}
 use Rattle.std.specs.Str.{bytes_eq}
 use Rattle.cedar_value.specs.Datum.{Datum}
-use Rattle.cedar_value.specs.Laws.{text_ties, pair_total}
+use Rattle.cedar_value.specs.Private.Laws.{text_ties, pair_total}
 use Rattle.cedar_value.specs.Order.{AreKeysAscending, text_cmp, pair_cmp, datum_cmp}
 use Rattle.cedar_value.specs.Records.{value_at, AreKeysDistinct, SamePairs, record_from}
-use Rattle.cedar_value.specs.Same.{text_same, datum_same}
+use Rattle.cedar_value.specs.Private.Same.{text_same, datum_same}
 use Rattle.cedar_value.proofs.AscendingLists.{less_all, ascending_from-is}
 
 -- a pair
@@ -149,7 +149,7 @@ ascending-distinct ps (q ∷ qs) moved sorted distinct = sorted_from_all_adjacen
 pub SamePairs-sorted : (ps qs : List Pair) → IsPermutation ps qs → SamePairs qs ps
 SamePairs-sorted ps qs moved p = (λ h. Contains-permutation qs ps p (IsPermutation-sym ps qs moved) h, λ h. Contains-permutation ps qs p moved h)
 
-pair_same : (p q : Pair) → pair_cmp p q ≡ Equal → p ≡ q
+pub pair_same : (p q : Pair) → pair_cmp p q ≡ Equal → p ≡ q
 pair_same p q e = by (text_cmp p.0 q.0) (datum_cmp p.1 q.1) refl refl e
   where
     by : (o c : Ordering) → text_cmp p.0 q.0 ≡ o → datum_cmp p.1 q.1 ≡ c → ordering_then o c ≡ Equal → p ≡ q

@@ -1,7 +1,7 @@
 -- A member or a pair nests less deep than the list in which it stands.
 use Rattle.std.proofs.Common.{◌≡◌, ℕ, zero, suc, ◌<◌, List, [], ◌∷◌, length, get_or, ap, arith}
 use Rattle.cedar_value.specs.Datum.{Datum}
-use Rattle.cedar_value.specs.Weight.{weight, list_weight, pairs_weight}
+use Rattle.cedar_value.specs.Private.Weight.{weight, list_weight, pairs_weight}
 
 pub member_lighter : (ds : List Datum) (i : ℕ) (d : Datum) → i < length ds → d ≡ get_or ds i d → weight d < list_weight ds
 member_lighter [] i d within is = absurd (omega arith)

@@ -15,10 +15,10 @@ use Rattle.std.specs.List.{dedup, AllByRecursion, list_all, list_any}
 use Rattle.std.specs.List.Sorted.{IsStrictlySortedBy, IsSorted, IsSortedBy, IsPermutation, IsSearchInRange, IsBinarySearchResult, IsPartitionPoint}
 use Rattle.std.specs.Ordering.{is_lt}
 use Rattle.cedar_value.specs.Datum.{Datum, same}
-use Rattle.cedar_value.specs.Equality.{same-Decides, same_equivalence}
-use Rattle.cedar_value.specs.Laws.{datum_ties}
+use Rattle.cedar_value.specs.Private.Equality.{same-Decides, same_equivalence}
+use Rattle.cedar_value.specs.Private.Laws.{datum_ties}
 use Rattle.cedar_value.specs.Order.{datum_cmp, IsAscending}
-use Rattle.cedar_value.specs.Same.{datum_cmp_total, datum_same, datum_itself}
+use Rattle.cedar_value.specs.Private.Same.{datum_cmp_total, datum_same, datum_itself}
 use Rattle.cedar_value.specs.Sets.{has_member, SameMembers, set_from}
 use Rattle.cedar_value.proofs.AscendingLists.{less_all, ascending_from-is}
 

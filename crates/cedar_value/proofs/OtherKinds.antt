@@ -2,7 +2,7 @@
 use Rattle.std.proofs.Common.{◌≡◌, ℕ, ℤ, Bool, List, nat_cmp, refl}
 use Rattle.cedar_value.specs.Datum.{Datum}
 use Rattle.cedar_value.specs.Order.{datum_cmp}
-use Rattle.cedar_value.specs.Compare.{kind_number, datum_cmp-tree}
+use Rattle.cedar_value.specs.Private.Compare.{kind_number, datum_cmp-tree}
 use Rattle.cedar_value.specs.ValueKind.{datum_of}
 use Rattle.cedar_value.specs.declared.uid.Uid.{Uid as EntityUid}
 use Rattle.cedar_value.specs.declared.value.ValueKind.{ValueKind}

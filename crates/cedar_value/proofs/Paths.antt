@@ -7,15 +7,15 @@ use Rattle.std.proofs.lemmas.List.{take-append-drop}
 use Rattle.std.proofs.lemmas.Str.{IsUtf8-drop}
 use Rattle.cedar_value.specs.Names.{IsName, is_identifier, is_reserved, is_word, is_word_start, is_word_byte, joined}
 
-and_first : (b c : Bool) → (b && c) ≡ true → b ≡ true
+pub and_first : (b c : Bool) → (b && c) ≡ true → b ≡ true
 and_first true c h = refl
 and_first false c h = cc
 
-and_second : (b c : Bool) → (b && c) ≡ true → c ≡ true
+pub and_second : (b c : Bool) → (b && c) ≡ true → c ≡ true
 and_second true c h = h
 and_second false c h = cc
 
-and_both : (b c : Bool) → b ≡ true → c ≡ true → (b && c) ≡ true
+pub and_both : (b c : Bool) → b ≡ true → c ≡ true → (b && c) ≡ true
 and_both true c h g = g
 and_both false c h g = cc
 
@@ -24,7 +24,7 @@ or_first true c h = refl
 or_first false c h = cc
 
 -- an identifier is made of word bytes, so there is no colon in it
-word_bytes : (w : List ℕ) → is_identifier w ≡ true → list_all is_word_byte w ≡ true
+pub word_bytes : (w : List ℕ) → is_identifier w ≡ true → list_all is_word_byte w ≡ true
 word_bytes [] h = cc
 word_bytes (b ∷ bs) h =
     let word = and_first (is_word (b ∷ bs)) (not (is_reserved (b ∷ bs))) h in

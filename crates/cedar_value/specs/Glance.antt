@@ -1,8 +1,9 @@
--- The value that is looked at.
+-- What a look at a value shows.
 use Rattle.cedar_value.specs.Datum.{Datum, boolean, long, text, uid, set, record_of, decimal, members_of, fields_of}
 use Rattle.cedar_value.specs.declared.glance.Glance.{Glance}
 use Rattle.cedar_value.specs.declared.glance.Glance.TheVariants.{Boolean, Long, String, Uid, Set, Record, Decimal}
 
+-- The value that is looked at (this project).
 abbrev pub datum_seen : Glance → Datum
 datum_seen (Boolean b) = boolean b
 datum_seen (Long n) = long n

@@ -8,35 +8,38 @@ use Rattle.cedar_value.specs.Datum.{Datum}
 use Rattle.cedar_value.specs.Rows.{row}
 use Rattle.cedar_value.specs.declared.uid.Uid.{Uid}
 
+-- The row of numbers by which a value is ordered (this project).
 abbrev pub numbers_of : Datum → List ℤ
 numbers_of d = row d []
 
+-- The order of two values: that of their rows of numbers, a beginning first (this project).
 unfoldable pub datum_cmp : Datum → Datum → Ordering
 datum_cmp = on numbers_of (slice_cmp int_cmp)
 
--- texts byte by byte, a beginning first
+-- The order of two texts: byte by byte, a beginning first (this project).
 abbrev pub text_cmp : List ℕ → List ℕ → Ordering
 text_cmp = slice_cmp nat_cmp
 
--- uids by the text of the type, and then by the id
+-- The order of two uids: by the text of the type, and then by the id (this project).
 abbrev pub uid_cmp : Uid → Uid → Ordering
 uid_cmp u v = ordering_then (text_cmp u.ty v.ty) (text_cmp u.id v.id)
 
--- pairs by their keys, and then by their values
+-- The order of two pairs: by their keys, and then by their values (this project).
 abbrev pub pair_cmp : List ℕ × Datum → List ℕ × Datum → Ordering
 pair_cmp p q = ordering_then (text_cmp p.0 q.0) (datum_cmp p.1 q.1)
 
--- sets and records as lists, a beginning first
+-- The order of two sets as lists of members, a beginning first (this project).
 abbrev pub members_cmp : List Datum → List Datum → Ordering
 members_cmp = slice_cmp datum_cmp
 
+-- The order of two records as lists of pairs, a beginning first (this project).
 abbrev pub pairs_cmp : List (List ℕ × Datum) → List (List ℕ × Datum) → Ordering
 pairs_cmp = slice_cmp pair_cmp
 
--- each member is below those after it
+-- Each member is below those after it (this project).
 abbrev pub IsAscending : List Datum → Type 0
 IsAscending = IsStrictlySortedBy datum_cmp
 
--- each key is below those after it
+-- Each key is below those after it (this project).
 abbrev pub AreKeysAscending : List (List ℕ × Datum) → Type 0
 AreKeysAscending ps = IsStrictlySortedBy text_cmp (map (λ p. p.0) ps)

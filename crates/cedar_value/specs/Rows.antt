@@ -4,17 +4,19 @@ use Rattle.cedar_value.specs.Datum.{Datum, boolean, long, text, uid, set, record
 
 -- Each row goes before a rest, which is empty behind a whole value.
 
--- a text: each byte plus 1, then 0
+-- The row of a text: each byte plus 1, then 0 (this project).
 abbrev pub text_row : List ℕ → List ℤ → List ℤ
 text_row [] rest = pos 0 ∷ rest
 text_row (b ∷ bs) rest = pos (b + 1) ∷ text_row bs rest
 
+-- The number of a Boolean: 0 for false, 1 for true (this project).
 abbrev pub truth_number : Bool → ℤ
 truth_number false = pos 0
 truth_number true = pos 1
 
--- a long or a decimal: its number plus 9223372036854775808; a uid: its type's text, then its id
--- a set: the rows of its members, then 0; a record: for each pair 1, the key and the value, then 0
+-- The row of a value: the number of its kind, and then of a number or a decimal its number plus 9223372036854775808, of a
+-- uid its type's text and its id, of a set the rows of its members and 0, of a record for each pair 1, the key and the
+-- value, and at the end 0 (this project).
 abbrev mutual
   pub row : Datum → List ℤ → List ℤ
   row (boolean b) rest = pos 1 ∷ truth_number b ∷ rest
@@ -25,10 +27,12 @@ abbrev mutual
   row (record_of fs) rest = pos 6 ∷ fields_row fs rest
   row (decimal z) rest = pos 7 ∷ (z +ℤ pos 9223372036854775808) ∷ rest
 
+  -- The rows of members, and 0 (this project).
   pub members_row : Members → List ℤ → List ℤ
   members_row no_members rest = pos 0 ∷ rest
   members_row (member d ms) rest = row d (members_row ms rest)
 
+  -- For each field 1, its key and its value, and 0 at the end (this project).
   pub fields_row : Fields → List ℤ → List ℤ
   fields_row no_fields rest = pos 0 ∷ rest
   fields_row (field k d fs) rest = pos 1 ∷ text_row k (row d (fields_row fs rest))

@@ -1,58 +1,61 @@
 -- Worlds of entities, and what lies above an entity (Cedar language reference, entities and hierarchy;
 -- cedar-spec, Lean: Cedar.Spec.Entities).
-use Rattle.std.specs.Prelude.{ℕ, zero, suc, Bool, false, ◌||◌, List, [], ◌∷◌, length, Option, Some, None, is_some, unwrap_or, Contains, if◌then◌else◌}
+use Rattle.std.specs.Prelude.{ℕ, Bool, false, List, [], ◌∷◌, length, Option, Some, None, is_some, unwrap_or, Contains, if◌then◌else◌}
 use Rattle.std.specs.Option.{option_map}
 use Rattle.std.specs.List.{list_any}
+pub use Rattle.cedar_closure.specs.Closure.{LeadsTo}
+unfoldable pub use Rattle.cedar_closure.specs.Closure.{leads}
 use Rattle.cedar_value.specs.Datum.{Datum, uid, same_uid}
 use Rattle.cedar_value.specs.declared.uid.Uid.{Uid}
 
--- an entity: its uid, its attributes with their keys ascending, and its direct parents
+-- An entity: its uid, its attributes with their keys ascending, and its direct parents (Cedar language reference,
+-- entities).
 pub record EntityTree : Type 0 where
   pub uid : Uid
   pub attributes : List (List ℕ × Datum)
   pub parents : List Uid
 
--- a finite map from uids to entities: of a uid that stands twice, the first entity counts
+-- A finite map from uids to entities: of a uid that stands twice, the first entity counts (Cedar language reference,
+-- entities).
 abbrev pub World : Type 0
 World = List EntityTree
 
+-- The entity with a uid, where the world has it (Cedar language reference, entities).
 abbrev pub entry_of : World → Uid → Option EntityTree
 entry_of [] u = None
 entry_of (e ∷ w) u = if same_uid e.uid u then Some e else entry_of w u
 
--- whether the world has the entity
+-- Whether the world has the entity (Cedar language reference, entities).
 abbrev pub has_entity : World → Uid → Bool
 has_entity w u = is_some (entry_of w u)
 
--- its attributes, where the world has it
+-- Its attributes, where the world has it (Cedar language reference, entities).
 abbrev pub attributes_of : World → Uid → Option (List (List ℕ × Datum))
 attributes_of w u = option_map (λ e. e.attributes) (entry_of w u)
 
--- its direct parents, and none where the world lacks it
+-- Its direct parents, and none where the world lacks it (Cedar language reference, hierarchy).
 abbrev pub parents_of : World → Uid → List Uid
 parents_of w u = unwrap_or (option_map (λ e. e.parents) (entry_of w u)) []
 
+-- One link leads from the one up to the other (Cedar language reference, hierarchy).
 abbrev pub IsParent : World → Uid → Uid → Type 0
 IsParent w u v = Contains (parents_of w u) v
 
--- the one is below the other: a chain of one or more links leads up, each to a direct parent
-pub data Below (w : World) : Uid → Uid → Type 0 where
-  one_link : {u v : Uid} → IsParent w u v → Below w u v
-  links : {u p v : Uid} → IsParent w u p → Below w p v → Below w u v
+-- The one is below the other: a chain of one or more links leads up, each to a direct parent (Cedar language reference,
+-- `in`).
+abbrev pub Below : World → Uid → Uid → Type 0
+Below w = LeadsTo (parents_of w)
 
--- the test of it, which evaluation computes with: at most so many links lead from the one to the other
-unfoldable pub reaches : World → ℕ → Uid → Uid → Bool
-reaches w zero u v = false
-reaches w (suc n) u v = list_any (λ p. same_uid p v || reaches w n p v) (parents_of w u)
-
--- as many links as there are entities are enough
+-- The test of it, which evaluation computes with: as many links as there are entities are enough;
+-- `below_is_a_chain_of_links` ties the two (Cedar language reference, `in`).
 unfoldable pub below : World → Uid → Uid → Bool
-below w u v = reaches w (length w) u v
+below w u v = leads same_uid (parents_of w) (length w) u v
 
--- whether the entity is below a member of a set; no member but a uid has anything below it
+-- Whether the entity is below a value; nothing is below what is no uid (Cedar language reference, `in`).
 abbrev pub below_datum : World → Uid → Datum → Bool
 below_datum w u (uid v) = below w u v
 below_datum w u _ = false
 
+-- Whether the entity is below a member of a set (Cedar language reference, `in` with a set).
 abbrev pub below_any : World → Uid → List Datum → Bool
 below_any w u members = list_any (below_datum w u) members

@@ -1,6 +1,7 @@
 //! A look at a value.
 ghost use Rattle.std.specs.Prelude.{◌≡◌, ◌↔◌, IsTrue, IsOk, IfOk};
-ghost use Rattle.cedar_value.specs.Datum.{IsPlain, same};
+ghost use Rattle.cedar_value.specs.Datum.{same};
+ghost use Rattle.cedar_value.specs.Memory.{IsPlain};
 ghost use Rattle.cedar_value.specs.Glance.{datum_seen};
 
 use crate::text::Text;

@@ -1,10 +1,23 @@
-//! Values of the Cedar policy language: names, uids, values and requests.
+//! Values of the Cedar policy language: names, uids, values and requests, and the worlds that they are asked over.
+//!
+//! ```rust
+//! use cedar_value::{Name, Record, Request, Text, Uid, Value};
+//!
+//! let ty = Name::read(alloc, "Photos::User")?.unwrap();
+//! let alice = Uid { ty, id: Text::read(alloc, "alice")? };
+//! let pairs = vec![in alloc; (Text::read(alloc, "age")?, Value::long(7))]?;
+//! let context = Record::from_pairs(pairs)?.unwrap();
+//! assert!(rt; context.get("age") == Some(&Value::long(7)));
+//! ```
 //!
 //! A contract sees each of them as the plain tree of its definition: a text as its bytes, a value as a `Datum`.
 #![tactic(auto)]
 
 mod glance;
+mod hierarchy;
+mod laws;
 mod name;
+mod no_entities;
 mod order;
 mod request;
 mod text;
@@ -14,7 +27,14 @@ mod value_record;
 mod value_set;
 
 pub use glance::Glance;
+pub use hierarchy::Hierarchy;
+pub use laws::{
+    below_is_a_chain_of_links, has_member_tells_members, is_name_tells_names,
+    record_from_has_the_pairs, same_tells_equal_values, set_from_has_the_members,
+    value_at_tells_pairs,
+};
 pub use name::Name;
+pub use no_entities::NoEntities;
 pub use request::Request;
 pub use text::Text;
 pub use uid::Uid;

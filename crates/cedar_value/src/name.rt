@@ -5,6 +5,7 @@ ghost use Rattle.cedar_value.specs.Names.{IsName, is_identifier, is_reserved, is
 ghost use Rattle.std.specs.Str.{bytes_eq};
 
 use crate::text::Text;
+use cedar_closure::Key;
 use std::alloc::{AllocError, Global};
 use std::cmp::Ordering;
 use std::marker::Model;
@@ -122,9 +123,19 @@ fn is_word_byte(byte: u8) -> bool
     is_word_start(byte) || byte.is_ascii_digit()
 }
 
+impl Key for Name {
+    ghost use Rattle.cedar_value.specs.Private.Same.{text_same};
+
+    ghost ties = { text_same };
+
+    fn try_clone(&self, alloc: Global) -> Result<Self, AllocError> {
+        Name::try_clone(self, alloc)
+    }
+}
+
 impl PartialEq for Name {
     ghost use Rattle.std.specs.Str.{bytes_eq};
-    ghost use Rattle.cedar_value.specs.Equality.{text_equivalence};
+    ghost use Rattle.cedar_value.specs.Private.Equality.{text_equivalence};
     ghost use Rattle.std.specs.Cmp.{partial_equiv_from_equiv};
 
     ghost eq = { bytes_eq };
@@ -140,7 +151,7 @@ impl PartialEq for Name {
 }
 
 impl Eq for Name {
-    ghost use Rattle.cedar_value.specs.Equality.{text_equivalence};
+    ghost use Rattle.cedar_value.specs.Private.Equality.{text_equivalence};
 
     ghost laws = { text_equivalence };
 }
@@ -148,7 +159,7 @@ impl Eq for Name {
 impl PartialOrd for Name {
     ghost use Rattle.std.specs.Ordering.{as_partial_cmp};
     ghost use Rattle.cedar_value.specs.Order.{text_cmp};
-    ghost use Rattle.cedar_value.specs.Laws.{text_partial_order};
+    ghost use Rattle.cedar_value.specs.Private.Laws.{text_partial_order};
 
     ghost partial_cmp = { as_partial_cmp text_cmp };
 
@@ -163,7 +174,7 @@ impl Ord for Name {
     ghost use Rattle.std.specs.Prelude.{refl};
     ghost use Rattle.cedar_value.specs.Order.{text_cmp};
     ghost use Rattle.std.proofs.lemmas.Cmp.{nat_list_cmp_total};
-    ghost use Rattle.cedar_value.specs.Laws.{text_ties};
+    ghost use Rattle.cedar_value.specs.Private.Laws.{text_ties};
 
     ghost cmp = { text_cmp };
 

@@ -2,7 +2,7 @@
 ghost use Rattle.std.specs.Prelude.{◌≡◌};
 ghost use Rattle.std.specs.Cmp.Lexicographic.{slice_cmp};
 ghost use Rattle.cedar_value.specs.Order.{datum_cmp, pair_cmp};
-ghost use Rattle.cedar_value.specs.Compare.{kind_number};
+ghost use Rattle.cedar_value.specs.Private.Compare.{kind_number};
 ghost use Rattle.cedar_value.specs.ValueKind.{datum_of};
 
 use crate::text::Text;

@@ -54,7 +54,7 @@ impl Text {
 
 impl PartialEq for Text {
     ghost use Rattle.std.specs.Str.{bytes_eq};
-    ghost use Rattle.cedar_value.specs.Equality.{text_equivalence};
+    ghost use Rattle.cedar_value.specs.Private.Equality.{text_equivalence};
     ghost use Rattle.std.specs.Cmp.{partial_equiv_from_equiv};
 
     ghost eq = { bytes_eq };
@@ -70,7 +70,7 @@ impl PartialEq for Text {
 }
 
 impl Eq for Text {
-    ghost use Rattle.cedar_value.specs.Equality.{text_equivalence};
+    ghost use Rattle.cedar_value.specs.Private.Equality.{text_equivalence};
 
     ghost laws = { text_equivalence };
 }
@@ -78,7 +78,7 @@ impl Eq for Text {
 impl PartialOrd for Text {
     ghost use Rattle.std.specs.Ordering.{as_partial_cmp};
     ghost use Rattle.cedar_value.specs.Order.{text_cmp};
-    ghost use Rattle.cedar_value.specs.Laws.{text_partial_order};
+    ghost use Rattle.cedar_value.specs.Private.Laws.{text_partial_order};
 
     ghost partial_cmp = { as_partial_cmp text_cmp };
 
@@ -93,7 +93,7 @@ impl Ord for Text {
     ghost use Rattle.std.specs.Prelude.{refl};
     ghost use Rattle.cedar_value.specs.Order.{text_cmp};
     ghost use Rattle.std.proofs.lemmas.Cmp.{nat_list_cmp_total};
-    ghost use Rattle.cedar_value.specs.Laws.{text_ties};
+    ghost use Rattle.cedar_value.specs.Private.Laws.{text_ties};
 
     ghost cmp = { text_cmp };
 

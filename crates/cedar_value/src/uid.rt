@@ -4,6 +4,7 @@ ghost use Rattle.cedar_value.specs.Datum.{same_uid};
 
 use crate::name::Name;
 use crate::text::Text;
+use cedar_closure::Key;
 use std::alloc::{AllocError, Global};
 use std::cmp::Ordering;
 
@@ -28,9 +29,19 @@ impl Uid {
     }
 }
 
+impl Key for Uid {
+    ghost use Rattle.cedar_value.specs.Private.Same.{uid_same};
+
+    ghost ties = { uid_same };
+
+    fn try_clone(&self, alloc: Global) -> Result<Self, AllocError> {
+        Uid::try_clone(self, alloc)
+    }
+}
+
 impl PartialEq for Uid {
     ghost use Rattle.cedar_value.specs.Datum.{same_uid};
-    ghost use Rattle.cedar_value.specs.Equality.{uid_equivalence};
+    ghost use Rattle.cedar_value.specs.Private.Equality.{uid_equivalence};
     ghost use Rattle.std.specs.Cmp.{partial_equiv_from_equiv};
 
     ghost eq = { same_uid };
@@ -46,7 +57,7 @@ impl PartialEq for Uid {
 }
 
 impl Eq for Uid {
-    ghost use Rattle.cedar_value.specs.Equality.{uid_equivalence};
+    ghost use Rattle.cedar_value.specs.Private.Equality.{uid_equivalence};
 
     ghost laws = { uid_equivalence };
 }
@@ -54,7 +65,7 @@ impl Eq for Uid {
 impl PartialOrd for Uid {
     ghost use Rattle.std.specs.Ordering.{as_partial_cmp};
     ghost use Rattle.cedar_value.specs.Order.{uid_cmp};
-    ghost use Rattle.cedar_value.specs.Laws.{uid_partial_order};
+    ghost use Rattle.cedar_value.specs.Private.Laws.{uid_partial_order};
 
     ghost partial_cmp = { as_partial_cmp uid_cmp };
 
@@ -68,8 +79,8 @@ impl PartialOrd for Uid {
 impl Ord for Uid {
     ghost use Rattle.std.specs.Prelude.{refl};
     ghost use Rattle.cedar_value.specs.Order.{uid_cmp};
-    ghost use Rattle.cedar_value.specs.Laws.{uid_total};
-    ghost use Rattle.cedar_value.specs.Laws.{uid_ties};
+    ghost use Rattle.cedar_value.specs.Private.Laws.{uid_total};
+    ghost use Rattle.cedar_value.specs.Private.Laws.{uid_ties};
 
     ghost cmp = { uid_cmp };
 

@@ -1,6 +1,8 @@
 //! Values, which contracts see as a `Datum`.
 ghost use Rattle.std.specs.Prelude.{◌≡◌, IsOk, IfOk, ◌↔◌, IsTrue};
-ghost use Rattle.cedar_value.specs.Datum.{boolean, long, text, uid, set, record_of, decimal, members_of, fields_of, IsPlain};
+ghost use Rattle.cedar_value.specs.Datum.{boolean, long, text, uid, set, record_of, decimal, members_of, fields_of};
+ghost use Rattle.cedar_value.specs.Memory.{IsPlain};
+ghost use Rattle.cedar_value.specs.Values.{IsValue};
 ghost use Rattle.cedar_value.specs.ValueKind.{datum_of};
 ghost use Rattle.cedar_value.specs.Glance.{datum_seen};
 ghost use Rattle.cedar_value.specs.Datum.{same};
@@ -36,8 +38,8 @@ pub enum ValueKind {
     Decimal(Decimal),
 }
 
-/// A value, which contracts see as a `Datum`. At every level of it the members of a set ascend in the
-/// order of values, and the keys of a record ascend by their bytes.
+/// A value, which contracts see as a `Datum`. At every depth of it numbers are of 64 bits, the members of
+/// a set ascend in the order of values, and the keys of a record ascend by their bytes.
 #[cycle(value)]
 #[derive(Drop)]
 pub struct Value {
@@ -46,20 +48,23 @@ pub struct Value {
 
 impl Model for Value {
     ghost use Rattle.cedar_value.specs.Datum.{Datum};
-    ghost use Rattle.cedar_value.specs.DatumCode.{datum_code};
+    ghost use Rattle.cedar_value.specs.Private.DatumCode.{datum_code};
 
     ghost Value = { Datum };
 
     ghost coded = { datum_code };
 
     ghost use Rattle.cedar_value.specs.ValueKind.{datum_of};
-    ghost use Rattle.cedar_value.specs.Weight.{weight};
+    ghost use Rattle.cedar_value.specs.Private.Weight.{weight};
+    ghost use Rattle.cedar_value.specs.Values.{IsValue};
 
     ghost view = { λ v. datum_of v.kind };
 
+    ghost invariant = { λ v. IsValue (datum_of v.kind) };
+
     ghost size = { weight };
 
-    ghost use Rattle.cedar_value.specs.KindFalls.{deep_le-weight};
+    ghost use Rattle.cedar_value.specs.Private.KindFalls.{deep_le-weight};
 
     ghost size_decreases = { λ v _. deep_le-weight v.kind };
 }
@@ -69,6 +74,8 @@ impl Value {
     pub fn new(kind: ValueKind) -> Self
         ensures { result ≡ datum_of kind }
     {
+        // A law: it runs nothing.
+        kind_is_a_value(&kind);
         Value { kind }
     }
 
@@ -165,14 +172,39 @@ impl Value {
             ValueKind::Record(pairs) => ValueKind::Record(pairs.try_clone(alloc)?),
             ValueKind::Decimal(decimal) => ValueKind::Decimal(*decimal),
         };
-        Ok(Value { kind })
+        Ok(Value::new(kind))
+    }
+
+    /// Numbers are of 64 bits, members ascend, and keys ascend, at every depth (Cedar language reference,
+    /// data types). It is a law of each value, and the function does nothing.
+    pub fn well_formedness(&self)
+        ensures { IsValue self.now }
+    {
+        let _kind = &self.kind;
+    }
+}
+
+// What a kind stands for is a value. It is a law, and runs nothing.
+fn kind_is_a_value(kind: &ValueKind)
+    ensures { IsValue (datum_of kind.now) }
+{
+    match kind {
+        ValueKind::Long(number) => {
+            let _number = *number;
+        }
+        ValueKind::Decimal(decimal) => {
+            let _units = decimal.units();
+        }
+        ValueKind::Set(members) => members.well_formedness(),
+        ValueKind::Record(pairs) => pairs.well_formedness(),
+        _ => {}
     }
 }
 
 impl PartialEq for Value {
     ghost use Rattle.std.specs.Cmp.{partial_equiv_from_equiv};
     ghost use Rattle.cedar_value.specs.Datum.{same};
-    ghost use Rattle.cedar_value.specs.Equality.{same_equivalence};
+    ghost use Rattle.cedar_value.specs.Private.Equality.{same_equivalence};
 
     ghost eq = { same };
 
@@ -187,7 +219,7 @@ impl PartialEq for Value {
 }
 
 impl Eq for Value {
-    ghost use Rattle.cedar_value.specs.Equality.{same_equivalence};
+    ghost use Rattle.cedar_value.specs.Private.Equality.{same_equivalence};
 
     ghost laws = { same_equivalence };
 }
@@ -195,7 +227,7 @@ impl Eq for Value {
 impl PartialOrd for Value {
     ghost use Rattle.std.specs.Ordering.{as_partial_cmp};
     ghost use Rattle.cedar_value.specs.Order.{datum_cmp};
-    ghost use Rattle.cedar_value.specs.Laws.{datum_partial_order};
+    ghost use Rattle.cedar_value.specs.Private.Laws.{datum_partial_order};
 
     ghost partial_cmp = { as_partial_cmp datum_cmp };
 
@@ -209,8 +241,8 @@ impl PartialOrd for Value {
 impl Ord for Value {
     ghost use Rattle.std.specs.Prelude.{refl};
     ghost use Rattle.cedar_value.specs.Order.{datum_cmp};
-    ghost use Rattle.cedar_value.specs.Same.{datum_cmp_total};
-    ghost use Rattle.cedar_value.specs.Laws.{datum_ties};
+    ghost use Rattle.cedar_value.specs.Private.Same.{datum_cmp_total};
+    ghost use Rattle.cedar_value.specs.Private.Laws.{datum_ties};
 
     ghost cmp = { datum_cmp };
 

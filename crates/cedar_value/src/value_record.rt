@@ -3,7 +3,8 @@ ghost use Rattle.std.specs.Prelude.{◌≡◌, ◌↔◌, [], IfOk, IfSome, IsSo
 ghost use Rattle.std.specs.Slice.Iter.{iter_rest};
 ghost use Rattle.cedar_value.specs.Order.{AreKeysAscending};
 ghost use Rattle.cedar_value.specs.Records.{value_at, AreKeysDistinct, SamePairs, record_from};
-ghost use Rattle.cedar_value.specs.Datum.{same_as_records};
+ghost use Rattle.cedar_value.specs.Datum.{fields_of, same_as_records};
+ghost use Rattle.cedar_value.specs.Values.{HoldValues};
 
 use crate::order::order_pairs;
 use crate::text::Text;
@@ -25,24 +26,26 @@ impl Model for Record {
     ghost use Rattle.std.specs.Prelude.{List, ℕ};
     ghost use Rattle.std.specs.Coded.{coded_list, coded×, coded_ℕ};
     ghost use Rattle.cedar_value.specs.Datum.{Datum};
-    ghost use Rattle.cedar_value.specs.DatumCode.{datum_code};
+    ghost use Rattle.cedar_value.specs.Private.DatumCode.{datum_code};
 
     ghost Value = { List (List ℕ × Datum) };
 
     ghost coded = { coded_list (coded× (coded_list coded_ℕ) datum_code) };
 
+    ghost use Rattle.cedar_value.specs.Datum.{fields_of};
     ghost use Rattle.cedar_value.specs.Order.{AreKeysAscending};
-    ghost use Rattle.cedar_value.specs.Weight.{weight, pairs_weight};
+    ghost use Rattle.cedar_value.specs.Private.Weight.{weight, pairs_weight};
+    ghost use Rattle.cedar_value.specs.Values.{HoldValues};
 
     ghost view = { λ r. r.pairs.items };
 
-    ghost invariant = { λ r. AreKeysAscending r.pairs.items };
+    ghost invariant = { λ r. AreKeysAscending r.pairs.items × HoldValues (fields_of r.pairs.items) };
 
     ghost size = { pairs_weight };
 
     ghost use Rattle.std.specs.Prelude.{◌+◌, max};
     ghost use Rattle.std.proofs.Common.{arith};
-    ghost use Rattle.cedar_value.specs.Falls.{most_fields};
+    ghost use Rattle.cedar_value.specs.Private.Falls.{most_fields};
 
     ghost size_decreases = { λ r _. omega (arith, most_fields (λ f. max 0 (max (weight f.1 + 1) 0)) (λ f. omega arith) r.pairs.items) };
 }
@@ -65,12 +68,24 @@ impl Record {
         ensures ascending { IfOk result (λ o. IfSome o AreKeysAscending) }
         ensures gives { IfOk result (λ o. IfSome o (λ r. r ≡ record_from pairs.items)) }
     {
+        // A law: it runs nothing.
+        hold_values(&pairs);
         pairs.sort()?;
         if keys_ascend(&pairs) {
             Ok(Some(Record { pairs }))
         } else {
             Ok(None)
         }
+    }
+
+    /// The record of pairs whose keys ascend already. Takes no memory, and no comparison.
+    pub fn from_ascending(pairs: Vec<(Text, Value)>) -> Self
+        requires { AreKeysAscending pairs.items }
+        ensures { result ≡ pairs.items }
+    {
+        // That each pair holds a value is a law: it runs nothing.
+        hold_values(&pairs);
+        Record { pairs }
     }
 
     /// The value at a key. Takes no memory, and comparisons by the logarithm of the record's size.
@@ -109,6 +124,15 @@ impl Record {
         &self.pairs
     }
 
+    /// Keys ascend, and values stand at them, at every depth (Cedar language reference, records). It is a
+    /// law of each record, and the function does nothing.
+    pub fn well_formedness(&self)
+        ensures ascending { AreKeysAscending self.now }
+        ensures values { HoldValues (fields_of self.now) }
+    {
+        let _pairs = &self.pairs;
+    }
+
     /// A copy, equal to the original.
     #[cycle(copy)]
     pub fn try_clone(&self, alloc: Global) -> Result<Self, AllocError>
@@ -117,6 +141,17 @@ impl Record {
         Ok(Record {
             pairs: clone_pairs(alloc, &self.pairs)?,
         })
+    }
+}
+
+// Each pair of a list holds a value. It is a law, and its loop does nothing.
+fn hold_values(pairs: &[(Text, Value)])
+    ensures { HoldValues (fields_of pairs.now) }
+{
+    let mut left = pairs;
+    'walk: while let Some((pair, others)) = left.split_first() {
+        pair.1.well_formedness();
+        left = others;
     }
 }
 
@@ -152,8 +187,9 @@ fn keys_ascend(pairs: &[(Text, Value)]) -> bool
 
 impl PartialEq for Record {
     ghost use Rattle.std.specs.Cmp.{partial_equiv_from_equiv};
-    ghost use Rattle.cedar_value.specs.Equality.{pairs_equivalence};
-    ghost use Rattle.cedar_value.specs.Datum.{same_as_records};
+    ghost use Rattle.cedar_value.specs.Private.Equality.{pairs_equivalence};
+    ghost use Rattle.cedar_value.specs.Datum.{fields_of, same_as_records};
+    ghost use Rattle.cedar_value.specs.Values.{HoldValues};
 
     ghost eq = { same_as_records };
 
@@ -168,7 +204,7 @@ impl PartialEq for Record {
 }
 
 impl Eq for Record {
-    ghost use Rattle.cedar_value.specs.Equality.{pairs_equivalence};
+    ghost use Rattle.cedar_value.specs.Private.Equality.{pairs_equivalence};
 
     ghost laws = { pairs_equivalence };
 }
@@ -176,7 +212,7 @@ impl Eq for Record {
 impl PartialOrd for Record {
     ghost use Rattle.std.specs.Ordering.{as_partial_cmp};
     ghost use Rattle.cedar_value.specs.Order.{pairs_cmp};
-    ghost use Rattle.cedar_value.specs.Laws.{pairs_partial_order};
+    ghost use Rattle.cedar_value.specs.Private.Laws.{pairs_partial_order};
 
     ghost partial_cmp = { as_partial_cmp pairs_cmp };
 
@@ -190,8 +226,8 @@ impl PartialOrd for Record {
 impl Ord for Record {
     ghost use Rattle.std.specs.Prelude.{refl};
     ghost use Rattle.cedar_value.specs.Order.{pairs_cmp};
-    ghost use Rattle.cedar_value.specs.Laws.{pairs_total};
-    ghost use Rattle.cedar_value.specs.Laws.{pairs_ties};
+    ghost use Rattle.cedar_value.specs.Private.Laws.{pairs_total};
+    ghost use Rattle.cedar_value.specs.Private.Laws.{pairs_ties};
 
     ghost cmp = { pairs_cmp };
 

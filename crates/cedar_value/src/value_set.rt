@@ -4,7 +4,8 @@ ghost use Rattle.std.specs.List.{list_all, list_any};
 ghost use Rattle.std.specs.Slice.Iter.{iter_rest};
 ghost use Rattle.cedar_value.specs.Order.{IsAscending};
 ghost use Rattle.cedar_value.specs.Sets.{has_member, SameMembers, set_from};
-ghost use Rattle.cedar_value.specs.Datum.{same_as_sets};
+ghost use Rattle.cedar_value.specs.Datum.{members_of, same_as_sets};
+ghost use Rattle.cedar_value.specs.Values.{AreValues};
 ghost use Rattle.cedar_value.specs.Glance.{datum_seen};
 
 use crate::glance::Glance;
@@ -26,23 +27,25 @@ impl Model for ValueSet {
     ghost use Rattle.std.specs.Prelude.{List};
     ghost use Rattle.std.specs.Coded.{coded_list};
     ghost use Rattle.cedar_value.specs.Datum.{Datum};
-    ghost use Rattle.cedar_value.specs.DatumCode.{datum_code};
+    ghost use Rattle.cedar_value.specs.Private.DatumCode.{datum_code};
 
     ghost Value = { List Datum };
 
     ghost coded = { coded_list datum_code };
 
+    ghost use Rattle.cedar_value.specs.Datum.{members_of};
     ghost use Rattle.cedar_value.specs.Order.{IsAscending};
-    ghost use Rattle.cedar_value.specs.Weight.{list_weight};
+    ghost use Rattle.cedar_value.specs.Private.Weight.{list_weight};
+    ghost use Rattle.cedar_value.specs.Values.{AreValues};
 
     ghost view = { λ s. s.members.items };
 
-    ghost invariant = { λ s. IsAscending s.members.items };
+    ghost invariant = { λ s. IsAscending s.members.items × AreValues (members_of s.members.items) };
 
     ghost size = { list_weight };
 
     ghost use Rattle.std.proofs.Common.{arith};
-    ghost use Rattle.cedar_value.specs.Falls.{most_members};
+    ghost use Rattle.cedar_value.specs.Private.Falls.{most_members};
 
     ghost size_decreases = { λ s _. omega (arith, most_members s.members.items) };
 }
@@ -64,6 +67,8 @@ impl ValueSet {
         ensures ascending { IfOk result IsAscending }
         ensures gives { IfOk result (λ s. s ≡ set_from list.items) }
     {
+        // A law: it runs nothing.
+        are_values(&list);
         list.sort()?;
         list.dedup();
         Ok(ValueSet { members: list })
@@ -126,6 +131,15 @@ impl ValueSet {
         &self.members
     }
 
+    /// Members ascend, and are values, at every depth (Cedar language reference, sets). It is a law of each
+    /// set, and the function does nothing.
+    pub fn well_formedness(&self)
+        ensures ascending { IsAscending self.now }
+        ensures values { AreValues (members_of self.now) }
+    {
+        let _members = &self.members;
+    }
+
     /// A copy, equal to the original.
     #[cycle(copy)]
     pub fn try_clone(&self, alloc: Global) -> Result<Self, AllocError>
@@ -134,6 +148,17 @@ impl ValueSet {
         Ok(ValueSet {
             members: clone_members(alloc, &self.members)?,
         })
+    }
+}
+
+// Each element of a list is a value. It is a law, and its loop does nothing.
+fn are_values(list: &[Value])
+    ensures { AreValues (members_of list.now) }
+{
+    let mut left = list;
+    'walk: while let Some((value, others)) = left.split_first() {
+        value.well_formedness();
+        left = others;
     }
 }
 
@@ -191,8 +216,9 @@ fn has_any(mut members: &[Value], mut wanted: &[Value]) -> bool
 
 impl PartialEq for ValueSet {
     ghost use Rattle.std.specs.Cmp.{partial_equiv_from_equiv};
-    ghost use Rattle.cedar_value.specs.Equality.{members_equivalence};
-    ghost use Rattle.cedar_value.specs.Datum.{same_as_sets};
+    ghost use Rattle.cedar_value.specs.Private.Equality.{members_equivalence};
+    ghost use Rattle.cedar_value.specs.Datum.{members_of, same_as_sets};
+    ghost use Rattle.cedar_value.specs.Values.{AreValues};
 
     ghost eq = { same_as_sets };
 
@@ -207,7 +233,7 @@ impl PartialEq for ValueSet {
 }
 
 impl Eq for ValueSet {
-    ghost use Rattle.cedar_value.specs.Equality.{members_equivalence};
+    ghost use Rattle.cedar_value.specs.Private.Equality.{members_equivalence};
 
     ghost laws = { members_equivalence };
 }
@@ -215,7 +241,7 @@ impl Eq for ValueSet {
 impl PartialOrd for ValueSet {
     ghost use Rattle.std.specs.Ordering.{as_partial_cmp};
     ghost use Rattle.cedar_value.specs.Order.{members_cmp};
-    ghost use Rattle.cedar_value.specs.Laws.{members_partial_order};
+    ghost use Rattle.cedar_value.specs.Private.Laws.{members_partial_order};
 
     ghost partial_cmp = { as_partial_cmp members_cmp };
 
@@ -229,8 +255,8 @@ impl PartialOrd for ValueSet {
 impl Ord for ValueSet {
     ghost use Rattle.std.specs.Prelude.{refl};
     ghost use Rattle.cedar_value.specs.Order.{members_cmp};
-    ghost use Rattle.cedar_value.specs.Laws.{members_total};
-    ghost use Rattle.cedar_value.specs.Laws.{members_ties};
+    ghost use Rattle.cedar_value.specs.Private.Laws.{members_total};
+    ghost use Rattle.cedar_value.specs.Private.Laws.{members_ties};
 
     ghost cmp = { members_cmp };
 

@@ -1,5 +1,5 @@
 use Rattle.std.proofs.Common.{◌≡◌, ◌+◌, ◌*◌, ◌≤◌, suc, refl, arith, ap, sym, ◌∙◌}
-use Rattle.cedar_ast.specs.Depth.{depth, list_depth, most_doubled}
+use Rattle.cedar_ast.specs.Private.Depth.{depth, list_depth, most_doubled}
 use Rattle.cedar_ast.specs.Expression.{Expression, set_with, expressions_of}
 use Rattle.cedar_ast.specs.declared.entries.Entries.TheDeep.{size-Expr}
 use Rattle.cedar_ast.specs.declared.expression.Expr.TheView.{size}

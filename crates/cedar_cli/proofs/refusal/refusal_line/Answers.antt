@@ -1,5 +1,5 @@
 use Rattle.std.proofs.Common.{◌∙◌, ℕ, List, [], ◌∷◌, ◌++◌, ap, refl}
-use Rattle.cedar_cli.specs.Lines.{line_feed}
+use Rattle.cedar_lines.specs.Lines.{line_feed}
 use Rattle.cedar_cli.specs.Refusal.{refusal_data}
 use Rattle.cedar_cli.proofs.Texts.{text_alone}
 use Rattle.cedar_cli.proofs.refusal.refusal_line.Goals as goal

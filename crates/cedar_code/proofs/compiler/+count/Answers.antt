@@ -1,7 +1,6 @@
-use Rattle.std.proofs.Common.{◌≡◌, ◌+◌, ◌*◌, ◌≤◌, suc, take, ap, ◌∙◌, sym, refl, arith}
-use Rattle.std.specs.Prelude.{max}
-use Rattle.cedar_ast.specs.Depth.{depth, list_depth, pairs_depth, most_doubled}
-use Rattle.cedar_ast.specs.Expression.{Expression, set_with, record_with, expressions_of, entries_of}
+use Rattle.std.proofs.Common.{◌≡◌, ◌+◌, suc, take, ap, ◌∙◌, sym, arith}
+use Rattle.cedar_ast.specs.Private.Depth.{depth, list_depth, pairs_depth, most_doubled}
+use Rattle.cedar_ast.specs.Expression.{set_with, record_with, expressions_of, entries_of}
 use Rattle.cedar_ast.specs.declared.entries.Entries.TheDeep.{size-Expr}
 use Rattle.cedar_code.specs.Code.{size, size_all, size_entries}
 use Rattle.cedar_code.proofs.Falls.{size_low, most_pairs, pair_size}

@@ -1,8 +1,7 @@
 use Rattle.std.proofs.Common.{◌≡◌, ◌∙◌, ◌++◌, suc, length, take, ap, sym, arith}
 use Rattle.std.proofs.lemmas.Result.{on_ok_weaker}
 use Rattle.std.proofs.lemmas.List.{take_all}
-use Rattle.std.specs.Prelude.{max}
-use Rattle.cedar_ast.specs.Depth.{depth, list_depth, pairs_depth, most_doubled}
+use Rattle.cedar_ast.specs.Private.Depth.{depth, list_depth, pairs_depth, most_doubled}
 use Rattle.cedar_ast.specs.Expression.{set_with, record_with, expressions_of, entries_of}
 use Rattle.cedar_ast.specs.declared.entries.Entries.TheDeep.{size-Expr}
 use Rattle.cedar_code.specs.declared.instruction.Instruction.TheVariants.{And, Or}

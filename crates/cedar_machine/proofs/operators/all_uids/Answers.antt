@@ -1,4 +1,4 @@
-use Rattle.std.proofs.Common.{◌≡◌, true, false, ap, sym, ◌∙◌}
+use Rattle.std.proofs.Common.{◌≡◌, true, ap, sym, ◌∙◌}
 use Rattle.cedar_ast.specs.Operators.{is_uid}
 use Rattle.cedar_machine.proofs.operators.all_uids.Goals as goal
 

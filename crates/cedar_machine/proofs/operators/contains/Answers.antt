@@ -1,7 +1,7 @@
 use Rattle.std.proofs.Common.{List, Ok, sym, ap}
 use Rattle.cedar_value.specs.Datum.{Datum, boolean}
 use Rattle.cedar_value.specs.Glance.{datum_seen}
-use Rattle.cedar_value.specs.Lists.{list_of-members_of}
+use Rattle.cedar_value.specs.Private.Lists.{list_of-members_of}
 use Rattle.cedar_value.specs.Sets.{has_member}
 use Rattle.cedar_machine.proofs.operators.contains.Goals as goal
 

@@ -1,7 +1,7 @@
 use Rattle.std.proofs.Common.{List, Ok, sym, ap₂}
 use Rattle.std.specs.List.{list_any}
 use Rattle.cedar_value.specs.Datum.{Datum, boolean}
-use Rattle.cedar_value.specs.Lists.{list_of-members_of}
+use Rattle.cedar_value.specs.Private.Lists.{list_of-members_of}
 use Rattle.cedar_value.specs.Sets.{has_member}
 use Rattle.cedar_machine.proofs.operators.contains_any.Goals as goal
 

@@ -1,7 +1,7 @@
 use Rattle.std.proofs.Common.{◌≡◌, ℕ, List, Option, Some, None, Ok, Bor, refl, sym, ap, ◌∙◌}
 use Rattle.std.specs.Prelude.{is_some, option_copied}
 use Rattle.cedar_value.specs.Datum.{Datum, boolean}
-use Rattle.cedar_value.specs.Lists.{pairs_of-fields_of}
+use Rattle.cedar_value.specs.Private.Lists.{pairs_of-fields_of}
 use Rattle.cedar_value.specs.Records.{value_at}
 use Rattle.cedar_machine.proofs.operators.has.Goals as goal
 

@@ -1,6 +1,6 @@
 use Rattle.std.proofs.Common.{◌≡◌, true, false, sym, ap, ◌∙◌}
 use Rattle.std.specs.List.{list_all}
-use Rattle.cedar_value.specs.Datum.{boolean, uid}
+use Rattle.cedar_value.specs.Datum.{uid}
 use Rattle.cedar_value.specs.Sets.{has_member}
 use Rattle.cedar_ast.specs.Operators.{is_uid}
 use Rattle.cedar_machine.proofs.Within.{in_set-refused, in_set-member, in_set-below}

@@ -1,6 +1,7 @@
 use Rattle.std.proofs.Common.{suc, ◌*◌, drop}
-use Rattle.cedar_parser.specs.WrittenKind.{links_of, fields_of}
-use Rattle.cedar_parser.specs.Written.{parts, link_parts, member_parts, field_parts, members_of}
+use Rattle.cedar_grammar.specs.WrittenKind.{links_of, fields_of}
+use Rattle.cedar_grammar.specs.Written.{parts, link_parts, member_parts, field_parts, members_of}
+use Rattle.cedar_parser.specs.declared.side_condition.SideCondition.TheVariants.{Strings}
 use Rattle.cedar_parser.specs.Limits.{KeepLinks, KeepMembers, KeepFields}
 use Rattle.cedar_parser.proofs.PartLemmas.{link_weight}
 use Rattle.cedar_parser.proofs.broken.+broken.Given as goal
@@ -27,11 +28,14 @@ decreases-field_broken l = suc (2 * parts l.field.now.value)
 abbrev pub invariant-links_broken-loop-link : goal.invariant-links_broken-loop-link
 invariant-links_broken-loop-link l =
     (KeepLinks l.condition (links_of (drop l.link-index l.links)) → KeepLinks l.condition (links_of l.links)) × (KeepLinks l.condition (links_of l.links) → KeepLinks l.condition (links_of (drop l.link-index l.links)))
+    × (KeepLinks Strings (links_of l.links) → KeepLinks Strings (links_of (drop l.link-index l.links)))
 
 abbrev pub invariant-members_broken-loop-member : goal.invariant-members_broken-loop-member
 invariant-members_broken-loop-member l =
     (KeepMembers l.condition (members_of (drop l.member-index l.members)) → KeepMembers l.condition (members_of l.members)) × (KeepMembers l.condition (members_of l.members) → KeepMembers l.condition (members_of (drop l.member-index l.members)))
+    × (KeepMembers Strings (members_of l.members) → KeepMembers Strings (members_of (drop l.member-index l.members)))
 
 abbrev pub invariant-fields_broken-loop-field : goal.invariant-fields_broken-loop-field
 invariant-fields_broken-loop-field l =
     (KeepFields l.condition (fields_of (drop l.field-index l.fields)) → KeepFields l.condition (fields_of l.fields)) × (KeepFields l.condition (fields_of l.fields) → KeepFields l.condition (fields_of (drop l.field-index l.fields)))
+    × (KeepFields Strings (fields_of l.fields) → KeepFields Strings (fields_of (drop l.field-index l.fields)))

@@ -1,4 +1,5 @@
 use Rattle.std.proofs.Common.{drop}
+use Rattle.cedar_parser.specs.declared.side_condition.SideCondition.TheVariants.{Strings}
 use Rattle.cedar_parser.specs.StatementLimits.{KeepConditions}
 use Rattle.cedar_parser.proofs.judge.conditions_broken.Given as goal
 
@@ -6,3 +7,4 @@ use Rattle.cedar_parser.proofs.judge.conditions_broken.Given as goal
 abbrev pub invariant-loop-asked : goal.invariant-loop-asked
 invariant-loop-asked l =
     (KeepConditions l.condition (drop l.asked-index l.conditions) → KeepConditions l.condition l.conditions) × (KeepConditions l.condition l.conditions → KeepConditions l.condition (drop l.asked-index l.conditions))
+    × (KeepConditions Strings l.conditions → KeepConditions Strings (drop l.asked-index l.conditions))

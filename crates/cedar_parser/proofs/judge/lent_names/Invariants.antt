@@ -1,5 +1,5 @@
 use Rattle.std.proofs.Common.{◌≡◌, take, map}
-use Rattle.cedar_parser.specs.declared.statement.WrittenAnnotation.{WrittenAnnotation}
+use Rattle.cedar_grammar.specs.declared.written_statement.WrittenAnnotation.{WrittenAnnotation}
 use Rattle.cedar_parser.proofs.judge.lent_names.Given as goal
 
 abbrev pub invariant-loop-annotation : goal.invariant-loop-annotation

@@ -12,7 +12,7 @@ returns-clause-distinct c =
 
 pub returns-clause-refused : goal.returns-clause-refused
 returns-clause-refused c =
-    not_entered c.args.set.now c.args.position c.args.statement.now c.in_ok-entry.entry c.add.result (ap id_of c.in_ok-entry.ensures ∙ id_of_statement c.args.position c.args.statement.now) c.add.ensures.refused
+    not_entered c.args.set.now c.args.position c.args.statement.now c.in_ok-entry.entry c.add.result c.in_ok-judge.ensures.kept (ap id_of c.in_ok-entry.ensures ∙ id_of_statement c.args.position c.args.statement.now) c.add.ensures.refused
 
 pub returns-in_err-judge-clause-refused : goal.returns-in_err-judge-clause-refused
 returns-in_err-judge-clause-refused c =

@@ -1,8 +1,8 @@
 use Rattle.std.proofs.Common.{arith}
 use Rattle.std.proofs.lemmas.Result.{err_from_is_err_and}
-use Rattle.cedar_parser.proofs.Moves.{shorter}
-use Rattle.cedar_parser.proofs.StatementMoves.{statement_moves}
-use Rattle.cedar_parser.proofs.StatementsSound.{statement_is}
+use Rattle.cedar_grammar.proofs.Moves.{shorter}
+use Rattle.cedar_grammar.proofs.StatementMoves.{statement_moves}
+use Rattle.cedar_grammar.proofs.StatementsSound.{statement_is}
 use Rattle.cedar_parser.proofs.TextLemmas.{read_none, read_more, read_all}
 use Rattle.cedar_parser.proofs.Refusals.{read_only, unread_only, unread_fault, unentered_only, unentered_fault}
 use Rattle.cedar_parser.proofs.parser.policies.Goals as goal
@@ -12,11 +12,11 @@ loop-position-init c = record { read = read_none c.args.tokens.now c.new-set.res
 
 pub loop-position-preserved : goal.loop-position-preserved
 loop-position-preserved c =
-    let is = statement_is 101 c.loop-position.tokens c.statement.new.tokens c.in_ok-statement.statement c.in_ok-statement.ensures in
+    let is = statement_is 101 c.loop-position.tokens c.statement.new.tokens c.in_ok-statement.statement c.in_ok-statement.ensures.reads in
     let less = shorter (statement_moves 101 _ _ _ is) in
     record {
       read = read_more c.args.tokens.now c.loop-position.tokens c.statement.new.tokens c.loop-position.position c.loop-position.set c.enter.new.set c.in_ok-statement.statement
-          c.loop-position.invariant.read (omega (arith, c.left.ensures, c.if-left-eq0.false)) c.in_ok-statement.ensures c.in_ok-enter.ensures.limits c.in_ok-enter.ensures.distinct c.in_ok-enter.ensures.entered;
+          c.loop-position.invariant.read (omega (arith, c.left.ensures, c.if-left-eq0.false)) c.in_ok-statement.ensures.reads c.in_ok-enter.ensures.limits c.in_ok-enter.ensures.distinct c.in_ok-enter.ensures.entered;
       left = omega (arith, less, c.loop-position.invariant.left);
     }
 
@@ -42,24 +42,24 @@ pub returns-in_err-statement-clause-only : goal.returns-in_err-statement-clause-
 returns-in_err-statement-clause-only c =
     let p = err_from_is_err_and c.from_residual.result c.from_residual.ensures.1 in
     rw (p.1, p.2)
-    (unread_only c.args.tokens.now c.loop-position.tokens c.loop-position.position c.loop-position.set c.loop-position.invariant.read (omega (arith, c.left.ensures, c.if-left-eq0.false)) c.in_err-statement.field-0.0 c.in_err-statement.ensures)
+    (unread_only c.args.tokens.now c.loop-position.tokens c.loop-position.position c.loop-position.set c.loop-position.invariant.read (omega (arith, c.left.ensures, c.if-left-eq0.false)) c.in_err-statement.field-0.0 c.in_err-statement.ensures.reads)
 
 pub returns-in_err-statement-clause-fault : goal.returns-in_err-statement-clause-fault
 returns-in_err-statement-clause-fault c =
     let p = err_from_is_err_and c.from_residual.result c.from_residual.ensures.1 in
     rw (p.1, p.2)
-    (unread_fault c.args.tokens.now c.loop-position.tokens c.loop-position.position c.loop-position.set c.loop-position.invariant.read (omega (arith, c.left.ensures, c.if-left-eq0.false)) c.in_err-statement.field-0.0 c.in_err-statement.ensures)
+    (unread_fault c.args.tokens.now c.loop-position.tokens c.loop-position.position c.loop-position.set c.loop-position.invariant.read (omega (arith, c.left.ensures, c.if-left-eq0.false)) c.in_err-statement.field-0.0 c.in_err-statement.ensures.reads)
 
 pub returns-in_err-enter-clause-only : goal.returns-in_err-enter-clause-only
 returns-in_err-enter-clause-only c =
     let p = err_from_is_err_and c.from_residual-in_err-enter.result c.from_residual-in_err-enter.ensures.1 in
     rw (p.1, p.2)
     (unentered_only c.args.tokens.now c.loop-position.tokens c.statement.new.tokens c.loop-position.position c.loop-position.set c.in_ok-statement.statement c.loop-position.invariant.read
-    (record { some = omega (arith, c.left.ensures, c.if-left-eq0.false); read = c.in_ok-statement.ensures }) c.in_err-enter.field-0.0 c.in_err-enter.ensures.refused)
+    (record { some = omega (arith, c.left.ensures, c.if-left-eq0.false); read = c.in_ok-statement.ensures.reads }) c.in_err-enter.field-0.0 c.in_err-enter.ensures.refused)
 
 pub returns-in_err-enter-clause-fault : goal.returns-in_err-enter-clause-fault
 returns-in_err-enter-clause-fault c =
     let p = err_from_is_err_and c.from_residual-in_err-enter.result c.from_residual-in_err-enter.ensures.1 in
     rw (p.1, p.2)
     (unentered_fault c.args.tokens.now c.loop-position.tokens c.statement.new.tokens c.loop-position.position c.loop-position.set c.in_ok-statement.statement c.loop-position.invariant.read
-    (record { some = omega (arith, c.left.ensures, c.if-left-eq0.false); read = c.in_ok-statement.ensures }) c.in_err-enter.field-0.0 c.in_err-enter.ensures.refused)
+    (record { some = omega (arith, c.left.ensures, c.if-left-eq0.false); read = c.in_ok-statement.ensures.reads }) c.in_err-enter.field-0.0 c.in_err-enter.ensures.refused)

@@ -6,7 +6,7 @@ use Rattle.std.proofs.lemmas.Slice.Zip.{all_zipped_more}
 use Rattle.cedar_value.specs.Order.{uid_cmp}
 use Rattle.cedar_value.specs.World.{EntityTree, World}
 use Rattle.cedar_value.specs.declared.uid.Uid.{Uid}
-use Rattle.cedar_store.specs.Kept.{AreAncestors}
+use Rattle.cedar_store.specs.Private.Kept.{AreAncestors}
 use Rattle.cedar_store.proofs.Rows.{IsRow, new_row, HasAncestors-rows, IsAcyclic-rows}
 use Rattle.cedar_store.proofs.ancestors.all_ancestors.Goals as goal
 

@@ -1,6 +1,6 @@
 use Rattle.std.proofs.Common.{◌≡◌, false, take}
 use Rattle.std.specs.List.{list_any}
-use Rattle.cedar_store.specs.Kept.{has_datum}
+use Rattle.cedar_store.specs.Private.Kept.{has_datum}
 use Rattle.cedar_store.proofs.store.has_any.Given as goal
 
 abbrev pub invariant-loop-value : goal.invariant-loop-value

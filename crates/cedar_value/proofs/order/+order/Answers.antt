@@ -1,6 +1,6 @@
 use Rattle.std.proofs.Common.{arith, sym, ◌∙◌}
 use Rattle.cedar_value.specs.Order.{datum_cmp, pair_cmp}
-use Rattle.cedar_value.specs.Compare.{datum_cmp-tree, datum_cmp-sets, datum_cmp-records}
+use Rattle.cedar_value.specs.Private.Compare.{datum_cmp-tree, datum_cmp-sets, datum_cmp-records}
 use Rattle.cedar_value.proofs.Lighter.{member_lighter, pair_lighter}
 use Rattle.cedar_value.proofs.OtherKinds.{other-Boolean, other-Long, other-String, other-Uid, other-Set, other-Record, other-Decimal}
 use Rattle.cedar_value.proofs.Walk.{rest_cmp-end}

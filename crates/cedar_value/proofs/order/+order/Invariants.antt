@@ -1,6 +1,6 @@
 use Rattle.std.proofs.Common.{◌≡◌, ◌+◌, ◌*◌, ◌≤◌, length}
 use Rattle.cedar_value.specs.Order.{datum_cmp, pair_cmp, members_cmp, pairs_cmp}
-use Rattle.cedar_value.specs.Weight.{weight, list_weight, pairs_weight}
+use Rattle.cedar_value.specs.Private.Weight.{weight, list_weight, pairs_weight}
 use Rattle.cedar_value.proofs.Walk.{rest_cmp}
 use Rattle.cedar_value.proofs.order.+order.Given as goal
 

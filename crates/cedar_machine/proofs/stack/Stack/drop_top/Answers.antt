@@ -1,4 +1,4 @@
-use Rattle.std.proofs.Common.{◌≡◌, ◌≤◌, ◌-◌, length, sym, ap, ◌∙◌, arith}
+use Rattle.std.proofs.Common.{◌≤◌, ◌-◌, length, sym, ap, ◌∙◌, arith}
 use Rattle.std.specs.Prelude.{take, reverse}
 use Rattle.std.proofs.lemmas.List.{length-reverse}
 use Rattle.cedar_machine.proofs.Tops.{rest_is}

@@ -1,5 +1,5 @@
-use Rattle.std.proofs.Common.{◌≡◌, ◌≤◌, ◌-◌, length, sym, ◌∙◌, arith}
-use Rattle.std.specs.Prelude.{take, drop, reverse}
+use Rattle.std.proofs.Common.{◌≤◌, ◌-◌, length, sym, ◌∙◌, arith}
+use Rattle.std.specs.Prelude.{drop}
 use Rattle.std.proofs.lemmas.List.{take_all, length-drop, length-reverse}
 use Rattle.cedar_machine.proofs.Tops.{top_is}
 use Rattle.cedar_machine.proofs.stack.Stack.top_entries.Goals as goal

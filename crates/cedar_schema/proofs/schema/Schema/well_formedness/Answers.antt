@@ -20,4 +20,6 @@ returns c = record {
   hierarchy = (above_declared c.args.self.now (kept c).members, acyclic c);
   shapes = (kept c).shapes;
   contexts = (kept c).contexts;
+  lists = (kept c).lists;
+  action_contexts = (kept c).action_contexts;
 }

@@ -1,4 +1,4 @@
-use Rattle.cedar_value.specs.Equality.{same-Decides}
+use Rattle.cedar_value.specs.Private.Equality.{same-Decides}
 use Rattle.cedar_value.proofs.glance.Glance.same.Goals as goal
 
 pub returns-in-Set-Set-clause-equal : goal.returns-in-Set-Set-clause-equal

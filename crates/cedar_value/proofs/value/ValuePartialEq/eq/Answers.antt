@@ -1,6 +1,6 @@
 use Rattle.std.proofs.Common.{sym}
-use Rattle.cedar_value.specs.Equality.{same-Decides}
-use Rattle.cedar_value.specs.Laws.{datum_ties}
+use Rattle.cedar_value.specs.Private.Equality.{same-Decides}
+use Rattle.cedar_value.specs.Private.Laws.{datum_ties}
 use Rattle.cedar_value.proofs.value.ValuePartialEq.eq.Goals as goal
 
 pub returns-clause-gives : goal.returns-clause-gives

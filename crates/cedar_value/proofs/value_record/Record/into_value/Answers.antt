@@ -11,9 +11,9 @@ returns-in-Ok c =
     let found = c.in-Ok.ensures.position (λ (p : List ℕ × Datum). text_cmp p.0 c.args.key.now) (always_returns_same _ _ _ (λ a r g called. search rules)) in
     let pair = c.swap_remove.result in
     let same : text_cmp pair.0 c.args.key.now ≡ Equal = rw c.swap_remove.ensures.value (rw c.deref.ensures.value at (found pair)) in
-    rw (← c.self.view_is) (sym (value_at-place _ c.args.key.now c.in-Ok.place pair c.self.invariant (rw c.deref.ensures.value at c.in-Ok.ensures.bound) c.swap_remove.ensures.value same))
+    rw (← c.self.view_is) (sym (value_at-place _ c.args.key.now c.in-Ok.place pair c.self.invariant.0 (rw c.deref.ensures.value at c.in-Ok.ensures.bound) c.swap_remove.ensures.value same))
 
 pub returns : goal.returns
 returns c =
     let gap = c.in-Err.ensures.position (λ (p : List ℕ × Datum). text_cmp p.0 c.args.key.now) (always_returns_same _ _ _ (λ a r g called. search rules)) in
-    rw (← c.self.view_is) (sym (value_at-gap _ c.args.key.now c.in-Err.field-0 c.self.invariant (rw c.deref.ensures.value at gap)))
+    rw (← c.self.view_is) (sym (value_at-gap _ c.args.key.now c.in-Err.field-0 c.self.invariant.0 (rw c.deref.ensures.value at gap)))

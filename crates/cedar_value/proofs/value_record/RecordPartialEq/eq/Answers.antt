@@ -1,6 +1,6 @@
 use Rattle.std.proofs.Common.{sym}
-use Rattle.cedar_value.specs.Equality.{same_as_records-Decides}
-use Rattle.cedar_value.specs.Laws.{pairs_ties}
+use Rattle.cedar_value.specs.Private.Equality.{same_as_records-Decides}
+use Rattle.cedar_value.specs.Private.Laws.{pairs_ties}
 use Rattle.cedar_value.proofs.value_record.RecordPartialEq.eq.Goals as goal
 
 pub returns-clause-gives : goal.returns-clause-gives

@@ -1,6 +1,6 @@
 use Rattle.std.proofs.Common.{sym}
-use Rattle.cedar_value.specs.Equality.{same_as_sets-Decides}
-use Rattle.cedar_value.specs.Laws.{members_ties}
+use Rattle.cedar_value.specs.Private.Equality.{same_as_sets-Decides}
+use Rattle.cedar_value.specs.Private.Laws.{members_ties}
 use Rattle.cedar_value.proofs.value_set.ValueSetPartialEq.eq.Goals as goal
 
 pub returns-clause-gives : goal.returns-clause-gives

@@ -1,0 +1,3 @@
+pub mod FaultView
+pub mod Numbers
+pub mod Private

@@ -1,0 +1,63 @@
+//! The row of `if`, by its branches.
+ghost use Rattle.std.specs.Prelude.{◌≡◌, IfOk, option_and_then, option_map};
+ghost use Rattle.cedar_check.specs.Private.View.{held_view, joined_branches, kept_branch, typed_view, typing_view};
+
+use crate::capability::{Capability, common, extended};
+use crate::joining::join_types;
+use crate::type_fault::TypeFault;
+use crate::typing::{Typed, Typing};
+use std::alloc::{AllocError, Global};
+
+/// The first branch, behind a condition that is known true: it gains what the condition gains too.
+pub(crate) fn if_known<'a>(
+    alloc: Global,
+    gained: &[Capability<'a>],
+    first: Typing<'a>,
+) -> Result<Typing<'a>, AllocError>
+    ensures { IfOk result (λ t. typing_view t ≡ option_map (kept_branch (held_view gained.now)) (typing_view first.entry)) }
+{
+    let x = match first {
+        Typing::Typed(x) => x,
+        Typing::Refused(fault) => return Ok(Typing::Refused(fault)),
+    };
+    let gained = extended(alloc, gained, &x.gained)?;
+    Ok(Typing::Typed(Typed { ty: x.ty, gained }))
+}
+
+// The two branches, which both have a type.
+fn joined<'a>(
+    alloc: Global,
+    gained: &[Capability<'a>],
+    first: &Typed<'a>,
+    second: &Typed<'a>,
+) -> Result<Typing<'a>, AllocError>
+    ensures { IfOk result (λ t. typing_view t ≡ joined_branches (held_view gained.now) (typed_view first.now) (typed_view second.now)) }
+{
+    let Some(ty) = join_types(alloc, &first.ty, &second.ty)? else {
+        return Ok(Typing::Refused(TypeFault::NoJoin));
+    };
+    let chosen = extended(alloc, gained, &first.gained)?;
+    let gained = common(alloc, &chosen, &second.gained)?;
+    Ok(Typing::Typed(Typed { ty, gained }))
+}
+
+/// The two branches, behind a condition of which nothing is known: they join, and gain what both ways
+/// gain.
+pub(crate) fn if_joined<'a>(
+    alloc: Global,
+    gained: &[Capability<'a>],
+    first: Typing<'a>,
+    second: Typing<'a>,
+) -> Result<Typing<'a>, AllocError>
+    ensures { IfOk result (λ t. typing_view t ≡ option_and_then (λ x. option_and_then (joined_branches (held_view gained.now) x) (typing_view second.entry)) (typing_view first.entry)) }
+{
+    let x = match first {
+        Typing::Typed(x) => x,
+        Typing::Refused(fault) => return Ok(Typing::Refused(fault)),
+    };
+    let y = match second {
+        Typing::Typed(y) => y,
+        Typing::Refused(fault) => return Ok(Typing::Refused(fault)),
+    };
+    joined(alloc, gained, &x, &y)
+}

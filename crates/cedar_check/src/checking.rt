@@ -1,0 +1,266 @@
+//! The typing of an expression, one function for each form.
+ghost use Rattle.std.specs.Prelude.{◌≡◌, IfOk};
+ghost use Rattle.cedar_ast.specs.Expression.{and, entries_of, expressions_of, if_else, or, record_with, set_with, unary, binary};
+ghost use Rattle.cedar_ast.specs.Keys.{AreDistinct, keys_of};
+ghost use Rattle.cedar_typing.specs.Checking.{type_of, types_onto};
+ghost use Rattle.cedar_check.specs.Private.View.{element_view, held_view, tree_of, typing_view};
+
+use crate::branches::{if_joined, if_known};
+use crate::capability::{Capability, extended};
+use crate::joining::join_types;
+use crate::lent_type::LentType;
+use crate::operators::{binary_type, unary_type};
+use crate::records::{add_attribute, set_type};
+use crate::rows::{and_right, boolean_alone, literal_type, or_right, unary_fault, variable_type};
+use crate::type_fault::TypeFault;
+use crate::typing::Typing;
+use cedar_ast::{BinaryOperator, Expr, ExprKind, UnaryOperator};
+use cedar_schema::{Environment, RecordType, Schema, Truth, Type, TypeKind};
+use cedar_value::Text;
+use std::alloc::{AllocError, Global};
+
+/// The type of an expression in an environment where these capabilities are held, and what it gains, or
+/// why it has no type (Cedar documentation, strict validation).
+#[cycle(check)]
+pub(crate) fn check<'a>(
+    alloc: Global,
+    schema: &'a Schema,
+    environment: &'a Environment,
+    held: &[Capability<'a>],
+    expression: &'a Expr,
+) -> Result<Typing<'a>, AllocError>
+    ensures { IfOk result (λ t. typing_view t ≡ type_of schema.now environment.now (held_view held.now) expression.now) }
+{
+    match expression.kind() {
+        ExprKind::Literal(value) => Ok(literal_type(alloc, schema, value)),
+        ExprKind::Variable(variable) => Ok(variable_type(alloc, environment, *variable)),
+        ExprKind::And(left, right) => check_and(alloc, schema, environment, held, left, right),
+        ExprKind::Or(left, right) => check_or(alloc, schema, environment, held, left, right),
+        ExprKind::If(condition, first, second) => {
+            check_if(alloc, schema, environment, held, condition, first, second)
+        }
+        ExprKind::Unary(operator, operand) => {
+            check_unary(alloc, schema, environment, held, operator, operand)
+        }
+        ExprKind::Binary(operator, left, right) => {
+            check_binary(alloc, schema, environment, held, *operator, left, right)
+        }
+        ExprKind::Set(members) => check_set(alloc, schema, environment, held, members),
+        ExprKind::Record(entries) => {
+            check_record(alloc, schema, environment, held, entries.pairs())
+        }
+    }
+}
+
+// `left && right`.
+#[cycle(check)]
+#[inline(never)]
+fn check_and<'a>(
+    alloc: Global,
+    schema: &'a Schema,
+    environment: &'a Environment,
+    held: &[Capability<'a>],
+    left: &'a Expr,
+    right: &'a Expr,
+) -> Result<Typing<'a>, AllocError>
+    ensures { IfOk result (λ t. typing_view t ≡ type_of schema.now environment.now (held_view held.now) (and left.now right.now)) }
+{
+    let x = match check(alloc, schema, environment, held, left)? {
+        Typing::Typed(x) => x,
+        Typing::Refused(fault) => return Ok(Typing::Refused(fault)),
+    };
+    let Some(truth) = x.ty.truth() else {
+        return Ok(Typing::Refused(TypeFault::OperandKind));
+    };
+    if truth == Truth::False {
+        return Ok(Typing::plain(alloc, LentType::Boolean(Truth::False)));
+    }
+    let more = extended(alloc, held, &x.gained)?;
+    let right = check(alloc, schema, environment, &more, right)?;
+    and_right(alloc, truth, &x.gained, right)
+}
+
+// `left || right`.
+#[cycle(check)]
+#[inline(never)]
+fn check_or<'a>(
+    alloc: Global,
+    schema: &'a Schema,
+    environment: &'a Environment,
+    held: &[Capability<'a>],
+    left: &'a Expr,
+    right: &'a Expr,
+) -> Result<Typing<'a>, AllocError>
+    ensures { IfOk result (λ t. typing_view t ≡ type_of schema.now environment.now (held_view held.now) (or left.now right.now)) }
+{
+    let x = match check(alloc, schema, environment, held, left)? {
+        Typing::Typed(x) => x,
+        Typing::Refused(fault) => return Ok(Typing::Refused(fault)),
+    };
+    match x.ty.truth() {
+        None => Ok(Typing::Refused(TypeFault::OperandKind)),
+        Some(Truth::True) => Ok(Typing::plain(alloc, LentType::Boolean(Truth::True))),
+        Some(Truth::False) => {
+            let right = check(alloc, schema, environment, held, right)?;
+            Ok(boolean_alone(right))
+        }
+        Some(Truth::Any) => {
+            let right = check(alloc, schema, environment, held, right)?;
+            or_right(alloc, x.gained, right)
+        }
+    }
+}
+
+// `if condition then first else second`.
+#[cycle(check)]
+#[inline(never)]
+fn check_if<'a>(
+    alloc: Global,
+    schema: &'a Schema,
+    environment: &'a Environment,
+    held: &[Capability<'a>],
+    condition: &'a Expr,
+    first: &'a Expr,
+    second: &'a Expr,
+) -> Result<Typing<'a>, AllocError>
+    ensures { IfOk result (λ t. typing_view t ≡ type_of schema.now environment.now (held_view held.now) (if_else condition.now first.now second.now)) }
+{
+    let x = match check(alloc, schema, environment, held, condition)? {
+        Typing::Typed(x) => x,
+        Typing::Refused(fault) => return Ok(Typing::Refused(fault)),
+    };
+    match x.ty.truth() {
+        None => Ok(Typing::Refused(TypeFault::OperandKind)),
+        Some(Truth::False) => check(alloc, schema, environment, held, second),
+        Some(Truth::True) => {
+            let more = extended(alloc, held, &x.gained)?;
+            let chosen = check(alloc, schema, environment, &more, first)?;
+            if_known(alloc, &x.gained, chosen)
+        }
+        Some(Truth::Any) => {
+            let more = extended(alloc, held, &x.gained)?;
+            let chosen = check(alloc, schema, environment, &more, first)?;
+            let other = check(alloc, schema, environment, held, second)?;
+            if_joined(alloc, &x.gained, chosen, other)
+        }
+    }
+}
+
+// An operator on its operand.
+#[cycle(check)]
+#[inline(never)]
+fn check_unary<'a>(
+    alloc: Global,
+    schema: &'a Schema,
+    environment: &'a Environment,
+    held: &[Capability<'a>],
+    operator: &'a UnaryOperator,
+    operand: &'a Expr,
+) -> Result<Typing<'a>, AllocError>
+    ensures { IfOk result (λ t. typing_view t ≡ type_of schema.now environment.now (held_view held.now) (unary operator.now operand.now)) }
+{
+    match check(alloc, schema, environment, held, operand)? {
+        Typing::Typed(typed) => unary_type(alloc, schema, held, operator, operand, &typed),
+        Typing::Refused(fault) => Ok(Typing::Refused(unary_fault(operator, fault))),
+    }
+}
+
+// An operator on its operands.
+#[cycle(check)]
+#[inline(never)]
+fn check_binary<'a>(
+    alloc: Global,
+    schema: &'a Schema,
+    environment: &'a Environment,
+    held: &[Capability<'a>],
+    operator: BinaryOperator,
+    left: &'a Expr,
+    right: &'a Expr,
+) -> Result<Typing<'a>, AllocError>
+    ensures { IfOk result (λ t. typing_view t ≡ type_of schema.now environment.now (held_view held.now) (binary operator left.now right.now)) }
+{
+    let x = match check(alloc, schema, environment, held, left)? {
+        Typing::Typed(x) => x,
+        Typing::Refused(fault) => return Ok(Typing::Refused(fault)),
+    };
+    let y = match check(alloc, schema, environment, held, right)? {
+        Typing::Typed(y) => y,
+        Typing::Refused(fault) => return Ok(Typing::Refused(fault)),
+    };
+    binary_type(alloc, schema, operator, left, right, &x.ty, &y.ty)
+}
+
+// What the first type joins to with those of the members.
+#[cycle(check)]
+#[inline(never)]
+fn check_members<'a>(
+    alloc: Global,
+    schema: &'a Schema,
+    environment: &'a Environment,
+    held: &[Capability<'a>],
+    first: LentType<'a>,
+    others: &'a [Expr],
+) -> Result<Typing<'a>, AllocError>
+    ensures { IfOk result (λ t. element_view t ≡ types_onto schema.now environment.now (held_view held.now) (tree_of first.entry) (expressions_of others.now)) }
+{
+    let mut joined = first;
+    for member in others {
+        let x = match check(alloc, schema, environment, held, member)? {
+            Typing::Typed(x) => x,
+            Typing::Refused(fault) => return Ok(Typing::Refused(fault)),
+        };
+        match join_types(alloc, &joined, &x.ty)? {
+            Some(ty) => joined = ty,
+            None => return Ok(Typing::Refused(TypeFault::NoJoin)),
+        }
+    }
+    Ok(Typing::plain(alloc, joined))
+}
+
+// A set of these members.
+#[cycle(check)]
+#[inline(never)]
+fn check_set<'a>(
+    alloc: Global,
+    schema: &'a Schema,
+    environment: &'a Environment,
+    held: &[Capability<'a>],
+    members: &'a [Expr],
+) -> Result<Typing<'a>, AllocError>
+    ensures { IfOk result (λ t. typing_view t ≡ type_of schema.now environment.now (held_view held.now) (set_with (expressions_of members.now))) }
+{
+    let Some((first, others)) = members.split_first() else {
+        return Ok(Typing::Refused(TypeFault::EmptySet));
+    };
+    let x = match check(alloc, schema, environment, held, first)? {
+        Typing::Typed(x) => x,
+        Typing::Refused(fault) => return Ok(Typing::Refused(fault)),
+    };
+    let member = check_members(alloc, schema, environment, held, x.ty, others)?;
+    set_type(alloc, member)
+}
+
+// A record of these entries.
+#[cycle(check)]
+#[inline(never)]
+fn check_record<'a>(
+    alloc: Global,
+    schema: &'a Schema,
+    environment: &'a Environment,
+    held: &[Capability<'a>],
+    pairs: &'a [(Text, Expr)],
+) -> Result<Typing<'a>, AllocError>
+    requires { AreDistinct (keys_of pairs.now) }
+    ensures { IfOk result (λ t. typing_view t ≡ type_of schema.now environment.now (held_view held.now) (record_with (entries_of pairs.now))) }
+{
+    let mut attributes = RecordType::new(alloc);
+    for pair in pairs {
+        let x = match check(alloc, schema, environment, held, &pair.1)? {
+            Typing::Typed(x) => x,
+            Typing::Refused(fault) => return Ok(Typing::Refused(fault)),
+        };
+        add_attribute(alloc, &mut attributes, &pair.0, &x.ty)?;
+    }
+    let ty = Type::new(TypeKind::Record(attributes));
+    Ok(Typing::plain(alloc, LentType::Made(ty)))
+}

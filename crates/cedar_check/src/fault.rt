@@ -1,0 +1,94 @@
+//! Faults of policies.
+ghost use Rattle.std.specs.Prelude.{◌≡◌, ◌++◌, ◌∷◌, [], IfOk, OnOk, cond, is_some, map};
+ghost use Rattle.cedar_ast.specs.Condition.{condition_of};
+ghost use Rattle.cedar_typing.specs.Checking.{form_in};
+ghost use Rattle.cedar_typing.specs.Reports.{fault_at, faults_of, is_impossible, is_known_false};
+ghost use Rattle.cedar_check.specs.FaultView.{fault_view};
+
+use crate::form::{Form, form_of};
+use crate::type_fault::TypeFault;
+use cedar_ast::{Expr, Policy};
+use cedar_schema::{Environment, Schema, Truth};
+use cedar_value::{Name, Text, Uid};
+use std::alloc::{AllocError, Global};
+
+/// A policy and an environment in which it is not accepted (Cedar documentation, policy validation).
+#[derive(Drop)]
+pub struct Fault {
+    /// The policy's id.
+    pub policy: Text,
+    /// The environment's action.
+    pub action: Uid,
+    /// The type of its principal.
+    pub principal: Name,
+    /// The type of its resource.
+    pub resource: Name,
+    /// Why the policy's condition has no type there.
+    pub reason: TypeFault,
+}
+
+// The fault of a policy in an environment.
+fn fault_at(
+    alloc: Global,
+    policy: &Policy,
+    environment: &Environment,
+    reason: TypeFault,
+) -> Result<Fault, AllocError>
+    ensures { IfOk result (λ fault. fault_view fault ≡ fault_at policy.now environment.now) }
+{
+    Ok(Fault {
+        policy: policy.id().try_clone(alloc)?,
+        action: environment.action.try_clone(alloc)?,
+        principal: environment.principal.try_clone(alloc)?,
+        resource: environment.resource.try_clone(alloc)?,
+        reason,
+    })
+}
+
+// Adds the policy's fault in an environment, if there is one; whether the condition is known false
+// there.
+fn check_in(
+    alloc: Global,
+    schema: &Schema,
+    environment: &Environment,
+    policy: &Policy,
+    condition: &Expr,
+    faults: &mut Vec<Fault>,
+) -> Result<bool, AllocError>
+    requires { condition.now ≡ condition_of policy.now }
+    ensures faults { OnOk result (map fault_view faults.new.items ≡ map fault_view faults.old.items ++ cond (is_some (form_in schema.now environment.now policy.now)) [] (fault_at policy.now environment.now ∷ [])) }
+    ensures known { IfOk result (λ known. known ≡ is_known_false (form_in schema.now environment.now policy.now)) }
+{
+    match form_of(alloc, schema, environment, condition)? {
+        Form::Known(Truth::False) => Ok(true),
+        Form::Known(Truth::True) => Ok(false),
+        Form::Known(Truth::Any) => Ok(false),
+        Form::Refused(reason) => {
+            let fault = fault_at(alloc, policy, environment, reason)?;
+            faults.push(fault)?;
+            Ok(false)
+        }
+    }
+}
+
+/// Adds the faults of a policy, one for each environment in which it is not accepted, in the order of the
+/// environments; whether no request can satisfy it. 1: memory was refused.
+pub(crate) fn check_policy(
+    alloc: Global,
+    schema: &Schema,
+    policy: &Policy,
+    faults: &mut Vec<Fault>,
+) -> Result<bool, AllocError>
+    ensures faults { OnOk result (map fault_view faults.new.items ≡ map fault_view faults.old.items ++ faults_of schema.now policy.now) }
+    ensures impossible { IfOk result (λ impossible. impossible ≡ is_impossible schema.now policy.now) }
+{
+    let condition = policy.condition(alloc)?;
+    let environments = schema.environments();
+    let mut impossible = true;
+    for environment in environments {
+        if !check_in(alloc, schema, environment, policy, &condition, faults)? {
+            impossible = false;
+        }
+    }
+    Ok(impossible)
+}

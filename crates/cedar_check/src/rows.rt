@@ -1,0 +1,183 @@
+//! The rows of strict typing that type no part of the expression.
+ghost use Rattle.std.specs.Prelude.{◌≡◌, IfOk, option_and_then, option_copied, option_map};
+ghost use Rattle.cedar_types.specs.Types.{boolean};
+ghost use Rattle.cedar_value.specs.Datum.{uid as uid_datum};
+ghost use Rattle.cedar_types.specs.Lookup.{attribute_at};
+ghost use Rattle.cedar_types.specs.TypeKind.{type_of as kind_type};
+ghost use Rattle.cedar_typing.specs.Checking.{and_right, as_type, decimal_type, decimals_type, gaining, literal_type, longs_type, on_boolean, or_right, sets_type, unary_type, variable_type};
+ghost use Rattle.cedar_typing.specs.Typing.{attributes_in, flipped};
+ghost use Rattle.cedar_check.specs.Private.View.{capability_view, held_view, tree_of, type_seen, typed_view, typing_view};
+
+use crate::capability::{Capability, common, extended, is_held};
+use crate::declared::is_action;
+use crate::lent_type::{LentType, TypeGlance};
+use crate::type_fault::TypeFault;
+use crate::typing::{Typed, Typing};
+use cedar_ast::{Expr, ExprKind, UnaryOperator, Variable};
+use cedar_schema::{Attribute, Environment, Schema, Truth, TypeKind};
+use cedar_value::{Text, Uid, Value, ValueKind};
+use std::alloc::{AllocError, Global};
+
+// The type of a uid that is written.
+fn uid_type<'a>(alloc: Global, schema: &Schema, uid: &'a Uid) -> Typing<'a>
+    ensures { typing_view result ≡ literal_type schema.now (uid_datum uid.now) }
+{
+    if schema.attributes(&uid.ty).is_some() || is_action(schema, uid) {
+        Typing::plain(alloc, LentType::Entity(&uid.ty))
+    } else {
+        Typing::Refused(TypeFault::Undeclared)
+    }
+}
+
+/// The row of literals. Takes no memory.
+pub(crate) fn literal_type<'a>(alloc: Global, schema: &Schema, value: &'a Value) -> Typing<'a>
+    ensures { typing_view result ≡ literal_type schema.now value.now }
+{
+    match value.kind() {
+        ValueKind::Boolean(true) => Typing::plain(alloc, LentType::Boolean(Truth::True)),
+        ValueKind::Boolean(false) => Typing::plain(alloc, LentType::Boolean(Truth::False)),
+        ValueKind::Long(_) => Typing::plain(alloc, LentType::Long),
+        ValueKind::String(_) => Typing::plain(alloc, LentType::String),
+        ValueKind::Uid(uid) => uid_type(alloc, schema, uid),
+        ValueKind::Set(_) | ValueKind::Record(_) | ValueKind::Decimal(_) => {
+            Typing::Refused(TypeFault::OperandKind)
+        }
+    }
+}
+
+/// The row of variables; `action` has none, since the environment's action stands in its place. Takes no
+/// memory.
+pub(crate) fn variable_type<'a>(
+    alloc: Global,
+    environment: &'a Environment,
+    variable: Variable,
+) -> Typing<'a>
+    ensures { typing_view result ≡ variable_type environment.now variable }
+{
+    match variable {
+        Variable::Principal => Typing::plain(alloc, LentType::Entity(&environment.principal)),
+        Variable::Action => Typing::Refused(TypeFault::OperandKind),
+        Variable::Resource => Typing::plain(alloc, LentType::Entity(&environment.resource)),
+        Variable::Context => Typing::plain(alloc, LentType::Lent(&environment.context)),
+    }
+}
+
+// True and false exchanged.
+pub(crate) fn flipped(truth: Truth) -> Truth
+    ensures { result ≡ flipped truth }
+{
+    match truth {
+        Truth::True => Truth::False,
+        Truth::False => Truth::True,
+        Truth::Any => Truth::Any,
+    }
+}
+
+/// The row of `&&`, by the right side, where the left is not known false.
+pub(crate) fn and_right<'a>(
+    alloc: Global,
+    truth: Truth,
+    gained: &[Capability<'a>],
+    right: Typing<'a>,
+) -> Result<Typing<'a>, AllocError>
+    ensures { IfOk result (λ t. typing_view t ≡ on_boolean (typing_view right.entry) (and_right truth (held_view gained.now))) }
+{
+    let y = match right {
+        Typing::Typed(y) => y,
+        Typing::Refused(fault) => return Ok(Typing::Refused(fault)),
+    };
+    match y.ty.truth() {
+        None => Ok(Typing::Refused(TypeFault::OperandKind)),
+        Some(Truth::False) => Ok(Typing::plain(alloc, LentType::Boolean(Truth::False))),
+        Some(Truth::True) => Ok(Typing::Typed(Typed {
+            ty: LentType::Boolean(truth),
+            gained: extended(alloc, gained, &y.gained)?,
+        })),
+        Some(Truth::Any) => Ok(Typing::Typed(Typed {
+            ty: LentType::Boolean(Truth::Any),
+            gained: extended(alloc, gained, &y.gained)?,
+        })),
+    }
+}
+
+/// The row of `||`, by the right side, where nothing is known of the left.
+pub(crate) fn or_right<'a>(
+    alloc: Global,
+    gained: Vec<Capability<'a>>,
+    right: Typing<'a>,
+) -> Result<Typing<'a>, AllocError>
+    ensures { IfOk result (λ t. typing_view t ≡ on_boolean (typing_view right.entry) (or_right (held_view gained.entry.items))) }
+{
+    let y = match right {
+        Typing::Typed(y) => y,
+        Typing::Refused(fault) => return Ok(Typing::Refused(fault)),
+    };
+    match y.ty.truth() {
+        None => Ok(Typing::Refused(TypeFault::OperandKind)),
+        Some(Truth::True) => Ok(Typing::plain(alloc, LentType::Boolean(Truth::True))),
+        Some(Truth::False) => Ok(Typing::Typed(Typed {
+            ty: LentType::Boolean(Truth::Any),
+            gained,
+        })),
+        Some(Truth::Any) => Ok(Typing::Typed(Typed {
+            ty: LentType::Boolean(Truth::Any),
+            gained: common(alloc, &gained, &y.gained)?,
+        })),
+    }
+}
+
+/// The type of an operator on two whole numbers.
+pub(crate) fn longs_type<'a>(
+    alloc: Global,
+    ty: LentType<'a>,
+    left: &LentType<'a>,
+    right: &LentType<'a>,
+) -> Typing<'a>
+    ensures { typing_view result ≡ option_and_then as_type (longs_type (tree_of ty.entry) (tree_of left.now) (tree_of right.now)) }
+{
+    if left.is_long() && right.is_long() {
+        Typing::plain(alloc, ty)
+    } else {
+        Typing::Refused(TypeFault::OperandKind)
+    }
+}
+
+/// The type of a comparison of two decimals.
+pub(crate) fn decimals_type<'a>(
+    alloc: Global,
+    left: &LentType<'a>,
+    right: &LentType<'a>,
+) -> Typing<'a>
+    ensures { typing_view result ≡ option_and_then as_type (decimals_type (tree_of left.now) (tree_of right.now)) }
+{
+    if left.is_decimal() && right.is_decimal() {
+        Typing::plain(alloc, LentType::Boolean(Truth::Any))
+    } else {
+        Typing::Refused(TypeFault::OperandKind)
+    }
+}
+
+/// A Boolean with what it gains; what has another type is refused.
+pub(crate) fn boolean_alone<'a>(typing: Typing<'a>) -> Typing<'a>
+    ensures { typing_view result ≡ on_boolean (typing_view typing.entry) (λ f g. gaining (boolean f) g) }
+{
+    let x = match typing {
+        Typing::Typed(x) => x,
+        Typing::Refused(fault) => return Typing::Refused(fault),
+    };
+    match x.ty.truth() {
+        None => Typing::Refused(TypeFault::OperandKind),
+        Some(truth) => Typing::Typed(Typed {
+            ty: LentType::Boolean(truth),
+            gained: x.gained,
+        }),
+    }
+}
+
+/// Why an operator on a refused operand has no type: `decimal` of what is no literal is refused for that.
+pub(crate) fn unary_fault(operator: &UnaryOperator, fault: TypeFault) -> TypeFault {
+    match operator {
+        UnaryOperator::Decimal => TypeFault::NoDecimal,
+        _ => fault,
+    }
+}

@@ -1,0 +1,2 @@
+-- What contracts within the crate cite.
+pub mod Lent

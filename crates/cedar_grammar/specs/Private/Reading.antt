@@ -1,0 +1,186 @@
+-- Reading from left to right, with two tokens of sight, cut like the code. The grammar is what a reader must believe.
+use Rattle.std.specs.Prelude.{ℕ, zero, suc, true, false, Bool, ◌||◌, ◌==◌, if◌then◌else◌, List, [], ◌∷◌, ◌++◌, length, Option, Some, None, Ok, Err}
+use Rattle.cedar_text.specs.declared.token_kind.TokenKind.{TokenKind}
+use Rattle.cedar_text.specs.declared.token_kind.TokenKind.TheVariants as k
+use Rattle.cedar_ast.specs.declared.variable.Variable.{Variable}
+use Rattle.cedar_grammar.specs.declared.sign.ChainSign.{ChainSign}
+use Rattle.cedar_grammar.specs.declared.written.Field.{Field}
+use Rattle.cedar_grammar.specs.declared.written.Link.{Link}
+use Rattle.cedar_grammar.specs.declared.written.Link.TheVariants.{Operand, Attribute, Method}
+use Rattle.cedar_tokens.specs.Marks.{Mark, Marks, pattern_of}
+pub use Rattle.cedar_tokens.specs.Private.Reading.{Refusal, Syntax, TooDeep, Outcome, and_then, Parser, same_kind, sign_at, on_some, goes_on}
+unfoldable pub use Rattle.cedar_tokens.specs.Private.Reading.{sees, next, first, expect, kind_at, text, key, path_from, path, uid_of, entity}
+use Rattle.cedar_grammar.specs.Written as w
+use Rattle.cedar_grammar.specs.Written.{Written, members_of}
+use Rattle.cedar_grammar.specs.WrittenKind.{fields_of}
+use Rattle.cedar_grammar.specs.Grammar.{variable_of, slot_of, chained, or_sign, and_sign, sum_sign, product_sign, relation_sign_of}
+
+-- goes past a token that opens, where d more may
+unfoldable pub open_one : ℕ → Parser (Unit {0})
+open_one d ts = if d == 0 then Err TooDeep else Ok (tt, next ts)
+
+-- ---- lists
+
+module _ {A : Type 0} (item : Parser A) where
+  unfoldable pub series_from : ℕ → List A → Parser (List A)
+  series_from zero found ts = Ok (found, ts)
+  series_from (suc n) found ts = if sees k.Comma ts then and_then (item (next ts)) (λ a us. series_from n (found ++ a ∷ []) us) else Ok (found, ts)
+
+  abbrev pub series : Parser (List A)
+  series ts = and_then (item ts) (λ a us. series_from (length us) (a ∷ []) us)
+
+  -- and the sign that closes them
+  unfoldable pub arguments : TokenKind → Parser (List A)
+  arguments closer ts = if sees closer ts then Ok ([], next ts) else and_then (series ts) (λ found us. and_then (expect closer us) (λ r vs. Ok (found, vs)))
+
+-- ---- expressions
+
+module _ (signs : TokenKind → Option ChainSign) (item : Parser Written) where
+  unfoldable pub chain_from : ℕ → Written → List Link → Parser Written
+  chain_from zero a ls ts = Ok (chained a ls, ts)
+  chain_from (suc n) a ls ts =
+      on_some (sign_at signs ts) (Ok (chained a ls, ts)) (λ sign. and_then (item (next ts)) (λ b us. chain_from n a (ls ++ Operand sign b ∷ []) us))
+
+  abbrev pub chain : Parser Written
+  chain ts = and_then (item ts) (λ a us. chain_from (length us) a [] us)
+
+abbrev pub variable_read : Option Variable → Parser Written
+variable_read None ts = Err Syntax
+variable_read (Some x) ts = Ok (w.variable x, ts)
+
+unfoldable pub variable : Parser Written
+variable ts = and_then (expect k.Identifier ts) (λ t us. variable_read (variable_of t.text) us)
+
+abbrev pub slot_read : Option Variable → Parser Written
+slot_read None ts = Err Syntax
+slot_read (Some x) ts = Ok (w.slot x, ts)
+
+unfoldable pub slot : Parser Written
+slot ts = and_then (expect k.Slot ts) (λ t us. slot_read (slot_of t.text) us)
+
+-- a path, and not a lone word
+abbrev pub begins_path : Marks → Bool
+begins_path ts = sees k.DoubleColon (next ts) || sees k.LeftParen (next ts)
+
+unfoldable pub entry : Parser Written → Parser Field
+entry inner ts = and_then (key ts) (λ c us. and_then (expect k.Colon us) (λ t vs. and_then (inner vs) (λ a ws. Ok (record { key = c; value = a }, ws))))
+
+abbrev pub has_suffix : Marks → Bool
+has_suffix ts = sees k.Dot ts || sees k.LeftBracket ts
+
+-- a text in brackets
+unfoldable pub indexed : ℕ → Parser Link
+indexed d ts = and_then (open_one d ts) (λ o us. and_then (text us) (λ c vs. and_then (expect k.RightBracket vs) (λ r ws. Ok (Attribute c, ws))))
+
+-- d more brackets may open, and inner reads what stands inside them
+module _ (d : ℕ) (inner : Parser Written) where
+  unfoldable pub group : Parser Written
+  group ts = and_then (open_one d ts) (λ o us. and_then (inner us) (λ a vs. and_then (expect k.RightParen vs) (λ r ws. Ok (w.group a, ws))))
+
+  unfoldable pub set : Parser Written
+  set ts = and_then (open_one d ts) (λ o us. and_then (arguments inner k.RightBracket us) (λ found vs. Ok (w.set (members_of found), vs)))
+
+  unfoldable pub record_of : Parser Written
+  record_of ts = and_then (open_one d ts) (λ o us. and_then (arguments (entry inner) k.RightBrace us) (λ found vs. Ok (w.record_of (fields_of found), vs)))
+
+  -- the arguments behind a function's or a method's name
+  unfoldable pub called : Parser (List Written)
+  called ts = and_then (open_one d ts) (λ o us. arguments inner k.RightParen us)
+
+  -- a call, or a uid
+  unfoldable pub with_path : Parser Written
+  with_path ts =
+      and_then (path ts) (λ p us. if sees k.LeftParen us then and_then (called us) (λ found vs. Ok (w.call p (members_of found), vs))
+      else and_then (uid_of p us) (λ u vs. Ok (w.entity u, vs)))
+
+  unfoldable pub named : Parser Written
+  named ts = if begins_path ts then with_path ts else variable ts
+
+  abbrev pub primary_by : TokenKind → Mark → Parser Written
+  primary_by k.True t ts = Ok (w.truth true, next ts)
+  primary_by k.False t ts = Ok (w.truth false, next ts)
+  primary_by k.Number t ts = Ok (w.number t.number, next ts)
+  primary_by k.String t ts = and_then (text ts) (λ c us. Ok (w.text c, us))
+  primary_by k.Identifier t ts = named ts
+  primary_by k.Slot t ts = slot ts
+  primary_by k.LeftParen t ts = group ts
+  primary_by k.LeftBracket t ts = set ts
+  primary_by k.LeftBrace t ts = record_of ts
+  primary_by _ t ts = Err Syntax
+
+  abbrev pub primary_of : Option Mark → Parser Written
+  primary_of None ts = Err Syntax
+  primary_of (Some t) ts = primary_by t.kind t ts
+
+  unfoldable pub primary : Parser Written
+  primary ts = primary_of (first ts) ts
+
+  -- what stands behind a dot
+  unfoldable pub dotted : Parser Link
+  dotted ts =
+      and_then (expect k.Identifier ts) (λ t us. if sees k.LeftParen us then and_then (called us) (λ found vs. Ok (Method t.text found, vs))
+      else Ok (Attribute (Some t.text), us))
+
+  unfoldable pub suffix : Parser Link
+  suffix ts = if sees k.Dot ts then dotted (next ts) else indexed d ts
+
+  unfoldable pub member_from : ℕ → Written → List Link → Parser Written
+  member_from zero a ls ts = Ok (chained a ls, ts)
+  member_from (suc n) a ls ts = if has_suffix ts then and_then (suffix ts) (λ l us. member_from n a (ls ++ l ∷ []) us) else Ok (chained a ls, ts)
+
+  unfoldable pub member : Parser Written
+  member ts = and_then (primary ts) (λ a us. member_from (length us) a [] us)
+
+  unfoldable pub nots : ℕ → Parser Written
+  nots zero ts = member ts
+  nots (suc n) ts = if sees k.Not ts then and_then (nots n (next ts)) (λ a us. Ok (w.not a, us)) else member ts
+
+  unfoldable pub minuses : ℕ → Parser Written
+  minuses zero ts = member ts
+  minuses (suc n) ts = if sees k.Minus ts then and_then (minuses n (next ts)) (λ a us. Ok (w.minus a, us)) else member ts
+
+  unfoldable pub unary : Parser Written
+  unary ts = if sees k.Minus ts then minuses 4 ts else nots 4 ts
+
+  unfoldable pub products : Parser Written
+  products = chain product_sign unary
+
+  unfoldable pub sums : Parser Written
+  sums = chain sum_sign products
+
+  unfoldable pub typed : Written → Parser Written
+  typed left ts =
+      and_then (path ts) (λ ty us. if sees k.In us then and_then (sums (next us)) (λ right vs. Ok (w.is_in left ty right, vs)) else Ok (w.is left ty, us))
+
+  unfoldable pub related : Written → Parser Written
+  related left ts =
+      on_some (sign_at relation_sign_of ts) (Ok (left, ts)) (λ sign. and_then (sums (next ts)) (λ right us. Ok (w.relation sign left right, us)))
+
+  unfoldable pub relation_from : Written → Parser Written
+  relation_from left ts =
+      if sees k.Has ts then and_then (key (next ts)) (λ c us. Ok (w.has left c, us))
+      else (if sees k.Like ts then and_then (expect k.String (next ts)) (λ t us. Ok (w.like left (pattern_of t.letters), us))
+      else (if sees k.Is ts then typed left (next ts) else related left ts))
+
+  unfoldable pub relation : Parser Written
+  relation ts = and_then (sums ts) (λ left us. relation_from left us)
+
+  unfoldable pub ands : Parser Written
+  ands = chain and_sign relation
+
+  unfoldable pub ors : Parser Written
+  ors = chain or_sign ands
+
+  unfoldable pub branches : Written → Parser Written
+  branches c ts = and_then (inner ts) (λ a xs. and_then (expect k.Else xs) (λ e ys. and_then (inner ys) (λ b zs. Ok (w.choice c a b, zs))))
+
+  unfoldable pub choice : Parser Written
+  choice ts = and_then (open_one d ts) (λ o us. and_then (inner us) (λ c vs. and_then (expect k.Then vs) (λ t ws. branches c ws)))
+
+  unfoldable pub expression : Parser Written
+  expression ts = if sees k.If ts then choice ts else ors ts
+
+-- with less than so many brackets and `if`s open
+unfoldable pub nested : ℕ → Parser Written
+nested zero ts = Err TooDeep
+nested (suc d) ts = expression d (nested d) ts

@@ -1,0 +1,122 @@
+-- Reading statements from left to right, cut like the code. The grammar is what a reader must believe.
+use Rattle.std.specs.Prelude.{ℕ, zero, suc, List, [], ◌∷◌, ◌++◌, length, Option, Some, None, Ok, Err, option_and_then, codes, if◌then◌else◌}
+use Rattle.std.specs.Str.{bytes_eq}
+use Rattle.cedar_ast.specs.declared.variable.Variable.{Variable}
+use Rattle.cedar_ast.specs.declared.effect.Effect.{Effect}
+use Rattle.cedar_ast.specs.declared.condition.ConditionKind.{ConditionKind}
+use Rattle.cedar_text.specs.declared.token_kind.TokenKind.TheVariants as k
+use Rattle.cedar_tokens.specs.Marks.{Mark, Marks}
+use Rattle.cedar_grammar.specs.Written.{Written}
+use Rattle.cedar_grammar.specs.Grammar.{slot_of}
+use Rattle.cedar_grammar.specs.declared.written_statement.Reference.{Reference}
+use Rattle.cedar_grammar.specs.declared.written_statement.Reference.TheVariants as reference
+use Rattle.cedar_grammar.specs.declared.written_statement.WrittenAnnotation.{WrittenAnnotation}
+use Rattle.cedar_grammar.specs.declared.written_statement.WrittenCondition.{WrittenCondition}
+use Rattle.cedar_grammar.specs.declared.written_statement.WrittenEntityScope.{WrittenEntityScope}
+use Rattle.cedar_grammar.specs.declared.written_statement.WrittenEntityScope.TheVariants as entity_scope
+use Rattle.cedar_grammar.specs.declared.written_statement.WrittenActionScope.{WrittenActionScope}
+use Rattle.cedar_grammar.specs.declared.written_statement.WrittenActionScope.TheVariants as action_scope
+use Rattle.cedar_grammar.specs.declared.written_statement.WrittenScope.{WrittenScope}
+use Rattle.cedar_grammar.specs.StatementTree.{StatementTree}
+use Rattle.cedar_grammar.specs.Statements.{effect_of, condition_kind_of}
+use Rattle.cedar_tokens.specs.Marks.{start_of}
+unfoldable pub use Rattle.cedar_tokens.specs.Private.Reading.{any_word}
+use Rattle.cedar_tokens.specs.Private.Reading.{Syntax, Parser, and_then, on_some, sees, next, first, expect, same_kind, text, path, entity}
+use Rattle.cedar_grammar.specs.Private.Reading.{arguments, nested}
+
+-- ---- annotations
+
+unfoldable pub annotation : Parser WrittenAnnotation
+annotation ts =
+    and_then (expect k.At ts) (λ p us. and_then (any_word us) (λ t vs. and_then (expect k.LeftParen vs) (λ l ws. and_then (text ws) (λ c xs. and_then (expect k.RightParen xs) (λ r ys.
+    Ok (record { start = p.start; name = t.text; value = c }, ys))))))
+
+unfoldable pub annotations_from : ℕ → List WrittenAnnotation → Parser (List WrittenAnnotation)
+annotations_from zero xs ts = Ok (xs, ts)
+annotations_from (suc n) xs ts = if sees k.At ts then and_then (annotation ts) (λ a us. annotations_from n (xs ++ a ∷ []) us) else Ok (xs, ts)
+
+unfoldable pub annotations : Parser (List WrittenAnnotation)
+annotations ts = annotations_from (length ts) [] ts
+
+-- ---- scopes
+
+unfoldable pub word : List ℕ → Parser (Unit {0})
+word name ts = and_then (expect k.Identifier ts) (λ t us. if bytes_eq t.text name then Ok (tt, us) else Err Syntax)
+
+abbrev pub slot_read : Mark → Option Variable → Parser Reference
+slot_read t None ts = Err Syntax
+slot_read t (Some x) ts = Ok (reference.Slot t.start x, ts)
+
+unfoldable pub slot : Parser Reference
+slot ts = and_then (expect k.Slot ts) (λ t us. slot_read t (slot_of t.text) us)
+
+unfoldable pub referred : Parser Reference
+referred ts = if sees k.Slot ts then slot ts else and_then (entity ts) (λ u us. Ok (reference.Entity u, us))
+
+unfoldable pub typed : Parser WrittenEntityScope
+typed ts = and_then (path ts) (λ ty us. if sees k.In us then and_then (referred (next us)) (λ q vs. Ok (entity_scope.IsIn ty q, vs)) else Ok (entity_scope.Is ty, us))
+
+-- what stands behind the variable
+unfoldable pub asked : Parser WrittenEntityScope
+asked ts =
+    if sees k.Equal ts then and_then (referred (next ts)) (λ q us. Ok (entity_scope.Equal q, us))
+    else (if sees k.In ts then and_then (referred (next ts)) (λ q us. Ok (entity_scope.In q, us))
+    else (if sees k.Is ts then typed (next ts) else Ok (entity_scope.Any, ts)))
+
+unfoldable pub principal_or_resource : List ℕ → Parser WrittenEntityScope
+principal_or_resource name ts = and_then (word name ts) (λ w us. asked us)
+
+-- an entity, or several in brackets
+unfoldable pub entities : Parser WrittenActionScope
+entities ts =
+    if sees k.LeftBracket ts then and_then (arguments entity k.RightBracket (next ts)) (λ list us. Ok (action_scope.InSet list, us))
+    else and_then (entity ts) (λ u us. Ok (action_scope.In u, us))
+
+unfoldable pub action : Parser WrittenActionScope
+action ts =
+    and_then (word (codes "action") ts) (λ w us. if sees k.Equal us then and_then (entity (next us)) (λ u vs. Ok (action_scope.Equal u, vs))
+    else (if sees k.In us then entities (next us) else Ok (action_scope.Any, us)))
+
+-- the scope from the resource on
+unfoldable pub behind_action : WrittenEntityScope → WrittenActionScope → Parser WrittenScope
+behind_action p a ts =
+    and_then (principal_or_resource (codes "resource") ts) (λ q us. and_then (expect k.RightParen us) (λ r vs. Ok (record { principal = p; action = a; resource = q }, vs)))
+
+-- the scope from the action on
+unfoldable pub behind_principal : WrittenEntityScope → Parser WrittenScope
+behind_principal p ts = and_then (action ts) (λ a us. and_then (expect k.Comma us) (λ c vs. behind_action p a vs))
+
+unfoldable pub scope : Parser WrittenScope
+scope ts =
+    and_then (expect k.LeftParen ts) (λ l us. and_then (principal_or_resource (codes "principal") us) (λ p vs. and_then (expect k.Comma vs) (λ c ws. behind_principal p ws)))
+
+-- ---- conditions
+
+-- `when` or `unless`
+abbrev pub kind_of_condition : Mark → Option ConditionKind
+kind_of_condition t = if same_kind t.kind k.Identifier then condition_kind_of t.text else None
+
+unfoldable pub condition_at : Marks → Option ConditionKind
+condition_at ts = option_and_then kind_of_condition (first ts)
+
+unfoldable pub block : ℕ → Parser Written
+block d ts = and_then (expect k.LeftBrace ts) (λ l us. and_then (nested d us) (λ a vs. and_then (expect k.RightBrace vs) (λ r ws. Ok (a, ws))))
+
+unfoldable pub conditions_from : ℕ → ℕ → List WrittenCondition → Parser (List WrittenCondition)
+conditions_from d zero cs ts = Ok (cs, ts)
+conditions_from d (suc n) cs ts =
+    on_some (condition_at ts) (Ok (cs, ts)) (λ kind. and_then (block d (next ts)) (λ a us. conditions_from d n (cs ++ record { kind = kind; body = a } ∷ []) us))
+
+unfoldable pub conditions : ℕ → Parser (List WrittenCondition)
+conditions d ts = conditions_from d (length ts) [] ts
+
+-- ---- statements
+
+unfoldable pub behind_effect : ℕ → ℕ → List WrittenAnnotation → Effect → Parser StatementTree
+behind_effect d start notes effect ts =
+    and_then (scope ts) (λ s us. and_then (conditions d us) (λ cs vs. and_then (expect k.Semicolon vs) (λ e ws.
+    Ok (record { start = start; annotations = notes; effect = effect; scope = s; conditions = cs }, ws))))
+
+unfoldable pub statement : ℕ → Parser StatementTree
+statement d ts =
+    and_then (annotations ts) (λ notes us. and_then (expect k.Identifier us) (λ t vs. on_some (effect_of t.text) (Err Syntax) (λ effect. behind_effect d (start_of ts) notes effect vs)))

@@ -1,0 +1,4 @@
+pub mod Cuts
+pub mod Served
+pub mod Steps
+pub mod Whole

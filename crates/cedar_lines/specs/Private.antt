@@ -1,0 +1,2 @@
+-- What proofs and private contracts speak of, and no public clause.
+pub mod Progress

@@ -1,0 +1,51 @@
+use Rattle.std.proofs.Common.{◌≡◌, sym, ap, subst, ◌∙◌, ◌<◌, length, arith}
+use Rattle.std.specs.Prelude.{IfOk}
+use Rattle.cedar_ast.specs.Expression.{Expression, Entries, expressions_of, entries_of, record_with}
+use Rattle.cedar_ast.specs.Keys.{AreDistinct, keys_of}
+use Rattle.cedar_parser.specs.declared.side_condition.SideCondition.TheVariants.{Strings, Numbers, Keys}
+use Rattle.cedar_parser.specs.Meaning.{to_expression}
+use Rattle.cedar_parser.proofs.PartLemmas.{link_lighter, member_lighter, field_lighter, links_here, members_here, fields_here, behind_all, expressions_next, keys_of_pairs, entries_of_pairs}
+use Rattle.cedar_parser.proofs.expression.+expression.Goals as goal
+
+pub chain_expression-link_expression-requires : goal.chain_expression-link_expression-requires
+chain_expression-link_expression-requires t c =
+    let within : c.loop-link.link-index < length c.args.links.now = omega arith in (
+      omega (arith, link_lighter c.args.links.now c.loop-link.link-index c.link-item.result within c.link-item.is, c.decreases),
+      ((links_here Numbers c.args.links.now c.loop-link.link-index c.link-item.result within c.link-item.is c.loop-link.invariant.numbers).0, ((links_here Keys c.args.links.now c.loop-link.link-index c.link-item.result within c.link-item.is c.loop-link.invariant.keys).0, (links_here Strings c.args.links.now c.loop-link.link-index c.link-item.result within c.link-item.is c.loop-link.invariant.strings).0)),
+    )
+
+pub chain_expression-returns : goal.chain_expression-returns
+chain_expression-returns t c = c.loop-link.invariant.done ∙ behind_all (to_expression c.args.first.now) c.args.links.now c.loop-link.link-index c.loop-link-test.false
+
+pub expressions-to_expression-requires : goal.expressions-to_expression-requires
+expressions-to_expression-requires t c =
+    let within : c.loop-member.member-index < length c.args.members.now = omega arith in (
+      omega (arith, member_lighter c.args.members.now c.loop-member.member-index c.member-item.result within c.member-item.is, c.decreases),
+      ((members_here Numbers c.args.members.now c.loop-member.member-index c.member-item.result within c.member-item.is c.loop-member.invariant.numbers).0, ((members_here Keys c.args.members.now c.loop-member.member-index c.member-item.result within c.member-item.is c.loop-member.invariant.keys).0, (members_here Strings c.args.members.now c.loop-member.member-index c.member-item.result within c.member-item.is c.loop-member.invariant.strings).0)),
+    )
+
+pub expressions-loop-member-preserved : goal.expressions-loop-member-preserved
+expressions-loop-member-preserved t c =
+    let within : c.loop-member.member-index < length c.args.members.now = omega arith in
+    record {
+      done = ap expressions_of c.in_ok-push.ensures
+          ∙ expressions_next c.loop-member.found.items c.in_ok-item.item c.args.members.now c.loop-member.member-index c.member-item.result within c.member-item.is c.loop-member.invariant.done c.in_ok-item.ensures;
+      numbers = (members_here Numbers c.args.members.now c.loop-member.member-index c.member-item.result within c.member-item.is c.loop-member.invariant.numbers).1;
+      keys = (members_here Keys c.args.members.now c.loop-member.member-index c.member-item.result within c.member-item.is c.loop-member.invariant.keys).1;
+      strings = (members_here Strings c.args.members.now c.loop-member.member-index c.member-item.result within c.member-item.is c.loop-member.invariant.strings).1;
+    }
+
+pub pairs-to_expression-requires : goal.pairs-to_expression-requires
+pairs-to_expression-requires t c =
+    let within : c.loop-field.field-index < length c.args.fields.now = omega arith in (
+      omega (arith, field_lighter c.args.fields.now c.loop-field.field-index c.field-item.result within c.field-item.is, c.decreases),
+      ((fields_here Numbers c.args.fields.now c.loop-field.field-index c.field-item.result within c.field-item.is c.loop-field.invariant.numbers).0.1, ((fields_here Keys c.args.fields.now c.loop-field.field-index c.field-item.result within c.field-item.is c.loop-field.invariant.keys).0.1, (fields_here Strings c.args.fields.now c.loop-field.field-index c.field-item.result within c.field-item.is c.loop-field.invariant.strings).0.1)),
+    )
+
+pub to_record-record-requires : goal.to_record-record-requires
+to_record-record-requires t c =
+    subst AreDistinct (sym (ap keys_of c.in_ok-pairs.ensures ∙ keys_of_pairs c.args.fields.now c.requires.strings.1)) c.requires.keys.0
+
+pub to_record-returns : goal.to_record-returns
+to_record-returns t c =
+    subst (λ (es : Entries). IfOk c.record.result (λ (x : Expression). x ≡ record_with es)) (ap entries_of c.in_ok-pairs.ensures ∙ entries_of_pairs c.args.fields.now) c.record.ensures

@@ -1,6 +1,0 @@
-use Rattle.std.proofs.Common.{◌≡◌, drop}
-use Rattle.cedar_parser.specs.StatementMeaning.{id_in}
-use Rattle.cedar_parser.proofs.telling.annotated_id.Given as goal
-
-abbrev pub invariant-loop-annotation : goal.invariant-loop-annotation
-invariant-loop-annotation l = id_in (drop l.annotation-index l.annotations) ≡ id_in l.annotations

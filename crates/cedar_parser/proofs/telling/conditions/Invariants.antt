@@ -1,8 +1,0 @@
-use Rattle.std.proofs.Common.{◌≡◌, take, drop, map}
-use Rattle.cedar_parser.specs.declared.side_condition.SideCondition.TheVariants.{Numbers, Keys}
-use Rattle.cedar_parser.specs.StatementMeaning.{condition_told}
-use Rattle.cedar_parser.specs.StatementLimits.{KeepConditions}
-use Rattle.cedar_parser.proofs.telling.conditions.Given as goal
-
-abbrev pub invariant-loop-condition : goal.invariant-loop-condition
-invariant-loop-condition l = (l.found.items ≡ map condition_told (take l.condition-index l.written)) × KeepConditions Numbers (drop l.condition-index l.written) × KeepConditions Keys (drop l.condition-index l.written)

@@ -1,0 +1,319 @@
+//! The expression that is written.
+ghost use Rattle.std.specs.Prelude.{◌≡◌, ◌≢◌, ◌≤◌, ◌^◌, ◌++◌, ◌∷◌, [], IfOk, OnOk, MatchOption, length, pos, neg_ℤ};
+ghost use Rattle.cedar_ast.specs.Expression.{expressions_of, entries_of, unary, binary, and, record_with};
+ghost use Rattle.cedar_ast.specs.Keys.{AreDistinct, keys_of};
+ghost use Rattle.cedar_ast.specs.declared.operator.UnaryOperator.TheVariants.{Not, Get, Is};
+ghost use Rattle.cedar_ast.specs.declared.operator.BinaryOperator.TheVariants.{In};
+ghost use Rattle.cedar_parser.specs.declared.side_condition.SideCondition.TheVariants.{Strings, Numbers, Keys};
+ghost use Rattle.cedar_grammar.specs.Written as tree;
+ghost use Rattle.cedar_grammar.specs.Written.{chain, members_of};
+ghost use Rattle.cedar_grammar.specs.WrittenKind.{links_of, fields_of};
+ghost use Rattle.cedar_parser.specs.Meaning.{to_expression, to_expressions, to_entries, related, linked, called, applied, function_of, method_of};
+ghost use Rattle.cedar_tokens.specs.Content.{text_of};
+ghost use Rattle.cedar_parser.specs.Limits.{Keeps, KeepMembers, KeepFields};
+ghost use Rattle.cedar_parser.specs.Private.Parts.{KeepLink, behind, pairs_of};
+
+use crate::functions::{function_of, method_of};
+use cedar_ast::{BinaryOperator, Expr, RecordFault, UnaryOperator};
+use cedar_grammar::{ChainSign, Field, Link, RelationSign, Written, WrittenKind};
+use cedar_tokens::Content;
+use cedar_value::{Name, Text, Value};
+use std::alloc::{AllocError, Global};
+
+/// The expression that is written.
+#[cycle(expression)]
+pub fn to_expression(alloc: Global, written: &Written) -> Result<Expr, AllocError>
+    requires numbers { Keeps Numbers written.now }
+    requires keys { Keeps Keys written.now }
+    requires strings { Keeps Strings written.now }
+    ensures { IfOk result (λ e. e ≡ to_expression written.now) }
+{
+    match written.kind() {
+        WrittenKind::Truth(truth) => Ok(Expr::literal(Value::boolean(*truth))),
+        WrittenKind::Number(_, number) => Ok(Expr::literal(Value::long(*number as i64))),
+        WrittenKind::Negative(_, number) => Ok(Expr::literal(Value::long(negative(*number)))),
+        WrittenKind::Text(content) => Ok(Expr::literal(Value::string(content.to_text(alloc)?))),
+        WrittenKind::Entity(uid) => Ok(Expr::literal(Value::uid(uid.to_uid(alloc)?))),
+        WrittenKind::Variable(name) => Ok(Expr::variable(*name)),
+        WrittenKind::Slot(_, name) => Ok(Expr::variable(*name)),
+        WrittenKind::Group(inside) => to_expression(alloc, inside),
+        WrittenKind::Not(operand) => asked_of(alloc, UnaryOperator::Not, operand),
+        WrittenKind::Negated(operand) => asked_of(alloc, UnaryOperator::Negate, operand),
+        WrittenKind::Relation(sign, left, right) => {
+            let left = to_expression(alloc, left)?;
+            let right = to_expression(alloc, right)?;
+            related(alloc, *sign, left, right)
+        }
+        WrittenKind::Has(operand, key) => {
+            let operator = UnaryOperator::Has(key.to_text(alloc)?);
+            asked_of(alloc, operator, operand)
+        }
+        WrittenKind::Like(operand, pattern) => {
+            let operator = UnaryOperator::Like(pattern.try_clone(alloc)?);
+            asked_of(alloc, operator, operand)
+        }
+        WrittenKind::Is(operand, ty) => {
+            let operator = UnaryOperator::Is(ty.try_clone(alloc)?);
+            asked_of(alloc, operator, operand)
+        }
+        WrittenKind::IsIn(left, ty, right) => is_in(alloc, left, ty, right),
+        WrittenKind::Chain(first, links) => chain_expression(alloc, first, links),
+        WrittenKind::If(condition, if_true, if_false) => {
+            choice(alloc, condition, if_true, if_false)
+        }
+        WrittenKind::Set(members) => Ok(Expr::set(expressions(alloc, members.items())?)),
+        WrittenKind::Record(fields) => to_record(alloc, fields),
+        WrittenKind::Call(_, name, arguments) => {
+            let arguments = expressions(alloc, arguments.items())?;
+            called(alloc, name.as_str(), arguments)
+        }
+    }
+}
+
+// An operator on its operand.
+#[cycle(expression)]
+fn asked_of(alloc: Global, operator: UnaryOperator, operand: &Written) -> Result<Expr, AllocError>
+    requires numbers { Keeps Numbers operand.now }
+    requires keys { Keeps Keys operand.now }
+    requires strings { Keeps Strings operand.now }
+    ensures { IfOk result (λ e. e ≡ unary operator (to_expression operand.now)) }
+{
+    let operand = to_expression(alloc, operand)?;
+    Expr::unary(alloc, operator, operand)
+}
+
+#[cycle(expression)]
+fn is_in(alloc: Global, left: &Written, ty: &Name, right: &Written) -> Result<Expr, AllocError>
+    requires numbers { Keeps Numbers (tree.is_in left.now ty.now right.now) }
+    requires keys { Keeps Keys (tree.is_in left.now ty.now right.now) }
+    requires strings { Keeps Strings (tree.is_in left.now ty.now right.now) }
+    ensures { IfOk result (λ e. e ≡ to_expression (tree.is_in left.now ty.now right.now)) }
+{
+    let asked = typed(alloc, to_expression(alloc, left)?, ty)?;
+    let left = to_expression(alloc, left)?;
+    let right = to_expression(alloc, right)?;
+    asked_within(alloc, asked, left, right)
+}
+
+fn typed(alloc: Global, operand: Expr, ty: &Name) -> Result<Expr, AllocError>
+    ensures { IfOk result (λ e. e ≡ unary (Is ty.now) operand) }
+{
+    let operator = UnaryOperator::Is(ty.try_clone(alloc)?);
+    Expr::unary(alloc, operator, operand)
+}
+
+// What is asked first, and whether the left operand is in the right one.
+fn asked_within(alloc: Global, asked: Expr, left: Expr, right: Expr) -> Result<Expr, AllocError>
+    ensures { IfOk result (λ e. e ≡ and asked (binary In left right)) }
+{
+    let within = Expr::binary(alloc, BinaryOperator::In, left, right)?;
+    Expr::and(alloc, asked, within)
+}
+
+#[cycle(expression)]
+fn choice(
+    alloc: Global,
+    condition: &Written,
+    if_true: &Written,
+    if_false: &Written,
+) -> Result<Expr, AllocError>
+    requires numbers { Keeps Numbers (tree.choice condition.now if_true.now if_false.now) }
+    requires keys { Keeps Keys (tree.choice condition.now if_true.now if_false.now) }
+    requires strings { Keeps Strings (tree.choice condition.now if_true.now if_false.now) }
+    ensures { IfOk result (λ e. e ≡ to_expression (tree.choice condition.now if_true.now if_false.now)) }
+{
+    let condition = to_expression(alloc, condition)?;
+    let if_true = to_expression(alloc, if_true)?;
+    let if_false = to_expression(alloc, if_false)?;
+    Expr::if_else(alloc, condition, if_true, if_false)
+}
+
+// The operands of a chain, grouped to the left.
+#[cycle(expression)]
+fn chain_expression(alloc: Global, first: &Written, links: &[Link]) -> Result<Expr, AllocError>
+    requires numbers { Keeps Numbers (chain first.now (links_of links.now)) }
+    requires keys { Keeps Keys (chain first.now (links_of links.now)) }
+    requires strings { Keeps Strings (chain first.now (links_of links.now)) }
+    ensures { IfOk result (λ e. e ≡ to_expression (chain first.now (links_of links.now))) }
+{
+    let mut left = to_expression(alloc, first)?;
+    for link in links {
+        left = link_expression(alloc, left, link)?;
+    }
+    Ok(left)
+}
+
+// What stands to the left, and the link behind it.
+#[cycle(expression)]
+fn link_expression(alloc: Global, left: Expr, link: &Link) -> Result<Expr, AllocError>
+    requires numbers { KeepLink Numbers link.now }
+    requires keys { KeepLink Keys link.now }
+    requires strings { KeepLink Strings link.now }
+    ensures { IfOk result (λ e. e ≡ behind left link.now) }
+{
+    match link {
+        Link::Operand(sign, operand) => {
+            let right = to_expression(alloc, operand)?;
+            linked(alloc, *sign, left, right)
+        }
+        Link::Attribute(key) => attribute(alloc, left, key),
+        Link::Method(name, arguments) => {
+            let arguments = expressions(alloc, arguments.items())?;
+            applied(alloc, name.as_str(), left, arguments)
+        }
+    }
+}
+
+fn attribute(alloc: Global, left: Expr, key: &Content) -> Result<Expr, AllocError>
+    ensures { IfOk result (λ e. e ≡ unary (Get (text_of key.now)) left) }
+{
+    let key = key.to_text(alloc)?;
+    Expr::unary(alloc, UnaryOperator::Get(key), left)
+}
+
+#[cycle(expression)]
+fn expressions(alloc: Global, members: &[Written]) -> Result<Vec<Expr>, AllocError>
+    requires numbers { KeepMembers Numbers (members_of members.now) }
+    requires keys { KeepMembers Keys (members_of members.now) }
+    requires strings { KeepMembers Strings (members_of members.now) }
+    ensures { IfOk result (λ v. expressions_of v.items ≡ to_expressions (members_of members.now)) }
+{
+    let mut found = Vec::new(alloc);
+    for member in members {
+        let item = to_expression(alloc, member)?;
+        push(&mut found, item)?;
+    }
+    Ok(found)
+}
+
+// One more expression.
+fn push(items: &mut Vec<Expr>, item: Expr) -> Result<(), AllocError>
+    ensures { OnOk result (items.new.items ≡ items.old.items ++ item ∷ []) }
+{
+    items.push(item)?;
+    Ok(())
+}
+
+#[cycle(expression)]
+fn to_record(alloc: Global, fields: &[Field]) -> Result<Expr, AllocError>
+    requires numbers { Keeps Numbers (tree.record_of (fields_of fields.now)) }
+    requires keys { Keeps Keys (tree.record_of (fields_of fields.now)) }
+    requires strings { Keeps Strings (tree.record_of (fields_of fields.now)) }
+    ensures { IfOk result (λ e. e ≡ to_expression (tree.record_of (fields_of fields.now))) }
+{
+    let pairs = pairs(alloc, fields)?;
+    record(alloc, pairs)
+}
+
+#[cycle(expression)]
+fn pairs(alloc: Global, fields: &[Field]) -> Result<Vec<(Text, Expr)>, AllocError>
+    requires numbers { KeepFields Numbers (fields_of fields.now) }
+    requires keys { KeepFields Keys (fields_of fields.now) }
+    requires strings { KeepFields Strings (fields_of fields.now) }
+    ensures { IfOk result (λ v. v.items ≡ pairs_of fields.now) }
+{
+    let mut found = Vec::new(alloc);
+    for field in fields {
+        let key = field.key.to_text(alloc)?;
+        found.push((key, to_expression(alloc, &field.value)?))?;
+    }
+    Ok(found)
+}
+
+// A method of one argument.
+fn applied(alloc: Global, name: &str, left: Expr, arguments: Vec<Expr>) -> Result<Expr, AllocError>
+    ensures { IfOk result (λ e. e ≡ applied (method_of name.now) left (expressions_of arguments.items)) }
+{
+    let Some(operator) = method_of(name) else {
+        return Ok(left);
+    };
+    let Some(argument) = sole(arguments) else {
+        return Ok(left);
+    };
+    Expr::binary(alloc, operator, left, argument)
+}
+
+// A function of one argument.
+fn called(alloc: Global, name: &str, arguments: Vec<Expr>) -> Result<Expr, AllocError>
+    ensures { IfOk result (λ e. e ≡ called (function_of name.now) (expressions_of arguments.items)) }
+{
+    let Some(operator) = function_of(name) else {
+        return Ok(Expr::literal(Value::boolean(false)));
+    };
+    let Some(argument) = sole(arguments) else {
+        return Ok(Expr::literal(Value::boolean(false)));
+    };
+    Expr::unary(alloc, operator, argument)
+}
+
+// The argument, where there is exactly one.
+fn sole(mut arguments: Vec<Expr>) -> Option<Expr>
+    ensures { MatchOption result (length arguments.items ≢ 1) (λ a. arguments.items ≡ a ∷ []) }
+{
+    if arguments.len() != 1 {
+        return None;
+    }
+    arguments.pop()
+}
+
+// The record of these pairs.
+fn record(alloc: Global, pairs: Vec<(Text, Expr)>) -> Result<Expr, AllocError>
+    requires { AreDistinct (keys_of pairs.items) }
+    ensures { IfOk result (λ e. e ≡ record_with (entries_of pairs.items)) }
+{
+    match Expr::record(alloc, pairs) {
+        Ok(record) => Ok(record),
+        Err(RecordFault::OutOfMemory(_)) => Err(AllocError),
+        Err(RecordFault::DuplicateKey(_)) => unreachable!(),
+    }
+}
+
+// The number with a sign before it.
+fn negative(number: u64) -> i64
+    requires { number ≤ 2 ^ 63 }
+    ensures { result ≡ neg_ℤ (pos number) }
+{
+    if number == 0 {
+        return 0;
+    }
+    -((number - 1) as i64) - 1
+}
+
+fn linked(alloc: Global, sign: ChainSign, left: Expr, right: Expr) -> Result<Expr, AllocError>
+    ensures { IfOk result (λ e. e ≡ linked sign left right) }
+{
+    match sign {
+        ChainSign::Or => Expr::or(alloc, left, right),
+        ChainSign::And => Expr::and(alloc, left, right),
+        ChainSign::Plus => Expr::binary(alloc, BinaryOperator::Add, left, right),
+        ChainSign::Minus => Expr::binary(alloc, BinaryOperator::Subtract, left, right),
+        ChainSign::Times => Expr::binary(alloc, BinaryOperator::Multiply, left, right),
+    }
+}
+
+fn related(alloc: Global, sign: RelationSign, left: Expr, right: Expr) -> Result<Expr, AllocError>
+    ensures { IfOk result (λ e. e ≡ related sign left right) }
+{
+    match sign {
+        RelationSign::Less => Expr::binary(alloc, BinaryOperator::Less, left, right),
+        RelationSign::LessEqual => Expr::binary(alloc, BinaryOperator::LessEqual, left, right),
+        RelationSign::Greater => denied(alloc, BinaryOperator::LessEqual, left, right),
+        RelationSign::GreaterEqual => denied(alloc, BinaryOperator::Less, left, right),
+        RelationSign::Equal => Expr::binary(alloc, BinaryOperator::Equal, left, right),
+        RelationSign::NotEqual => denied(alloc, BinaryOperator::Equal, left, right),
+        RelationSign::In => Expr::binary(alloc, BinaryOperator::In, left, right),
+    }
+}
+
+// `!` before the operator on its operands.
+fn denied(
+    alloc: Global,
+    operator: BinaryOperator,
+    left: Expr,
+    right: Expr,
+) -> Result<Expr, AllocError>
+    ensures { IfOk result (λ e. e ≡ unary Not (binary operator left right)) }
+{
+    let pair = Expr::binary(alloc, operator, left, right)?;
+    Expr::unary(alloc, UnaryOperator::Not, pair)
+}

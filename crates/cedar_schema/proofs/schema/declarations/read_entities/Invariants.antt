@@ -1,0 +1,9 @@
+use Rattle.std.proofs.Common.{drop}
+use Rattle.cedar_schema.specs.Private.EntryView.{entries_view}
+use Rattle.cedar_schema.specs.Schemas.{add_entity, entity_faults}
+use Rattle.cedar_schema.specs.Private.SettingView.{setting_view}
+use Rattle.cedar_schema.proofs.EachLemmas.{IsGoing}
+use Rattle.cedar_schema.proofs.schema.declarations.read_entities.Given as goal
+
+abbrev pub invariant-loop-i : goal.invariant-loop-i
+invariant-loop-i l = IsGoing (add_entity (setting_view l.setting)) (entity_faults (setting_view l.setting)) l.found.entries (entries_view (drop l.i l.entries)) (entries_view l.entries)

@@ -1,0 +1,19 @@
+-- What settings and sections of the code stand for.
+use Rattle.std.specs.Prelude.{◌≡◌, List, []}
+use Rattle.cedar_schema.specs.Entries.{EntryTree, names_of}
+use Rattle.cedar_schema.specs.declared.json.entry.Entry.{Entry}
+use Rattle.cedar_schema.specs.Private.EntryView.{entries_view}
+use Rattle.cedar_schema.specs.declared.schema.declarations.Setting.{Setting as CodeSetting}
+use Rattle.cedar_schema.specs.Schemas.{Setting, Sections, uids_onto}
+use Rattle.cedar_schema.specs.Private.TableView.{table_of}
+
+abbrev pub setting_view : CodeSetting → Setting
+setting_view s = record { entities = s.entities.now; commons = s.commons.now; table = table_of s.table.forms.now; uids = s.uids.now.keys }
+
+abbrev pub sections_view : List Entry → List Entry → List Entry → Sections
+sections_view commons entities actions = record { commons = entries_view commons; entities = entries_view entities; actions = entries_view actions }
+
+-- the setting is of these entries
+pub record IsSettingOf (s : Setting) (entities actions : List EntryTree) : Type 0 where
+  pub names : s.entities ≡ names_of entities
+  pub uids : s.uids ≡ uids_onto [] actions

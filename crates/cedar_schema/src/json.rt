@@ -1,0 +1,8 @@
+//! What a schema's JSON is made of: objects of known keys, names in namespaces, flat lists of entries.
+
+pub(crate) mod entry;
+pub(crate) mod name_table;
+pub(crate) mod names_list;
+pub(crate) mod naming;
+pub(crate) mod part;
+pub(crate) mod scope;

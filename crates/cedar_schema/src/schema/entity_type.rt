@@ -1,0 +1,60 @@
+//! Entity types.
+ghost use Rattle.std.specs.Prelude.{◌≡◌, [], MatchResult};
+ghost use Rattle.cedar_schema.specs.Private.Faults.{Told};
+ghost use Rattle.cedar_schema.specs.Private.Reads.{scope_of};
+ghost use Rattle.cedar_schema.specs.Private.Measures.{AreEnds};
+ghost use Rattle.cedar_schema.specs.Private.TableView.{table_of};
+ghost use Rattle.cedar_schema.specs.Private.EntryView.{entry_of};
+ghost use Rattle.cedar_schema.specs.Declaring.{entity_type_of, entity_type_faults};
+
+use crate::form::shape::{check_empty, read_record_type};
+use crate::form::table::Table;
+use crate::json::entry::{Entry, check_entity_key};
+use crate::json::names_list::read_names_at;
+use crate::json::part::{Part, check_part};
+use crate::json::scope::Scope;
+use crate::schema_fault::SchemaFault;
+use cedar_types::Type;
+use cedar_value::Name;
+use std::alloc::Global;
+use std::marker::Model;
+
+/// An entity type, but for its name (Cedar documentation, JSON schema format: entityTypes).
+#[derive(Drop)]
+pub(crate) struct EntityType {
+    pub parents: Vec<Name>,
+    pub shape: Type,
+}
+
+impl Model for EntityType {
+    ghost use Rattle.std.specs.Coded.{codes};
+    ghost use Rattle.cedar_types.specs.Private.TypeCode.{type_code};
+    ghost use Rattle.cedar_schema.specs.SchemaTree.{EntityTypeTree};
+
+    ghost Value = { EntityTypeTree };
+
+    ghost coded = { Prim.hlevel (codes, type_code) };
+
+    ghost view = { λ e. record { parents = e.parents.items; shape = e.shape } };
+}
+
+/// The entity type that an entry declares.
+pub(crate) fn read_entity_type(
+    alloc: Global,
+    scope: &Scope<'_>,
+    table: Table<'_>,
+    entry: Entry<'_>,
+) -> Result<EntityType, SchemaFault>
+    requires { AreEnds (table_of table.forms.now) table.ends.now }
+    ensures { MatchResult result
+        (λ e. (entity_type_faults (scope_of scope.now) (table_of table.entry.forms.now) (entry_of entry.entry) ≡ [])
+        × (e ≡ entity_type_of (scope_of scope.now) (table_of table.entry.forms.now) (entry_of entry.entry)))
+        (λ e. Told (entity_type_faults (scope_of scope.now) (table_of table.entry.forms.now) (entry_of entry.entry)) e) }
+{
+    check_entity_key(alloc, entry.key)?;
+    check_part(Part::EntityType, entry.body)?;
+    let parents = read_names_at(alloc, scope, entry.body.get("memberOfTypes"), None)?;
+    let shape = read_record_type(alloc, scope, table, entry.body.get("shape"))?;
+    check_empty(entry.body.get("tags"))?;
+    Ok(EntityType { parents, shape })
+}

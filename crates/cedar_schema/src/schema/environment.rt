@@ -1,0 +1,72 @@
+//! Environments.
+ghost use Rattle.std.specs.Prelude.{◌≡◌, ◌++◌, IfOk, OnOk};
+ghost use Rattle.cedar_schema.specs.SchemaTree.{environments_of, with_principals, with_resources};
+
+use crate::schema::action::Action;
+use cedar_types::Type;
+use cedar_value::{Name, Uid};
+use std::alloc::{AllocError, Global};
+use std::collections::BTreeMap;
+
+/// What a request may be of: an action with a type of principals, a type of resources and the type of
+/// its context (Cedar documentation, JSON schema format: appliesTo).
+#[derive(Drop)]
+pub struct Environment {
+    /// The action.
+    pub action: Uid,
+    /// The type of the principal.
+    pub principal: Name,
+    /// The type of the resource.
+    pub resource: Name,
+    /// The type of the context, a record.
+    pub context: Type,
+}
+
+/// The environments of the actions, ascending by the action's uid, then by the type of the principal,
+/// then by that of the resource.
+pub(crate) fn environments_of(
+    alloc: Global,
+    actions: &BTreeMap<Uid, Action>,
+) -> Result<Vec<Environment>, AllocError>
+    ensures { IfOk result (λ v. v.items ≡ environments_of actions.now.entries) }
+{
+    let mut found = Vec::new(alloc);
+    for (uid, action) in actions.iter() {
+        push_principals(alloc, &mut found, uid, action)?;
+    }
+    Ok(found)
+}
+
+fn push_principals(
+    alloc: Global,
+    found: &mut Vec<Environment>,
+    uid: &Uid,
+    action: &Action,
+) -> Result<(), AllocError>
+    ensures { OnOk result (found.new.items ≡ found.old.items ++ with_principals uid.now action.now action.now.principals) }
+{
+    for principal in action.principals().iter() {
+        push_resources(alloc, found, uid, principal, action)?;
+    }
+    Ok(())
+}
+
+fn push_resources(
+    alloc: Global,
+    found: &mut Vec<Environment>,
+    uid: &Uid,
+    principal: &Name,
+    action: &Action,
+) -> Result<(), AllocError>
+    ensures { OnOk result (found.new.items ≡ found.old.items ++ with_resources uid.now principal.now action.now.context action.now.resources) }
+{
+    for resource in action.resources().iter() {
+        found.push(Environment {
+            action: uid.try_clone(alloc)?,
+            principal: principal.try_clone(alloc)?,
+            resource: resource.try_clone(alloc)?,
+            context: action.context().try_clone(alloc)?,
+        })?;
+    }
+    Ok(())
+}

@@ -1,5 +1,0 @@
-use Rattle.cedar_store.proofs.Empty.{below-empty}
-use Rattle.cedar_store.proofs.no_entities.NoEntitiesHierarchy.is_below.Goals as goal
-
-pub returns-clause-gives : goal.returns-clause-gives
-returns-clause-gives c = below-empty c.args._low.now c.args._high.now

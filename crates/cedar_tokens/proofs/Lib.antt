@@ -1,0 +1,9 @@
+pub mod Turns
+pub mod Outcomes
+pub mod NamesSound
+pub mod NamesComplete
+pub mod MarkLemmas
+pub mod UidLemmas
+pub mod UidOrNone
+pub mod OneUid
+pub mod Identifiers

@@ -1,0 +1,3 @@
+-- What proofs and private contracts speak of, and no public clause.
+pub mod Reading
+pub mod Contract

@@ -1,0 +1,24 @@
+//! Names, strings and uids of the Cedar policy language, read from tokens (Cedar language reference, grammar).
+//!
+//! ```
+//! let uid = read_uid(alloc, "Photos::Album::\"trip\"")?;
+//! assert_eq!(uid.ty.as_str(), "Photos::Album");
+//! ```
+//!
+//! Tokens stand in `specs/Marks.antt`, the grammar of names in `specs/Names.antt`, and what the text of a uid is in
+//! `specs/UidText.antt`.
+#![tactic(auto)]
+
+mod content;
+mod cursor;
+mod names;
+mod parse_fault;
+mod spelled;
+mod uid;
+
+pub use content::{Content, Word, WrittenUid};
+pub use cursor::Cursor;
+pub use names::{entity, key, one_identifier, path, text, uid_of};
+pub use parse_fault::ParseFault;
+pub use spelled::{Spelled, spelled_tokens};
+pub use uid::{one_uid, read_uid, uid_or_none};

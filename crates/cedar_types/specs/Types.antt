@@ -1,0 +1,25 @@
+-- Types of the strict validator (Cedar documentation, JSON schema format; cedar-spec, Lean: Cedar.Validation.Types).
+use Rattle.std.specs.Prelude.{ℕ, Bool, List, [], ◌∷◌}
+use Rattle.cedar_types.specs.declared.truth.Truth.{Truth}
+
+-- A type: Booleans and what is known of them, whole numbers, texts, the entities of a type by its name, sets of a type,
+-- records by their attributes, decimals (Cedar documentation, JSON schema format: attribute types).
+mutual
+  pub data TypeTree : Type 0 where
+    boolean : Truth → TypeTree
+    long : TypeTree
+    string : TypeTree
+    entity : List ℕ → TypeTree
+    set : TypeTree → TypeTree
+    record_of : Attributes → TypeTree
+    decimal : TypeTree
+
+  -- the attributes of a record, one after the other: its name, whether it is required, its type
+  pub data Attributes : Type 0 where
+    no_attributes : Attributes
+    attribute : List ℕ → Bool → TypeTree → Attributes → Attributes
+
+-- The names of the attributes.
+abbrev pub names_of : Attributes → List (List ℕ)
+names_of no_attributes = []
+names_of (attribute k r t rest) = k ∷ names_of rest

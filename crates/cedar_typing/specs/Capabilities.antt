@@ -1,0 +1,39 @@
+-- Capabilities: attributes of expressions that are known to be there (cedar-spec, Lean: Cedar.Validation, capabilities).
+use Rattle.std.specs.Prelude.{◌≡◌, ℕ, true, List, [], ◌∷◌, ◌⊎◌, ◌↔◌, Ok}
+use Rattle.cedar_value.specs.Datum.{boolean}
+use Rattle.cedar_value.specs.World.{World}
+use Rattle.cedar_value.specs.declared.request.Request.{Request}
+use Rattle.cedar_ast.specs.declared.operator.UnaryOperator.TheVariants as operator
+use Rattle.cedar_ast.specs.Expression.{Expression, unary}
+use Rattle.cedar_ast.specs.Evaluation.{eval}
+
+-- An attribute that an expression is known to have (cedar-spec, Lean: Cedar.Validation, capabilities).
+pub record Capability : Type 0 where
+  pub on : Expression
+  pub key : List ℕ
+
+-- A set of capabilities, as a list in which order and repeats say nothing (cedar-spec, Lean: Cedar.Validation, capabilities).
+abbrev pub Capabilities : Type 0
+Capabilities = List Capability
+
+-- The capability is one of these.
+abbrev pub Has : Capability → Capabilities → Type 0
+Has x [] = ⊥
+Has x (y ∷ ys) = (y ≡ x) ⊎ Has x ys
+
+-- The last has what the first or the second has (cedar-spec, Lean: Cedar.Validation, capabilities: union).
+pub record IsUnion (a b d : Capabilities) : Type 0 where
+  pub each : (x : Capability) → Has x d ↔ (Has x a ⊎ Has x b)
+
+-- The last has what the first and the second both have (cedar-spec, Lean: Cedar.Validation, capabilities: intersection).
+pub record IsCommon (a b d : Capabilities) : Type 0 where
+  pub each : (x : Capability) → Has x d ↔ (Has x a × Has x b)
+
+-- The two are one set.
+pub record AreSame (a b : Capabilities) : Type 0 where
+  pub each : (x : Capability) → Has x a ↔ Has x b
+
+-- Each capability of the set is true: `has` of its expression and attribute evaluates to true (cedar-spec, Lean:
+-- Cedar.Thm.Validation, capabilities).
+abbrev pub Hold : Request → World → Capabilities → Type 0
+Hold q w g = (x : Capability) → Has x g → eval (unary (operator.Has x.key) x.on) q w ≡ Ok (boolean true)

@@ -1,0 +1,79 @@
+-- What a typing promises of evaluation (cedar-spec, Lean: Cedar.Thm.Validation, soundness of the typechecker).
+use Rattle.std.specs.Prelude.{◌≡◌, true, List, Ok, Err}
+use Rattle.std.specs.List.{AllByRecursion}
+use Rattle.cedar_value.specs.Datum.{Datum, boolean}
+use Rattle.cedar_value.specs.World.{World}
+use Rattle.cedar_value.specs.declared.request.Request.{Request}
+use Rattle.cedar_ast.specs.declared.error.EvaluationError.{EvaluationError}
+use Rattle.cedar_ast.specs.declared.error.EvaluationError.TheVariants.{Overflow, MissingEntity}
+use Rattle.cedar_ast.specs.Answer.{Answer}
+use Rattle.cedar_ast.specs.Expression.{Expression}
+use Rattle.cedar_ast.specs.Evaluation.{eval}
+use Rattle.cedar_ast.specs.PolicyTree.{PolicyTree}
+use Rattle.cedar_ast.specs.Condition.{condition_of}
+use Rattle.cedar_ast.specs.Response.{ErringTree, response}
+use Rattle.cedar_schema.specs.declared.schema.environment.Environment.{Environment}
+use Rattle.cedar_types.specs.Types.{TypeTree}
+use Rattle.cedar_schema.specs.SchemaTree.{SchemaTree}
+use Rattle.cedar_schema.specs.WellFormed.{AreTypesApart}
+use Rattle.cedar_types.specs.Membership.{Member, IsBoolean}
+use Rattle.cedar_schema.specs.Conformance.{Conforms, FitsIn, Fits}
+use Rattle.cedar_typing.specs.Capabilities.{Capabilities, Hold}
+use Rattle.cedar_typing.specs.Typing.{Types}
+use Rattle.cedar_ast.specs.Replacement.{replace}
+use Rattle.cedar_typing.specs.Acceptance.{IsAccepted}
+
+-- The two errors that validation leaves: a sum or product beyond 64 bits, and the attribute of an entity that the world
+-- lacks (Cedar documentation, policy validation: what validation does not find).
+abbrev pub IsAllowed : EvaluationError → Type 0
+IsAllowed Overflow = Unit {0}
+IsAllowed MissingEntity = Unit {0}
+IsAllowed _ = ⊥
+
+-- The answer has the property, or is one of the two errors.
+abbrev pub Good : {A : Type 0} → (A → Type 0) → Answer A → Type 0
+Good P (Ok v) = P v
+Good P (Err e) = IsAllowed e
+
+-- The expression evaluates to a member of its type or to one of the two errors, and where it is true, all that it gains
+-- holds (cedar-spec, Lean: Cedar.Thm.Validation, type of is sound).
+pub record Promise (q : Request) (w : World) (e : Expression) (t : TypeTree) (gained : Capabilities) : Type 0 where
+  pub value : Good (Member t) (eval e q w)
+  pub gains : eval e q w ≡ Ok (boolean true) → Hold q w gained
+
+-- Every typing keeps its promise: for each schema whose action types are no entity types, each world that conforms, each
+-- request that fits one of its environments, and held capabilities that hold (cedar-spec, Lean: Cedar.Thm.Validation,
+-- type of is sound).
+abbrev pub SoundTyping : Type 0
+SoundTyping = (s : SchemaTree) (env : Environment) (q : Request) (w : World) (held gained : Capabilities) (e : Expression) (t : TypeTree) → AreTypesApart s → Conforms s w → FitsIn s env q → Hold q w held → Types s env held e t gained → Promise q w e t gained
+
+-- To put the request's action in the place of the variable changes no evaluation (cedar-spec, Lean: Cedar.Thm.Validation,
+-- substitution of the action).
+abbrev pub SoundReplacement : Type 0
+SoundReplacement = (q : Request) (w : World) (e : Expression) → eval (replace q.action e) q w ≡ eval e q w
+
+-- The value is a Boolean.
+abbrev pub IsTruth : Datum → Type 0
+IsTruth = IsBoolean (λ b. Unit {0})
+
+-- The condition of an accepted policy evaluates to a Boolean, or to one of the two errors, for every request that fits
+-- (cedar-spec, Lean: Cedar.Thm.Validation, validation is sound).
+abbrev pub SoundAcceptance : Type 0
+SoundAcceptance = (s : SchemaTree) (q : Request) (w : World) (p : PolicyTree) → AreTypesApart s → Conforms s w → Fits s q → IsAccepted s p → Good IsTruth (eval (condition_of p) q w)
+
+-- So each error that a response names is one of the two, where all policies are accepted (cedar-spec, Lean:
+-- Cedar.Thm.Validation, validation is sound).
+abbrev pub SoundResponse : Type 0
+SoundResponse = (s : SchemaTree) (q : Request) (w : World) (ps : List PolicyTree) → AreTypesApart s → Conforms s w → Fits s q → AllByRecursion (IsAccepted s) ps → AllByRecursion (λ (x : ErringTree). IsAllowed x.error) (response ps q w).erring
+
+-- Some schema, world, request and policy meet all premises at once, so that the promises are not empty.
+pub record PremisesAreMet : Type 0 where
+  pub schema : SchemaTree
+  pub environment : Environment
+  pub request : Request
+  pub world : World
+  pub policy : PolicyTree
+  pub apart : AreTypesApart schema
+  pub conforms : Conforms schema world
+  pub fits : FitsIn schema environment request
+  pub accepted : IsAccepted schema policy

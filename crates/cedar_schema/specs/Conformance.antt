@@ -18,8 +18,8 @@ pub data IsOfSchema (s : SchemaTree) (e : EntityTree) : Type 0 where
   of_action : IsAction s e.uid → e.attributes ≡ [] → IsOfSchema s e
 
 -- A world conforms: each entity is of the schema, the type of each uid above an entity is one from which the entity's type
--- descends, and the declared actions are there with exactly what they descend from (Cedar documentation, validation;
--- cedar-spec, Lean: Cedar.Validation, RequestAndEntitiesMatchEnvironment). Nothing else has to be there.
+-- descends, and the declared actions are there with exactly what they descend from. Nothing else has to be there (Cedar
+-- documentation, validation; cedar-spec, Lean: Cedar.Validation, RequestAndEntitiesMatchEnvironment).
 pub record Conforms (s : SchemaTree) (w : World) : Type 0 where
   pub entities : (e : EntityTree) → Contains w e → IsOfSchema s e
   -- the type of each uid above an entity is one from which the entity's type descends
@@ -37,7 +37,8 @@ pub record FitsIn (s : SchemaTree) (env : Environment) (q : Request) : Type 0 wh
   pub resource : q.resource.ty ≡ env.resource
   pub context : Member env.context (record_of (fields_of q.context))
 
--- A request fits where it is one of some environment of the schema.
+-- A request fits where it is one of some environment of the schema (Cedar documentation, validation; cedar-spec, Lean:
+-- Cedar.Validation, RequestMatchesEnvironment).
 abbrev pub Fits : SchemaTree → Request → Type 0
 Fits s q = (env : Environment) × FitsIn s env q
 

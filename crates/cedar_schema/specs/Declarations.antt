@@ -24,6 +24,8 @@ IsAction s u = Contains (keys_of s.actions) u
 abbrev pub IsActionType : SchemaTree → List ℕ → Type 0
 IsActionType s n = (u : Uid) × IsAction s u × (u.ty ≡ n)
 
+-- The last of some words behind one, which is the last where there is none (Cedar language reference, entity types and
+-- namespaces).
 abbrev pub last_from : List ℕ → List (List ℕ) → List ℕ
 last_from word [] = word
 last_from word (next ∷ words) = last_from next words
@@ -34,11 +36,11 @@ last_part name = last_from [] (words_from [] name)
 
 -- ---- tests
 
--- Whether it is a declared entity type.
+-- Whether it is a declared entity type (Cedar documentation, JSON schema format: entityTypes).
 abbrev pub is_entity_type : SchemaTree → List ℕ → Bool
 is_entity_type s n = is_some (shape_of s n)
 
--- Whether it is a declared action.
+-- Whether it is a declared action (Cedar documentation, JSON schema format: actions).
 abbrev pub is_action : SchemaTree → Uid → Bool
 is_action s u = list_any (λ v. same_uid v u) (keys_of s.actions)
 
@@ -46,15 +48,17 @@ is_action s u = list_any (λ v. same_uid v u) (keys_of s.actions)
 abbrev pub is_action_type : SchemaTree → List ℕ → Bool
 is_action_type s n = list_any (λ v. bytes_eq v.ty n) (keys_of s.actions)
 
--- Whether one or more links lead from the one action to the other: as many as there are actions are enough.
+-- Whether one or more links lead from the one action to the other: as many as there are actions are enough (Cedar language
+-- reference, entities and hierarchy).
 abbrev pub action_below : SchemaTree → Uid → Uid → Bool
 action_below s u v = leads same_uid (parents_of_action s.actions) (length (keys_of s.actions)) u v
 
--- Whether one or more links lead from the one entity type to the other.
+-- Whether one or more links lead from the one entity type to the other (Cedar documentation, JSON schema format:
+-- memberOfTypes).
 abbrev pub entity_type_below : SchemaTree → List ℕ → List ℕ → Bool
 entity_type_below s m n = leads bytes_eq (parents_of_type s.entities) (length (keys_of s.entities)) m n
 
--- All that some action is a direct member of.
+-- All that some action is a direct member of (Cedar documentation, JSON schema format: memberOf).
 abbrev pub all_parents : List (Uid × ActionTree) → List Uid
 all_parents [] = []
 all_parents (a ∷ rest) = a.1.parents ++ all_parents rest
@@ -83,16 +87,19 @@ action_entities s = map action_entity s.actions
 
 -- ---- laws
 
--- The tests decide what they are of.
+-- The test of declared actions decides them (own).
 abbrev pub ActionsAreDecided : Type 0
 ActionsAreDecided = (s : SchemaTree) (u : Uid) → Decides (is_action s u) (IsAction s u)
 
+-- The test of the types of declared actions decides them (own).
 abbrev pub ActionTypesAreDecided : Type 0
 ActionTypesAreDecided = (s : SchemaTree) (n : List ℕ) → Decides (is_action_type s n) (IsActionType s n)
 
+-- The test of what an action descends from decides it (own).
 abbrev pub ActionDescentsAreDecided : Type 0
 ActionDescentsAreDecided = (s : SchemaTree) (u v : Uid) → Decides (action_below s u v) (ActionDescends s u v)
 
+-- The test of what a type descends from decides it (own).
 abbrev pub TypeDescentsAreDecided : Type 0
 TypeDescentsAreDecided = (s : SchemaTree) (m n : List ℕ) → Decides (type_below s m n) (TypeDescends s m n)
 

@@ -18,6 +18,7 @@ EntityTypeDescends s = LeadsTo (parents_of_type s.entities)
 abbrev pub ActionTypeDescends : SchemaTree → List ℕ → List ℕ → Type 0
 ActionTypeDescends s low high = (u : Uid) × (v : Uid) × (u.ty ≡ low) × (v.ty ≡ high) × ActionDescends s u v
 
--- The one type descends from the other: an entity type by its links, an action type by its actions.
+-- The one type descends from the other: an entity type by its links, an action type by its actions (Cedar documentation, JSON
+-- schema format: memberOfTypes; memberOf).
 abbrev pub TypeDescends : SchemaTree → List ℕ → List ℕ → Type 0
 TypeDescends s low high = EntityTypeDescends s low high ⊎ ActionTypeDescends s low high

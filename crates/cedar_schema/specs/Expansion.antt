@@ -13,7 +13,7 @@ abbrev pub Table : Type 0
 Table = List FormTree
 
 -- ---- of one form, where `names` says what a common type has
--- The nodes of a form: each type and each attribute's type is one (own).
+-- The nodes of a form: each type is one, and an attribute counts nothing beside its type (own).
 abbrev mutual
   pub form_nodes : (ℕ → ℕ) → FormTree → ℕ
   form_nodes names no_form = 1
@@ -26,6 +26,7 @@ abbrev mutual
   form_nodes names (record_form rs) = suc (rows_nodes names rs)
   form_nodes names (common_form n) = names n
 
+  -- the nodes of the types of all attributes (own)
   pub rows_nodes : (ℕ → ℕ) → FormRows → ℕ
   rows_nodes names no_form_rows = 0
   rows_nodes names (form_row k r f rs) = form_nodes names f + rows_nodes names rs
@@ -43,6 +44,7 @@ abbrev mutual
   form_height names (record_form rs) = suc (rows_height names rs)
   form_height names (common_form n) = names n
 
+  -- the height of the highest type of the attributes (own)
   pub rows_height : (ℕ → ℕ) → FormRows → ℕ
   rows_height names no_form_rows = 0
   rows_height names (form_row k r f rs) = max (form_height names f) (rows_height names rs)
@@ -85,6 +87,7 @@ abbrev mutual
   form_faults names (record_form rs) = rows_faults names rs
   form_faults names (common_form n) = names n
 
+  -- those that the types of all attributes name
   pub rows_faults : (ℕ → List SchemaFault) → FormRows → List SchemaFault
   rows_faults names no_form_rows = []
   rows_faults names (form_row k r f rs) = form_faults names f ++ rows_faults names rs
@@ -116,7 +119,7 @@ unfoldable pub cycle_faults : Table → ℕ → ℕ → List SchemaFault
 cycle_faults t zero k = CommonCycle ∷ []
 cycle_faults t (suc n) k = faults_behind (form_faults (cycle_faults t n)) (slice_get t k)
 
--- The nodes of a form with its common types expanded, a type or an attribute each one (own).
+-- The nodes of a form with its common types expanded: an attribute counts nothing beside its type (own).
 abbrev pub nodes : Table → ℕ → FormTree → ℕ
 nodes t n = form_nodes (common_nodes t n)
 

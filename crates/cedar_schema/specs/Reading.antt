@@ -163,7 +163,8 @@ required_faults (Some (object ms)) = Shape ∷ []
 abbrev pub row_then : List ℕ → Option Data → Read → RowsRead → RowsRead
 row_then k required r rest = record { rows = form_row k (is_required required) r.form rest.rows; faults = required_faults required ++ r.faults ++ rest.faults }
 
--- ---- all levels: what a JSON says as a type, or as an attribute
+-- ---- all levels
+-- What a JSON says as a type, or as an attribute.
 unfoldable mutual
   pub type_read : Scope → Bool → Data → Read
   type_read sc a null = bad Shape
@@ -173,11 +174,12 @@ unfoldable mutual
   type_read sc a (array ds) = bad Shape
   type_read sc a (object ms) = of_type sc a (object ms) (read_at sc (codes "element") ms) (rows_at sc (codes "attributes") ms) (text_at (codes "type") (object ms))
 
-  -- as `get_member` finds, read
+  -- what stands at a key of an object, read as a type
   pub read_at : Scope → List ℕ → Members → Option Read
   read_at sc k no_members = None
   read_at sc k (member l d ms) = match_ordering (slice_cmp nat_cmp k l) (read_at sc k ms) (Some (type_read sc false d)) (read_at sc k ms)
 
+  -- what stands at a key of an object, read as attributes
   pub rows_at : Scope → List ℕ → Members → Option RowsRead
   rows_at sc k no_members = None
   rows_at sc k (member l d ms) = match_ordering (slice_cmp nat_cmp k l) (rows_at sc k ms) (Some (rows_read sc d)) (rows_at sc k ms)

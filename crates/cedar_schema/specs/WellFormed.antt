@@ -36,7 +36,8 @@ IsOrderedRecord t = IsTrue (is_record t) × Ascends t
 abbrev pub AreShapesOrdered : SchemaTree → Type 0
 AreShapesOrdered s = All (λ e. IsOrderedRecord e.shape) (values_of s.entities)
 
--- The context of each environment is a type of records.
+-- The context of each environment is a type of records: it is that of its action, so this follows from the contexts of all
+-- actions.
 abbrev pub AreContextsOrdered : SchemaTree → Type 0
 AreContextsOrdered s = All (λ e. IsOrderedRecord e.context) (environments_of s.actions)
 

@@ -50,6 +50,8 @@ abbrev mutual
   join decimal decimal = Some decimal
   join _ _ = None
 
+  -- What the attributes of two record types join to, name by name (cedar-spec, Lean: Cedar.Validation, least upper bounds of
+  -- the strict mode).
   pub join_attributes : Attributes → Attributes → Option Attributes
   join_attributes no_attributes b = no_more b
   join_attributes (attribute k r t a) b = with_first k r (join t) (join_attributes a) b

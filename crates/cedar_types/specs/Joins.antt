@@ -23,6 +23,8 @@ mutual
     join_record : {a b d : Attributes} → JoinAttributes a b d → Join (record_of a) (record_of b) (record_of d)
     join_decimal : Join decimal decimal decimal
 
+  -- Attributes of the same names and the same requiredness join name by name, in order (Cedar documentation, strict
+  -- validation).
   pub data JoinAttributes : Attributes → Attributes → Attributes → Type 0 where
     join_none : JoinAttributes no_attributes no_attributes no_attributes
     join_attribute : {k : List ℕ} {r : Bool} {t u v : TypeTree} {a b d : Attributes} → Join t u v → JoinAttributes a b d → JoinAttributes (attribute k r t a) (attribute k r u b) (attribute k r v d)
@@ -38,11 +40,11 @@ JoinsAt None None None = Unit {0}
 JoinsAt (Some x) (Some y) (Some z) = (y.required ≡ x.required) × (z.required ≡ x.required) × Join x.ty y.ty z.ty
 JoinsAt _ _ _ = ⊥
 
--- Record types, whose names ascend, join name by name.
+-- Record types, whose names ascend, join name by name (Cedar documentation, strict validation).
 abbrev pub JoinIsByName : Type 0
 JoinIsByName = (a b d : Attributes) → IsStrictlySortedBy text_cmp (names_of a) → IsStrictlySortedBy text_cmp (names_of b) → IsStrictlySortedBy text_cmp (names_of d)
     → Join (record_of a) (record_of b) (record_of d) ↔ ((k : List ℕ) → JoinsAt (attribute_at k a) (attribute_at k b) (attribute_at k d))
 
--- What belongs to one of two types belongs to what they join to.
+-- What belongs to one of two types belongs to what they join to (cedar-spec, Lean: Cedar.Thm.Validation, subtyping of a join).
 abbrev pub MembersStay : Type 0
 MembersStay = (t u v : TypeTree) (x : Datum) → Join t u v → (Member t x → Member v x) × (Member u x → Member v x)

@@ -4,7 +4,7 @@ use Rattle.std.specs.Str.{bytes_eq}
 use Rattle.cedar_types.specs.Types.{TypeTree, record_of, Attributes, no_attributes, attribute}
 use Rattle.cedar_types.specs.declared.attribute.Attribute.{Attribute}
 
--- The attribute of this name, if there is one.
+-- The attribute of this name, if there is one (Cedar documentation, JSON schema format: Record).
 abbrev pub attribute_at : List ℕ → Attributes → Option Attribute
 attribute_at k no_attributes = None
 attribute_at k (attribute l r t rest) = if bytes_eq l k then Some (record { name = l; ty = t; required = r }) else attribute_at k rest

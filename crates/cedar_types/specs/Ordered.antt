@@ -19,7 +19,7 @@ unfoldable mutual
   Ascends (record_of a) = IsStrictlySortedBy text_cmp (names_of a) × AllAscend a
   Ascends decimal = Unit {0}
 
-  -- so do those of the types of all attributes
+  -- it is so of the types of all attributes
   pub AllAscend : Attributes → Type 0
   AllAscend no_attributes = Unit {0}
   AllAscend (attribute k r t rest) = Ascends t × AllAscend rest

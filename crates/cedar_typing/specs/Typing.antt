@@ -142,11 +142,10 @@ abbrev pub names_of : Entries → List (List ℕ)
 names_of no_entries = []
 names_of (entry k e fs) = k ∷ names_of fs
 
--- In an environment of a schema, where these capabilities are held, the expression has the type and gains the
--- capabilities, which hold where it is true: one rule for each row of the table of strict validation (Cedar documentation,
--- strict validation; cedar-spec, Lean: Cedar.Validation, typechecker).
-
 mutual
+  -- In an environment of a schema, where these capabilities are held, the expression has the type and gains the
+  -- capabilities, which hold where it is true: one rule for each row of the table of strict validation (Cedar documentation,
+  -- strict validation; cedar-spec, Lean: Cedar.Validation, typechecker).
   pub data Types (s : SchemaTree) (env : Environment) : Capabilities → Expression → TypeTree → Capabilities → Type 0 where
     -- a literal has its own type: what is known of a Boolean, whole numbers, texts
     of_boolean : {h : Capabilities} {b : Bool} → Types s env h (literal (boolean b)) (kind.boolean (known b)) []

@@ -1,12 +1,13 @@
 // A source-hosting service: repositories have readers, writers and maintainers, which are teams or users.
-// The requests beside this file name teams as principals: no entities are read yet, so only a team itself is in it.
+// The entities beside this file say who is in which team, and which branches and repositories belong where.
 
 // What is public is read by everybody.
 @id("public")
 permit (principal, action in [Action::"pull", Action::"fork"], resource is Repository)
 when { resource has visibility && resource.visibility == "public" };
 
-// Each role of a repository includes the roles below it: maintainers write, and writers read.
+// Each role of a repository includes the roles below it: the team of its maintainers is in that of its writers, and so
+// writes, and that one is in the team of its readers, and so reads.
 @id("read")
 permit (principal, action in [Action::"pull", Action::"fork"], resource is Repository)
 when { resource has readers && principal in resource.readers };
@@ -33,7 +34,11 @@ permit (principal in Team::"platform", action, resource in Organization::"platfo
 // The team of the website writes the website and the branches that are named here.
 @id("website")
 permit (principal in Team::"website", action in [Action::"pull", Action::"push"], resource)
-when { resource in [Repository::"website", Branch::"website/main", Branch::"website/release"] };
+when { resource in Repository::"website" || resource in [Branch::"website/main", Branch::"website/release"] };
+
+// What one is given in a repository or a branch beyond that: the links beside this file say who, and where.
+@id("grant")
+permit (principal in ?principal, action in [Action::"pull", Action::"push"], resource in ?resource);
 
 // A bot pushes only where the request scores its trust, and scores it well.
 @id("bots")

@@ -5,6 +5,8 @@ pub mod Evaluation
 pub mod Expression
 pub mod ExprKind
 pub mod Keys
+pub mod Linking
+pub mod LinkFault
 pub mod Operators
 pub mod PolicySetTree
 pub mod PolicyTree

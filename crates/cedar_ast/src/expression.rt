@@ -92,8 +92,7 @@ impl Expr {
     pub fn and(alloc: Global, left: Expr, right: Expr) -> Result<Self, AllocError>
         ensures { IfOk result (λ e. e ≡ and left right) }
     {
-        let left = Box::new(alloc, left)?;
-        let right = Box::new(alloc, right)?;
+        let (left, right) = boxed(alloc, left, right)?;
         Ok(Expr::new(ExprKind::And(left, right)))
     }
 
@@ -101,8 +100,7 @@ impl Expr {
     pub fn or(alloc: Global, left: Expr, right: Expr) -> Result<Self, AllocError>
         ensures { IfOk result (λ e. e ≡ or left right) }
     {
-        let left = Box::new(alloc, left)?;
-        let right = Box::new(alloc, right)?;
+        let (left, right) = boxed(alloc, left, right)?;
         Ok(Expr::new(ExprKind::Or(left, right)))
     }
 
@@ -115,9 +113,8 @@ impl Expr {
     ) -> Result<Self, AllocError>
         ensures { IfOk result (λ e. e ≡ if_else condition if_true if_false) }
     {
+        let (if_true, if_false) = boxed(alloc, if_true, if_false)?;
         let condition = Box::new(alloc, condition)?;
-        let if_true = Box::new(alloc, if_true)?;
-        let if_false = Box::new(alloc, if_false)?;
         Ok(Expr::new(ExprKind::If(condition, if_true, if_false)))
     }
 
@@ -138,8 +135,7 @@ impl Expr {
     ) -> Result<Self, AllocError>
         ensures { IfOk result (λ e. e ≡ binary operator left right) }
     {
-        let left = Box::new(alloc, left)?;
-        let right = Box::new(alloc, right)?;
+        let (left, right) = boxed(alloc, left, right)?;
         Ok(Expr::new(ExprKind::Binary(operator, left, right)))
     }
 
@@ -210,6 +206,20 @@ impl Expr {
             ExprKind::Record(entries) => ExprKind::Record(entries.try_clone(alloc)?),
         };
         Ok(Expr::new(kind))
+    }
+}
+
+// Both, each in a box.
+fn boxed(alloc: Global, left: Expr, right: Expr) -> Result<(Box<Expr>, Box<Expr>), AllocError>
+    ensures left { IfOk result (λ both. both.0.value ≡ left) }
+    ensures right { IfOk result (λ both. both.1.value ≡ right) }
+{
+    match Box::new(alloc, left) {
+        Ok(left) => Ok((left, Box::new(alloc, right)?)),
+        Err(refused) => {
+            drop(right);
+            Err(refused.into())
+        }
     }
 }
 

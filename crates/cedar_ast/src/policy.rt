@@ -97,6 +97,13 @@ impl<S> PolicyOver<S> {
         self.effect
     }
 
+    /// The conditions in order, lent (Cedar language reference, policy conditions).
+    pub(crate) fn conditions(&self) -> &[Condition]
+        ensures { result.now ≡ self.now.conditions }
+    {
+        &self.conditions
+    }
+
     /// What the scope asks, slots of a template included, lent.
     pub fn scope(&self) -> &S
         ensures { result.now ≡ self.now.scope }

@@ -1,13 +1,20 @@
 //! Policies and templates in order, by their ids.
-ghost use Rattle.std.specs.Prelude.{◌≡◌, [], ◌∷◌, ◌++◌, length, slice_get, Contains, OnOk, OnErr, IfErr, true, false, None, option_copied, string_bytes};
+ghost use Rattle.std.specs.Prelude.{◌≡◌, ◌≢◌, ◌≤◌, [], ◌∷◌, ◌++◌, length, slice_get, Contains, OnOk, OnErr, IfOk, IfErr, true, false, None, option_copied, string_bytes};
 ghost use Rattle.indexmap.specs.IndexMap.{get_by_text};
 ghost use Rattle.cedar_ast.specs.PolicySetTree.{no_policies, entered, ids_in, id_of};
+ghost use Rattle.cedar_ast.specs.PolicyTree.{TemplateTree};
+ghost use Rattle.cedar_ast.specs.declared.statement.Statement.TheVariants.{«Policy» as PolicyStatement};
 ghost use Rattle.cedar_ast.specs.Keys.{AreDistinct};
 ghost use Rattle.cedar_ast.specs.Private.PolicyIds.{keys_of};
 ghost use Rattle.cedar_ast.specs.AddFault.{refused, number_of};
+ghost use Rattle.cedar_ast.specs.LinkFault.{number_of as link_fault_number};
+ghost use Rattle.cedar_ast.specs.Linking.{IsTemplate, HasMissingSlot, HasExtraSlot, IsLinkIn, IsLinked};
 
 use crate::add_fault::AddFault;
+use crate::link_fault::LinkFault;
+use crate::linking;
 use crate::policy::{Policy, Template};
+use crate::slots::Slots;
 use crate::statement::Statement;
 use indexmap::IndexMap;
 use std::alloc::{AllocFailed, Global};
@@ -108,6 +115,59 @@ impl PolicySet {
                 Err(failed) => Err(AddFault::OutOfMemory(Statement::Template(failed.value.1))),
             },
         }
+    }
+
+    /// Enters a template of the set with its slots replaced, as the policy of this id, as the last one (Cedar language
+    /// reference, policy templates). A refusal leaves the set as it was: 204 where a policy or a template of the set has
+    /// the id, 210 where no template has the template's id, 211 where nothing is given for one of its slots, 212 where a
+    /// uid is given for a slot that it does not have, 1 where memory was refused.
+    pub fn link(&mut self, template: &str, id: &str, slots: &Slots) -> Result<(), LinkFault>
+        ensures ok { OnOk result (IsLinked self.old self.new template.now id.now slots.now) }
+        ensures distinct { OnOk result (Contains (ids_in self.old) id.now → ⊥) }
+        ensures duplicate { IfErr result (λ fault. link_fault_number fault ≡ 204 → Contains (ids_in self.old) id.now) }
+        ensures no_such_template { IfErr result (λ fault. link_fault_number fault ≡ 210
+            → (t : TemplateTree) → IsTemplate self.old template.now t → ⊥) }
+        ensures missing { IfErr result (λ fault. link_fault_number fault ≡ 211
+            → (t : TemplateTree) × IsTemplate self.old template.now t × HasMissingSlot t slots.now) }
+        ensures extra { IfErr result (λ fault. link_fault_number fault ≡ 212
+            → (t : TemplateTree) × IsTemplate self.old template.now t × HasExtraSlot t slots.now) }
+        ensures unchanged { OnErr result (self.new ≡ self.old) }
+    {
+        let policy = self.linked(template, id, slots)?;
+        self.enter(policy)
+    }
+
+    // Enters a policy as the last one.
+    fn enter(&mut self, policy: Policy) -> Result<(), LinkFault>
+        ensures ok { OnOk result (self.new ≡ entered self.old (PolicyStatement policy)) }
+        ensures distinct { OnOk result (Contains (ids_in self.old) policy.id → ⊥) }
+        ensures duplicate { IfErr result (λ fault. link_fault_number fault ≡ 204 → Contains (ids_in self.old) policy.id) }
+        ensures no_other { IfErr result (λ fault. link_fault_number fault ≤ 204) }
+        ensures unchanged { OnErr result (self.new ≡ self.old) }
+    {
+        self.add(Statement::Policy(policy))?;
+        Ok(())
+    }
+
+    // The link of a template of the set, which is not entered.
+    fn linked(&self, template: &str, id: &str, slots: &Slots) -> Result<Policy, LinkFault>
+        ensures ok { IfOk result (IsLinkIn self.now template.now id.now slots.now) }
+        ensures no_such_template { IfErr result (λ fault. link_fault_number fault ≡ 210
+            → (t : TemplateTree) → IsTemplate self.now template.now t → ⊥) }
+        ensures missing { IfErr result (λ fault. link_fault_number fault ≡ 211
+            → (t : TemplateTree) × IsTemplate self.now template.now t × HasMissingSlot t slots.now) }
+        ensures extra { IfErr result (λ fault. link_fault_number fault ≡ 212
+            → (t : TemplateTree) × IsTemplate self.now template.now t × HasExtraSlot t slots.now) }
+        ensures not_entered { IfErr result (λ fault. link_fault_number fault ≢ 204) }
+    {
+        let alloc = *self.policies.allocator();
+        let Some(template) = self.templates.get(template) else {
+            return Err(LinkFault::NoSuchTemplate);
+        };
+        if linking::has_extra_slot(template, slots) {
+            return Err(LinkFault::ExtraSlot);
+        }
+        linking::linked(alloc, template, id, slots)?.ok_or(LinkFault::MissingSlot)
     }
 }
 

@@ -19,25 +19,27 @@ pub(crate) fn replaced(alloc: Global, expression: &Expr, action: &Uid) -> Result
         ExprKind::Literal(value) => Ok(Expr::literal(value.try_clone(alloc)?)),
         ExprKind::Variable(name) => replaced_variable(alloc, *name, action),
         ExprKind::And(left, right) => {
-            let (left, right) = replaced_both(alloc, left, right, action)?;
-            Expr::and(alloc, left, right)
+            let left = replaced_part(alloc, left, action)?;
+            Ok(Expr::new(ExprKind::And(left, replaced_part(alloc, right, action)?)))
         }
         ExprKind::Or(left, right) => {
-            let (left, right) = replaced_both(alloc, left, right, action)?;
-            Expr::or(alloc, left, right)
+            let left = replaced_part(alloc, left, action)?;
+            Ok(Expr::new(ExprKind::Or(left, replaced_part(alloc, right, action)?)))
         }
         ExprKind::If(condition, if_true, if_false) => {
-            let condition = replaced(alloc, condition, action)?;
-            let (if_true, if_false) = replaced_both(alloc, if_true, if_false, action)?;
-            Expr::if_else(alloc, condition, if_true, if_false)
+            let condition = replaced_part(alloc, condition, action)?;
+            let if_true = replaced_part(alloc, if_true, action)?;
+            let if_false = replaced_part(alloc, if_false, action)?;
+            Ok(Expr::new(ExprKind::If(condition, if_true, if_false)))
         }
         ExprKind::Unary(operator, operand) => {
-            let operand = replaced(alloc, operand, action)?;
-            Expr::unary(alloc, operator.try_clone(alloc)?, operand)
+            let operator = operator.try_clone(alloc)?;
+            Ok(Expr::new(ExprKind::Unary(operator, replaced_part(alloc, operand, action)?)))
         }
         ExprKind::Binary(operator, left, right) => {
-            let (left, right) = replaced_both(alloc, left, right, action)?;
-            Expr::binary(alloc, *operator, left, right)
+            let left = replaced_part(alloc, left, action)?;
+            let right = replaced_part(alloc, right, action)?;
+            Ok(Expr::new(ExprKind::Binary(*operator, left, right)))
         }
         ExprKind::Set(members) => Ok(Expr::set(replaced_members(alloc, members, action)?)),
         ExprKind::Record(entries) => replaced_record(alloc, entries, action),
@@ -54,19 +56,13 @@ fn replaced_variable(alloc: Global, name: Variable, action: &Uid) -> Result<Expr
     }
 }
 
-// Copies of two parts.
+// A copy of a part.
 #[cycle(replace)]
-fn replaced_both(
-    alloc: Global,
-    left: &Expr,
-    right: &Expr,
-    action: &Uid,
-) -> Result<(Expr, Expr), AllocError>
-    ensures left { IfOk result (λ p. p.0 ≡ replace action.now left.now) }
-    ensures right { IfOk result (λ p. p.1 ≡ replace action.now right.now) }
+fn replaced_part(alloc: Global, part: &Expr, action: &Uid) -> Result<Box<Expr>, AllocError>
+    ensures { IfOk result (λ b. b.value ≡ replace action.now part.now) }
 {
-    let left = replaced(alloc, left, action)?;
-    Ok((left, replaced(alloc, right, action)?))
+    let copy = replaced(alloc, part, action)?;
+    Ok(Box::new(alloc, copy)?)
 }
 
 // Copies of members.

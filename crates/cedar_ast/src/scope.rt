@@ -1,6 +1,9 @@
 //! The scope of a policy.
+ghost use Rattle.std.specs.Prelude.{◌≡◌, IfOk};
+
 use crate::uids::Uids;
 use cedar_value::{Name, Uid};
+use std::alloc::{AllocError, Global};
 
 /// What a policy's scope asks of the principal or the resource (Cedar language reference, policy scope).
 #[derive(Drop)]
@@ -28,6 +31,20 @@ pub enum ActionScope {
     In(Uid),
     /// `in [E, ..]`
     InSet(Uids),
+}
+
+impl ActionScope {
+    /// A copy, equal to the original.
+    pub(crate) fn try_clone(&self, alloc: Global) -> Result<Self, AllocError>
+        ensures { IfOk result (λ scope. scope ≡ self.now) }
+    {
+        match self {
+            ActionScope::Any => Ok(ActionScope::Any),
+            ActionScope::Equal(entity) => Ok(ActionScope::Equal(entity.try_clone(alloc)?)),
+            ActionScope::In(entity) => Ok(ActionScope::In(entity.try_clone(alloc)?)),
+            ActionScope::InSet(entities) => Ok(ActionScope::InSet(entities.try_clone(alloc)?)),
+        }
+    }
 }
 
 /// The scope of a policy (Cedar language reference, policy scope).

@@ -1,4 +1,6 @@
 //! The scope of a template.
+ghost use Rattle.std.specs.Prelude.{◌≡◌};
+
 use crate::scope::ActionScope;
 use cedar_value::{Name, Uid};
 
@@ -24,6 +26,22 @@ pub enum TemplateEntityScope {
     Is(Name),
     /// `is T in E` or `is T in ?slot`
     IsIn(Name, EntityReference),
+}
+
+impl TemplateEntityScope {
+    ghost use Rattle.cedar_ast.specs.Linking.{has_slot};
+
+    /// Whether it has a slot.
+    pub(crate) fn has_slot(&self) -> bool
+        ensures { result ≡ has_slot self.now }
+    {
+        match self {
+            TemplateEntityScope::Any | TemplateEntityScope::Is(_) => false,
+            TemplateEntityScope::Equal(entity)
+            | TemplateEntityScope::In(entity)
+            | TemplateEntityScope::IsIn(_, entity) => matches!(entity, EntityReference::Slot),
+        }
+    }
 }
 
 /// The scope of a template (Cedar language reference, policy templates).

@@ -1,7 +1,8 @@
 //! Lists of entities.
-ghost use Rattle.std.specs.Prelude.{◌≡◌};
+ghost use Rattle.std.specs.Prelude.{◌≡◌, IfOk};
 
 use cedar_value::Uid;
+use std::alloc::{AllocError, Global};
 use std::marker::Model;
 
 /// Entities in the order in which they are written. Contracts see the list of them.
@@ -32,5 +33,16 @@ impl Uids {
         ensures { result.now ≡ self.now }
     {
         &self.uids
+    }
+
+    /// A copy, equal to the original.
+    pub(crate) fn try_clone(&self, alloc: Global) -> Result<Self, AllocError>
+        ensures { IfOk result (λ copy. copy ≡ self.now) }
+    {
+        let mut copies = Vec::new(alloc);
+        for uid in self.as_slice() {
+            copies.push(uid.try_clone(alloc)?)?;
+        }
+        Ok(Uids::new(copies))
     }
 }

@@ -1,2 +1,4 @@
 -- What only proofs and private contracts use.
+pub mod Condition
+pub mod Mention
 pub mod View

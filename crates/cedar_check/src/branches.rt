@@ -2,25 +2,25 @@
 ghost use Rattle.std.specs.Prelude.{◌≡◌, IfOk, option_and_then, option_map};
 ghost use Rattle.cedar_check.specs.Private.View.{held_view, joined_branches, kept_branch, typed_view, typing_view};
 
-use crate::capability::{Capability, common, extended};
+use crate::capability::{Capability, common, extended, together};
 use crate::joining::join_types;
 use crate::type_fault::TypeFault;
 use crate::typing::{Typed, Typing};
 use std::alloc::{AllocError, Global};
 
-/// The first branch, behind a condition that is known true: it gains what the condition gains too.
+/// The first branch, behind a condition that is known true: it gains what the condition gains too. It takes
+/// memory where both gain.
 pub(crate) fn if_known<'a>(
-    alloc: Global,
-    gained: &[Capability<'a>],
+    gained: Vec<Capability<'a>>,
     first: Typing<'a>,
 ) -> Result<Typing<'a>, AllocError>
-    ensures { IfOk result (λ t. typing_view t ≡ option_map (kept_branch (held_view gained.now)) (typing_view first.entry)) }
+    ensures { IfOk result (λ t. typing_view t ≡ option_map (kept_branch (held_view gained.entry.items)) (typing_view first.entry)) }
 {
     let x = match first {
         Typing::Typed(x) => x,
         Typing::Refused(fault) => return Ok(Typing::Refused(fault)),
     };
-    let gained = extended(alloc, gained, &x.gained)?;
+    let gained = together(gained, x.gained)?;
     Ok(Typing::Typed(Typed { ty: x.ty, gained }))
 }
 

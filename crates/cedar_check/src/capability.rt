@@ -53,6 +53,23 @@ pub(crate) fn extended<'a>(
     Ok(all)
 }
 
+// The ones and the others. Where either are none, it takes no memory.
+pub(crate) fn together<'a>(
+    one: Vec<Capability<'a>>,
+    two: Vec<Capability<'a>>,
+) -> Result<Vec<Capability<'a>>, AllocError>
+    ensures { IfOk result (λ all. held_view all.items ≡ held_view one.entry.items ++ held_view two.entry.items) }
+{
+    if one.is_empty() {
+        return Ok(two);
+    }
+    let mut all = one;
+    for capability in &two {
+        all.push(*capability)?;
+    }
+    Ok(all)
+}
+
 // Those of the first that the second has.
 pub(crate) fn common<'a>(
     alloc: Global,

@@ -1,5 +1,5 @@
 //! The typing of an expression, one function for each form.
-ghost use Rattle.std.specs.Prelude.{◌≡◌, IfOk};
+ghost use Rattle.std.specs.Prelude.{◌≡◌, ◌++◌, [], IfOk};
 ghost use Rattle.cedar_ast.specs.Expression.{and, entries_of, expressions_of, if_else, or, record_with, set_with, unary, binary};
 ghost use Rattle.cedar_ast.specs.Keys.{AreDistinct, keys_of};
 ghost use Rattle.cedar_typing.specs.Checking.{type_of, types_onto};
@@ -52,6 +52,29 @@ pub(crate) fn check<'a>(
     }
 }
 
+// The type of an expression where these are gained beside what is held. It takes memory where both are some.
+#[cycle(check)]
+#[inline(never)]
+fn check_holding<'a>(
+    alloc: Global,
+    schema: &'a Schema,
+    environment: &'a Environment,
+    held: &[Capability<'a>],
+    gained: &[Capability<'a>],
+    expression: &'a Expr,
+) -> Result<Typing<'a>, AllocError>
+    ensures { IfOk result (λ t. typing_view t ≡ type_of schema.now environment.now (held_view held.now ++ held_view gained.now) expression.now) }
+{
+    if gained.is_empty() {
+        return check(alloc, schema, environment, held, expression);
+    }
+    if held.is_empty() {
+        return check(alloc, schema, environment, gained, expression);
+    }
+    let more = extended(alloc, held, gained)?;
+    check(alloc, schema, environment, &more, expression)
+}
+
 // `left && right`.
 #[cycle(check)]
 #[inline(never)]
@@ -75,9 +98,34 @@ fn check_and<'a>(
     if truth == Truth::False {
         return Ok(Typing::plain(alloc, LentType::Boolean(Truth::False)));
     }
-    let more = extended(alloc, held, &x.gained)?;
-    let right = check(alloc, schema, environment, &more, right)?;
-    and_right(alloc, truth, &x.gained, right)
+    let right = check_holding(alloc, schema, environment, held, &x.gained, right)?;
+    and_right(alloc, truth, x.gained, right)
+}
+
+/// The type of `principal && (action && rest)`, where nothing is held. Where `principal` is known false, the
+/// rest is not looked at.
+pub(crate) fn check_scoped<'a>(
+    alloc: Global,
+    schema: &'a Schema,
+    environment: &'a Environment,
+    principal: &'a Expr,
+    action: &'a Expr,
+    rest: &'a Expr,
+) -> Result<Typing<'a>, AllocError>
+    ensures { IfOk result (λ t. typing_view t ≡ type_of schema.now environment.now [] (and principal.now (and action.now rest.now))) }
+{
+    let x = match check(alloc, schema, environment, &[], principal)? {
+        Typing::Typed(x) => x,
+        Typing::Refused(fault) => return Ok(Typing::Refused(fault)),
+    };
+    let Some(truth) = x.ty.truth() else {
+        return Ok(Typing::Refused(TypeFault::OperandKind));
+    };
+    if truth == Truth::False {
+        return Ok(Typing::plain(alloc, LentType::Boolean(Truth::False)));
+    }
+    let right = check_and(alloc, schema, environment, &x.gained, action, rest)?;
+    and_right(alloc, truth, x.gained, right)
 }
 
 // `left || right`.
@@ -133,13 +181,11 @@ fn check_if<'a>(
         None => Ok(Typing::Refused(TypeFault::OperandKind)),
         Some(Truth::False) => check(alloc, schema, environment, held, second),
         Some(Truth::True) => {
-            let more = extended(alloc, held, &x.gained)?;
-            let chosen = check(alloc, schema, environment, &more, first)?;
-            if_known(alloc, &x.gained, chosen)
+            let chosen = check_holding(alloc, schema, environment, held, &x.gained, first)?;
+            if_known(x.gained, chosen)
         }
         Some(Truth::Any) => {
-            let more = extended(alloc, held, &x.gained)?;
-            let chosen = check(alloc, schema, environment, &more, first)?;
+            let chosen = check_holding(alloc, schema, environment, held, &x.gained, first)?;
             let other = check(alloc, schema, environment, held, second)?;
             if_joined(alloc, &x.gained, chosen, other)
         }
@@ -187,7 +233,7 @@ fn check_binary<'a>(
         Typing::Typed(y) => y,
         Typing::Refused(fault) => return Ok(Typing::Refused(fault)),
     };
-    binary_type(alloc, schema, operator, left, right, &x.ty, &y.ty)
+    Ok(binary_type(alloc, schema, operator, left, right, &x.ty, &y.ty))
 }
 
 // What the first type joins to with those of the members.

@@ -1,18 +1,18 @@
 //! The row of `==`.
-ghost use Rattle.std.specs.Prelude.{◌≡◌, IfOk, IfSome, Some, is_some, option_and_then};
+ghost use Rattle.std.specs.Prelude.{◌≡◌, IfSome, Some, is_some, option_and_then};
 ghost use Rattle.cedar_types.specs.Types.{boolean};
 ghost use Rattle.cedar_types.specs.Membership.{known};
 ghost use Rattle.cedar_typing.specs.Checking.{apart, as_type, entity_in, equal_literal_type, equal_type};
 ghost use Rattle.cedar_typing.specs.Typing.{two_literals};
 ghost use Rattle.cedar_check.specs.Private.View.{tree_of, typing_view};
 
-use crate::joining::types_join;
+use crate::joins::types_join;
 use crate::lent_type::LentType;
 use crate::type_fault::TypeFault;
 use crate::typing::Typing;
 use cedar_ast::{Expr, ExprKind};
 use cedar_schema::Truth;
-use std::alloc::{AllocError, Global};
+use std::alloc::Global;
 
 /// What is known of a Boolean.
 pub(crate) fn known(truth: bool) -> Truth
@@ -54,22 +54,22 @@ fn apart<'a>(alloc: Global, left: &LentType<'a>, right: &LentType<'a>) -> Typing
     }
 }
 
-/// The row of `==`. But for sets and records it takes no memory.
+/// The row of `==`. Takes no memory.
 pub(crate) fn equal_type<'a>(
     alloc: Global,
     left: &Expr,
     right: &Expr,
     one: &LentType<'a>,
     two: &LentType<'a>,
-) -> Result<Typing<'a>, AllocError>
-    ensures { IfOk result (λ t. typing_view t ≡ option_and_then as_type (equal_type left.now right.now (tree_of one.now) (tree_of two.now))) }
+) -> Typing<'a>
+    ensures { typing_view result ≡ option_and_then as_type (equal_type left.now right.now (tree_of one.now) (tree_of two.now)) }
 {
     if let Some(truth) = literals_equal(left, right) {
-        return Ok(Typing::plain(alloc, LentType::Boolean(truth)));
+        return Typing::plain(alloc, LentType::Boolean(truth));
     }
-    if types_join(alloc, one.glance(), two.glance())? {
-        Ok(Typing::plain(alloc, LentType::Boolean(Truth::Any)))
+    if types_join(one.glance(), two.glance()) {
+        Typing::plain(alloc, LentType::Boolean(Truth::Any))
     } else {
-        Ok(apart(alloc, one, two))
+        apart(alloc, one, two)
     }
 }

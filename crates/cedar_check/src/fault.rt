@@ -4,10 +4,12 @@ ghost use Rattle.cedar_ast.specs.Condition.{condition_of};
 ghost use Rattle.cedar_typing.specs.Checking.{form_in};
 ghost use Rattle.cedar_typing.specs.Reports.{fault_at, faults_of, is_impossible, is_known_false};
 ghost use Rattle.cedar_check.specs.FaultView.{fault_view};
+ghost use Rattle.cedar_check.specs.Private.Condition.{condition_in, IsReady};
 
 use crate::form::{Form, form_of};
+use crate::prepared::Prepared;
 use crate::type_fault::TypeFault;
-use cedar_ast::{Expr, Policy};
+use cedar_ast::Policy;
 use cedar_schema::{Environment, Schema, Truth};
 use cedar_value::{Name, Text, Uid};
 use std::alloc::{AllocError, Global};
@@ -52,10 +54,11 @@ fn check_in(
     schema: &Schema,
     environment: &Environment,
     policy: &Policy,
-    condition: &Expr,
+    condition: Prepared<'_>,
     faults: &mut Vec<Fault>,
 ) -> Result<bool, AllocError>
-    requires { condition.now ≡ condition_of policy.now }
+    requires condition { condition_in condition ≡ condition_of policy.now }
+    requires ready { IsReady condition }
     ensures faults { OnOk result (map fault_view faults.new.items ≡ map fault_view faults.old.items ++ cond (is_some (form_in schema.now environment.now policy.now)) [] (fault_at policy.now environment.now ∷ [])) }
     ensures known { IfOk result (λ known. known ≡ is_known_false (form_in schema.now environment.now policy.now)) }
 {
@@ -83,10 +86,11 @@ pub(crate) fn check_policy(
     ensures impossible { IfOk result (λ impossible. impossible ≡ is_impossible schema.now policy.now) }
 {
     let condition = policy.condition(alloc)?;
+    let prepared = Prepared::new(&condition);
     let environments = schema.environments();
     let mut impossible = true;
     for environment in environments {
-        if !check_in(alloc, schema, environment, policy, &condition, faults)? {
+        if !check_in(alloc, schema, environment, policy, prepared, faults)? {
             impossible = false;
         }
     }

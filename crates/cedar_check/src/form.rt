@@ -1,10 +1,13 @@
 //! What is known of a policy's condition in an environment.
 ghost use Rattle.std.specs.Prelude.{◌≡◌, [], IfOk, option_and_then};
+ghost use Rattle.cedar_ast.specs.Expression.{and};
 ghost use Rattle.cedar_ast.specs.Replacement.{replace};
 ghost use Rattle.cedar_typing.specs.Checking.{truth_in, type_of};
-ghost use Rattle.cedar_check.specs.Private.View.{form_view};
+ghost use Rattle.cedar_check.specs.Private.Condition.{condition_in, IsReady};
+ghost use Rattle.cedar_check.specs.Private.View.{form_view, typing_view};
 
-use crate::checking::check;
+use crate::checking::{check, check_scoped};
+use crate::prepared::{Parts, Prepared};
 use crate::type_fault::TypeFault;
 use crate::typing::Typing;
 use cedar_ast::Expr;
@@ -20,9 +23,42 @@ pub(crate) enum Form {
     Refused(TypeFault),
 }
 
-/// The form of a condition in an environment, with the environment's action in the place of the
-/// variable.
-pub(crate) fn form_of(
+// The form that a typing tells.
+fn form_in(typing: &Typing<'_>) -> Form
+    ensures { form_view result ≡ option_and_then (λ x. truth_in x.ty) (typing_view typing.now) }
+{
+    match typing {
+        Typing::Refused(fault) => Form::Refused(*fault),
+        Typing::Typed(x) => match x.ty.truth() {
+            Some(truth) => Form::Known(truth),
+            None => Form::Refused(TypeFault::OperandKind),
+        },
+    }
+}
+
+// The form of a condition by its parts, of which that of the action alone is copied.
+fn form_of_parts(
+    alloc: Global,
+    schema: &Schema,
+    environment: &Environment,
+    parts: Parts<'_>,
+) -> Result<Form, AllocError>
+    ensures { IfOk result (λ form. form_view form ≡ option_and_then (λ x. truth_in x.ty) (type_of schema.now environment.now [] (and parts.entry.principal.now (and (replace environment.now.action parts.entry.action.now) parts.entry.rest.now)))) }
+{
+    let action = parts.action.with_action(alloc, &environment.action)?;
+    let typing = check_scoped(
+        alloc,
+        schema,
+        environment,
+        parts.principal,
+        &action,
+        parts.rest,
+    )?;
+    Ok(form_in(&typing))
+}
+
+// The form of a condition in which the variable may stand anywhere.
+fn form_of_whole(
     alloc: Global,
     schema: &Schema,
     environment: &Environment,
@@ -31,12 +67,24 @@ pub(crate) fn form_of(
     ensures { IfOk result (λ form. form_view form ≡ option_and_then (λ x. truth_in x.ty) (type_of schema.now environment.now [] (replace environment.now.action condition.now))) }
 {
     let replaced = condition.with_action(alloc, &environment.action)?;
-    let held = Vec::new(alloc);
-    match check(alloc, schema, environment, &held, &replaced)? {
-        Typing::Refused(fault) => Ok(Form::Refused(fault)),
-        Typing::Typed(x) => match x.ty.truth() {
-            Some(truth) => Ok(Form::Known(truth)),
-            None => Ok(Form::Refused(TypeFault::OperandKind)),
-        },
+    let typing = check(alloc, schema, environment, &[], &replaced)?;
+    Ok(form_in(&typing))
+}
+
+/// The form of a condition in an environment, with the environment's action in the place of the
+/// variable.
+#[tactic(auto, using(crate::proofs::Unmentioned::whole_replaced))]
+pub(crate) fn form_of(
+    alloc: Global,
+    schema: &Schema,
+    environment: &Environment,
+    condition: Prepared<'_>,
+) -> Result<Form, AllocError>
+    requires { IsReady condition }
+    ensures { IfOk result (λ form. form_view form ≡ option_and_then (λ x. truth_in x.ty) (type_of schema.now environment.now [] (replace environment.now.action (condition_in condition.entry)))) }
+{
+    match condition {
+        Prepared::Parts(parts) => form_of_parts(alloc, schema, environment, parts),
+        Prepared::Whole(whole) => form_of_whole(alloc, schema, environment, whole),
     }
 }

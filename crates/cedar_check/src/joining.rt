@@ -1,8 +1,8 @@
 //! Joins of types, lent where they can be.
-ghost use Rattle.std.specs.Prelude.{◌≡◌, IfOk, is_some, option_map};
+ghost use Rattle.std.specs.Prelude.{◌≡◌, IfOk, option_map};
 ghost use Rattle.cedar_types.specs.Joining.{join, join_truths};
 ghost use Rattle.cedar_types.specs.Types.{record_of, set};
-ghost use Rattle.cedar_check.specs.Private.View.{tree_of, type_seen};
+ghost use Rattle.cedar_check.specs.Private.View.{tree_of};
 
 use crate::lent_type::{LentType, TypeGlance};
 use cedar_schema::{RecordType, Truth, Type, TypeKind, join};
@@ -84,61 +84,6 @@ pub(crate) fn join_types<'a>(
         TypeGlance::Record(left) => match two.glance() {
             TypeGlance::Record(right) => join_records(alloc, left, right),
             _ => Ok(None),
-        },
-    }
-}
-
-// Whether two types of sets join.
-fn sets_join(alloc: Global, one: &Type, two: &Type) -> Result<bool, AllocError>
-    ensures { IfOk result (λ joins. joins ≡ is_some (join (set one.now) (set two.now))) }
-{
-    Ok(join_sets(alloc, one, two)?.is_some())
-}
-
-// Whether two types of records join.
-fn records_join(alloc: Global, one: &RecordType, two: &RecordType) -> Result<bool, AllocError>
-    ensures { IfOk result (λ joins. joins ≡ is_some (join (record_of one.now) (record_of two.now))) }
-{
-    Ok(join_records(alloc, one, two)?.is_some())
-}
-
-/// Whether two types join (Cedar documentation, strict validation). But for sets and records it takes no
-/// memory.
-pub(crate) fn types_join(
-    alloc: Global,
-    one: TypeGlance<'_>,
-    two: TypeGlance<'_>,
-) -> Result<bool, AllocError>
-    ensures { IfOk result (λ joins. joins ≡ is_some (join (type_seen one.entry) (type_seen two.entry))) }
-{
-    match one {
-        TypeGlance::Boolean(_) => match two {
-            TypeGlance::Boolean(_) => Ok(true),
-            _ => Ok(false),
-        },
-        TypeGlance::Long => match two {
-            TypeGlance::Long => Ok(true),
-            _ => Ok(false),
-        },
-        TypeGlance::String => match two {
-            TypeGlance::String => Ok(true),
-            _ => Ok(false),
-        },
-        TypeGlance::Decimal => match two {
-            TypeGlance::Decimal => Ok(true),
-            _ => Ok(false),
-        },
-        TypeGlance::Entity(left) => match two {
-            TypeGlance::Entity(right) => Ok(left == right),
-            _ => Ok(false),
-        },
-        TypeGlance::Set(left) => match two {
-            TypeGlance::Set(right) => sets_join(alloc, left, right),
-            _ => Ok(false),
-        },
-        TypeGlance::Record(left) => match two {
-            TypeGlance::Record(right) => records_join(alloc, left, right),
-            _ => Ok(false),
         },
     }
 }

@@ -88,7 +88,7 @@ pub(crate) fn unary_type<'a>(
     }
 }
 
-/// The rows of the operators on two operands. But for sets and records it takes no memory.
+/// The rows of the operators on two operands. Takes no memory.
 pub(crate) fn binary_type<'a>(
     alloc: Global,
     schema: &Schema,
@@ -97,23 +97,23 @@ pub(crate) fn binary_type<'a>(
     right: &Expr,
     one: &LentType<'a>,
     two: &LentType<'a>,
-) -> Result<Typing<'a>, AllocError>
-    ensures { IfOk result (λ t. typing_view t ≡ option_and_then as_type (binary_type schema.now operator left.now right.now (tree_of one.now) (tree_of two.now))) }
+) -> Typing<'a>
+    ensures { typing_view result ≡ option_and_then as_type (binary_type schema.now operator left.now right.now (tree_of one.now) (tree_of two.now)) }
 {
     match operator {
         BinaryOperator::Equal => equal_type(alloc, left, right, one, two),
         BinaryOperator::Less | BinaryOperator::LessEqual => {
-            Ok(longs_type(alloc, LentType::Boolean(Truth::Any), one, two))
+            longs_type(alloc, LentType::Boolean(Truth::Any), one, two)
         }
         BinaryOperator::Add | BinaryOperator::Subtract | BinaryOperator::Multiply => {
-            Ok(longs_type(alloc, LentType::Long, one, two))
+            longs_type(alloc, LentType::Long, one, two)
         }
-        BinaryOperator::In => Ok(in_type(alloc, schema, left, right, one, two)),
+        BinaryOperator::In => in_type(alloc, schema, left, right, one, two),
         BinaryOperator::Contains => contains_type(alloc, one, two),
         BinaryOperator::ContainsAll | BinaryOperator::ContainsAny => sets_type(alloc, one, two),
         BinaryOperator::DecimalLess
         | BinaryOperator::DecimalLessEqual
         | BinaryOperator::DecimalGreater
-        | BinaryOperator::DecimalGreaterEqual => Ok(decimals_type(alloc, one, two)),
+        | BinaryOperator::DecimalGreaterEqual => decimals_type(alloc, one, two),
     }
 }

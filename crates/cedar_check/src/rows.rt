@@ -8,7 +8,7 @@ ghost use Rattle.cedar_typing.specs.Checking.{and_right, as_type, decimal_type, 
 ghost use Rattle.cedar_typing.specs.Typing.{attributes_in, flipped};
 ghost use Rattle.cedar_check.specs.Private.View.{capability_view, held_view, tree_of, type_seen, typed_view, typing_view};
 
-use crate::capability::{Capability, common, extended, is_held};
+use crate::capability::{Capability, common, together};
 use crate::declared::is_action;
 use crate::lent_type::{LentType, TypeGlance};
 use crate::type_fault::TypeFault;
@@ -73,14 +73,15 @@ pub(crate) fn flipped(truth: Truth) -> Truth
     }
 }
 
-/// The row of `&&`, by the right side, where the left is not known false.
+/// The row of `&&`, by the right side, where the left is not known false. It takes memory where both sides
+/// gain.
 pub(crate) fn and_right<'a>(
     alloc: Global,
     truth: Truth,
-    gained: &[Capability<'a>],
+    gained: Vec<Capability<'a>>,
     right: Typing<'a>,
 ) -> Result<Typing<'a>, AllocError>
-    ensures { IfOk result (λ t. typing_view t ≡ on_boolean (typing_view right.entry) (and_right truth (held_view gained.now))) }
+    ensures { IfOk result (λ t. typing_view t ≡ on_boolean (typing_view right.entry) (and_right truth (held_view gained.entry.items))) }
 {
     let y = match right {
         Typing::Typed(y) => y,
@@ -91,11 +92,11 @@ pub(crate) fn and_right<'a>(
         Some(Truth::False) => Ok(Typing::plain(alloc, LentType::Boolean(Truth::False))),
         Some(Truth::True) => Ok(Typing::Typed(Typed {
             ty: LentType::Boolean(truth),
-            gained: extended(alloc, gained, &y.gained)?,
+            gained: together(gained, y.gained)?,
         })),
         Some(Truth::Any) => Ok(Typing::Typed(Typed {
             ty: LentType::Boolean(Truth::Any),
-            gained: extended(alloc, gained, &y.gained)?,
+            gained: together(gained, y.gained)?,
         })),
     }
 }

@@ -1,58 +1,45 @@
 //! The rows of `contains`, `containsAll` and `containsAny`.
-ghost use Rattle.std.specs.Prelude.{◌≡◌, IfOk, option_and_then};
+ghost use Rattle.std.specs.Prelude.{◌≡◌, option_and_then};
 ghost use Rattle.cedar_types.specs.Joining.{join};
 ghost use Rattle.cedar_typing.specs.Checking.{any_where, as_type, element_in, sets_type};
 ghost use Rattle.cedar_check.specs.Private.View.{tree_of, type_seen, typing_view};
 
-use crate::joining::types_join;
+use crate::joins::types_join;
 use crate::lent_type::{LentType, TypeGlance, glance_at};
 use crate::type_fault::TypeFault;
 use crate::typing::Typing;
 use cedar_schema::Truth;
-use std::alloc::{AllocError, Global};
+use std::alloc::Global;
 
 // Any Boolean, where the two types join.
-fn any_where<'a>(
-    alloc: Global,
-    one: TypeGlance<'_>,
-    two: TypeGlance<'_>,
-) -> Result<Typing<'a>, AllocError>
-    ensures { IfOk result (λ t. typing_view t ≡ option_and_then as_type (any_where (join (type_seen one.entry) (type_seen two.entry)))) }
+fn any_where<'a>(alloc: Global, one: TypeGlance<'_>, two: TypeGlance<'_>) -> Typing<'a>
+    ensures { typing_view result ≡ option_and_then as_type (any_where (join (type_seen one.entry) (type_seen two.entry))) }
 {
-    if types_join(alloc, one, two)? {
-        Ok(Typing::plain(alloc, LentType::Boolean(Truth::Any)))
+    if types_join(one, two) {
+        Typing::plain(alloc, LentType::Boolean(Truth::Any))
     } else {
-        Ok(Typing::Refused(TypeFault::NoJoin))
+        Typing::Refused(TypeFault::NoJoin)
     }
 }
 
-/// The row of `contains`. But for sets and records it takes no memory.
-pub(crate) fn contains_type<'a>(
-    alloc: Global,
-    one: &LentType<'a>,
-    two: &LentType<'a>,
-) -> Result<Typing<'a>, AllocError>
-    ensures { IfOk result (λ t. typing_view t ≡ option_and_then as_type (option_and_then (λ m. any_where (join m (tree_of two.now))) (element_in (tree_of one.now)))) }
+/// The row of `contains`. Takes no memory.
+pub(crate) fn contains_type<'a>(alloc: Global, one: &LentType<'a>, two: &LentType<'a>) -> Typing<'a>
+    ensures { typing_view result ≡ option_and_then as_type (option_and_then (λ m. any_where (join m (tree_of two.now))) (element_in (tree_of one.now))) }
 {
     match one.element() {
-        None => Ok(Typing::Refused(TypeFault::OperandKind)),
+        None => Typing::Refused(TypeFault::OperandKind),
         Some(member) => any_where(alloc, glance_at(member), two.glance()),
     }
 }
 
-/// The row of `containsAll` and `containsAny`. But for members that are sets or records it takes no
-/// memory.
-pub(crate) fn sets_type<'a>(
-    alloc: Global,
-    one: &LentType<'a>,
-    two: &LentType<'a>,
-) -> Result<Typing<'a>, AllocError>
-    ensures { IfOk result (λ t. typing_view t ≡ option_and_then as_type (sets_type (tree_of one.now) (tree_of two.now))) }
+/// The row of `containsAll` and `containsAny`. Takes no memory.
+pub(crate) fn sets_type<'a>(alloc: Global, one: &LentType<'a>, two: &LentType<'a>) -> Typing<'a>
+    ensures { typing_view result ≡ option_and_then as_type (sets_type (tree_of one.now) (tree_of two.now)) }
 {
     match one.element() {
-        None => Ok(Typing::Refused(TypeFault::OperandKind)),
+        None => Typing::Refused(TypeFault::OperandKind),
         Some(left) => match two.element() {
-            None => Ok(Typing::Refused(TypeFault::OperandKind)),
+            None => Typing::Refused(TypeFault::OperandKind),
             Some(right) => any_where(alloc, glance_at(left), glance_at(right)),
         },
     }

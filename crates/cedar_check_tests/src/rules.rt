@@ -4,10 +4,15 @@ use std::test::Fail;
 
 /// Policies whose report differs by environment.
 #[rattlefmt::skip]
-const POLICIES: [(&str, &str); 33] = [
+const POLICIES: [(&str, &str); 36] = [
     // A part of the scope that is known false leaves the rest untyped, as the missing `n` of the context of delete.
     (r#"permit(principal, action == Action::"view", resource) when { context.n + 1 > 0 };"#, ""),
     ("permit(principal, action, resource) when { context.n + 1 > 0 };", "603 policy0 delete User Doc;"),
+    // So does a condition on the action that is known false, before it and not after it.
+    (r#"permit(principal, action, resource) when { action == Action::"view" && context.n > 0 };"#, ""),
+    (r#"permit(principal, action, resource) when { context.n > 0 && action == Action::"view" };"#, "603 policy0 delete User Doc;"),
+    // Records join where each has the other's attributes.
+    ("permit(principal, action, resource) when { context == {n: 1} };", "604 policy0 delete User Doc;"),
     // An attribute that may be absent wants a guard.
     ("permit(principal is User, action, resource) when { principal.age >= 18 };", "602 policy0 delete User Doc;602 policy0 view User Doc;"),
     ("permit(principal is User, action, resource) when { principal has age && principal.age >= 18 };", ""),
@@ -51,7 +56,7 @@ const POLICIES: [(&str, &str); 33] = [
 
 /// Conditions that have the same number in each environment.
 #[rattlefmt::skip]
-const CONDITIONS: [(&str, u16); 68] = [
+const CONDITIONS: [(&str, u16); 74] = [
     ("true", 0),
     ("false", 650),
     ("1", 606),
@@ -84,15 +89,21 @@ const CONDITIONS: [(&str, u16); 68] = [
     ("resource.owner == resource", 650),
     (r#"{a: 1} == {a: 1, b: 2}"#, 604),
     ("{a: 1} == {a: 2}", 0),
+    (r#"{a: 1} == {a: "x"}"#, 604),
+    ("{a: 1} == {b: 1}", 604),
+    (r#"{a: {b: 1}} == {a: {b: "x"}}"#, 604),
     ("[1] == [1, 2]", 0),
     (r#"[1, 1] == [1]"#, 0),
     ("[] == [1]", 605),
     (r#"[1, "a"].contains(1)"#, 604),
     ("[1].contains(2)", 0),
     (r#"[1].contains("a")"#, 604),
+    ("[{a: 1}].contains({a: 2})", 0),
+    ("[{a: 1}].contains({b: 2})", 604),
     ("1.contains(1)", 606),
     ("[1].containsAll([2])", 0),
     (r#"[1].containsAll(["a"])"#, 604),
+    (r#"[[1]].containsAny([["a"]])"#, 604),
     ("[1].containsAny([2])", 0),
     ("[1].containsAny(2)", 606),
     // An entity may be absent, so even its required attributes are not known to be there.

@@ -1,9 +1,7 @@
-pub mod Answerable
-pub mod MemberCounts
+pub mod EntitiesFiles
+pub mod Holding
+pub mod Links
 pub mod Pairs
-pub mod PolicyFiles
-pub mod Requests
-pub mod Responses
-pub mod Taken
-pub mod Tallies
+pub mod Prefixes
+pub mod Telling
 pub mod Texts

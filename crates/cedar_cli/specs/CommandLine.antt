@@ -1,5 +1,5 @@
 -- The command line of the program, in `clap`'s own terms.
-use Rattle.std.specs.Prelude.{Bool, true, codes, Some}
+use Rattle.std.specs.Prelude.{Bool, false, true, codes, Some}
 use Rattle.clap.specs.Words.{App, Rule, Text, new_app, new_rule, with_rule, with_subcommand}
 use Rattle.clap.specs.Simple.{on_top}
 
@@ -7,10 +7,23 @@ use Rattle.clap.specs.Simple.{on_top}
 abbrev pub file_rule : Text → Bool → Rule
 file_rule name required = record (new_rule name) { long = Some name; value_names = 1; required = required }
 
--- The subcommand `authorize --policies FILE` (own).
-abbrev pub authorize_app : App
-authorize_app = with_rule (new_app (codes "authorize")) (file_rule (codes "policies") true)
+-- A subcommand `NAME --schema FILE --policies FILE [--links FILE]` (own).
+abbrev pub over_policies : Text → App
+over_policies name =
+    with_rule (with_rule (with_rule (new_app name) (file_rule (codes "schema") true)) (file_rule (codes "policies") true))
+    (file_rule (codes "links") false)
 
--- The program: `cedar` and one subcommand, which has to be there; `--version` tells its version (own).
+-- The subcommand `validate --schema FILE --policies FILE [--links FILE]` (own).
+abbrev pub validate_app : App
+validate_app = over_policies (codes "validate")
+
+-- The subcommand `authorize --schema FILE --policies FILE [--links FILE] --entities FILE` (own).
+abbrev pub authorize_app : App
+authorize_app = with_rule (over_policies (codes "authorize")) (file_rule (codes "entities") true)
+
+-- The program: `cedar` and one of the two subcommands, which has to be there; `--version` tells its version (own).
 abbrev pub program : App
-program = with_subcommand (on_top (λ s. record s { has_version = true; subcommand_required = true }) (new_app (codes "cedar"))) authorize_app.top
+program =
+    with_subcommand
+    (with_subcommand (on_top (λ s. record s { has_version = true; subcommand_required = true }) (new_app (codes "cedar"))) validate_app.top)
+    authorize_app.top

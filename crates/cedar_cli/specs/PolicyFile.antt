@@ -1,13 +1,10 @@
 -- What a policy file holds, and why it is refused.
-use Rattle.std.specs.Prelude.{◌≡◌, ◌≢◌, ◌⊎◌, ◌<◌, ℕ, List, length, Option, Some, None, Contains}
+use Rattle.std.specs.Prelude.{◌≡◌, ◌≢◌, ◌⊎◌, ℕ, List, Option, Some, None}
 use Rattle.std.specs.Str.{IsUtf8}
-use Rattle.cedar_ast.specs.PolicyTree.{PolicyTree}
 use Rattle.cedar_ast.specs.PolicySetTree.{PolicySetTree}
 use Rattle.cedar_tokens.specs.declared.parse_fault.ParseFault.{ParseFault}
 use Rattle.cedar_tokens.specs.Faults.{number_of, offset_of}
 use Rattle.cedar_parser.specs.PolicyText.{IsPolicyText, HasFault}
-use Rattle.cedar_code.specs.Code.{most_instructions}
-use Rattle.cedar_cli.specs.Codes.{policy_code}
 use Rattle.cedar_cli.specs.declared.refusal.FileRefusal.{FileRefusal}
 
 -- The bytes are UTF-8, and as a text they are that of the policies (Cedar language reference, grammar).
@@ -25,15 +22,8 @@ abbrev pub HasTextFault : List ℕ → FileRefusal → Type 0
 HasTextFault bytes refusal =
     IsUtf8 bytes × ((fault : ParseFault) × HasFault bytes fault × (refusal.number ≡ number_of fault) × (refusal.number ≢ 1) × (refusal.offset ≡ offset_of fault))
 
--- The bytes hold policies, and the code of one of them would have over 1,000,000 instructions (own).
-abbrev pub HasLongCode : List ℕ → Type 0
-HasLongCode bytes =
-    (set : PolicySetTree) × IsPolicyFile bytes set × ((p : PolicyTree) × Contains set.policies p × (most_instructions < length (policy_code p)))
-
--- The command line names a policy file, and this is why it is refused: 105 where it is no UTF-8, the number and the place of
--- a fault that its text has, or 701 where a code would be too long (own).
-abbrev pub HasRefusal : Option (List ℕ) → FileRefusal → Type 0
-HasRefusal None refusal = ⊥
-HasRefusal (Some bytes) refusal = ((refusal ≡ record { number = 105; offset = None }) × ¬ (IsUtf8 bytes))
-    ⊎ HasTextFault bytes refusal
-    ⊎ ((refusal ≡ record { number = 701; offset = None }) × HasLongCode bytes)
+-- The command line names a policy file, and this is why it holds no policies: 105 where it is no UTF-8, or the number and the
+-- place of a fault that its text has (own).
+abbrev pub HoldsNoPolicies : Option (List ℕ) → FileRefusal → Type 0
+HoldsNoPolicies None refusal = ⊥
+HoldsNoPolicies (Some bytes) refusal = ((refusal ≡ record { number = 105; offset = None }) × ¬ (IsUtf8 bytes)) ⊎ HasTextFault bytes refusal

@@ -1,4 +1,4 @@
 -- What proofs and private contracts speak of, and no public clause.
-pub mod Tally
+pub mod Telling
 pub mod Tokens
 pub mod Unread

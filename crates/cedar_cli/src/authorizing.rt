@@ -1,101 +1,195 @@
 //! The subcommand `authorize`.
-ghost use Rattle.std.specs.Prelude.{◌≡◌, ◌⊎◌, ◌-◌, ◌<◌, ◌^◌, ◌++◌, [], ◌∷◌, None, IfOk, IfErr, IfSome, IsErrOf};
+ghost use Rattle.std.specs.Prelude.{◌≡◌, ◌≢◌, ◌⊎◌, ◌-◌, ◌<◌, ◌^◌, [], None, IfSome};
 ghost use Rattle.std.specs.Io.KnownBytes.{Keeps};
-ghost use Rattle.serde_json.specs.Written.{compact_text};
 ghost use Rattle.cedar_ast.specs.PolicySetTree.{PolicySetTree};
-ghost use Rattle.cedar_cli.specs.AnswerLine.{AnswersLine};
-ghost use Rattle.cedar_lines.specs.AnswerText.{IsAnswerText, Writes};
-ghost use Rattle.cedar_lines.specs.Lines.{line_feed};
-ghost use Rattle.cedar_cli.specs.PolicyFile.{HasRefusal, HoldsPolicies};
-ghost use Rattle.cedar_cli.specs.Refusal.{refusal_data};
-ghost use Rattle.cedar_cli.specs.Standing.{BeginsRefusal, Stands, StandsWhole};
-ghost use Rattle.cedar_cli.specs.Private.Unread.{IfRefused};
+ghost use Rattle.cedar_schema.specs.SchemaTree.{SchemaTree};
+ghost use Rattle.cedar_typing.specs.Reports.{all_faults};
+ghost use Rattle.cedar_auth.specs.AnswerLine.{AnswersLine};
+ghost use Rattle.cedar_auth.specs.Codes.{HasLongCode};
+ghost use Rattle.cedar_auth.specs.Ready.{ReadyTree};
+ghost use Rattle.cedar_auth.specs.Validation.{HasFault, IsValidated};
+ghost use Rattle.cedar_lines.specs.AnswerText.{AnswersFirst, BeginsAnswers, IsAnswerText, Writes};
+ghost use Rattle.cedar_lines.specs.Lines.{lines_of};
+ghost use Rattle.cedar_cli.specs.Authorization.{HoldAll, IsFirstRefused, Stands, StandsWhole};
+ghost use Rattle.cedar_cli.specs.ReportText.{IsReportText};
+ghost use Rattle.cedar_cli.specs.Standing.{BeginsRefusal, IsRefusalLine};
+ghost use Rattle.cedar_cli.specs.Validation.{BeginsReport, Hold, HoldText};
 
 use crate::ending::End;
-use crate::files::{FileFault, Files, Role};
-use crate::ready::Ready;
-use crate::refusal::{FileRefusal, refusal_line};
-use crate::serving::serve;
+use crate::files::{Files, Role};
+use crate::linking::enter_links;
+use crate::reading::{read_policies, read_ready, read_schema};
+use crate::refusal::{FileRefusal, refuse};
+use crate::validating::{stop, write_report};
 use cedar_ast::PolicySet;
-use cedar_code::CodeFault;
-use cedar_lines::{ServeFault, Sink, Source, flush};
-use cedar_parser::parse;
+use cedar_auth::{NotValidated, Ready, Validated, ValidationFault, serve};
+use cedar_lines::{ServeFault, Sink, Source};
+use cedar_schema::Schema;
 use std::alloc::Global;
 
-/// 105: a policy file that is no UTF-8.
-const NO_UTF8: u16 = 105;
+/// 701: the code of a policy is too long.
+const TOO_LONG: u16 = 701;
 
-/// 1: want of memory.
-const OUT_OF_MEMORY: u16 = 1;
-
-/// Why the policy file gives no policies.
-enum Unread {
-    /// It is refused.
-    Refused(FileRefusal),
-    /// The command line names none.
-    Unnamed,
-    /// It can't be read.
-    Device,
-    /// Memory ran out.
-    Memory,
-}
-
-/// The policies of the policy file.
-fn read_policies<F: Files>(alloc: Global, files: &F) -> Result<PolicySet, Unread>
-    ensures found { IfOk result (λ set. IfSome (F.holds files.now Role.Policies) (λ held. HoldsPolicies held set)) }
-    ensures refused { IfErr result (λ unread. IfRefused unread (λ refusal.
-        IfSome (F.holds files.now Role.Policies) (λ held. HasRefusal held refusal))) }
-    ensures unnamed { IsErrOf result Unread.Unnamed → IfSome (F.holds files.now Role.Policies) (λ held. held ≡ None) }
-    ensures device { IsErrOf result Unread.Device → F.holds files.now Role.Policies ≡ None }
-{
-    let bytes = match files.read(alloc, Role::Policies) {
-        Ok(Some(bytes)) => bytes,
-        Ok(None) => return Err(Unread::Unnamed),
-        Err(FileFault::Device) => return Err(Unread::Device),
-        Err(FileFault::Memory) => return Err(Unread::Memory),
-    };
-    let Ok(text) = str::from_utf8(&bytes) else {
-        return Err(Unread::Refused(FileRefusal::whole(NO_UTF8)));
-    };
-    match parse(alloc, text) {
-        Ok(policies) => Ok(policies),
-        Err(fault) => match fault.number() {
-            OUT_OF_MEMORY => Err(Unread::Memory),
-            number => {
-                let offset = fault.offset();
-                Err(Unread::Refused(FileRefusal { number, offset }))
-            }
-        },
-    }
-}
-
-/// Tells that a file is refused.
-fn refuse<K: Sink>(alloc: Global, role: Role, refusal: FileRefusal, sink: &mut K) -> End
-    requires { K.failed sink.old < 2 ^ 64 - 1 }
-    ensures refused { result ≡ End.Refused → Writes (K.written sink.old) (K.written sink.new)
-        (λ text. text ≡ compact_text (refusal_data role refusal) ++ line_feed ∷ []) }
+// Tells why the policies are not accepted for the schema.
+fn tell<K: Sink>(alloc: Global, refused: &NotValidated, sink: &mut K) -> End
+    requires sink_count { K.failed sink.old < 2 ^ 64 - 1 }
+    requires refused { HasFault refused.now.schema refused.now.policies.policies refused.now.fault }
+    ensures faults { result ≡ End.Faults → (all_faults refused.now.schema refused.now.policies.policies ≢ [])
+        × Writes (K.written sink.old) (K.written sink.new) (IsReportText refused.now.schema refused.now.policies.policies) }
+    ensures refused { result ≡ End.Refused → HasLongCode refused.now.policies.policies
+        × Writes (K.written sink.old) (K.written sink.new) (IsRefusalLine Role.Policies (record { number = 701; offset = None })) }
     ensures device { result ≡ End.Device → K.failed sink.old < K.failed sink.new }
-    ensures stands { result ≡ End.Device → Writes (K.written sink.old) (K.written sink.new) (BeginsRefusal role refusal) }
+    ensures stands { result ≡ End.Device
+        → Writes (K.written sink.old) (K.written sink.new) (BeginsReport refused.now.schema refused.now.policies.policies)
+        ⊎ (HasLongCode refused.now.policies.policies
+        × Writes (K.written sink.old) (K.written sink.new) (BeginsRefusal Role.Policies (record { number = 701; offset = None }))) }
     ensures stands_whole { result ≡ End.Memory → Keeps (K.written sink.old) (K.written sink.new) }
-    ensures others { (result ≡ End.Done → ⊥) × (result ≡ End.Faults → ⊥) × (result ≡ End.CommandLine → ⊥) }
+    ensures others { (result ≡ End.Done → ⊥) × (result ≡ End.CommandLine → ⊥) }
 {
-    let Ok(mut line) = refusal_line(alloc, role, refusal) else {
-        return End::Memory;
-    };
-    match flush(&mut line, sink) {
-        Ok(()) => End::Refused,
-        Err(_) => End::Device,
+    match &refused.fault {
+        ValidationFault::OutOfMemory => End::Memory,
+        ValidationFault::Faults(report) => write_report(alloc, &refused.policies, report, sink),
+        ValidationFault::TooLong => {
+            refuse(alloc, Role::Policies, FileRefusal::whole(TOO_LONG), sink)
+        }
     }
 }
 
-/// Reads the policies and answers each request line of the source by an answer line to the sink.
+// Answers each request line.
+fn answer<S: Source, K: Sink>(alloc: Global, ready: &Ready, source: &mut S, sink: &mut K) -> End
+    requires source_count { S.failed source.old < 2 ^ 64 - 1 }
+    requires sink_count { K.failed sink.old < 2 ^ 64 - 1 }
+    ensures done { result ≡ End.Done → IfSome (S.left source.old) (λ input. Writes (K.written sink.old) (K.written sink.new)
+        (IsAnswerText (AnswersLine ready.now) input)) }
+    ensures device { result ≡ End.Device → (S.failed source.old < S.failed source.new) ⊎ (K.failed sink.old < K.failed sink.new) }
+    ensures stands { result ≡ End.Device → IfSome (S.left source.old) (λ input. Writes (K.written sink.old) (K.written sink.new)
+        (BeginsAnswers (AnswersLine ready.now) (lines_of input))) }
+    ensures stands_whole { result ≡ End.Memory → IfSome (S.left source.old) (λ input. Writes (K.written sink.old) (K.written sink.new)
+        (AnswersFirst (AnswersLine ready.now) (lines_of input))) }
+    ensures others { (result ≡ End.Refused → ⊥) × (result ≡ End.Faults → ⊥) × (result ≡ End.CommandLine → ⊥) }
+{
+    match serve(alloc, ready, source, sink) {
+        Ok(()) => End::Done,
+        Err(ServeFault::OutOfMemory) => End::Memory,
+        Err(ServeFault::ReadFailed) => End::Device,
+        Err(ServeFault::WriteFailed) => End::Device,
+    }
+}
+
+// Reads the entities, and answers each request line over them.
+fn over_entities<F: Files, S: Source, K: Sink>(
+    alloc: Global,
+    files: &F,
+    validated: Validated,
+    source: &mut S,
+    sink: &mut K,
+) -> End
+    requires source_count { S.failed source.old < 2 ^ 64 - 1 }
+    requires sink_count { K.failed sink.old < 2 ^ 64 - 1 }
+    requires held { Hold (F.holds files.now) validated.schema validated.policies }
+    requires accepted { IsValidated validated.schema validated.policies.policies }
+    ensures done { result ≡ End.Done → (r : ReadyTree)
+        × HoldAll (F.holds files.now) r
+        × IfSome (S.left source.old) (λ input. Writes (K.written sink.old) (K.written sink.new) (IsAnswerText (AnswersLine r) input)) }
+    ensures faults { result ≡ End.Faults → ⊥ }
+    ensures refused { result ≡ End.Refused → (role : Role) × (refusal : FileRefusal)
+        × IsFirstRefused (F.holds files.now) role refusal
+        × Writes (K.written sink.old) (K.written sink.new) (IsRefusalLine role refusal) }
+    ensures unread { result ≡ End.Refused → source.new ≡ source.old }
+    ensures unnamed { result ≡ End.CommandLine → IfSome (F.holds files.now Role.Entities) (λ held. held ≡ None) }
+    ensures untouched { result ≡ End.CommandLine → (source.new ≡ source.old) × (sink.new ≡ sink.old) }
+    ensures device { result ≡ End.Device → (F.holds files.now Role.Entities ≡ None)
+        ⊎ (S.failed source.old < S.failed source.new) ⊎ (K.failed sink.old < K.failed sink.new) }
+    ensures stands { result ≡ End.Device → Stands (F.holds files.now) (S.left source.old) (K.written sink.old) (K.written sink.new) }
+    ensures stands_whole { result ≡ End.Memory → StandsWhole (F.holds files.now) (S.left source.old) (K.written sink.old) (K.written sink.new) }
+{
+    let ready = match read_ready(alloc, files, validated) {
+        Ok(ready) => ready,
+        Err(unread) => return stop(alloc, Role::Entities, unread, sink),
+    };
+    answer(alloc, &ready, source, sink)
+}
+
+// Validates the policies by the schema, and answers each request line by them.
+fn over_policies<F: Files, S: Source, K: Sink>(
+    alloc: Global,
+    files: &F,
+    schema: Schema,
+    policies: PolicySet,
+    source: &mut S,
+    sink: &mut K,
+) -> End
+    requires source_count { S.failed source.old < 2 ^ 64 - 1 }
+    requires sink_count { K.failed sink.old < 2 ^ 64 - 1 }
+    requires held { Hold (F.holds files.now) schema policies }
+    ensures done { result ≡ End.Done → (r : ReadyTree)
+        × HoldAll (F.holds files.now) r
+        × IfSome (S.left source.old) (λ input. Writes (K.written sink.old) (K.written sink.new) (IsAnswerText (AnswersLine r) input)) }
+    ensures faults { result ≡ End.Faults → (s : SchemaTree) × (set : PolicySetTree)
+        × Hold (F.holds files.now) s set × (all_faults s set.policies ≢ [])
+        × Writes (K.written sink.old) (K.written sink.new) (IsReportText s set.policies) }
+    ensures refused { result ≡ End.Refused → (role : Role) × (refusal : FileRefusal)
+        × IsFirstRefused (F.holds files.now) role refusal
+        × Writes (K.written sink.old) (K.written sink.new) (IsRefusalLine role refusal) }
+    ensures unread { (result ≡ End.Refused) ⊎ (result ≡ End.Faults) → source.new ≡ source.old }
+    ensures unnamed { result ≡ End.CommandLine → IfSome (F.holds files.now Role.Entities) (λ held. held ≡ None) }
+    ensures untouched { result ≡ End.CommandLine → (source.new ≡ source.old) × (sink.new ≡ sink.old) }
+    ensures device { result ≡ End.Device → (F.holds files.now Role.Entities ≡ None)
+        ⊎ (S.failed source.old < S.failed source.new) ⊎ (K.failed sink.old < K.failed sink.new) }
+    ensures stands { result ≡ End.Device → Stands (F.holds files.now) (S.left source.old) (K.written sink.old) (K.written sink.new) }
+    ensures stands_whole { result ≡ End.Memory → StandsWhole (F.holds files.now) (S.left source.old) (K.written sink.old) (K.written sink.new) }
+{
+    let validated = match Validated::new(alloc, schema, policies) {
+        Ok(validated) => validated,
+        Err(refused) => return tell(alloc, &refused, sink),
+    };
+    over_entities(alloc, files, validated, source, sink)
+}
+
+// Enters the links behind the policies, and answers each request line by them.
+fn over_links<F: Files, S: Source, K: Sink>(
+    alloc: Global,
+    files: &F,
+    schema: Schema,
+    mut policies: PolicySet,
+    source: &mut S,
+    sink: &mut K,
+) -> End
+    requires source_count { S.failed source.old < 2 ^ 64 - 1 }
+    requires sink_count { K.failed sink.old < 2 ^ 64 - 1 }
+    requires held { HoldText (F.holds files.now) schema policies }
+    ensures done { result ≡ End.Done → (r : ReadyTree)
+        × HoldAll (F.holds files.now) r
+        × IfSome (S.left source.old) (λ input. Writes (K.written sink.old) (K.written sink.new) (IsAnswerText (AnswersLine r) input)) }
+    ensures faults { result ≡ End.Faults → (s : SchemaTree) × (set : PolicySetTree)
+        × Hold (F.holds files.now) s set × (all_faults s set.policies ≢ [])
+        × Writes (K.written sink.old) (K.written sink.new) (IsReportText s set.policies) }
+    ensures refused { result ≡ End.Refused → (role : Role) × (refusal : FileRefusal)
+        × IsFirstRefused (F.holds files.now) role refusal
+        × Writes (K.written sink.old) (K.written sink.new) (IsRefusalLine role refusal) }
+    ensures unread { (result ≡ End.Refused) ⊎ (result ≡ End.Faults) → source.new ≡ source.old }
+    ensures unnamed { result ≡ End.CommandLine → IfSome (F.holds files.now Role.Entities) (λ held. held ≡ None) }
+    ensures untouched { result ≡ End.CommandLine → (source.new ≡ source.old) × (sink.new ≡ sink.old) }
+    ensures device { result ≡ End.Device → (F.holds files.now Role.Links ≡ None) ⊎ (F.holds files.now Role.Entities ≡ None)
+        ⊎ (S.failed source.old < S.failed source.new) ⊎ (K.failed sink.old < K.failed sink.new) }
+    ensures stands { result ≡ End.Device → Stands (F.holds files.now) (S.left source.old) (K.written sink.old) (K.written sink.new) }
+    ensures stands_whole { result ≡ End.Memory → StandsWhole (F.holds files.now) (S.left source.old) (K.written sink.old) (K.written sink.new) }
+{
+    match enter_links(alloc, files, &mut policies) {
+        Ok(()) => over_policies(alloc, files, schema, policies, source, sink),
+        Err(unread) => stop(alloc, Role::Links, unread, sink),
+    }
+}
+
+/// Reads the schema, the policies, the links and the entities, in this order, and answers each request line of the source by an
+/// answer line to the sink.
 ///
-/// `Done` where all lines were answered. `Refused` where the policy file is refused: one line, as
-/// `{"file":"policies","offset":43,"refused":104}`, tells by which number and where the fault is (105, with no place, where
-/// it is no UTF-8; 701, with none, where the code of a policy is too long), and nothing of the source is read. `CommandLine`
-/// where no policy file is named: nothing is read, and nothing written.
-/// `Device` where it can't be read, or where the source or the sink failed; `Memory` where memory ran out. What was
-/// answered before stays written: whole lines after `Memory`, and after `Device` perhaps a part of a line too.
+/// `Done` where all lines were answered. `Faults` where strict validation finds faults in the policies: the report on them was
+/// written, and the entities were not read. `Refused` where a file is refused: one line, as
+/// `{"file":"policies","offset":43,"refused":104}`, tells which, by which number and where the fault is (that of a
+/// policy text has a place). `CommandLine` where no schema, no policies or no entities are named: nothing is written. `Device` where a file
+/// can't be read, or where the source or the sink failed; `Memory` where memory ran out. What was answered before stays written:
+/// whole lines after `Memory`, and after `Device` perhaps a part of a line too.
 pub fn authorize<F: Files, S: Source, K: Sink>(
     alloc: Global,
     files: &F,
@@ -105,42 +199,32 @@ pub fn authorize<F: Files, S: Source, K: Sink>(
     requires source_count { S.failed source.old < 2 ^ 64 - 1 }
     requires sink_count { K.failed sink.old < 2 ^ 64 - 1 }
 
-    ensures done { result ≡ End.Done → (set : PolicySetTree)
-        × IfSome (F.holds files.now Role.Policies) (λ held. HoldsPolicies held set) × IfSome (S.left source.old) (λ input.
-        Writes (K.written sink.old) (K.written sink.new) (IsAnswerText (AnswersLine set.policies) input)) }
-    ensures refused { result ≡ End.Refused → (refusal : FileRefusal)
-        × IfSome (F.holds files.now Role.Policies) (λ held. HasRefusal held refusal)
-        × Writes (K.written sink.old) (K.written sink.new) (λ text. text ≡ compact_text (refusal_data Role.Policies refusal) ++ line_feed ∷ []) }
-    ensures unread { result ≡ End.Refused → source.new ≡ source.old }
-    ensures unnamed { result ≡ End.CommandLine → IfSome (F.holds files.now Role.Policies) (λ held. held ≡ None) }
+    ensures done { result ≡ End.Done → (r : ReadyTree)
+        × HoldAll (F.holds files.now) r
+        × IfSome (S.left source.old) (λ input. Writes (K.written sink.old) (K.written sink.new) (IsAnswerText (AnswersLine r) input)) }
+    ensures faults { result ≡ End.Faults → (s : SchemaTree) × (set : PolicySetTree)
+        × Hold (F.holds files.now) s set × (all_faults s set.policies ≢ [])
+        × Writes (K.written sink.old) (K.written sink.new) (IsReportText s set.policies) }
+    ensures refused { result ≡ End.Refused → (role : Role) × (refusal : FileRefusal)
+        × IsFirstRefused (F.holds files.now) role refusal
+        × Writes (K.written sink.old) (K.written sink.new) (IsRefusalLine role refusal) }
+    ensures unread { (result ≡ End.Refused) ⊎ (result ≡ End.Faults) → source.new ≡ source.old }
+    ensures unnamed { result ≡ End.CommandLine → IfSome (F.holds files.now Role.Schema) (λ held. held ≡ None)
+        ⊎ IfSome (F.holds files.now Role.Policies) (λ held. held ≡ None) ⊎ IfSome (F.holds files.now Role.Entities) (λ held. held ≡ None) }
     ensures untouched { result ≡ End.CommandLine → (source.new ≡ source.old) × (sink.new ≡ sink.old) }
-    ensures device { result ≡ End.Device → (F.holds files.now Role.Policies ≡ None)
+    ensures device { result ≡ End.Device → (F.holds files.now Role.Schema ≡ None) ⊎ (F.holds files.now Role.Policies ≡ None)
+        ⊎ (F.holds files.now Role.Links ≡ None) ⊎ (F.holds files.now Role.Entities ≡ None)
         ⊎ (S.failed source.old < S.failed source.new) ⊎ (K.failed sink.old < K.failed sink.new) }
-    ensures stands { result ≡ End.Device
-        → Stands (F.holds files.now Role.Policies) (S.left source.old) (K.written sink.old) (K.written sink.new) }
-    ensures stands_whole { result ≡ End.Memory
-        → StandsWhole (F.holds files.now Role.Policies) (S.left source.old) (K.written sink.old) (K.written sink.new) }
-    ensures no_faults { result ≡ End.Faults → ⊥ }
+    ensures stands { result ≡ End.Device → Stands (F.holds files.now) (S.left source.old) (K.written sink.old) (K.written sink.new) }
+    ensures stands_whole { result ≡ End.Memory → StandsWhole (F.holds files.now) (S.left source.old) (K.written sink.old) (K.written sink.new) }
 {
+    let schema = match read_schema(alloc, files) {
+        Ok(schema) => schema,
+        Err(unread) => return stop(alloc, Role::Schema, unread, sink),
+    };
     let policies = match read_policies(alloc, files) {
         Ok(policies) => policies,
-        Err(Unread::Refused(refusal)) => return refuse(alloc, Role::Policies, refusal, sink),
-        Err(Unread::Unnamed) => return End::CommandLine,
-        Err(Unread::Device) => return End::Device,
-        Err(Unread::Memory) => return End::Memory,
+        Err(unread) => return stop(alloc, Role::Policies, unread, sink),
     };
-    let ready = match Ready::new(alloc, &policies) {
-        Ok(ready) => ready,
-        Err(CodeFault::OutOfMemory) => return End::Memory,
-        Err(CodeFault::TooLong) => {
-            let refusal = FileRefusal::whole(CodeFault::TooLong.number());
-            return refuse(alloc, Role::Policies, refusal, sink);
-        }
-    };
-    match serve(alloc, &ready, source, sink) {
-        Ok(()) => End::Done,
-        Err(ServeFault::OutOfMemory) => End::Memory,
-        Err(ServeFault::ReadFailed) => End::Device,
-        Err(ServeFault::WriteFailed) => End::Device,
-    }
+    over_links(alloc, files, schema, policies, source, sink)
 }

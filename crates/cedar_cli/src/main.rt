@@ -1,23 +1,19 @@
-//! `cedar`, the program: answers request lines by policies.
+//! `cedar`, the program: validates policies and links by a schema, and answers request lines by them and entities.
 #![tactic(auto)]
 
-pub mod answer;
 pub mod authorizing;
 mod command;
 pub mod command_line;
 pub mod ending;
 pub mod files;
-pub mod line_fault;
+pub mod linking;
 pub mod options;
-mod part;
-pub mod ready;
+pub mod reading;
 pub mod refusal;
-pub mod request_line;
-pub mod response;
-pub mod serving;
-pub mod tally;
+pub mod report;
 #[cfg(test)]
 mod tests;
+pub mod validating;
 
 use authorizing::authorize;
 use cedar_lines::{StdSink, StdSource};
@@ -28,6 +24,7 @@ use files::NamedFiles;
 use options::Subcommand;
 use std::process::ExitCode;
 use std::{env, io};
+use validating::validate;
 
 /// Tells what `clap` says of a command line that gives no words: a refusal, or the help that was asked for.
 fn tell(rt: &HostRuntime, error: &clap::Error) -> io::Result<End> {
@@ -54,11 +51,13 @@ fn run(rt: &HostRuntime) -> io::Result<End> {
         Ok(words) => words,
         Err(error) => return tell(rt, &error),
     };
-    match words.subcommand {
+    let subcommand = words.subcommand;
+    let files = NamedFiles::new(rt, words);
+    let mut sink = StdSink::new(io::writer(rt));
+    match subcommand {
+        Subcommand::Validate => Ok(validate(alloc, &files, &mut sink)),
         Subcommand::Authorize => {
-            let files = NamedFiles::new(rt, words);
             let mut source = StdSource::new(rt.reader());
-            let mut sink = StdSink::new(io::writer(rt));
             Ok(authorize(alloc, &files, &mut source, &mut sink))
         }
     }

@@ -3,6 +3,8 @@
 /// What the program is asked to do.
 #[derive(Clone, Copy, Debug, PartialEq, Eq)]
 pub enum Subcommand {
+    /// Report on the policies by the schema.
+    Validate,
     /// Answer the request lines of standard input.
     Authorize,
 }
@@ -13,6 +15,12 @@ pub enum Subcommand {
 pub struct Words<'a> {
     /// What the program is asked to do.
     pub subcommand: Subcommand,
+    /// The file of the schema, after `--schema`.
+    pub schema: Option<&'a str>,
     /// The file of the policies, after `--policies`.
     pub policies: Option<&'a str>,
+    /// The file of the links, after `--links`.
+    pub links: Option<&'a str>,
+    /// The file of the entities, after `--entities`.
+    pub entities: Option<&'a str>,
 }

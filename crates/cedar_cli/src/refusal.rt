@@ -1,11 +1,16 @@
 //! The line that tells which file is refused.
-ghost use Rattle.std.specs.Prelude.{◌≡◌, List, ◌++◌, [], ◌∷◌, None, Some, IfOk, OnOk};
+ghost use Rattle.std.specs.Prelude.{◌≡◌, ◌-◌, ◌<◌, ◌^◌, List, ◌++◌, [], ◌∷◌, None, Some, IfOk, OnOk};
+ghost use Rattle.std.specs.Io.KnownBytes.{Keeps};
 ghost use Rattle.serde_json.specs.Written.{compact_text};
+ghost use Rattle.cedar_lines.specs.AnswerText.{Writes};
 ghost use Rattle.cedar_lines.specs.Lines.{line_feed};
 ghost use Rattle.cedar_cli.specs.Refusal.{file_name, refusal_of, refusal_data};
+ghost use Rattle.cedar_cli.specs.Standing.{BeginsRefusal, IsRefusalLine};
 ghost use Rattle.cedar_cli.specs.Private.Tokens.{data_tokens};
 
+use crate::ending::End;
 use crate::files::Role;
+use cedar_lines::{Sink, flush};
 use json::Writer;
 use std::alloc::{AllocError, Global};
 
@@ -95,4 +100,23 @@ pub fn refusal_line(alloc: Global, role: Role, refusal: FileRefusal) -> Result<V
     let mut line = writer.into_inner();
     line.push(b'\n')?;
     Ok(line)
+}
+
+/// Tells on the sink that a file is refused. `Refused` where the whole line was written, `Device` where the sink failed during
+/// the call, which may leave a part of the line, and `Memory` where memory ran out, which leaves nothing.
+pub fn refuse<K: Sink>(alloc: Global, role: Role, refusal: FileRefusal, sink: &mut K) -> End
+    requires { K.failed sink.old < 2 ^ 64 - 1 }
+    ensures refused { result ≡ End.Refused → Writes (K.written sink.old) (K.written sink.new) (IsRefusalLine role refusal) }
+    ensures device { result ≡ End.Device → K.failed sink.old < K.failed sink.new }
+    ensures stands { result ≡ End.Device → Writes (K.written sink.old) (K.written sink.new) (BeginsRefusal role refusal) }
+    ensures stands_whole { result ≡ End.Memory → Keeps (K.written sink.old) (K.written sink.new) }
+    ensures others { (result ≡ End.Done → ⊥) × (result ≡ End.Faults → ⊥) × (result ≡ End.CommandLine → ⊥) }
+{
+    let Ok(mut line) = refusal_line(alloc, role, refusal) else {
+        return End::Memory;
+    };
+    match flush(&mut line, sink) {
+        Ok(()) => End::Refused,
+        Err(_) => End::Device,
+    }
 }

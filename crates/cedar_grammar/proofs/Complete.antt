@@ -21,8 +21,9 @@ use Rattle.cedar_tokens.specs.Names.{Rule, Takes, Text, Path, Entity}
 use Rattle.cedar_grammar.specs.Grammar.{Opens, Series, Arguments, Entry, variable_of, slot_of, Primary, Suffixes, Member, Signed, Unary, Operands, chained, Chain, or_sign, and_sign, sum_sign, product_sign, relation_sign_of, Products, Sums, Relation, Ands, Ors, Expression, Nested}
 use Rattle.cedar_grammar.specs.Private.Reading as r
 use Rattle.cedar_tokens.specs.Private.Reading.{TooDeep, Outcome, Parser, and_then, same_kind, sees, expect, sign_at, on_some, next}
-use Rattle.cedar_grammar.specs.Private.Reading.{chain_from, chain, nested}
+use Rattle.cedar_grammar.specs.Private.Reading.{links_from, chain, nested}
 use Rattle.cedar_tokens.proofs.Outcomes.{Answers, given, deep, answers_then, answers_by}
+use Rattle.cedar_grammar.proofs.StepLemmas.{answers_flat}
 use Rattle.cedar_grammar.proofs.Moves as m
 use Rattle.cedar_grammar.proofs.Moves.{shorter, takes_moves, Advances}
 use Rattle.cedar_grammar.proofs.Binds as b
@@ -92,28 +93,29 @@ module _ {A : Type 0} (P : Type 0) (Item : Rule A) (item : Parser A) (high : ℕ
 -- ---- chains
 
 module _ (P : Type 0) (signs : TokenKind → Option ChainSign) (item : Parser Written) (Item : Rule Written) (n : ℕ) (below : Below n signs) (advances : Advances Item) (complete : Complete P Item n item) where
-  chain_on : (ts : Marks) (a : Written) (ls : List Link) (us : Marks) → Operands signs Item ts a ls us → bind_at us < n → (c : Written) (vs : Marks)
-      → ((turns : ℕ) → length us ≤ turns → Answers P (chain_from signs item turns a ls us) c vs) → Answers P (chain signs item ts) c vs
-  unfolding chain_from r.kind_at next
-  chain_on ts a ls us (g.first i) lt c vs h = answers_then (item ts) a us _ c vs (complete ts a us i lt) (h (length us) (omega arith))
-  chain_on ts a _ us (g.more {us = xs} {b = b'} {ls = ls} {t = t} {sign = sign} left s i) lt c vs h =
-      chain_on ts a ls (t ∷ xs) left (below t.kind sign s) c vs go
+  -- Where the links are read on from the first ones, the whole is.
+  chain_on : (ts : Marks) (a : Written) (ls : List Link) (us : Marks) → Operands signs Item ts a ls us → bind_at us < n → (found : List Link) (vs : Marks)
+      → ((turns : ℕ) → length us ≤ turns → Answers P (links_from signs item turns ls us) found vs) → Answers P (chain signs item ts) (chained a found) vs
+  unfolding links_from r.kind_at next
+  chain_on ts a ls us (g.first i) lt found vs h = answers_then (item ts) a us _ (chained a found) vs (complete ts a us i lt) (answers_then (links_from signs item (length us) [] us) found vs _ (chained a found) vs (h (length us) (omega arith)) given)
+  chain_on ts a _ us (g.more {us = xs} {b = b'} {ls = ls} {t = t} {sign = sign} left s i) lt found vs h =
+      chain_on ts a ls (t ∷ xs) left (below t.kind sign s) found vs go
     where
-      turn : (turns : ℕ) → length xs ≤ turns → Answers P (on_some (signs t.kind) (Ok (chained a ls, t ∷ xs)) (λ q. and_then (item xs) (λ x ys. chain_from signs item turns a (ls ++ Operand q x ∷ []) ys))) c vs
-      turn turns le = answers_by (ap (λ (o : Option ChainSign). on_some o (Ok (chained a ls, t ∷ xs)) (λ q. and_then (item xs) (λ x ys. chain_from signs item turns a (ls ++ Operand q x ∷ []) ys))) s)
-          (answers_then (item xs) b' us _ c vs (complete xs b' us i lt) (h turns (let q = shorter (advances _ _ _ i) in omega arith)))
+      turn : (turns : ℕ) → length xs ≤ turns → Answers P (on_some (signs t.kind) (Ok (ls, t ∷ xs)) (λ q. and_then (item xs) (λ x ys. links_from signs item turns (ls ++ Operand q x ∷ []) ys))) found vs
+      turn turns le = answers_by (ap (λ (o : Option ChainSign). on_some o (Ok (ls, t ∷ xs)) (λ q. and_then (item xs) (λ x ys. links_from signs item turns (ls ++ Operand q x ∷ []) ys))) s)
+          (answers_then (item xs) b' us _ found vs (complete xs b' us i lt) (h turns (let q = shorter (advances _ _ _ i) in omega arith)))
 
-      go : (turns : ℕ) → length (t ∷ xs) ≤ turns → Answers P (chain_from signs item turns a ls (t ∷ xs)) c vs
+      go : (turns : ℕ) → length (t ∷ xs) ≤ turns → Answers P (links_from signs item turns ls (t ∷ xs)) found vs
       go zero le = absurd (omega arith)
       go (suc turns) le = turn turns (omega arith)
 
-  stops : (turns : ℕ) (a : Written) (ls : List Link) (us : Marks) → sign_at signs us ≡ None → Answers P (chain_from signs item turns a ls us) (chained a ls) us
-  unfolding chain_from
-  stops zero a ls us h = given
-  stops (suc turns) a ls us h = answers_by (ap (λ (o : Option ChainSign). on_some o (Ok (chained a ls, us)) (λ sign. and_then (item (next us)) (λ x ys. chain_from signs item turns a (ls ++ Operand sign x ∷ []) ys))) h) given
+  stops : (turns : ℕ) (ls : List Link) (us : Marks) → sign_at signs us ≡ None → Answers P (links_from signs item turns ls us) ls us
+  unfolding links_from
+  stops zero ls us h = given
+  stops (suc turns) ls us h = answers_by (ap (λ (o : Option ChainSign). on_some o (Ok (ls, us)) (λ sign. and_then (item (next us)) (λ x ys. links_from signs item turns (ls ++ Operand sign x ∷ []) ys))) h) given
 
   pub chain_complete : (low : ℕ) → Above low signs → low ≤ n → Complete P (Chain signs Item) low (chain signs item)
-  chain_complete low above le ts _ us (g.operands {a = a} {ls = ls} o) lt = chain_on ts a ls us o (omega arith) (chained a ls) us (λ turns _. stops turns a ls us (no_sign low signs above us lt))
+  chain_complete low above le ts _ us (g.operands {a = a} {ls = ls} o) lt = chain_on ts a ls us o (omega arith) ls us (λ turns _. stops turns ls us (no_sign low signs above us lt))
 
 -- ---- one level after the other
 
@@ -225,37 +227,38 @@ module _ (P : Type 0) (d' d : ℕ) (less : d < d' → P) (Inner : Rule Written) 
       (answers_then (r.called d inner ws) found zs _ (Method t.text found) zs (called_complete o list c) given))))
 
   -- one more turn
-  turned : (xs us : Marks) {vs : Marks} {c : Written} (a : Written) (ls : List Link) (l : Link) → r.has_suffix xs ≡ true → Answers P (r.suffix d inner xs) l us → length us < length xs
-      → ((turns : ℕ) → length us ≤ turns → Answers P (r.member_from d inner turns a (ls ++ l ∷ []) us) c vs)
-      → (turns : ℕ) → length xs ≤ turns → Answers P (r.member_from d inner turns a ls xs) c vs
-  unfolding r.member_from
-  turned xs us a ls l there s less' h zero le = absurd (omega arith)
-  turned xs us {vs = vs} {c = c} a ls l there s less' h (suc turns) le =
-      if_true _ _ there (answers_then (r.suffix d inner xs) l us _ c vs s (h turns (omega arith)))
+  turned : (xs us : Marks) {vs : Marks} {found : List Link} (ls : List Link) (l : Link) → r.has_suffix xs ≡ true → Answers P (r.suffix d inner xs) l us → length us < length xs
+      → ((turns : ℕ) → length us ≤ turns → Answers P (r.suffixes_from d inner turns (ls ++ l ∷ []) us) found vs)
+      → (turns : ℕ) → length xs ≤ turns → Answers P (r.suffixes_from d inner turns ls xs) found vs
+  unfolding r.suffixes_from
+  turned xs us ls l there s less' h zero le = absurd (omega arith)
+  turned xs us {vs = vs} {found = found} ls l there s less' h (suc turns) le =
+      if_true _ _ there (answers_then (r.suffix d inner xs) l us _ found vs s (h turns (omega arith)))
 
-  member_on : (ts : Marks) (a : Written) (ls : List Link) (us : Marks) → Suffixes d' Inner ts a ls us → bind_at us < 7 → (c : Written) (vs : Marks)
-      → ((turns : ℕ) → length us ≤ turns → Answers P (r.member_from d inner turns a ls us) c vs) → Answers P (r.member d inner ts) c vs
+  member_on : (ts : Marks) (a : Written) (ls : List Link) (us : Marks) → Suffixes d' Inner ts a ls us → bind_at us < 7 → (found : List Link) (vs : Marks)
+      → ((turns : ℕ) → length us ≤ turns → Answers P (r.suffixes_from d inner turns ls us) found vs) → Answers P (r.member d inner ts) (chained a found) vs
   unfolding r.member
-  member_on ts a ls us (g.first p) lt c vs h = answers_then (r.primary d inner ts) a us _ c vs (primary_complete ts a us p lt) (h (length us) (omega arith))
-  member_on ts a _ us (g.attribute {us = xs} {ls = ls} {t = t} s p i) lt c vs h =
-      member_on ts a ls xs s (let q = takes_bind p in omega arith) c vs
-      (turned xs us a ls (Attribute (Some t.text)) (dot_there p) (attribute_there p i lt) (shorter (m.dot_moves d' Inner advances p i)) h)
-  member_on ts a _ us (g.index {us = xs} {ls = ls} {c = key} s o t q) lt c vs h =
-      member_on ts a ls xs s (let e = takes_bind o.takes in omega arith) c vs
-      (turned xs us a ls (Attribute key) (bracket_there o.takes) (index_there o t q) (shorter (m.index_moves d' Inner advances o t q)) h)
-  member_on ts a _ us (g.method {us = xs} {ls = ls} {t = t} {as' = found} s p i o list q) lt c vs h =
-      member_on ts a ls xs s (let e = takes_bind p in omega arith) c vs
-      (turned xs us a ls (Method t.text found) (dot_there p) (method_there p i o list q) (shorter (m.method_moves d' Inner advances p i o list q)) h)
+  member_on ts a ls us (g.first p) lt found vs h =
+      answers_then (r.primary d inner ts) a us _ (chained a found) vs (primary_complete ts a us p lt) (answers_then (r.suffixes d inner us) found vs _ (chained a found) vs (h (length us) (omega arith)) given)
+  member_on ts a _ us (g.attribute {us = xs} {ls = ls} {t = t} s p i) lt found vs h =
+      member_on ts a ls xs s (let q = takes_bind p in omega arith) found vs
+      (turned xs us ls (Attribute (Some t.text)) (dot_there p) (attribute_there p i lt) (shorter (m.dot_moves d' Inner advances p i)) h)
+  member_on ts a _ us (g.index {us = xs} {ls = ls} {c = key} s o t q) lt found vs h =
+      member_on ts a ls xs s (let e = takes_bind o.takes in omega arith) found vs
+      (turned xs us ls (Attribute key) (bracket_there o.takes) (index_there o t q) (shorter (m.index_moves d' Inner advances o t q)) h)
+  member_on ts a _ us (g.method {us = xs} {ls = ls} {t = t} {as' = list'} s p i o list q) lt found vs h =
+      member_on ts a ls xs s (let e = takes_bind p in omega arith) found vs
+      (turned xs us ls (Method t.text list') (dot_there p) (method_there p i o list q) (shorter (m.method_moves d' Inner advances p i o list q)) h)
 
-  member_stops : (turns : ℕ) (a : Written) (ls : List Link) (us : Marks) → r.has_suffix us ≡ false → Answers P (r.member_from d inner turns a ls us) (chained a ls) us
-  unfolding r.member_from
-  member_stops zero a ls us h = given
-  member_stops (suc turns) a ls us h = if_false _ _ h given
+  member_stops : (turns : ℕ) (ls : List Link) (us : Marks) → r.has_suffix us ≡ false → Answers P (r.suffixes_from d inner turns ls us) ls us
+  unfolding r.suffixes_from
+  member_stops zero ls us h = given
+  member_stops (suc turns) ls us h = if_false _ _ h given
 
   pub member_complete : Complete P (Member d' Inner) 6 (r.member d inner)
   member_complete ts _ us (g.suffixes {a = a} {ls = ls} s) lt =
       let none = neither_true (sees k.Dot us) (sees k.LeftBracket us) (sees_nothing 6 k.Dot b.no_dot us lt) (sees_nothing 6 k.LeftBracket b.no_bracket us lt) in
-      member_on ts a ls us s (omega arith) (chained a ls) us (λ turns _. member_stops turns a ls us none)
+      member_on ts a ls us s (omega arith) ls us (λ turns _. member_stops turns ls us none)
 
   -- ---- signs
 
@@ -311,19 +314,19 @@ module _ (P : Type 0) (d' d : ℕ) (less : d < d' → P) (Inner : Rule Written) 
       (answers_then (r.sums d inner xs) c us _ (w.relation sign a c) us (sums_complete xs c us i (omega arith)) given)
 
   typed_there : {vs ws : Marks} {ty : List ℕ} (a : Written) → Path vs ty ws → bind_at ws < 3 → Answers P (r.typed d inner a vs) (w.is a ty) ws
-  unfolding r.typed
+  unfolding r.typed r.of_type
   typed_there {ws = ws} a p lt =
       known_then _ (path_yes p (no_path_on ws (sees_nothing 7 k.DoubleColon b.no_colon ws (omega arith)))) (if_false _ _ (sees_nothing 3 k.In b.no_in ws lt) given)
 
   typed_in_there : {vs ws xs us : Marks} {ty : List ℕ} {t : Mark} (a c : Written) → Path vs ty ws → Takes k.In t ws xs → Sums d' Inner xs c us → bind_at us < 3
       → Answers P (r.typed d inner a vs) (w.is_in a ty c) us
-  unfolding r.typed
+  unfolding r.typed r.of_type
   typed_in_there {ws = ws} {xs = xs} {us = us} {ty = ty} a c p t i lt =
       known_then _ (path_yes p (no_path_on ws (sees_other k.DoubleColon t refl))) (if_true _ _ (sees_yes t)
       (at_next (λ zs. and_then (r.sums d inner zs) (λ right ys. Ok (w.is_in a ty right, ys))) t (answers_then (r.sums d inner xs) c us _ (w.is_in a ty c) us (sums_complete xs c us i (omega arith)) given)))
 
   relation_complete : Complete P (Relation d' Inner) 3 (r.relation d inner)
-  unfolding r.relation r.relation_from sees
+  unfolding r.relation r.relation_from r.asked r.matched r.pattern sees
   relation_complete ts a us (g.alone q) lt =
       answers_then (r.sums d inner ts) a us _ a us (sums_complete ts a us q (omega arith))
       (if_false _ _ (sees_nothing 3 k.Has b.no_has us lt) (if_false _ _ (sees_nothing 3 k.Like b.no_like us lt) (if_false _ _ (sees_nothing 3 k.Is b.no_is us lt) (related_alone a us lt))))
@@ -332,10 +335,10 @@ module _ (P : Type 0) (d' d : ℕ) (less : d < d' → P) (Inner : Rule Written) 
       (if_false _ _ (b.sign_no_has t.kind sign e) (if_false _ _ (b.sign_no_like t.kind sign e) (if_false _ _ (b.sign_no_is t.kind sign e) (related_pair a c t xs us sign e i lt))))
   relation_complete ts _ us (g.has {us = xs} {a = a} {c = c} q t i) lt =
       answers_then (r.sums d inner ts) a xs _ (w.has a c) us (sums_complete ts a xs q (let e = takes_bind t in omega arith))
-      (if_true _ _ (sees_yes t) (at_next (λ zs. and_then (r.key zs) (λ c us. Ok (w.has a c, us))) t (known_then _ (key_yes i) given)))
-  relation_complete ts _ us (g.like {us = xs} {a = a} {s = s} q t i) lt =
+      (if_true _ _ (sees_yes t) (at_next (r.asked a) t (known_then _ (key_yes i) given)))
+  relation_complete ts _ us (g.like {us = xs} {vs = ys} {a = a} {s = s} q t i) lt =
       answers_then (r.sums d inner ts) a xs _ (w.like a (pattern_of s.letters)) us (sums_complete ts a xs q (let e = takes_bind t in omega arith))
-      (if_false _ _ (sees_other k.Has t refl) (if_true _ _ (sees_yes t) (at_next (λ zs. and_then (expect k.String zs) (λ t us. Ok (w.like a (pattern_of t.letters), us))) t (expect_then _ i given))))
+      (if_false _ _ (sees_other k.Has t refl) (if_true _ _ (sees_yes t) (at_next (r.matched a) t (answers_flat (expect k.String ys) _ _ (expect_then _ i given)))))
   relation_complete ts _ us (g.is {us = xs} {a = a} {ty = ty} q t p) lt =
       answers_then (r.sums d inner ts) a xs _ (w.is a ty) us (sums_complete ts a xs q (let e = takes_bind t in omega arith))
       (if_false _ _ (sees_other k.Has t refl) (if_false _ _ (sees_other k.Like t refl) (if_true _ _ (sees_yes t) (at_next (r.typed d inner a) t (typed_there a p lt)))))
@@ -352,7 +355,7 @@ module _ (P : Type 0) (d' d : ℕ) (less : d < d' → P) (Inner : Rule Written) 
   ors_complete = chain_complete P or_sign (r.ands d inner) (Ands d' Inner) 2 b.or_below (m.ands_move d' Inner advances) ands_complete 1 b.or_above (omega arith)
 
   pub expression_complete : Complete P (Expression d' Inner) 1 (r.expression d inner)
-  unfolding r.expression r.choice r.branches
+  unfolding r.expression r.choice r.branches r.before_else r.behind_else
   expression_complete ts a us (g.or o) lt =
       let s = b.ors_start d' Inner ts a us o in
       if_false _ _ (sees_no k.If ts (λ q e. b.not_if q (omega arith))) (ors_complete ts a us o lt)
@@ -361,8 +364,8 @@ module _ (P : Type 0) (d' d : ℕ) (less : d < d' → P) (Inner : Rule Written) 
       let bound_s = takes_bind s in
       if_true _ _ (sees_yes i.takes) (open_then _ i
       (answers_then (inner c0) c c1 _ (w.choice c x y) us (complete c0 c c1 p (omega arith)) (expect_then _ t
-      (answers_then (inner a0) x a1 _ (w.choice c x y) us (complete a0 x a1 q (omega arith)) (expect_then _ s
-      (answers_then (inner b0) y us _ (w.choice c x y) us (complete b0 y us o lt) given))))))
+      (answers_flat (inner a0) _ _ (answers_then (inner a0) x a1 _ (w.choice c x y) us (complete a0 x a1 q (omega arith)) (answers_flat (expect k.Else a1) _ _ (expect_then _ s
+      (answers_then (inner b0) y us _ (w.choice c x y) us (complete b0 y us o lt) given))))))))
 
 -- A reading with less than d' open is what the parser with less than d answers, and it refuses for nesting only where d is the smaller.
 pub nested_complete : (d' d : ℕ) (P : Type 0) → (d < d' → P) → Complete P (Nested d') 1 (nested d)

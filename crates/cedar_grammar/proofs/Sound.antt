@@ -17,9 +17,10 @@ use Rattle.cedar_tokens.specs.Names.{Rule, Takes, Text, Key, Path, Entity}
 use Rattle.cedar_grammar.specs.Grammar.{Opens, Series, Arguments, Entry, variable_of, slot_of, Primary, Suffixes, Member, Signed, Unary, Operands, chained, Chain, or_sign, and_sign, sum_sign, product_sign, relation_sign_of, Products, Sums, Relation, Ands, Ors, Expression, Nested}
 use Rattle.cedar_grammar.specs.Private.Reading as r
 use Rattle.cedar_tokens.specs.Private.Reading.{TooDeep, Outcome, Parser, and_then, sees, expect, sign_at, next}
-use Rattle.cedar_grammar.specs.Private.Reading.{chain_from, chain, nested}
+use Rattle.cedar_grammar.specs.Private.Reading.{links_from, chain, nested}
 use Rattle.cedar_tokens.proofs.NamesSound.{sees_takes, expect_takes, text_reads, key_reads, path_reads, uid_of_reads}
 use Rattle.cedar_tokens.proofs.Outcomes.{Meets, meets_then, meets_as, if_meets, some_meets}
+use Rattle.cedar_grammar.proofs.StepLemmas.{meets_flat}
 use Rattle.cedar_grammar.proofs.Moves as m
 use Rattle.cedar_grammar.proofs.Moves.{Moves, Level, level_then, IsOver, over_none, moves_then, over_after, takes_moves, sign_moves, Advances, NeverCloses, weight}
 
@@ -98,19 +99,21 @@ module _ (signs : TokenKind → Option ChainSign) (item : Parser Written) (Item 
   goes_deep ts us a ls sign o s h =
       over_after d (level_then (m.operands_move signs Item never advances _ _ _ _ (at_sign ts us a ls sign o s)) (sign_moves signs never s.0 (next us) sign s.2)) h (omega arith)
 
-  pub chain_from_reads : (n : ℕ) (a : Written) (ls : List Link) (ts us : Marks) → Operands signs Item ts a ls us → Meets (λ b vs. Chains ts b vs) (IsOver d ts) (chain_from signs item n a ls us)
-  unfolding chain_from
-  chain_from_reads zero a ls ts us o = g.operands o
-  chain_from_reads (suc n) a ls ts us o =
-      some_meets (λ b vs. Chains ts b vs) (IsOver d ts) (sign_at signs us) (Ok (chained a ls, us)) _ (g.operands o)
+  links_from_read : (n : ℕ) (a : Written) (ls : List Link) (ts us : Marks) → Operands signs Item ts a ls us → Meets (λ found vs. Operands signs Item ts a found vs) (IsOver d ts) (links_from signs item n ls us)
+  unfolding links_from
+  links_from_read zero a ls ts us o = o
+  links_from_read (suc n) a ls ts us o =
+      some_meets (λ found vs. Operands signs Item ts a found vs) (IsOver d ts) (sign_at signs us) (Ok (ls, us)) _ o
       (λ sign e. let s = sign_there signs sign us e in
-      meets_then (λ b vs. Item (next us) b vs) (λ b vs. Chains ts b vs) (IsOver d ts) (item (next us)) _
+      meets_then (λ b vs. Item (next us) b vs) (λ found vs. Operands signs Item ts a found vs) (IsOver d ts) (item (next us)) _
       (meets_as (λ b vs. Item (next us) b vs) (λ b vs. Item (next us) b vs) (IsOver d (next us)) (IsOver d ts) (item (next us)) (reads (next us)) (λ b vs h. h) (goes_deep ts us a ls sign o s))
-      (λ b vs i. chain_from_reads n a (ls ++ Operand sign b ∷ []) ts vs (g.more (at_sign ts us a ls sign o s) s.2 i)))
+      (λ b vs i. links_from_read n a (ls ++ Operand sign b ∷ []) ts vs (g.more (at_sign ts us a ls sign o s) s.2 i)))
 
   pub chain_reads : Reads d (Chain signs Item) (chain signs item)
   chain_reads ts =
-      meets_then (λ a us. Item ts a us) (λ b vs. Chains ts b vs) (IsOver d ts) (item ts) _ (reads ts) (λ a us i. chain_from_reads (length us) a [] ts us (g.first i))
+      meets_then (λ a us. Item ts a us) (λ b vs. Chains ts b vs) (IsOver d ts) (item ts) _ (reads ts)
+      (λ a us i. meets_then (λ found vs. Operands signs Item ts a found vs) (λ b vs. Chains ts b vs) (IsOver d ts) (links_from signs item (length us) [] us) _
+      (links_from_read (length us) a [] ts us (g.first i)) (λ found vs o. g.operands o))
 
 -- ---- expressions
 
@@ -259,19 +262,21 @@ module _ (d : ℕ) (Inner : Rule Written) (inner : Parser Written) (advances : A
       (λ h. let p = sees_takes k.Dot us h in dotted_reads a ls ts us p.0 s p.1)
       (λ h. let t = sees_takes k.LeftBracket us (or_second (sees k.Dot us) (sees k.LeftBracket us) e h) in indexed_reads a ls ts us t.0 s t.1)
 
-  member_from_reads : (n : ℕ) (a : Written) (ls : List Link) (ts us : Marks) → Suffixes d Inner ts a ls us → Meets (λ b vs. Member d Inner ts b vs) (IsOver (suc d) ts) (r.member_from d inner n a ls us)
-  unfolding r.member_from
-  member_from_reads zero a ls ts us s = g.suffixes s
-  member_from_reads (suc n) a ls ts us s =
-      if_meets (λ b vs. Member d Inner ts b vs) (IsOver (suc d) ts) (r.has_suffix us) _ _
-      (λ e. meets_then (λ l vs. Suffixes d Inner ts a (ls ++ l ∷ []) vs) (λ b vs. Member d Inner ts b vs) (IsOver (suc d) ts) (r.suffix d inner us) _ (suffix_reads a ls ts us s e)
-      (λ l vs q. member_from_reads n a (ls ++ l ∷ []) ts vs q))
-      (λ e. g.suffixes s)
+  suffixes_from_read : (n : ℕ) (a : Written) (ls : List Link) (ts us : Marks) → Suffixes d Inner ts a ls us → Meets (λ found vs. Suffixes d Inner ts a found vs) (IsOver (suc d) ts) (r.suffixes_from d inner n ls us)
+  unfolding r.suffixes_from
+  suffixes_from_read zero a ls ts us s = s
+  suffixes_from_read (suc n) a ls ts us s =
+      if_meets (λ found vs. Suffixes d Inner ts a found vs) (IsOver (suc d) ts) (r.has_suffix us) _ _
+      (λ e. meets_then (λ l vs. Suffixes d Inner ts a (ls ++ l ∷ []) vs) (λ found vs. Suffixes d Inner ts a found vs) (IsOver (suc d) ts) (r.suffix d inner us) _ (suffix_reads a ls ts us s e)
+      (λ l vs q. suffixes_from_read n a (ls ++ l ∷ []) ts vs q))
+      (λ e. s)
 
   pub member_reads : Reads (suc d) (Member d Inner) (r.member d inner)
   unfolding r.member
   member_reads ts =
-      meets_then (λ a us. Primary d Inner ts a us) (λ b vs. Member d Inner ts b vs) (IsOver (suc d) ts) (r.primary d inner ts) _ (primary_reads ts) (λ a us p. member_from_reads (length us) a [] ts us (g.first p))
+      meets_then (λ a us. Primary d Inner ts a us) (λ b vs. Member d Inner ts b vs) (IsOver (suc d) ts) (r.primary d inner ts) _ (primary_reads ts)
+      (λ a us p. meets_then (λ found vs. Suffixes d Inner ts a found vs) (λ b vs. Member d Inner ts b vs) (IsOver (suc d) ts) (r.suffixes d inner us) _
+      (suffixes_from_read (length us) a [] ts us (g.first p)) (λ found vs s. g.suffixes s))
 
   -- ---- signs
 
@@ -313,7 +318,7 @@ module _ (d : ℕ) (Inner : Rule Written) (inner : Parser Written) (advances : A
   sums_read = chain_reads sum_sign (r.products d inner) (Products d Inner) (suc d) m.sum_never (m.products_move d Inner advances) products_read
 
   typed_reads : (a : Written) (ts us vs : Marks) (t : Mark) → Sums d Inner ts a us → Takes k.Is t us vs → Meets (λ b xs. Relation d Inner ts b xs) (IsOver (suc d) ts) (r.typed d inner a vs)
-  unfolding r.typed
+  unfolding r.typed r.of_type
   typed_reads a ts us vs t q ht =
       let R : Written → Marks → Type 0 = λ b xs. Relation d Inner ts b xs in
       meets_then (λ p ws. Path vs p ws) R (IsOver (suc d) ts) (r.path vs) _ (path_reads _ vs)
@@ -335,14 +340,15 @@ module _ (d : ℕ) (Inner : Rule Written) (inner : Parser Written) (advances : A
       (r.sums d inner (next us)) _ (sums_read (next us)) (λ b vs h. g.pair q' s.2 h))
 
   relation_from_reads : (a : Written) (ts us : Marks) → Sums d Inner ts a us → Meets (λ b vs. Relation d Inner ts b vs) (IsOver (suc d) ts) (r.relation_from d inner a us)
-  unfolding r.relation_from
+  unfolding r.relation_from r.asked r.matched r.pattern
   relation_from_reads a ts us q =
       let R : Written → Marks → Type 0 = λ b vs. Relation d Inner ts b vs in
       if_meets R (IsOver (suc d) ts) (sees k.Has us) _ _
       (λ e. let t = sees_takes k.Has us e in meets_then (λ c vs. Key (next us) c vs) R (IsOver (suc d) ts) (r.key (next us)) _ (key_reads _ (next us)) (λ c vs h. g.has q t.1 h))
       (λ e1. if_meets R (IsOver (suc d) ts) (sees k.Like us) _ _
       (λ e. let t = sees_takes k.Like us e in
-      meets_then (λ s vs. Takes k.String s (next us) vs) R (IsOver (suc d) ts) (expect k.String (next us)) _ (expect_takes k.String _ (next us)) (λ s vs h. g.like q t.1 h))
+      meets_flat R (IsOver (suc d) ts) (expect k.String (next us)) _ _
+      (meets_then (λ s vs. Takes k.String s (next us) vs) R (IsOver (suc d) ts) (expect k.String (next us)) _ (expect_takes k.String _ (next us)) (λ s vs h. g.like q t.1 h)))
       (λ e2. if_meets R (IsOver (suc d) ts) (sees k.Is us) _ _
       (λ e. let t = sees_takes k.Is us e in typed_reads a ts us (next us) t.0 q t.1)
       (λ e3. related_reads a ts us q)))
@@ -360,7 +366,7 @@ module _ (d : ℕ) (Inner : Rule Written) (inner : Parser Written) (advances : A
   ors_read = chain_reads or_sign (r.ands d inner) (Ands d Inner) (suc d) m.or_never (m.ands_move d Inner advances) ands_read
 
   choice_reads : (ts : Marks) (t : Mark) → Takes k.If t ts (next ts) → Meets (λ a vs. Expression d Inner ts a vs) (IsOver (suc d) ts) (r.choice d inner ts)
-  unfolding r.choice r.branches
+  unfolding r.choice r.branches r.before_else r.behind_else
   choice_reads ts t h =
       let E : Written → Marks → Type 0 = λ a vs. Expression d Inner ts a vs in
       meets_then (λ (x : Unit {0}) us. Opens d k.If t ts us) E (IsOver (suc d) ts) (r.open_one d ts) _ (open_reads d k.If t ts refl refl h)
@@ -368,12 +374,14 @@ module _ (d : ℕ) (Inner : Rule Written) (inner : Parser Written) (advances : A
       (λ c vs p. let to_vs = moves_then 1 0 (takes_moves o.takes) (advances _ _ _ p) (omega arith) in
       meets_then (λ q ws. Takes k.Then q vs ws) E (IsOver (suc d) ts) (expect k.Then vs) _ (expect_takes k.Then _ vs)
       (λ q ws th. let to_ws = moves_then 1 0 to_vs (takes_moves th) (omega arith) in
-      after_step (λ a xs. Inner ws a xs) E d (suc d) ts ws 1 0 to_ws (omega arith) (inner ws) _ (reads ws)
+      meets_flat E (IsOver (suc d) ts) (inner ws) _ _
+      (after_step (λ a xs. Inner ws a xs) E d (suc d) ts ws 1 0 to_ws (omega arith) (inner ws) _ (reads ws)
       (λ a xs i. let to_xs = moves_then 1 0 to_ws (advances _ _ _ i) (omega arith) in
-      meets_then (λ q ys. Takes k.Else q xs ys) E (IsOver (suc d) ts) (expect k.Else xs) _ (expect_takes k.Else _ xs)
+      meets_flat E (IsOver (suc d) ts) (expect k.Else xs) _ _
+      (meets_then (λ q ys. Takes k.Else q xs ys) E (IsOver (suc d) ts) (expect k.Else xs) _ (expect_takes k.Else _ xs)
       (λ v ys el. let to_ys = moves_then 1 0 to_xs (takes_moves el) (omega arith) in
       after_step (λ b zs. Inner ys b zs) E d (suc d) ts ys 1 0 to_ys (omega arith) (inner ys) _ (reads ys)
-      (λ b zs j. g.choice o p th i el j))))))
+      (λ b zs j. g.choice o p th i el j))))))))
 
   pub expression_reads : Reads (suc d) (Expression d Inner) (r.expression d inner)
   unfolding r.expression

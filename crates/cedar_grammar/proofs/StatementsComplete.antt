@@ -1,5 +1,5 @@
 -- Each statement that is there is what is read from left to right.
-use Rattle.std.proofs.Common.{◌≡◌, refl, ap, ◌∙◌, ℕ, zero, suc, ◌<◌, ◌≤◌, Bool, true, false, cond, List, [], ◌∷◌, ◌++◌, length, Option, Some, None, Ok, Err, arith}
+use Rattle.std.proofs.Common.{◌≡◌, refl, ap, ◌∙◌, ℕ, zero, suc, ◌<◌, ◌≤◌, Bool, true, false, cond, List, [], ◌∷◌, ◌++◌, length, Option, Some, None, Ok, Err, codes, arith}
 use Rattle.std.specs.Str.{bytes_eq}
 use Rattle.std.proofs.lemmas.Slice.Eq.{bytes_eq-Decides}
 use denote.Enum.Bare.{true_same}
@@ -29,10 +29,11 @@ use Rattle.cedar_grammar.specs.Statements as g
 use Rattle.cedar_tokens.specs.Names.{is_word_kind}
 use Rattle.cedar_grammar.specs.Statements.{Annotation, Annotations, Word, References, EntityScopes, ActionScopes, Scopes, Block, Conditions, Statement, effect_of, condition_kind_of}
 use Rattle.cedar_tokens.specs.Marks.{start_of}
-use Rattle.cedar_tokens.specs.Private.Reading.{Syntax, TooDeep, Outcome, and_then, on_some, same_kind, sees, next, first, entity}
+use Rattle.cedar_tokens.specs.Private.Reading.{Syntax, TooDeep, Outcome, and_then, on_some, same_kind, sees, next, first, expect, entity}
 use Rattle.cedar_grammar.specs.Private.Reading.{arguments, nested}
 use Rattle.cedar_grammar.specs.Private.StatementReading as r
 use Rattle.cedar_tokens.proofs.Outcomes.{Answers, given, deep, answers_then, answers_by}
+use Rattle.cedar_grammar.proofs.StepLemmas.{answers_flat}
 use Rattle.cedar_grammar.proofs.Moves.{shorter, takes_moves, entity_moves}
 use Rattle.cedar_grammar.proofs.StatementMoves as m
 use Rattle.cedar_grammar.proofs.Binds as b
@@ -168,10 +169,10 @@ action_answers P {us = us} (g.among {vs = vs} {ws = ws} {list = list} w t l h c)
     (arguments_complete P Entity entity 1 entity_moves b.entity_starts (entity_complete P) k.RightBracket (omega arith) refl b.not_bracket _ _ _ _ _ h c) given))))))
 
 scope_answers : (P : Type 0) {ts us : Marks} {s : WrittenScope} → Scopes ts s us → Answers P (r.scope ts) s us
-unfolding r.scope r.behind_principal r.behind_action
-scope_answers P (g.scope {t3 = t3} {t4 = t4} {a = a} l p c i d j e) =
+unfolding r.scope r.behind_principal r.behind_action r.resource
+scope_answers P (g.scope {t3 = t3} {t4 = t4} {t5 = t5} {t6 = t6} {a = a} l p c i d j e) =
     expect_then _ l (known_then _ (principal_or_resource_yes p (ends_by c refl refl refl refl)) (expect_then _ c (answers_then (r.action t3) a t4 _ _ _ (action_answers P i (ends_by d refl refl refl refl))
-    (expect_then _ d (known_then _ (principal_or_resource_yes j (ends_by e refl refl refl refl)) (expect_then _ e given))))))
+    (answers_flat (expect k.Comma t4) _ _ (expect_then _ d (answers_flat (r.principal_or_resource (codes "resource") t5) _ _ (known_then _ (principal_or_resource_yes j (ends_by e refl refl refl refl)) (answers_flat (expect k.RightParen t6) _ _ (expect_then _ e given)))))))))
 
 -- ---- conditions
 
@@ -212,12 +213,12 @@ module _ (d' d : ℕ) (P : Type 0) (less : d < d' → P) where
       answers_by (ap (λ (o : Option ConditionKind). on_some o (Ok (cs, us)) (λ kind. and_then (r.block d (next us)) (λ a vs. r.conditions_from d turns (cs ++ record { kind = kind; body = a } ∷ []) vs))) h) given
 
   pub statement_answers : (ts : Marks) (s : StatementTree) (us : Marks) → Statement d' ts s us → Answers P (r.statement d ts) s us
-  unfolding r.statement r.behind_effect
+  unfolding r.statement r.behind_effect r.ending
   statement_answers ts _ ys (g.statement {us = us} {vs = vs} {ws = ws} {xs = xs} {t = t} {notes = notes} {effect = effect} {scope = scope} {cs = cs} n h e p c i) =
       answers_then (r.annotations ts) notes us _ _ ys (annotations_on P ts notes us n notes us (λ turns _. annotations_stop P turns notes us (sees_other k.At h refl)))
       (expect_then _ h (answers_by (ap (λ (o : Option Effect). on_some o (Err Syntax) (λ effect. r.behind_effect d (start_of ts) notes effect vs)) e)
       (answers_then (r.scope vs) scope ws _ _ ys (scope_answers P p)
-      (answers_then (r.conditions d ws) cs xs _ _ ys (conditions_on ws cs xs c cs xs (λ turns _. conditions_stop turns cs xs (none_there i))) (expect_then _ i given)))))
+      (answers_flat (r.conditions d ws) _ _ (answers_then (r.conditions d ws) cs xs _ _ ys (conditions_on ws cs xs c cs xs (λ turns _. conditions_stop turns cs xs (none_there i))) (answers_flat (expect k.Semicolon xs) _ _ (expect_then _ i given)))))))
 
 -- ---- what a statement's reading says of the outcome
 

@@ -27,6 +27,7 @@ use Rattle.cedar_tokens.specs.Private.Reading.{Syntax, on_some, same_kind, sees,
 use Rattle.cedar_grammar.specs.Private.Reading.{arguments, nested}
 use Rattle.cedar_grammar.specs.Private.StatementReading as r
 use Rattle.cedar_tokens.proofs.Outcomes.{Meets, meets_then, meets_as, if_meets, some_meets}
+use Rattle.cedar_grammar.proofs.StepLemmas.{meets_flat}
 use Rattle.cedar_grammar.proofs.Moves.{level_then, IsOver, over_after, takes_moves}
 use Rattle.cedar_grammar.proofs.StatementMoves as m
 use Rattle.cedar_tokens.proofs.NamesSound.{takes_next_by, sees_takes, expect_takes, text_reads, path_reads, entity_reads}
@@ -159,17 +160,18 @@ action_reads D ts =
     (λ e2. g.any hw)))
 
 scope_reads : (D : Type 0) (ts : Marks) → Meets (λ s us. Scopes ts s us) D (r.scope ts)
-unfolding r.scope r.behind_principal r.behind_action
+unfolding r.scope r.behind_principal r.behind_action r.resource
 scope_reads D ts =
     let S : WrittenScope → Marks → Type 0 = λ s us. Scopes ts s us in
     meets_then (λ t us. Takes k.LeftParen t ts us) S D (expect k.LeftParen ts) _ (expect_takes k.LeftParen D ts)
     (λ l t1 hl. meets_then (λ p us. EntityScopes (codes "principal") t1 p us) S D (r.principal_or_resource (codes "principal") t1) _ (principal_or_resource_reads D (codes "principal") t1)
     (λ p t2 hp. meets_then (λ t us. Takes k.Comma t t2 us) S D (expect k.Comma t2) _ (expect_takes k.Comma D t2)
     (λ c t3 hc. meets_then (λ a us. ActionScopes t3 a us) S D (r.action t3) _ (action_reads D t3)
-    (λ a t4 ha. meets_then (λ t us. Takes k.Comma t t4 us) S D (expect k.Comma t4) _ (expect_takes k.Comma D t4)
-    (λ d t5 hd. meets_then (λ q us. EntityScopes (codes "resource") t5 q us) S D (r.principal_or_resource (codes "resource") t5) _ (principal_or_resource_reads D (codes "resource") t5)
-    (λ q t6 hq. meets_then (λ t us. Takes k.RightParen t t6 us) S D (expect k.RightParen t6) _ (expect_takes k.RightParen D t6)
-    (λ e us he. g.scope hl hp hc ha hd hq he)))))))
+    (λ a t4 ha. meets_flat S D (expect k.Comma t4) _ _ (meets_then (λ t us. Takes k.Comma t t4 us) S D (expect k.Comma t4) _ (expect_takes k.Comma D t4)
+    (λ d t5 hd. meets_flat S D (r.principal_or_resource (codes "resource") t5) _ _
+    (meets_then (λ q us. EntityScopes (codes "resource") t5 q us) S D (r.principal_or_resource (codes "resource") t5) _ (principal_or_resource_reads D (codes "resource") t5)
+    (λ q t6 hq. meets_flat S D (expect k.RightParen t6) _ _ (meets_then (λ t us. Takes k.RightParen t t6 us) S D (expect k.RightParen t6) _ (expect_takes k.RightParen D t6)
+    (λ e us he. g.scope hl hp hc ha hd hq he))))))))))
 
 -- ---- conditions
 
@@ -217,13 +219,15 @@ conditions_read d ts = conditions_from_reads d (length ts) [] ts ts g.none
 
 effect_meets : (d : ℕ) (ts us vs : Marks) (t : Mark) (notes : List WrittenAnnotation) (o : Option Effect) → Annotations ts notes us → Takes k.Identifier t us vs → effect_of t.text ≡ o
     → Meets (λ s ws. Statement d ts s ws) (IsOver d ts) (on_some o (Err Syntax) (λ effect. r.behind_effect d (start_of ts) notes effect vs))
-unfolding r.behind_effect
+unfolding r.behind_effect r.ending
 effect_meets d ts us vs t notes None n h e = tt
 effect_meets d ts us vs t notes (Some effect) n h e =
     let S : StatementTree → Marks → Type 0 = λ s ws. Statement d ts s ws in
     meets_then (λ p ws. Scopes vs p ws) S (IsOver d ts) (r.scope vs) _ (scope_reads _ vs)
-    (λ p ws hp. after_step (λ cs xs. Conditions d ws cs xs) S d d ts ws 0 0 (m.annotations_then n (level_then (takes_moves h) (m.scopes_move _ _ _ hp))) (omega arith) (r.conditions d ws) _ (conditions_read d ws)
-    (λ cs xs hc. meets_then (λ q ys. Takes k.Semicolon q xs ys) S (IsOver d ts) (expect k.Semicolon xs) _ (expect_takes k.Semicolon _ xs) (λ q ys hq. g.statement n h e hp hc hq)))
+    (λ p ws hp. meets_flat S (IsOver d ts) (r.conditions d ws) _ _
+    (after_step (λ cs xs. Conditions d ws cs xs) S d d ts ws 0 0 (m.annotations_then n (level_then (takes_moves h) (m.scopes_move _ _ _ hp))) (omega arith) (r.conditions d ws) _ (conditions_read d ws)
+    (λ cs xs hc. meets_flat S (IsOver d ts) (expect k.Semicolon xs) _ _
+    (meets_then (λ q ys. Takes k.Semicolon q xs ys) S (IsOver d ts) (expect k.Semicolon xs) _ (expect_takes k.Semicolon _ xs) (λ q ys hq. g.statement n h e hp hc hq)))))
 
 pub statement_reads : (d : ℕ) (ts : Marks) → Meets (λ s us. Statement d ts s us) (IsOver d ts) (r.statement d ts)
 unfolding r.statement

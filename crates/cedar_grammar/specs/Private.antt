@@ -5,3 +5,4 @@ pub mod WrittenSize
 pub mod Reading
 pub mod StatementReading
 pub mod Nests
+pub mod Operands

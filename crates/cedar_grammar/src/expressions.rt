@@ -3,18 +3,20 @@ ghost use Rattle.std.specs.Prelude.{◌≡◌};
 ghost use Rattle.cedar_grammar.specs.Private.Reading as spec;
 ghost use Rattle.cedar_tokens.specs.Private.Contract.{Reads, ReadsItems};
 ghost use Rattle.cedar_grammar.specs.Private.Nests.{Nests};
+ghost use Rattle.cedar_grammar.specs.Private.Operands.{Operands};
 
-use crate::lookup::{
-    and_sign, or_sign, product_sign, relation_sign, slot_of, sum_sign, variable_of,
-};
+use crate::lookup::{chain_sign, relation_sign, slot_of, variable_of};
 use crate::making::{
-    chained, choice, has, is, is_in, like, minus, not, push_field, push_item, push_link, related,
+    behind, choice, group, has, is, is_in, like, minus, not, push_field, push_item, push_link,
+    related,
 };
 use crate::series::Series;
+use crate::sign::ChainLevel;
 use crate::written::{Field, Link, Written, WrittenKind};
+use cedar_ext::Pattern;
 use cedar_text::TokenKind;
 use cedar_tokens::{Content, Cursor, ParseFault, Word, key, path, text, uid_of};
-use cedar_value::Text;
+use cedar_value::{Name, Text};
 use std::alloc::Global;
 
 /// A reader of expressions.
@@ -47,22 +49,53 @@ impl<F: Fn(Global, &mut Cursor<'_>, u8) -> Result<Written, ParseFault>> Expressi
         Ok(())
     }
 
+    // A first operand, and what stands behind it.
+    fn chain<P>(
+        &self,
+        tokens: &mut Cursor<'_>,
+        level: ChainLevel,
+        operand: P,
+    ) -> Result<Written, ParseFault>
+    where
+        P: Fn(&Expressions<F>, &mut Cursor<'_>) -> Result<Written, ParseFault> + Copy,
+        requires { Operands self.now.depth level (P.pre operand self) (P.post operand self) }
+        ensures { Reads (spec.chain_of self.now.depth (spec.nested self.now.depth) level tokens.old) result tokens.new }
+    {
+        let first = operand(self, tokens)?;
+        let links = self.links(tokens, level, operand);
+        behind(self.alloc, first, links)
+    }
+
+    // Signs, each with the operand behind it.
+    fn links<P>(
+        &self,
+        tokens: &mut Cursor<'_>,
+        level: ChainLevel,
+        operand: P,
+    ) -> Result<Vec<Link>, ParseFault>
+    where
+        P: Fn(&Expressions<F>, &mut Cursor<'_>) -> Result<Written, ParseFault> + Copy,
+        requires { Operands self.now.depth level (P.pre operand self) (P.post operand self) }
+        ensures { ReadsItems (spec.links_of self.now.depth (spec.nested self.now.depth) level tokens.old) result tokens.new }
+    {
+        let mut found = Vec::new(self.alloc);
+        for _turn in 0..tokens.left() {
+            let Some(sign) = chain_sign(level, tokens.kind()) else {
+                return Ok(found);
+            };
+            tokens.skip();
+            let operand = operand(self, tokens)?;
+            push_link(&mut found, Link::Operand(sign, operand))?;
+        }
+        Ok(found)
+    }
+
     #[tactic(auto, unfolding(crate::specs::Private::Reading::ors))]
     fn ors(&self, tokens: &mut Cursor<'_>) -> Result<Written, ParseFault>
         requires { Nests self.now.depth (F.pre self.now.inner) (F.post self.now.inner) }
         ensures { Reads (spec.ors self.now.depth (spec.nested self.now.depth) tokens.old) result tokens.new }
     {
-        let first = self.ands(tokens)?;
-        let mut links = Vec::new(self.alloc);
-        for _turn in 0..tokens.left() {
-            let Some(sign) = or_sign(tokens.kind()) else {
-                return Ok(chained(self.alloc, first, links)?);
-            };
-            tokens.skip();
-            let operand = self.ands(tokens)?;
-            push_link(&mut links, Link::Operand(sign, operand))?;
-        }
-        Ok(chained(self.alloc, first, links)?)
+        self.chain(tokens, ChainLevel::Or, Expressions::ands)
     }
 
     #[tactic(auto, unfolding(crate::specs::Private::Reading::ands))]
@@ -70,17 +103,7 @@ impl<F: Fn(Global, &mut Cursor<'_>, u8) -> Result<Written, ParseFault>> Expressi
         requires { Nests self.now.depth (F.pre self.now.inner) (F.post self.now.inner) }
         ensures { Reads (spec.ands self.now.depth (spec.nested self.now.depth) tokens.old) result tokens.new }
     {
-        let first = self.relation(tokens)?;
-        let mut links = Vec::new(self.alloc);
-        for _turn in 0..tokens.left() {
-            let Some(sign) = and_sign(tokens.kind()) else {
-                return Ok(chained(self.alloc, first, links)?);
-            };
-            tokens.skip();
-            let operand = self.relation(tokens)?;
-            push_link(&mut links, Link::Operand(sign, operand))?;
-        }
-        Ok(chained(self.alloc, first, links)?)
+        self.chain(tokens, ChainLevel::And, Expressions::relation)
     }
 
     #[tactic(auto, unfolding(crate::specs::Private::Reading::relation))]
@@ -100,14 +123,11 @@ impl<F: Fn(Global, &mut Cursor<'_>, u8) -> Result<Written, ParseFault>> Expressi
     {
         if tokens.sees(TokenKind::Has) {
             tokens.skip();
-            let key = key(self.alloc, tokens)?;
-            return Ok(has(self.alloc, left, key)?);
+            return asked(self.alloc, tokens, left);
         }
         if tokens.sees(TokenKind::Like) {
             tokens.skip();
-            let token = tokens.expect(TokenKind::String)?;
-            let pattern = token.pattern(self.alloc)?;
-            return Ok(like(self.alloc, left, pattern)?);
+            return matched(self.alloc, tokens, left);
         }
         if tokens.sees(TokenKind::Is) {
             tokens.skip();
@@ -122,14 +142,38 @@ impl<F: Fn(Global, &mut Cursor<'_>, u8) -> Result<Written, ParseFault>> Expressi
         requires { Nests self.now.depth (F.pre self.now.inner) (F.post self.now.inner) }
         ensures { Reads (spec.typed self.now.depth (spec.nested self.now.depth) left tokens.old) result tokens.new }
     {
-        let ty = path(self.alloc, tokens)?;
-        tokens.pass_colons();
-        if tokens.sees(TokenKind::In) {
-            tokens.skip();
-            let right = self.sums(tokens)?;
-            return Ok(is_in(self.alloc, left, ty, right)?);
+        match path(self.alloc, tokens) {
+            Ok(ty) => self.of_type(tokens, left, ty),
+            Err(fault) => {
+                drop(left);
+                Err(fault)
+            }
         }
-        Ok(is(self.alloc, left, ty)?)
+    }
+
+    // What stands behind `is` and the type.
+    #[tactic(auto, unfolding(crate::specs::Private::Reading::of_type))]
+    fn of_type(
+        &self,
+        tokens: &mut Cursor<'_>,
+        left: Written,
+        ty: Name,
+    ) -> Result<Written, ParseFault>
+        requires { Nests self.now.depth (F.pre self.now.inner) (F.post self.now.inner) }
+        ensures { Reads (spec.of_type self.now.depth (spec.nested self.now.depth) left ty tokens.old) result tokens.new }
+    {
+        tokens.pass_colons();
+        if !tokens.sees(TokenKind::In) {
+            return Ok(is(self.alloc, left, ty)?);
+        }
+        tokens.skip();
+        match self.sums(tokens) {
+            Ok(right) => Ok(is_in(self.alloc, left, ty, right)?),
+            Err(fault) => {
+                drop(left);
+                Err(fault)
+            }
+        }
     }
 
     // A second operand behind its sign, if one comes.
@@ -142,8 +186,13 @@ impl<F: Fn(Global, &mut Cursor<'_>, u8) -> Result<Written, ParseFault>> Expressi
             return Ok(left);
         };
         tokens.skip();
-        let right = self.sums(tokens)?;
-        Ok(related(self.alloc, sign, left, right)?)
+        match self.sums(tokens) {
+            Ok(right) => Ok(related(self.alloc, sign, left, right)?),
+            Err(fault) => {
+                drop(left);
+                Err(fault)
+            }
+        }
     }
 
     #[tactic(auto, unfolding(crate::specs::Private::Reading::sums))]
@@ -151,17 +200,7 @@ impl<F: Fn(Global, &mut Cursor<'_>, u8) -> Result<Written, ParseFault>> Expressi
         requires { Nests self.now.depth (F.pre self.now.inner) (F.post self.now.inner) }
         ensures { Reads (spec.sums self.now.depth (spec.nested self.now.depth) tokens.old) result tokens.new }
     {
-        let first = self.products(tokens)?;
-        let mut links = Vec::new(self.alloc);
-        for _turn in 0..tokens.left() {
-            let Some(sign) = sum_sign(tokens.kind()) else {
-                return Ok(chained(self.alloc, first, links)?);
-            };
-            tokens.skip();
-            let operand = self.products(tokens)?;
-            push_link(&mut links, Link::Operand(sign, operand))?;
-        }
-        Ok(chained(self.alloc, first, links)?)
+        self.chain(tokens, ChainLevel::Sum, Expressions::products)
     }
 
     #[tactic(auto, unfolding(crate::specs::Private::Reading::products))]
@@ -169,17 +208,7 @@ impl<F: Fn(Global, &mut Cursor<'_>, u8) -> Result<Written, ParseFault>> Expressi
         requires { Nests self.now.depth (F.pre self.now.inner) (F.post self.now.inner) }
         ensures { Reads (spec.products self.now.depth (spec.nested self.now.depth) tokens.old) result tokens.new }
     {
-        let first = self.unary(tokens)?;
-        let mut links = Vec::new(self.alloc);
-        for _turn in 0..tokens.left() {
-            let Some(sign) = product_sign(tokens.kind()) else {
-                return Ok(chained(self.alloc, first, links)?);
-            };
-            tokens.skip();
-            let operand = self.unary(tokens)?;
-            push_link(&mut links, Link::Operand(sign, operand))?;
-        }
-        Ok(chained(self.alloc, first, links)?)
+        self.chain(tokens, ChainLevel::Product, Expressions::unary)
     }
 
     #[tactic(auto, unfolding(crate::specs::Private::Reading::unary))]
@@ -233,15 +262,23 @@ impl<F: Fn(Global, &mut Cursor<'_>, u8) -> Result<Written, ParseFault>> Expressi
         ensures { Reads (spec.member self.now.depth (spec.nested self.now.depth) tokens.old) result tokens.new }
     {
         let first = self.primary(tokens)?;
-        let mut links = Vec::new(self.alloc);
+        let links = self.suffixes(tokens);
+        behind(self.alloc, first, links)
+    }
+
+    fn suffixes(&self, tokens: &mut Cursor<'_>) -> Result<Vec<Link>, ParseFault>
+        requires { Nests self.now.depth (F.pre self.now.inner) (F.post self.now.inner) }
+        ensures { ReadsItems (spec.suffixes self.now.depth (spec.nested self.now.depth) tokens.old) result tokens.new }
+    {
+        let mut found = Vec::new(self.alloc);
         for _turn in 0..tokens.left() {
             if !has_suffix(tokens) {
-                return Ok(chained(self.alloc, first, links)?);
+                return Ok(found);
             }
             let link = self.suffix(tokens)?;
-            push_link(&mut links, link)?;
+            push_link(&mut found, link)?;
         }
-        Ok(chained(self.alloc, first, links)?)
+        Ok(found)
     }
 
     #[tactic(auto, unfolding(crate::specs::Private::Reading::suffix))]
@@ -265,8 +302,13 @@ impl<F: Fn(Global, &mut Cursor<'_>, u8) -> Result<Written, ParseFault>> Expressi
         let token = tokens.expect(TokenKind::Identifier)?;
         if tokens.sees(TokenKind::LeftParen) {
             let name = Word::read(self.alloc, token.text(), token.start())?;
-            let arguments = self.called(tokens)?;
-            return Ok(Link::Method(name, Series::new(arguments)));
+            return match self.called(tokens) {
+                Ok(arguments) => Ok(Link::Method(name, Series::new(arguments))),
+                Err(fault) => {
+                    drop(name);
+                    Err(fault)
+                }
+            };
         }
         let word = Text::read(self.alloc, token.text())?;
         Ok(Link::Attribute(Content::new(Some(word), token.start())))
@@ -280,8 +322,13 @@ impl<F: Fn(Global, &mut Cursor<'_>, u8) -> Result<Written, ParseFault>> Expressi
     {
         self.open_one(tokens)?;
         let key = text(self.alloc, tokens)?;
-        tokens.expect(TokenKind::RightBracket)?;
-        Ok(Link::Attribute(key))
+        match tokens.expect(TokenKind::RightBracket) {
+            Ok(_) => Ok(Link::Attribute(key)),
+            Err(fault) => {
+                drop(key);
+                Err(fault)
+            }
+        }
     }
 
     #[tactic(auto, unfolding(crate::specs::Private::Reading::primary, cedar_tokens::specs::Private::Reading::first))]
@@ -363,9 +410,13 @@ impl<F: Fn(Global, &mut Cursor<'_>, u8) -> Result<Written, ParseFault>> Expressi
     {
         self.open_one(tokens)?;
         let inside = self.inner(tokens)?;
-        tokens.expect(TokenKind::RightParen)?;
-        let inside = Box::new(self.alloc, inside)?;
-        Ok(Written::new(WrittenKind::Group(inside)))
+        match tokens.expect(TokenKind::RightParen) {
+            Ok(_) => Ok(group(self.alloc, inside)?),
+            Err(fault) => {
+                drop(inside);
+                Err(fault)
+            }
+        }
     }
 
     #[tactic(auto, unfolding(crate::specs::Private::Reading::set))]
@@ -476,8 +527,13 @@ impl<F: Fn(Global, &mut Cursor<'_>, u8) -> Result<Written, ParseFault>> Expressi
     {
         self.open_one(tokens)?;
         let condition = self.inner(tokens)?;
-        tokens.expect(TokenKind::Then)?;
-        self.branches(tokens, condition)
+        match tokens.expect(TokenKind::Then) {
+            Ok(_) => self.branches(tokens, condition),
+            Err(fault) => {
+                drop(condition);
+                Err(fault)
+            }
+        }
     }
 
     // What stands behind `then`.
@@ -486,10 +542,50 @@ impl<F: Fn(Global, &mut Cursor<'_>, u8) -> Result<Written, ParseFault>> Expressi
         requires { Nests self.now.depth (F.pre self.now.inner) (F.post self.now.inner) }
         ensures { Reads (spec.branches self.now.depth (spec.nested self.now.depth) condition tokens.old) result tokens.new }
     {
+        match self.before_else(tokens) {
+            Ok(if_true) => self.behind_else(tokens, condition, if_true),
+            Err(fault) => {
+                drop(condition);
+                Err(fault)
+            }
+        }
+    }
+
+    // What stands before `else`, which is taken too.
+    #[tactic(auto, unfolding(crate::specs::Private::Reading::before_else))]
+    fn before_else(&self, tokens: &mut Cursor<'_>) -> Result<Written, ParseFault>
+        requires { Nests self.now.depth (F.pre self.now.inner) (F.post self.now.inner) }
+        ensures { Reads (spec.before_else self.now.depth (spec.nested self.now.depth) tokens.old) result tokens.new }
+    {
         let if_true = self.inner(tokens)?;
-        tokens.expect(TokenKind::Else)?;
-        let if_false = self.inner(tokens)?;
-        Ok(choice(self.alloc, condition, if_true, if_false)?)
+        match tokens.expect(TokenKind::Else) {
+            Ok(_) => Ok(if_true),
+            Err(fault) => {
+                drop(if_true);
+                Err(fault)
+            }
+        }
+    }
+
+    // What stands behind `else`.
+    #[tactic(auto, unfolding(crate::specs::Private::Reading::behind_else))]
+    fn behind_else(
+        &self,
+        tokens: &mut Cursor<'_>,
+        condition: Written,
+        if_true: Written,
+    ) -> Result<Written, ParseFault>
+        requires { Nests self.now.depth (F.pre self.now.inner) (F.post self.now.inner) }
+        ensures { Reads (spec.behind_else self.now.depth (spec.nested self.now.depth) condition if_true tokens.old) result tokens.new }
+    {
+        match self.inner(tokens) {
+            Ok(if_false) => Ok(choice(self.alloc, condition, if_true, if_false)?),
+            Err(fault) => {
+                drop(condition);
+                drop(if_true);
+                Err(fault)
+            }
+        }
     }
 
     #[tactic(auto, unfolding(crate::specs::Private::Reading::expression))]
@@ -502,6 +598,43 @@ impl<F: Fn(Global, &mut Cursor<'_>, u8) -> Result<Written, ParseFault>> Expressi
         }
         self.ors(tokens)
     }
+}
+
+// What stands behind `has`.
+#[tactic(auto, unfolding(crate::specs::Private::Reading::asked))]
+fn asked(alloc: Global, tokens: &mut Cursor<'_>, left: Written) -> Result<Written, ParseFault>
+    ensures { Reads (spec.asked left tokens.old) result tokens.new }
+{
+    match key(alloc, tokens) {
+        Ok(key) => Ok(has(alloc, left, key)?),
+        Err(fault) => {
+            drop(left);
+            Err(fault)
+        }
+    }
+}
+
+// What stands behind `like`.
+#[tactic(auto, unfolding(crate::specs::Private::Reading::matched))]
+fn matched(alloc: Global, tokens: &mut Cursor<'_>, left: Written) -> Result<Written, ParseFault>
+    ensures { Reads (spec.matched left tokens.old) result tokens.new }
+{
+    match pattern(alloc, tokens) {
+        Ok(pattern) => Ok(like(alloc, left, pattern)?),
+        Err(fault) => {
+            drop(left);
+            Err(fault)
+        }
+    }
+}
+
+// A pattern.
+#[tactic(auto, unfolding(crate::specs::Private::Reading::pattern))]
+fn pattern(alloc: Global, tokens: &mut Cursor<'_>) -> Result<Pattern, ParseFault>
+    ensures { Reads (spec.pattern tokens.old) result tokens.new }
+{
+    let token = tokens.expect(TokenKind::String)?;
+    Ok(token.pattern(alloc)?)
 }
 
 // Whether something belongs to the member before it.

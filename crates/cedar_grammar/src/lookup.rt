@@ -1,48 +1,22 @@
 //! Which tokens are signs, and which words are variables.
 ghost use Rattle.std.specs.Prelude.{◌≡◌, option_and_then};
 ghost use Rattle.cedar_grammar.specs.Grammar as grammar;
+ghost use Rattle.cedar_grammar.specs.Private.Reading as reading;
 
-use crate::sign::{ChainSign, RelationSign};
+use crate::sign::{ChainLevel, ChainSign, RelationSign};
 use cedar_ast::Variable;
 use cedar_text::TokenKind;
 
-/// `||`
-pub fn or_sign(kind: Option<TokenKind>) -> Option<ChainSign>
-    ensures { result ≡ option_and_then grammar.or_sign kind }
+/// The sign between operands of this level.
+pub fn chain_sign(level: ChainLevel, kind: Option<TokenKind>) -> Option<ChainSign>
+    ensures { result ≡ option_and_then (reading.signs_of level) kind }
 {
-    match kind? {
-        TokenKind::OrOr => Some(ChainSign::Or),
-        _ => None,
-    }
-}
-
-/// `&&`
-pub fn and_sign(kind: Option<TokenKind>) -> Option<ChainSign>
-    ensures { result ≡ option_and_then grammar.and_sign kind }
-{
-    match kind? {
-        TokenKind::AndAnd => Some(ChainSign::And),
-        _ => None,
-    }
-}
-
-/// `+` or `-`
-pub fn sum_sign(kind: Option<TokenKind>) -> Option<ChainSign>
-    ensures { result ≡ option_and_then grammar.sum_sign kind }
-{
-    match kind? {
-        TokenKind::Plus => Some(ChainSign::Plus),
-        TokenKind::Minus => Some(ChainSign::Minus),
-        _ => None,
-    }
-}
-
-/// `*`
-pub fn product_sign(kind: Option<TokenKind>) -> Option<ChainSign>
-    ensures { result ≡ option_and_then grammar.product_sign kind }
-{
-    match kind? {
-        TokenKind::Star => Some(ChainSign::Times),
+    match (level, kind?) {
+        (ChainLevel::Or, TokenKind::OrOr) => Some(ChainSign::Or),
+        (ChainLevel::And, TokenKind::AndAnd) => Some(ChainSign::And),
+        (ChainLevel::Sum, TokenKind::Plus) => Some(ChainSign::Plus),
+        (ChainLevel::Sum, TokenKind::Minus) => Some(ChainSign::Minus),
+        (ChainLevel::Product, TokenKind::Star) => Some(ChainSign::Times),
         _ => None,
     }
 }

@@ -1,17 +1,22 @@
 //! Expressions as they are written, made of their parts.
-ghost use Rattle.std.specs.Prelude.{◌≡◌, ◌++◌, ◌∷◌, [], IfOk, OnOk};
+ghost use Rattle.std.specs.Prelude.{◌≡◌, ◌++◌, ◌∷◌, [], List, IfOk, OnOk};
 ghost use Rattle.cedar_grammar.specs.Written as tree;
 ghost use Rattle.cedar_grammar.specs.Grammar as grammar;
+ghost use Rattle.cedar_grammar.specs.declared.written.Link.{Link};
+ghost use Rattle.cedar_grammar.specs.Private.Reading as reading;
+ghost use Rattle.cedar_tokens.specs.Marks.{Marks};
+ghost use Rattle.cedar_tokens.specs.Private.Reading.{Outcome};
+ghost use Rattle.cedar_tokens.specs.Private.Contract.{Reads, ReadsItems};
 
 use crate::sign::RelationSign;
 use crate::written::{Field, Link, Written, WrittenKind};
 use cedar_ext::Pattern;
-use cedar_tokens::Content;
+use cedar_tokens::{Content, ParseFault};
 use cedar_value::Name;
 use std::alloc::{AllocError, Global};
 
-/// The first operand of a chain and what stands behind it.
-pub fn chained(alloc: Global, first: Written, links: Vec<Link>) -> Result<Written, AllocError>
+// The first operand of a chain and what stands behind it.
+fn chained(alloc: Global, first: Written, links: Vec<Link>) -> Result<Written, AllocError>
     ensures { IfOk result (λ w. w ≡ grammar.chained first links.items) }
 {
     if links.is_empty() {
@@ -19,6 +24,23 @@ pub fn chained(alloc: Global, first: Written, links: Vec<Link>) -> Result<Writte
     }
     let first = Box::new(alloc, first)?;
     Ok(Written::new(WrittenKind::Chain(first, links)))
+}
+
+/// The first operand of a chain with what was read behind it.
+pub fn behind(
+    alloc: Global,
+    first: Written,
+    links: Result<Vec<Link>, ParseFault>,
+) -> Result<Written, ParseFault>
+    ensures { (o : Outcome (List Link)) (us : Marks) → ReadsItems o links us → Reads (reading.behind first o) result us }
+{
+    match links {
+        Ok(links) => Ok(chained(alloc, first, links)?),
+        Err(fault) => {
+            drop(first);
+            Err(fault)
+        }
+    }
 }
 
 /// One more link.
@@ -45,6 +67,14 @@ pub fn push_field(fields: &mut Vec<Field>, field: Field) -> Result<(), AllocErro
     Ok(())
 }
 
+/// In round brackets.
+pub fn group(alloc: Global, inside: Written) -> Result<Written, AllocError>
+    ensures { IfOk result (λ w. w ≡ tree.group inside) }
+{
+    let inside = Box::new(alloc, inside)?;
+    Ok(Written::new(WrittenKind::Group(inside)))
+}
+
 /// `!`
 pub fn not(alloc: Global, operand: Written) -> Result<Written, AllocError>
     ensures { IfOk result (λ w. w ≡ tree.not operand) }
@@ -58,7 +88,9 @@ pub fn minus(alloc: Global, operand: Written) -> Result<Written, AllocError>
     ensures { IfOk result (λ w. w ≡ tree.minus operand) }
 {
     if let WrittenKind::Number(start, number) = operand.kind() {
-        return Ok(Written::new(WrittenKind::Negative(*start, *number)));
+        let literal = Written::new(WrittenKind::Negative(*start, *number));
+        drop(operand);
+        return Ok(literal);
     }
     let operand = Box::new(alloc, operand)?;
     Ok(Written::new(WrittenKind::Negated(operand)))
@@ -72,9 +104,13 @@ fn boxed(
 ) -> Result<(Box<Written>, Box<Written>), AllocError>
     ensures { IfOk result (λ pair. (pair.0).value ≡ left × (pair.1).value ≡ right) }
 {
-    let left = Box::new(alloc, left)?;
-    let right = Box::new(alloc, right)?;
-    Ok((left, right))
+    match Box::new(alloc, left) {
+        Ok(left) => Ok((left, Box::new(alloc, right)?)),
+        Err(failed) => {
+            drop(right);
+            Err(failed.into())
+        }
+    }
 }
 
 /// `has`
@@ -131,7 +167,14 @@ pub fn choice(
 ) -> Result<Written, AllocError>
     ensures { IfOk result (λ w. w ≡ tree.choice condition if_true if_false) }
 {
-    let (if_true, if_false) = boxed(alloc, if_true, if_false)?;
-    let condition = Box::new(alloc, condition)?;
-    Ok(Written::new(WrittenKind::If(condition, if_true, if_false)))
+    match boxed(alloc, if_true, if_false) {
+        Ok((if_true, if_false)) => {
+            let condition = Box::new(alloc, condition)?;
+            Ok(Written::new(WrittenKind::If(condition, if_true, if_false)))
+        }
+        Err(fault) => {
+            drop(condition);
+            Err(fault)
+        }
+    }
 }

@@ -20,8 +20,13 @@ pub fn scope(alloc: Global, tokens: &mut Cursor<'_>) -> Result<WrittenScope, Par
 {
     tokens.expect(TokenKind::LeftParen)?;
     let principal = principal_or_resource(alloc, tokens, "principal")?;
-    tokens.expect(TokenKind::Comma)?;
-    behind_principal(alloc, tokens, principal)
+    match tokens.expect(TokenKind::Comma) {
+        Ok(_) => behind_principal(alloc, tokens, principal),
+        Err(fault) => {
+            drop(principal);
+            Err(fault)
+        }
+    }
 }
 
 // The scope from the action on.
@@ -33,12 +38,16 @@ fn behind_principal(
 ) -> Result<WrittenScope, ParseFault>
     ensures { Reads (spec.behind_principal principal tokens.old) result tokens.new }
 {
-    let action = action(alloc, tokens)?;
-    tokens.expect(TokenKind::Comma)?;
-    behind_action(alloc, tokens, principal, action)
+    match action(alloc, tokens) {
+        Ok(action) => behind_action(alloc, tokens, principal, action),
+        Err(fault) => {
+            drop(principal);
+            Err(fault)
+        }
+    }
 }
 
-// The scope from the resource on.
+// The scope from behind the action on.
 #[tactic(auto, unfolding(crate::specs::Private::StatementReading::behind_action))]
 fn behind_action(
     alloc: Global,
@@ -48,13 +57,34 @@ fn behind_action(
 ) -> Result<WrittenScope, ParseFault>
     ensures { Reads (spec.behind_action principal action tokens.old) result tokens.new }
 {
+    match resource(alloc, tokens) {
+        Ok(resource) => Ok(WrittenScope {
+            principal,
+            action,
+            resource,
+        }),
+        Err(fault) => {
+            drop(principal);
+            drop(action);
+            Err(fault)
+        }
+    }
+}
+
+// The resource behind its comma, with the bracket that closes the scope.
+#[tactic(auto, unfolding(crate::specs::Private::StatementReading::resource))]
+fn resource(alloc: Global, tokens: &mut Cursor<'_>) -> Result<WrittenEntityScope, ParseFault>
+    ensures { Reads (spec.resource tokens.old) result tokens.new }
+{
+    tokens.expect(TokenKind::Comma)?;
     let resource = principal_or_resource(alloc, tokens, "resource")?;
-    tokens.expect(TokenKind::RightParen)?;
-    Ok(WrittenScope {
-        principal,
-        action,
-        resource,
-    })
+    match tokens.expect(TokenKind::RightParen) {
+        Ok(_) => Ok(resource),
+        Err(fault) => {
+            drop(resource);
+            Err(fault)
+        }
+    }
 }
 
 #[tactic(auto, unfolding(crate::specs::Private::StatementReading::principal_or_resource))]

@@ -15,6 +15,19 @@ pub enum ChainSign {
     Times,
 }
 
+/// A level of the grammar that is a chain of operands (Cedar language reference, grammar).
+#[derive(Clone, Copy)]
+pub enum ChainLevel {
+    /// Operands of `||`.
+    Or,
+    /// Operands of `&&`.
+    And,
+    /// Operands of `+` and `-`.
+    Sum,
+    /// Operands of `*`.
+    Product,
+}
+
 /// A sign that stands between two operands at most once (Cedar language reference, grammar).
 #[derive(Clone, Copy, Debug, PartialEq, Eq)]
 pub enum RelationSign {

@@ -36,7 +36,7 @@ pub fn statement(alloc: Global, tokens: &mut Cursor<'_>) -> Result<WrittenStatem
     read_statement(alloc, tokens)
 }
 
-#[tactic(auto, unfolding(crate::specs::Private::StatementReading::statement, crate::specs::Private::StatementReading::behind_effect))]
+#[tactic(auto, unfolding(crate::specs::Private::StatementReading::statement))]
 fn read_statement(alloc: Global, tokens: &mut Cursor<'_>) -> Result<WrittenStatement, ParseFault>
     ensures { Reads (spec.statement 101 tokens.old) result tokens.new }
 {
@@ -46,16 +46,44 @@ fn read_statement(alloc: Global, tokens: &mut Cursor<'_>) -> Result<WrittenState
     let Some(effect) = effect_of(word.text()) else {
         return Err(ParseFault::Syntax(word.start()));
     };
+    behind_effect(alloc, tokens, start, annotations, effect)
+}
+
+// The statement from the scope on.
+#[tactic(auto, unfolding(crate::specs::Private::StatementReading::behind_effect))]
+fn behind_effect(
+    alloc: Global,
+    tokens: &mut Cursor<'_>,
+    start: usize,
+    annotations: Vec<WrittenAnnotation>,
+    effect: Effect,
+) -> Result<WrittenStatement, ParseFault>
+    ensures { Reads (spec.behind_effect 101 start annotations.items effect tokens.old) result tokens.new }
+{
     let scope = scope(alloc, tokens)?;
+    match ending(alloc, tokens) {
+        Ok(conditions) => Ok(WrittenStatement {
+            start,
+            annotations,
+            effect,
+            scope,
+            conditions,
+        }),
+        Err(fault) => {
+            drop(scope);
+            Err(fault)
+        }
+    }
+}
+
+// The conditions, and the sign that ends the statement.
+#[tactic(auto, unfolding(crate::specs::Private::StatementReading::ending))]
+fn ending(alloc: Global, tokens: &mut Cursor<'_>) -> Result<Vec<WrittenCondition>, ParseFault>
+    ensures { ReadsItems (spec.ending 101 tokens.old) result tokens.new }
+{
     let conditions = conditions(alloc, tokens)?;
     tokens.expect(TokenKind::Semicolon)?;
-    Ok(WrittenStatement {
-        start,
-        annotations,
-        effect,
-        scope,
-        conditions,
-    })
+    Ok(conditions)
 }
 
 #[tactic(auto, unfolding(crate::specs::Private::StatementReading::annotations))]
@@ -164,6 +192,11 @@ fn block(alloc: Global, tokens: &mut Cursor<'_>) -> Result<Written, ParseFault>
 {
     tokens.expect(TokenKind::LeftBrace)?;
     let body = nested(alloc, tokens, MAX_OPEN + 1)?;
-    tokens.expect(TokenKind::RightBrace)?;
-    Ok(body)
+    match tokens.expect(TokenKind::RightBrace) {
+        Ok(_) => Ok(body),
+        Err(fault) => {
+            drop(body);
+            Err(fault)
+        }
+    }
 }

@@ -1,7 +1,9 @@
 //! Texts that read, with what they are.
 use crate::policy_text::{refusal, with_condition};
-use cedar_ast::Effect;
+use cedar_ast::{Annotation, Effect, PolicySet};
 use cedar_parser::{parse, read_uid};
+use cedar_value::Text;
+use std::alloc::{AllocError, Global};
 use std::test::Fail;
 
 /// Whole texts, for what stands outside of conditions.
@@ -76,53 +78,85 @@ fn conditions_that_read(rt: HostRuntime) -> Result<(), Fail> {
     Ok(())
 }
 
+fn effect_name(effect: Effect) -> &'static str {
+    match effect {
+        Effect::Permit => "permit",
+        Effect::Forbid => "forbid",
+    }
+}
+
+/// The effect and the id of a policy or template, and how many annotations it has.
+fn head(
+    alloc: Global,
+    effect: Effect,
+    id: &Text,
+    annotations: &[Annotation],
+) -> Result<String, AllocError> {
+    let effect = effect_name(effect);
+    let id = id.as_str();
+    let count = annotations.len();
+    format!(in alloc; "{effect} {id} {count};")
+}
+
+/// The heads of the policies, and behind `|` those of the templates.
+fn heads_in(alloc: Global, set: &PolicySet) -> Result<String, AllocError> {
+    let mut heads = String::new(alloc);
+    for position in 0..set.count() {
+        if let Some(policy) = set.policy(position) {
+            let head = head(alloc, policy.effect(), policy.id(), policy.annotations())?;
+            heads.push_str(head.as_str())?;
+        }
+    }
+    heads.push('|')?;
+    for position in 0..set.template_count() {
+        if let Some(template) = set.template(position) {
+            let head = head(
+                alloc,
+                template.effect(),
+                template.id(),
+                template.annotations(),
+            )?;
+            heads.push_str(head.as_str())?;
+        }
+    }
+    Ok(heads)
+}
+
+/// The same of what a text is read as.
+fn heads(alloc: Global, text: &str) -> Result<String, Fail> {
+    let set = parse(alloc, text)?;
+    let heads = heads_in(alloc, &set);
+    drop(set);
+    Ok(heads?)
+}
+
 #[test]
-fn ids_effects_and_conditions(rt: HostRuntime) -> Result<(), Fail> {
-    let alloc = rt.alloc();
-    let set = parse(
-        alloc,
-        "permit(principal, action, resource); forbid(principal, action, resource) unless { 1 + 2 + 3 == 6 };",
-    )?;
-    assert_eq!(rt; set.count(), 2);
-    let first = set.policy(0).ok_or("the first")?;
-    let second = set.policy(1).ok_or("the second")?;
-    assert_eq!(rt; first.id().as_str(), "policy0");
-    assert_eq!(rt; second.id().as_str(), "policy1");
-    assert_eq!(rt; first.effect(), Effect::Permit);
-    assert_eq!(rt; second.effect(), Effect::Forbid);
+fn ids_and_effects(rt: HostRuntime) -> Result<(), Fail> {
+    let text =
+        "permit(principal, action, resource); forbid(principal, action, resource) unless { 1 + 2 + 3 == 6 };";
+    let heads = heads(rt.alloc(), text)?;
+    assert_eq!(rt; heads.as_str(), "permit policy0 0;forbid policy1 0;|");
     Ok(())
 }
 
 #[test]
 fn templates_and_ids(rt: HostRuntime) -> Result<(), Fail> {
-    let alloc = rt.alloc();
-    let set = parse(
-        alloc,
-        "permit(principal == ?principal, action, resource); @id(\"own\") @note(\"n\") permit(principal, action, resource); permit(principal, action, resource);",
-    )?;
-    assert_eq!(rt; set.count(), 2);
-    assert_eq!(rt; set.template_count(), 1);
-    let template = set.template(0).ok_or("the template")?;
-    assert_eq!(rt; template.id().as_str(), "policy0");
-    let own = set.policy(0).ok_or("the first policy")?;
-    assert_eq!(rt; own.id().as_str(), "own");
-    assert_eq!(rt; own.annotations().len(), 2);
-    let last = set.policy(1).ok_or("the last policy")?;
-    assert_eq!(rt; last.id().as_str(), "policy2");
+    let text =
+        "permit(principal == ?principal, action, resource); @id(\"own\") @note(\"n\") permit(principal, action, resource); permit(principal, action, resource);";
+    let heads = heads(rt.alloc(), text)?;
+    assert_eq!(rt;
+        heads.as_str(),
+        "permit own 2;permit policy2 0;|permit policy0 0;"
+    );
     Ok(())
 }
 
 #[test]
 fn the_id_is_what_the_annotation_tells(rt: HostRuntime) -> Result<(), Fail> {
-    let alloc = rt.alloc();
-    let set = parse(
-        alloc,
-        "@id(\"\\u{61} \\\"b\\\"\") permit(principal, action, resource); @note(\"n\") @id(\"\") forbid(principal, action, resource);",
-    )?;
-    let first = set.policy(0).ok_or("the first")?;
-    let second = set.policy(1).ok_or("the second")?;
-    assert_eq!(rt; first.id().as_str(), "a \"b\"");
-    assert_eq!(rt; second.id().as_str(), "");
+    let text =
+        "@id(\"\\u{61} \\\"b\\\"\") permit(principal, action, resource); @note(\"n\") @id(\"\") forbid(principal, action, resource);";
+    let heads = heads(rt.alloc(), text)?;
+    assert_eq!(rt; heads.as_str(), "permit a \"b\" 1;forbid  2;|");
     Ok(())
 }
 

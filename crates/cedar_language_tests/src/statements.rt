@@ -2,7 +2,7 @@
 //! out from the grammar (Cedar language reference, policy scope and conditions, policy templates, annotations).
 use crate::tree_text::{quoted, uid_text};
 use crate::trees::condition_tree;
-use cedar_ast::{ActionScope, Annotation, Effect, EntityReference, TemplateEntityScope};
+use cedar_ast::{ActionScope, Annotation, Effect, EntityReference, PolicySet, TemplateEntityScope};
 use cedar_parser::parse;
 use cedar_value::Uid;
 use std::alloc::{AllocError, Global};
@@ -205,15 +205,26 @@ fn statements_have_their_heads(rt: HostRuntime) -> Result<(), Fail> {
     Ok(())
 }
 
+/// The annotations, the effect and the id of the first template.
+fn template_head(alloc: Global, set: &PolicySet) -> Result<String, Fail> {
+    let template = set.template(0).ok_or("no template")?;
+    let annotations = annotations_text(alloc, template.annotations())?;
+    let annotations = annotations.as_str();
+    let effect = match template.effect() {
+        Effect::Permit => "permit",
+        Effect::Forbid => "forbid",
+    };
+    let id = template.id().as_str();
+    Ok(format!(in alloc; "{annotations} {effect} {id}")?)
+}
+
 #[test]
 fn a_template_has_its_head(rt: HostRuntime) -> Result<(), Fail> {
     let alloc = rt.alloc();
     let text = r#"@b("") @id("t") @else("x") forbid(principal == ?principal, action, resource);"#;
     let set = parse(alloc, text)?;
-    let template = set.template(0).ok_or("no template")?;
-    assert_eq!(rt; template.effect(), Effect::Forbid);
-    assert_eq!(rt; template.id().as_str(), "t");
-    let found = annotations_text(alloc, template.annotations())?;
-    assert_eq!(rt; found.as_str(), r#"@b("") @id("t") @else("x")"#);
+    let head = template_head(alloc, &set);
+    drop(set);
+    assert_eq!(rt; head?.as_str(), r#"@b("") @id("t") @else("x") forbid t"#);
     Ok(())
 }

@@ -58,7 +58,9 @@ fn policies(alloc: Global, tokens: &mut Cursor<'_>) -> Result<PolicySet, ParseFa
             return Ok(set);
         }
         let statement = statement(alloc, tokens)?;
-        enter(alloc, &mut set, position, &statement)?;
+        let entry = enter(alloc, &mut set, position, &statement);
+        drop(statement);
+        entry?;
     }
     Ok(set)
 }
@@ -101,7 +103,11 @@ fn add(set: &mut PolicySet, entry: Statement, start: usize) -> Result<(), ParseF
 {
     match set.add(entry) {
         Ok(()) => Ok(()),
-        Err(fault) => Err(refusal(&fault, start)),
+        Err(fault) => {
+            let refusal = refusal(&fault, start);
+            drop(fault);
+            Err(refusal)
+        }
     }
 }
 

@@ -46,8 +46,8 @@ fn policy(alloc: Global, id: Text, statement: &WrittenStatement) -> Result<Polic
     ensures { IfOk result (λ p. p ≡ to_policy id statement.now) }
 {
     let annotations = annotations(alloc, &statement.annotations)?;
-    let scope = scope(alloc, &statement.scope)?;
     let conditions = conditions(alloc, &statement.conditions)?;
+    let scope = scope(alloc, &statement.scope)?;
     Ok(Policy::new(id, annotations, statement.effect, scope, conditions))
 }
 
@@ -58,8 +58,8 @@ fn template(alloc: Global, id: Text, statement: &WrittenStatement) -> Result<Tem
     ensures { IfOk result (λ t. t ≡ to_template id statement.now) }
 {
     let annotations = annotations(alloc, &statement.annotations)?;
-    let scope = template_scope(alloc, &statement.scope)?;
     let conditions = conditions(alloc, &statement.conditions)?;
+    let scope = template_scope(alloc, &statement.scope)?;
     Ok(Template::new(id, annotations, statement.effect, scope, conditions))
 }
 

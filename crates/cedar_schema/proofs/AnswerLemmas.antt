@@ -6,7 +6,7 @@ use Rattle.cedar_value.specs.declared.uid.Uid.{Uid}
 use Rattle.cedar_schema.specs.declared.schema_fault.SchemaFault.{SchemaFault}
 use Rattle.cedar_schema.specs.declared.schema_fault.SchemaFault.TheVariants.{OutOfMemory}
 use Rattle.cedar_schema.specs.Private.Faults.{Told}
-use Rattle.cedar_schema.specs.Entries.{EntryTree, names_of, root_faults}
+use Rattle.cedar_schema.specs.Entries.{EntryTree, whole_names, root_faults}
 use Rattle.cedar_schema.specs.SchemaTree.{SchemaTree, EntityTypeTree, ActionTree}
 use Rattle.cedar_schema.specs.Each.{each_faults, each_onto}
 use Rattle.cedar_schema.specs.Schemas.{Setting, Sections, sections_of, setting_of, schema_in, schema_of, setting_faults, sections_faults, written_faults, common_faults, expansion_faults, entity_faults, one_action_faults, add_entity, add_action, forms_of, uids_onto}
@@ -48,18 +48,18 @@ module _ (s : Setting) (es as' : List EntryTree) where
       let none : setting_faults s es as' ≡ [] = λ i. table i ++ (entities.0 i ++ actions.0 i) in
       subst (λ (fs : List SchemaFault). Answers r fs tree) (sym none) made
 
-pub sections_forms : (x : Sections) (es cs : List (List ℕ)) (e : SchemaFault) → es ≡ names_of x.entities → cs ≡ names_of x.commons → Told (each_faults (common_faults es cs) x.commons) e → Refuses (sections_faults x) (schema_in (setting_of x) x.entities x.actions) e
+pub sections_forms : (x : Sections) (es cs : List (List ℕ)) (e : SchemaFault) → es ≡ whole_names x.entities → cs ≡ whole_names x.commons → Told (each_faults (common_faults es cs) x.commons) e → Refuses (sections_faults x) (schema_in (setting_of x) x.entities x.actions) e
 unfolding sections_faults
 sections_forms x es cs e p q h =
-    refuses (sections_faults x) (schema_in (setting_of x) x.entities x.actions) e (told_first _ (setting_faults (setting_of x) x.entities x.actions) e (subst (λ n. Told (each_faults (common_faults n (names_of x.commons)) x.commons) e) p (subst (λ n. Told (each_faults (common_faults es n) x.commons) e) q h)))
+    refuses (sections_faults x) (schema_in (setting_of x) x.entities x.actions) e (told_first _ (setting_faults (setting_of x) x.entities x.actions) e (subst (λ n. Told (each_faults (common_faults n (whole_names x.commons)) x.commons) e) p (subst (λ n. Told (each_faults (common_faults es n) x.commons) e) q h)))
 
-pub sections_all : (x : Sections) (s : Setting) (r : Result SchemaTree SchemaFault) → s.entities ≡ names_of x.entities → s.commons ≡ names_of x.commons → (each_faults (common_faults s.entities s.commons) x.commons ≡ []) × (s.table ≡ forms_of s.entities s.commons x.commons)
+pub sections_all : (x : Sections) (s : Setting) (r : Result SchemaTree SchemaFault) → s.entities ≡ whole_names x.entities → s.commons ≡ whole_names x.commons → (each_faults (common_faults s.entities s.commons) x.commons ≡ []) × (s.table ≡ forms_of s.entities s.commons x.commons)
     → s.uids ≡ uids_onto [] x.actions → Answers r (setting_faults s x.entities x.actions) (schema_in s x.entities x.actions) → Answers r (sections_faults x) (schema_in (setting_of x) x.entities x.actions)
 unfolding sections_faults
 sections_all x s r p q forms u a =
-    let table : s.table ≡ forms_of (names_of x.entities) (names_of x.commons) x.commons = forms.1 ∙ (λ i. forms_of (p i) (q i) x.commons) in
+    let table : s.table ≡ forms_of (whole_names x.entities) (whole_names x.commons) x.commons = forms.1 ∙ (λ i. forms_of (p i) (q i) x.commons) in
     let same : s ≡ setting_of x = λ i. record { entities = p i; commons = q i; table = table i; uids = u i } in
-    let none : each_faults (common_faults (names_of x.entities) (names_of x.commons)) x.commons ≡ [] = sym (λ i. each_faults (common_faults (p i) (q i)) x.commons) ∙ forms.0 in
+    let none : each_faults (common_faults (whole_names x.entities) (whole_names x.commons)) x.commons ≡ [] = sym (λ i. each_faults (common_faults (p i) (q i)) x.commons) ∙ forms.0 in
     answers_then r _ _ _ none (subst (λ (t : Setting). Answers r (setting_faults t x.entities x.actions) (schema_in t x.entities x.actions)) same a)
 
 pub root_spaces : (root : Members) (e : SchemaFault) → Told (root_faults root) e → Refuses (written_faults root) (schema_of root) e

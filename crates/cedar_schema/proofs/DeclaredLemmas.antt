@@ -21,7 +21,7 @@ use Rattle.cedar_schema.specs.declared.schema_fault.SchemaFault.{SchemaFault}
 use Rattle.cedar_schema.specs.declared.schema.environment.Environment.{Environment}
 use Rattle.cedar_schema.specs.Naming.{qualified, or_else, listed, place_from, resolved}
 use Rattle.cedar_schema.specs.Reading.{Scope, text_at}
-use Rattle.cedar_schema.specs.Entries.{EntryTree, names_of, entity_key_faults}
+use Rattle.cedar_schema.specs.Entries.{EntryTree, whole_names, entity_key_faults}
 use Rattle.cedar_schema.specs.Each.{each_faults, each_onto}
 use Rattle.cedar_schema.specs.Declaring.{ListRead, each_read, list_at, name_read, some_name, names_at, set_onto, applies_read, unspecified, unless_null, listed_uid, with_type, typed_uid, found_uid, by_type, by_id, by_member, member_read, entity_type_of, entity_type_faults, action_of, uid_of}
 use Rattle.cedar_schema.specs.SchemaTree.{SchemaTree, EntityTypeTree, ActionTree, environments_of, with_principals, with_resources, parents_of_action}
@@ -224,22 +224,22 @@ module _ (s : Setting) where
       (subst (λ (ks : List (List ℕ)). Contains ks m) (sym (keys_more {A = EntryTree} text_cmp (λ x. qualified x.namespace x.key) (λ x. entity_type_of (scope_in s x) s.table x) (qualified e.namespace e.key) (entity_type_of (scope_in s e) s.table e) done))
       (kept_key text_cmp (qualified e.namespace e.key) m (keys_of done) h))
 
-  named_types : (es : List EntryTree) (done : List (List ℕ × EntityTypeTree)) → All (Contains (keys_of (each_onto (add_entity s) done es))) (names_of es)
+  named_types : (es : List EntryTree) (done : List (List ℕ × EntityTypeTree)) → All (Contains (keys_of (each_onto (add_entity s) done es))) (whole_names es)
   unfolding each_onto
   named_types [] done = All-nil (Contains (keys_of done))
   named_types (e ∷ es) done =
-      All-cons (Contains (keys_of (each_onto (add_entity s) (add_entity s done e) es))) (qualified e.namespace e.key) (names_of es)
+      All-cons (Contains (keys_of (each_onto (add_entity s) (add_entity s done e) es))) (qualified e.namespace e.key) (whole_names es)
       (kept_types es (add_entity s done e) (qualified e.namespace e.key)
       (subst (λ (ks : List (List ℕ)). Contains ks (qualified e.namespace e.key)) (sym (keys_more {A = EntryTree} text_cmp (λ x. qualified x.namespace x.key) (λ x. entity_type_of (scope_in s x) s.table x) (qualified e.namespace e.key) (entity_type_of (scope_in s e) s.table e) done))
       (new_key text_cmp text_same (qualified e.namespace e.key) (keys_of done))))
       (named_types es (add_entity s done e))
 
-  module _ (es : List EntryTree) (names : s.entities ≡ names_of es) where
+  module _ (es : List EntryTree) (names : s.entities ≡ whole_names es) where
     abbrev types_of : List (List ℕ)
     types_of = keys_of (each_onto (add_entity s) [] es)
 
     is_type : (n : List ℕ) → Contains s.entities n → Contains types_of n
-    is_type n h = All-contains (Contains types_of) (names_of es) n (named_types es []) (subst (λ (ks : List (List ℕ)). Contains ks n) names h)
+    is_type n h = All-contains (Contains types_of) (whole_names es) n (named_types es []) (subst (λ (ks : List (List ℕ)). Contains ks n) names h)
 
     list_applies : (sc : Scope) (missing : List SchemaFault) (o : Option Data) → sc.entities ≡ s.entities → IsStrictlySortedBy text_cmp (set_onto [] (names_at sc missing o).items) × All (Contains types_of) (set_onto [] (names_at sc missing o).items)
     list_applies sc missing o same = (

@@ -16,7 +16,7 @@ use Rattle.cedar_schema.specs.Private.Faults.{Told}
 use Rattle.cedar_schema.specs.Forms.{record_form, no_form_rows, form_row}
 use Rattle.cedar_schema.specs.Private.FormView.{FieldTree, form_of, field_of, fields_view}
 use Rattle.cedar_schema.specs.Private.Reads.{Reads}
-use Rattle.cedar_schema.specs.Reading.{Scope, Read, RowsRead, bad, type_read, read_at, rows_at, rows_read, all_rows, of_type, text_at, key_faults, keys_of, may_have, kind_named, of_kind, with_faults, no_rows_read, required_faults, is_required}
+use Rattle.cedar_schema.specs.Reading.{Scope, Read, RowsRead, bad, type_read, read_at, rows_at, rows_read, all_rows, of_type, text_at, key_faults, unknown_keys, may_have, kind_named, of_kind, with_faults, no_rows_read, required_faults, is_required}
 
 picked : {A B : Type 0} (f : A → B) (o : Ordering) (a b : Option A) (c d : Option B) → c ≡ option_map f a → d ≡ option_map f b → match_ordering o c d c ≡ option_map f (match_ordering o a b a)
 picked f Less a b c d p q = p
@@ -58,8 +58,8 @@ type_read-parts sc a d ms o e h =
     subst (λ x. type_read sc a x ≡ parts sc a x (text_at (codes "type") x)) (sym here) (type_read-object sc a ms) in
     all ∙ ap (parts sc a d) (sym h)
 
-pub keys_of-object : (may : List ℕ → Bool) (d : Data) (ms : Members) → Some ms ≡ as_object d → keys_of may d ≡ key_faults may ms
-keys_of-object may d ms e = ap (λ o. unwrap_or (option_map (key_faults may) o) []) (sym e)
+pub unknown_keys-object : (may : List ℕ → Bool) (d : Data) (ms : Members) → Some ms ≡ as_object d → unknown_keys may d ≡ key_faults may ms
+unknown_keys-object may d ms e = ap (λ o. unwrap_or (option_map (key_faults may) o) []) (sym e)
 
 pub reads_after : (kf : List SchemaFault) (r : Read) (result : Result Form SchemaFault) → kf ≡ [] → Reads result r → Reads result (with_faults kf r)
 reads_after kf r result e h = subst (λ fs. Reads result (with_faults fs r)) (sym e) h
@@ -165,7 +165,7 @@ fields_end sc fs W all =
 pub type_refused : (sc : Scope) (a : Bool) (d : Data) (ms : Members) (s : List ℕ) (e : SchemaFault) → Some ms ≡ as_object d → Some s ≡ text_at (codes "type") d
     → Told (key_faults (may_have (kind_named s) a) ms) e → Told (type_read sc a d).faults e
 type_refused sc a d ms s e is text h =
-    let k : Told (keys_of (may_have (kind_named s) a) d) e = subst (λ fs. Told fs e) (sym (keys_of-object (may_have (kind_named s) a) d ms is)) h in
+    let k : Told (unknown_keys (may_have (kind_named s) a) d) e = subst (λ fs. Told fs e) (sym (unknown_keys-object (may_have (kind_named s) a) d ms is)) h in
     subst (λ (r : Read). Told r.faults e) (sym (type_read-parts sc a d ms (Some s) is text)) (told_first _ _ e k)
 
 pub type_reads : (sc : Scope) (a : Bool) (d : Data) (ms : Members) (s : List ℕ) (result : Result Form SchemaFault) → Some ms ≡ as_object d → Some s ≡ text_at (codes "type") d
@@ -174,7 +174,7 @@ pub type_reads : (sc : Scope) (a : Bool) (d : Data) (ms : Members) (s : List ℕ
     → Reads result (type_read sc a d)
 type_reads sc a d ms s result is text none h =
     subst (λ (r : Read). Reads result r) (sym (type_read-parts sc a d ms (Some s) is text))
-    (reads_after (keys_of (may_have (kind_named s) a) d) _ result (keys_of-object (may_have (kind_named s) a) d ms is ∙ none) h)
+    (reads_after (unknown_keys (may_have (kind_named s) a) d) _ result (unknown_keys-object (may_have (kind_named s) a) d ms is ∙ none) h)
 
 shape_there : Told (Shape ∷ []) Shape
 shape_there n = (0, lit< tt, refl)

@@ -33,8 +33,8 @@ entries k no_members = []
 entries k (member namespace space rest) = entries_in namespace (section k space) ++ entries k rest
 
 -- The whole names of what the entries declare.
-abbrev pub names_of : List EntryTree → List (List ℕ)
-names_of = map (λ e. qualified e.namespace e.key)
+abbrev pub whole_names : List EntryTree → List (List ℕ)
+whole_names = map (λ e. qualified e.namespace e.key)
 
 -- ---- faults
 

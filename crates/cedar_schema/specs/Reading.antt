@@ -72,8 +72,8 @@ made make None = no_form
 made make (Some n) = make n
 
 -- What a name says: the form that it stands for.
-abbrev pub name_read : (Declared → FormTree) → List (List ℕ) → List ℕ → List ℕ → Read
-name_read make names namespace s = record { form = made make (resolved names namespace s); faults = name_faults names namespace s }
+abbrev pub form_named : (Declared → FormTree) → List (List ℕ) → List ℕ → List ℕ → Read
+form_named make names namespace s = record { form = made make (resolved names namespace s); faults = name_faults names namespace s }
 
 -- The text at a key.
 abbrev pub text_at : List ℕ → Data → Option (List ℕ)
@@ -86,7 +86,7 @@ needed f (Some x) = f x
 
 -- A declared entity type (Cedar documentation, JSON schema format: Entity).
 abbrev pub entity_read : Scope → Option (List ℕ) → Read
-entity_read sc o = needed (name_read (λ n. entity_form n.0) sc.entities sc.namespace) o
+entity_read sc o = needed (form_named (λ n. entity_form n.0) sc.entities sc.namespace) o
 
 -- The extension type `decimal`; another name is 303 (Cedar documentation, JSON schema format: Extension).
 abbrev pub extension_named : List ℕ → Read
@@ -98,7 +98,7 @@ extension_read o = needed extension_named o
 
 -- A declared common type (Cedar documentation, JSON schema format: commonTypes).
 abbrev pub common_read : Scope → List ℕ → Read
-common_read sc s = name_read (λ n. common_form n.1) sc.commons sc.namespace s
+common_read sc s = form_named (λ n. common_form n.1) sc.commons sc.namespace s
 
 -- The type of sets of what is read (Cedar documentation, JSON schema format: Set).
 abbrev pub set_of : Read → Read
@@ -132,13 +132,13 @@ of_kind sc d s Extension el rs = extension_read (text_at (codes "name") d)
 of_kind sc d s Common el rs = common_read sc s
 
 -- The faults of the keys of an object.
-abbrev pub keys_of : (List ℕ → Bool) → Data → List SchemaFault
-keys_of may d = unwrap_or (option_map (key_faults may) (as_object d)) []
+abbrev pub unknown_keys : (List ℕ → Bool) → Data → List SchemaFault
+unknown_keys may d = unwrap_or (option_map (key_faults may) (as_object d)) []
 
 -- What an object says as a type: one without the text `type` is 302.
 abbrev pub of_type : Scope → Bool → Data → Option Read → Option RowsRead → Option (List ℕ) → Read
 of_type sc attribute d el rs None = bad Shape
-of_type sc attribute d el rs (Some s) = with_faults (keys_of (may_have (kind_named s) attribute) d) (of_kind sc d s (kind_named s) el rs)
+of_type sc attribute d el rs (Some s) = with_faults (unknown_keys (may_have (kind_named s) attribute) d) (of_kind sc d s (kind_named s) el rs)
 
 -- No attributes.
 abbrev pub no_rows_read : RowsRead

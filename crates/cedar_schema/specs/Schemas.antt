@@ -11,7 +11,7 @@ use Rattle.cedar_schema.specs.Expansion.{Table, typed}
 use Rattle.cedar_schema.specs.Forms.{FormTree}
 use Rattle.cedar_schema.specs.Each.{each_faults, each_onto}
 use Rattle.cedar_schema.specs.Naming.{qualified}
-use Rattle.cedar_schema.specs.Entries.{EntryTree, entries, names_of, root_faults, common_key_faults}
+use Rattle.cedar_schema.specs.Entries.{EntryTree, entries, whole_names, root_faults, common_key_faults}
 use Rattle.cedar_schema.specs.Declaring.{uid_of, entity_type_of, entity_type_faults, action_of, action_faults}
 use Rattle.cedar_schema.specs.SchemaTree.{EntityTypeTree, ActionTree, SchemaTree}
 
@@ -85,9 +85,9 @@ sections_of root = record { commons = entries (codes "commonTypes") root; entiti
 -- What the entries declare by name.
 abbrev pub setting_of : Sections → Setting
 setting_of x = record {
-  entities = names_of x.entities;
-  commons = names_of x.commons;
-  table = forms_of (names_of x.entities) (names_of x.commons) x.commons;
+  entities = whole_names x.entities;
+  commons = whole_names x.commons;
+  table = forms_of (whole_names x.entities) (whole_names x.commons) x.commons;
   uids = uids_onto [] x.actions;
 }
 
@@ -101,7 +101,7 @@ setting_faults s entities actions = each_faults (expansion_faults s.table) s.tab
 
 -- The faults of all entries.
 unfoldable pub sections_faults : Sections → List SchemaFault
-sections_faults x = each_faults (common_faults (names_of x.entities) (names_of x.commons)) x.commons ++ setting_faults (setting_of x) x.entities x.actions
+sections_faults x = each_faults (common_faults (whole_names x.entities) (whole_names x.commons)) x.commons ++ setting_faults (setting_of x) x.entities x.actions
 
 -- The schema that an object of namespaces denotes (Cedar documentation, JSON schema format).
 abbrev pub schema_of : Members → SchemaTree

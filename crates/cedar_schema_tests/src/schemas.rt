@@ -206,30 +206,77 @@ fn one_fault_is_not_another(rt: HostRuntime) -> Result<(), Fail> {
     Ok(())
 }
 
+// Whether the small schema declares the action.
+fn declares(alloc: Global, id: &str) -> Result<bool, SchemaFault> {
+    let schema = read(alloc, SMALL)?;
+    let action = action(alloc, id)?;
+    Ok(schema.has_action(&action))
+}
+
+// Whether the small schema lends what it declares of the action.
+fn lends(alloc: Global, id: &str) -> Result<bool, SchemaFault> {
+    let schema = read(alloc, SMALL)?;
+    let action = action(alloc, id)?;
+    Ok(schema.action(&action).is_some())
+}
+
+// Whether actions of the small schema have the type.
+fn is_action_type(alloc: Global, ty: &str) -> Result<bool, SchemaFault> {
+    let schema = read(alloc, SMALL)?;
+    let ty = name(alloc, ty)?;
+    Ok(schema.has_action_type(&ty))
+}
+
 #[test]
 fn actions_are_found(rt: HostRuntime) -> Result<(), Fail> {
     let alloc = rt.alloc();
+    assert!(rt; declares(alloc, "view")?);
+    assert!(rt; !declares(alloc, "write")?);
+    assert!(rt; lends(alloc, "view")?);
+    assert!(rt; !lends(alloc, "write")?);
+    assert!(rt; is_action_type(alloc, "Action")?);
+    assert!(rt; !is_action_type(alloc, "User")?);
+    Ok(())
+}
+
+// Whether the context of the action for the types is known and, where a key is given, has the attribute.
+fn has_context(
+    schema: &Schema,
+    action: &Uid,
+    principal: &Name,
+    resource: &Name,
+    key: Option<&str>,
+) -> bool {
+    match (schema.context(action, principal, resource), key) {
+        (None, _) => false,
+        (Some(_), None) => true,
+        (Some(context), Some(key)) => context.attribute(key).is_some(),
+    }
+}
+
+// The same of the small schema, an action's id and the names of types.
+fn small_context(
+    alloc: Global,
+    id: &str,
+    principal: &str,
+    resource: &str,
+    key: Option<&str>,
+) -> Result<bool, SchemaFault> {
     let schema = read(alloc, SMALL)?;
-    let view = action(alloc, "view")?;
-    let user = name(alloc, "User")?;
-    let doc = name(alloc, "Doc")?;
-    assert!(rt; schema.has_action(&view));
-    assert!(rt; !schema.has_action(&action(alloc, "write")?));
-    assert!(rt; schema.action(&view).is_some());
-    assert!(rt; schema.action(&action(alloc, "write")?).is_none());
-    assert!(rt; schema.has_action_type(&name(alloc, "Action")?));
-    assert!(rt; !schema.has_action_type(&user));
-    let Some(context) = schema.context(&view, &user, &doc) else {
-        return Err(SchemaFault::UnknownType.into());
-    };
-    assert!(rt; context.attribute("n").is_some());
-    assert!(rt; context.attribute("m").is_none());
-    assert!(rt; schema.context(&view, &doc, &user).is_none());
-    assert!(rt;
-        schema
-            .context(&action(alloc, "read")?, &user, &doc)
-            .is_none()
-    );
+    let action = action(alloc, id)?;
+    let principal = name(alloc, principal)?;
+    let resource = name(alloc, resource)?;
+    Ok(has_context(&schema, &action, &principal, &resource, key))
+}
+
+#[test]
+fn contexts_are_found_by_action_and_types(rt: HostRuntime) -> Result<(), Fail> {
+    let alloc = rt.alloc();
+    assert!(rt; small_context(alloc, "view", "User", "Doc", None)?);
+    assert!(rt; small_context(alloc, "view", "User", "Doc", Some("n"))?);
+    assert!(rt; !small_context(alloc, "view", "User", "Doc", Some("m"))?);
+    assert!(rt; !small_context(alloc, "view", "Doc", "User", None)?);
+    assert!(rt; !small_context(alloc, "read", "User", "Doc", None)?);
     Ok(())
 }
 

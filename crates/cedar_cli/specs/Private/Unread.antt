@@ -1,7 +1,7 @@
 -- The refusal of a policy file.
 use Rattle.cedar_cli.specs.declared.refusal.FileRefusal.{FileRefusal}
-use Rattle.cedar_cli.specs.declared.authorizing.Unread.{Unread}
-use Rattle.cedar_cli.specs.declared.authorizing.Unread.TheVariants.{Refused, Unnamed, Device, Memory}
+use Rattle.cedar_cli.specs.declared.reading.Unread.{Unread}
+use Rattle.cedar_cli.specs.declared.reading.Unread.TheVariants.{Refused, Unnamed, Device, Memory}
 
 abbrev pub IfRefused : Unread → (FileRefusal → Type 0) → Type 0
 IfRefused (Refused r) P = P r

@@ -21,8 +21,10 @@ impl<'a, R: std::rt::Files + AllocGlobal> NamedFiles<'a, R> {
 
 fn name<'a>(words: &Words<'a>, role: Role) -> Option<&'a str> {
     match role {
+        Role::Schema => words.schema,
         Role::Policies => words.policies,
-        Role::Schema | Role::Links | Role::Entities => None,
+        Role::Links => words.links,
+        Role::Entities => words.entities,
     }
 }
 

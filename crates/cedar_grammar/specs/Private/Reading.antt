@@ -3,10 +3,13 @@ use Rattle.std.specs.Prelude.{ℕ, zero, suc, true, false, Bool, ◌||◌, ◌==
 use Rattle.cedar_text.specs.declared.token_kind.TokenKind.{TokenKind}
 use Rattle.cedar_text.specs.declared.token_kind.TokenKind.TheVariants as k
 use Rattle.cedar_ast.specs.declared.variable.Variable.{Variable}
+use Rattle.cedar_grammar.specs.declared.sign.ChainLevel.{ChainLevel}
+use Rattle.cedar_grammar.specs.declared.sign.ChainLevel.TheVariants as level
 use Rattle.cedar_grammar.specs.declared.sign.ChainSign.{ChainSign}
 use Rattle.cedar_grammar.specs.declared.written.Field.{Field}
 use Rattle.cedar_grammar.specs.declared.written.Link.{Link}
 use Rattle.cedar_grammar.specs.declared.written.Link.TheVariants.{Operand, Attribute, Method}
+use Rattle.cedar_ext.specs.declared.pattern.Element.{Element}
 use Rattle.cedar_tokens.specs.Marks.{Mark, Marks, pattern_of}
 pub use Rattle.cedar_tokens.specs.Private.Reading.{Refusal, Syntax, TooDeep, Outcome, and_then, Parser, same_kind, sign_at, on_some, goes_on}
 unfoldable pub use Rattle.cedar_tokens.specs.Private.Reading.{sees, next, first, expect, kind_at, text, key, path_from, path, uid_of, entity}
@@ -35,14 +38,26 @@ module _ {A : Type 0} (item : Parser A) where
 
 -- ---- expressions
 
+abbrev pub signs_of : ChainLevel → TokenKind → Option ChainSign
+signs_of level.Or = or_sign
+signs_of level.And = and_sign
+signs_of level.Sum = sum_sign
+signs_of level.Product = product_sign
+
+-- the first operand, and what was read behind it
+abbrev pub behind : Written → Outcome (List Link) → Outcome Written
+behind a o = and_then o (λ ls us. Ok (chained a ls, us))
+
 module _ (signs : TokenKind → Option ChainSign) (item : Parser Written) where
-  unfoldable pub chain_from : ℕ → Written → List Link → Parser Written
-  chain_from zero a ls ts = Ok (chained a ls, ts)
-  chain_from (suc n) a ls ts =
-      on_some (sign_at signs ts) (Ok (chained a ls, ts)) (λ sign. and_then (item (next ts)) (λ b us. chain_from n a (ls ++ Operand sign b ∷ []) us))
+  unfoldable pub links_from : ℕ → List Link → Parser (List Link)
+  links_from zero ls ts = Ok (ls, ts)
+  links_from (suc n) ls ts = on_some (sign_at signs ts) (Ok (ls, ts)) (λ sign. and_then (item (next ts)) (λ b us. links_from n (ls ++ Operand sign b ∷ []) us))
+
+  abbrev pub links : Parser (List Link)
+  links ts = links_from (length ts) [] ts
 
   abbrev pub chain : Parser Written
-  chain ts = and_then (item ts) (λ a us. chain_from (length us) a [] us)
+  chain ts = and_then (item ts) (λ a us. behind a (links us))
 
 abbrev pub variable_read : Option Variable → Parser Written
 variable_read None ts = Err Syntax
@@ -67,6 +82,17 @@ entry inner ts = and_then (key ts) (λ c us. and_then (expect k.Colon us) (λ t 
 
 abbrev pub has_suffix : Marks → Bool
 has_suffix ts = sees k.Dot ts || sees k.LeftBracket ts
+
+-- what stands behind `has`
+unfoldable pub asked : Written → Parser Written
+asked left ts = and_then (key ts) (λ c us. Ok (w.has left c, us))
+
+-- what stands behind `like`
+unfoldable pub pattern : Parser (List Element)
+pattern ts = and_then (expect k.String ts) (λ t us. Ok (pattern_of t.letters, us))
+
+unfoldable pub matched : Written → Parser Written
+matched left ts = and_then (pattern ts) (λ p us. Ok (w.like left p, us))
 
 -- a text in brackets
 unfoldable pub indexed : ℕ → Parser Link
@@ -124,12 +150,15 @@ module _ (d : ℕ) (inner : Parser Written) where
   unfoldable pub suffix : Parser Link
   suffix ts = if sees k.Dot ts then dotted (next ts) else indexed d ts
 
-  unfoldable pub member_from : ℕ → Written → List Link → Parser Written
-  member_from zero a ls ts = Ok (chained a ls, ts)
-  member_from (suc n) a ls ts = if has_suffix ts then and_then (suffix ts) (λ l us. member_from n a (ls ++ l ∷ []) us) else Ok (chained a ls, ts)
+  unfoldable pub suffixes_from : ℕ → List Link → Parser (List Link)
+  suffixes_from zero ls ts = Ok (ls, ts)
+  suffixes_from (suc n) ls ts = if has_suffix ts then and_then (suffix ts) (λ l us. suffixes_from n (ls ++ l ∷ []) us) else Ok (ls, ts)
+
+  abbrev pub suffixes : Parser (List Link)
+  suffixes ts = suffixes_from (length ts) [] ts
 
   unfoldable pub member : Parser Written
-  member ts = and_then (primary ts) (λ a us. member_from (length us) a [] us)
+  member ts = and_then (primary ts) (λ a us. behind a (suffixes us))
 
   unfoldable pub nots : ℕ → Parser Written
   nots zero ts = member ts
@@ -148,9 +177,12 @@ module _ (d : ℕ) (inner : Parser Written) where
   unfoldable pub sums : Parser Written
   sums = chain sum_sign products
 
+  -- what stands behind `is` and the type
+  unfoldable pub of_type : Written → List ℕ → Parser Written
+  of_type left ty ts = if sees k.In ts then and_then (sums (next ts)) (λ right us. Ok (w.is_in left ty right, us)) else Ok (w.is left ty, ts)
+
   unfoldable pub typed : Written → Parser Written
-  typed left ts =
-      and_then (path ts) (λ ty us. if sees k.In us then and_then (sums (next us)) (λ right vs. Ok (w.is_in left ty right, vs)) else Ok (w.is left ty, us))
+  typed left ts = and_then (path ts) (λ ty us. of_type left ty us)
 
   unfoldable pub related : Written → Parser Written
   related left ts =
@@ -158,8 +190,8 @@ module _ (d : ℕ) (inner : Parser Written) where
 
   unfoldable pub relation_from : Written → Parser Written
   relation_from left ts =
-      if sees k.Has ts then and_then (key (next ts)) (λ c us. Ok (w.has left c, us))
-      else (if sees k.Like ts then and_then (expect k.String (next ts)) (λ t us. Ok (w.like left (pattern_of t.letters), us))
+      if sees k.Has ts then asked left (next ts)
+      else (if sees k.Like ts then matched left (next ts)
       else (if sees k.Is ts then typed left (next ts) else related left ts))
 
   unfoldable pub relation : Parser Written
@@ -171,8 +203,27 @@ module _ (d : ℕ) (inner : Parser Written) where
   unfoldable pub ors : Parser Written
   ors = chain or_sign ands
 
+  abbrev pub operand_of : ChainLevel → Parser Written
+  operand_of level.Or = ands
+  operand_of level.And = relation
+  operand_of level.Sum = products
+  operand_of level.Product = unary
+
+  abbrev pub links_of : ChainLevel → Parser (List Link)
+  links_of l = links (signs_of l) (operand_of l)
+
+  abbrev pub chain_of : ChainLevel → Parser Written
+  chain_of l = chain (signs_of l) (operand_of l)
+
+  -- up to `else`
+  unfoldable pub before_else : Parser Written
+  before_else ts = and_then (inner ts) (λ a us. and_then (expect k.Else us) (λ e vs. Ok (a, vs)))
+
+  unfoldable pub behind_else : Written → Written → Parser Written
+  behind_else c a ts = and_then (inner ts) (λ b us. Ok (w.choice c a b, us))
+
   unfoldable pub branches : Written → Parser Written
-  branches c ts = and_then (inner ts) (λ a xs. and_then (expect k.Else xs) (λ e ys. and_then (inner ys) (λ b zs. Ok (w.choice c a b, zs))))
+  branches c ts = and_then (before_else ts) (λ a us. behind_else c a us)
 
   unfoldable pub choice : Parser Written
   choice ts = and_then (open_one d ts) (λ o us. and_then (inner us) (λ c vs. and_then (expect k.Then vs) (λ t ws. branches c ws)))

@@ -77,14 +77,17 @@ action ts =
     and_then (word (codes "action") ts) (λ w us. if sees k.Equal us then and_then (entity (next us)) (λ u vs. Ok (action_scope.Equal u, vs))
     else (if sees k.In us then entities (next us) else Ok (action_scope.Any, us)))
 
--- the scope from the resource on
+-- the resource behind its comma, with the bracket that closes the scope
+unfoldable pub resource : Parser WrittenEntityScope
+resource ts = and_then (expect k.Comma ts) (λ c us. and_then (principal_or_resource (codes "resource") us) (λ q vs. and_then (expect k.RightParen vs) (λ r ws. Ok (q, ws))))
+
+-- the scope from behind the action on
 unfoldable pub behind_action : WrittenEntityScope → WrittenActionScope → Parser WrittenScope
-behind_action p a ts =
-    and_then (principal_or_resource (codes "resource") ts) (λ q us. and_then (expect k.RightParen us) (λ r vs. Ok (record { principal = p; action = a; resource = q }, vs)))
+behind_action p a ts = and_then (resource ts) (λ q us. Ok (record { principal = p; action = a; resource = q }, us))
 
 -- the scope from the action on
 unfoldable pub behind_principal : WrittenEntityScope → Parser WrittenScope
-behind_principal p ts = and_then (action ts) (λ a us. and_then (expect k.Comma us) (λ c vs. behind_action p a vs))
+behind_principal p ts = and_then (action ts) (λ a us. behind_action p a us)
 
 unfoldable pub scope : Parser WrittenScope
 scope ts =
@@ -112,10 +115,14 @@ conditions d ts = conditions_from d (length ts) [] ts
 
 -- ---- statements
 
+-- the conditions, and the sign that ends the statement
+unfoldable pub ending : ℕ → Parser (List WrittenCondition)
+ending d ts = and_then (conditions d ts) (λ cs us. and_then (expect k.Semicolon us) (λ e vs. Ok (cs, vs)))
+
 unfoldable pub behind_effect : ℕ → ℕ → List WrittenAnnotation → Effect → Parser StatementTree
 behind_effect d start notes effect ts =
-    and_then (scope ts) (λ s us. and_then (conditions d us) (λ cs vs. and_then (expect k.Semicolon vs) (λ e ws.
-    Ok (record { start = start; annotations = notes; effect = effect; scope = s; conditions = cs }, ws))))
+    and_then (scope ts) (λ s us. and_then (ending d us) (λ cs vs.
+    Ok (record { start = start; annotations = notes; effect = effect; scope = s; conditions = cs }, vs)))
 
 unfoldable pub statement : ℕ → Parser StatementTree
 statement d ts =

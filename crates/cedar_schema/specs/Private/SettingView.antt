@@ -1,6 +1,6 @@
 -- What settings and sections of the code stand for.
 use Rattle.std.specs.Prelude.{◌≡◌, List, []}
-use Rattle.cedar_schema.specs.Entries.{EntryTree, names_of}
+use Rattle.cedar_schema.specs.Entries.{EntryTree, whole_names}
 use Rattle.cedar_schema.specs.declared.json.entry.Entry.{Entry}
 use Rattle.cedar_schema.specs.Private.EntryView.{entries_view}
 use Rattle.cedar_schema.specs.declared.schema.declarations.Setting.{Setting as CodeSetting}
@@ -15,5 +15,5 @@ sections_view commons entities actions = record { commons = entries_view commons
 
 -- the setting is of these entries
 pub record IsSettingOf (s : Setting) (entities actions : List EntryTree) : Type 0 where
-  pub names : s.entities ≡ names_of entities
+  pub names : s.entities ≡ whole_names entities
   pub uids : s.uids ≡ uids_onto [] actions

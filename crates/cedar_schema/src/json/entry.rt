@@ -3,7 +3,7 @@ ghost use Rattle.std.specs.Prelude.{◌≡◌, ◌++◌, [], map, IfOk, OnOk, Ma
 ghost use Rattle.serde_json.specs.View.{view, members_view};
 ghost use Rattle.serde_json.specs.Find.{get, as_object};
 ghost use Rattle.cedar_schema.specs.Private.Faults.{Told};
-ghost use Rattle.cedar_schema.specs.Entries.{entries, entries_in, section, names_of, namespace_faults, space_faults, root_faults, object_faults, key_text_faults, entity_key_faults, common_key_faults};
+ghost use Rattle.cedar_schema.specs.Entries.{entries, entries_in, section, whole_names, namespace_faults, space_faults, root_faults, object_faults, key_text_faults, entity_key_faults, common_key_faults};
 ghost use Rattle.cedar_schema.specs.Private.EntryView.{entries_view, entry_of};
 
 use crate::form::kind::{Kind, kind_named};
@@ -72,7 +72,7 @@ fn push_entries<'a>(
 
 /// The whole names of what the entries declare.
 pub(crate) fn names_of(alloc: Global, entries: &[Entry<'_>]) -> Result<Vec<Name>, AllocError>
-    ensures { IfOk result (λ v. v.items ≡ names_of (entries_view entries.now)) }
+    ensures { IfOk result (λ v. v.items ≡ whole_names (entries_view entries.now)) }
 {
     let mut names = Vec::new(alloc);
     for entry in entries {

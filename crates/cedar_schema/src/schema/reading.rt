@@ -4,7 +4,7 @@ ghost use Rattle.serde_json.specs.View.{view, members_view};
 ghost use Rattle.cedar_schema.specs.declared.schema_fault.SchemaFault.TheVariants.{OutOfMemory};
 ghost use Rattle.cedar_schema.specs.Denotes.{Denotes, IsRefusedWith};
 ghost use Rattle.cedar_schema.specs.Private.Answers.{Answers};
-ghost use Rattle.cedar_schema.specs.Entries.{names_of};
+ghost use Rattle.cedar_schema.specs.Entries.{whole_names};
 ghost use Rattle.cedar_schema.specs.Private.EntryView.{entries_view};
 ghost use Rattle.cedar_schema.specs.Private.Measures.{AreEnds};
 ghost use Rattle.cedar_schema.specs.Private.SettingView.{IsSettingOf, setting_view, sections_view};
@@ -70,7 +70,7 @@ fn read_sections(
 }
 
 fn name_table(alloc: Global, entries: &[Entry<'_>]) -> Result<NameTable, AllocError>
-    ensures { IfOk result (λ t. t ≡ names_of (entries_view entries.now)) }
+    ensures { IfOk result (λ t. t ≡ whole_names (entries_view entries.now)) }
 {
     NameTable::new(alloc, names_of(alloc, entries)?)
 }

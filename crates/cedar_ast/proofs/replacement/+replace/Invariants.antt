@@ -1,4 +1,4 @@
-use Rattle.std.proofs.Common.{◌≡◌, ◌+◌, ◌*◌, take, map, max}
+use Rattle.std.proofs.Common.{◌≡◌, ◌+◌, ◌*◌, take, map}
 use Rattle.cedar_ast.specs.Replacement.{replace}
 use Rattle.cedar_ast.specs.Private.Depth.{depth, list_depth, pairs_depth}
 use Rattle.cedar_ast.specs.Private.Replaced.{replace_pair}
@@ -7,8 +7,8 @@ use Rattle.cedar_ast.proofs.replacement.+replace.Given as goal
 abbrev pub decreases-replaced : goal.decreases-replaced
 decreases-replaced l = 2 * depth l.expression.now
 
-abbrev pub decreases-replaced_both : goal.decreases-replaced_both
-decreases-replaced_both l = 2 * max (depth l.left.now) (depth l.right.now) + 1
+abbrev pub decreases-replaced_part : goal.decreases-replaced_part
+decreases-replaced_part l = 2 * depth l.part.now + 1
 
 abbrev pub decreases-replaced_members : goal.decreases-replaced_members
 decreases-replaced_members l = 2 * list_depth l.members.now

@@ -1,4 +1,4 @@
-use Rattle.std.proofs.Common.{◌≡◌, suc, max, ◌*◌, drop}
+use Rattle.std.proofs.Common.{◌≡◌, suc, max, ◌+◌, ◌*◌, drop}
 use Rattle.cedar_types.specs.Types.{no_attributes}
 use Rattle.cedar_ast.specs.Expression.{entries_of, expressions_of}
 use Rattle.cedar_ast.specs.Private.Depth.{depth, list_depth, pairs_depth}
@@ -7,31 +7,34 @@ use Rattle.cedar_check.specs.Private.View.{held_view, tree_of}
 use Rattle.cedar_check.proofs.checking.+check.Given as goal
 
 abbrev pub decreases-check : goal.decreases-check
-decreases-check l = 2 * depth l.expression.now
+decreases-check l = 3 * depth l.expression.now
+
+abbrev pub decreases-check_holding : goal.decreases-check_holding
+decreases-check_holding l = 3 * depth l.expression.now + 1
 
 abbrev pub decreases-check_and : goal.decreases-check_and
-decreases-check_and l = suc (2 * max (depth l.left.now) (depth l.right.now))
+decreases-check_and l = 3 * max (depth l.left.now) (depth l.right.now) + 2
 
 abbrev pub decreases-check_or : goal.decreases-check_or
-decreases-check_or l = suc (2 * max (depth l.left.now) (depth l.right.now))
+decreases-check_or l = suc (3 * max (depth l.left.now) (depth l.right.now))
 
 abbrev pub decreases-check_if : goal.decreases-check_if
-decreases-check_if l = suc (2 * max (depth l.condition.now) (max (depth l.first.now) (depth l.second.now)))
+decreases-check_if l = 3 * max (depth l.condition.now) (max (depth l.first.now) (depth l.second.now)) + 2
 
 abbrev pub decreases-check_unary : goal.decreases-check_unary
-decreases-check_unary l = suc (2 * depth l.operand.now)
+decreases-check_unary l = suc (3 * depth l.operand.now)
 
 abbrev pub decreases-check_binary : goal.decreases-check_binary
-decreases-check_binary l = suc (2 * max (depth l.left.now) (depth l.right.now))
+decreases-check_binary l = suc (3 * max (depth l.left.now) (depth l.right.now))
 
 abbrev pub decreases-check_members : goal.decreases-check_members
-decreases-check_members l = 2 * list_depth l.others.now
+decreases-check_members l = 3 * list_depth l.others.now
 
 abbrev pub decreases-check_set : goal.decreases-check_set
-decreases-check_set l = suc (2 * list_depth l.members.now)
+decreases-check_set l = suc (3 * list_depth l.members.now)
 
 abbrev pub decreases-check_record : goal.decreases-check_record
-decreases-check_record l = suc (2 * pairs_depth l.pairs.now)
+decreases-check_record l = suc (3 * pairs_depth l.pairs.now)
 
 -- what is left joins onto what has been joined
 abbrev pub invariant-check_members-loop-member : goal.invariant-check_members-loop-member

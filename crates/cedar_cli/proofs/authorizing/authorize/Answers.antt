@@ -1,11 +1,15 @@
-use Rattle.std.proofs.Common.{refl, rules, inr}
+use Rattle.std.proofs.Common.{inl, inr}
+use Rattle.cedar_cli.specs.declared.files.Role.TheVariants.{Policies}
 use Rattle.cedar_cli.proofs.authorizing.authorize.Goals as goal
 
-pub returns-in-Err-TooLong-clause-stands : goal.returns-in-Err-TooLong-clause-stands
-returns-in-Err-TooLong-clause-stands g c = λ h. inr (inr (c.whole-refusal.result, search rules, c.refuse-in-Err-TooLong.ensures.stands h))
+pub returns-in-Err-read_policies-clause-refused : goal.returns-in-Err-read_policies-clause-refused
+returns-in-Err-read_policies-clause-refused g c = λ h.
+    let told = c.stop-in-Err-read_policies.ensures.refused h in
+    (Policies, told.0, inl ((c.in-Ok.schema, c.in-Ok.ensures.found), rw told.1 at c.in-Err-read_policies.ensures.refused), told.2)
 
-pub returns-in-Err-OutOfMemory-serve-clause-stands_whole :
-    goal.returns-in-Err-OutOfMemory-serve-clause-stands_whole
-returns-in-Err-OutOfMemory-serve-clause-stands_whole g c = λ _.
-    let written = c.in-Err-OutOfMemory-serve.ensures.memory (rw c.in-Err-OutOfMemory-serve.field-0-is refl) in
-    inr (c.in-Ok.policies, c.in-Ok.ensures.found, rw c.in-Ok-new.ensures.ok at written)
+pub returns-in-Err-read_policies-clause-stands : goal.returns-in-Err-read_policies-clause-stands
+returns-in-Err-read_policies-clause-stands g c = λ h.
+    elim (c.stop-in-Err-read_policies.ensures.stands h) [
+      | inl kept ↦ inl kept
+      | inr told ↦ inr (inl (Policies, told.0, inl ((c.in-Ok.schema, c.in-Ok.ensures.found), rw told.1 at c.in-Err-read_policies.ensures.refused), told.2))
+    ]

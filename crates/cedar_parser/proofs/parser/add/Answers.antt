@@ -6,4 +6,4 @@ use Rattle.cedar_parser.proofs.parser.add.Goals as goal
 
 pub returns-in-Err-clause-refused : goal.returns-in-Err-clause-refused
 returns-in-Err-clause-refused c =
-    rw c.refusal.ensures (refused_where (Contains (ids_in c.args.set.now) (id_of c.args.entry)) (number_of c.in-Err.fault) c.args.start c.in-Err.ensures.duplicate)
+    rw c.refusal-refusal.ensures (refused_where (Contains (ids_in c.args.set.now) (id_of c.args.entry)) (number_of c.in-Err.fault) c.args.start c.in-Err.ensures.duplicate)

@@ -1,0 +1,11 @@
+pub mod Answerable
+pub mod Answered
+pub mod CodesBeside
+pub mod Headlines
+pub mod Listed
+pub mod Responses
+pub mod Taken
+pub mod Tallies
+pub mod Texts
+pub mod TrueFaults
+pub mod Validations

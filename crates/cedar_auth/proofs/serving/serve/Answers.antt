@@ -1,0 +1,4 @@
+use Rattle.cedar_auth.proofs.serving.serve.Goals as goal
+
+pub returns-clause-whole : goal.returns-clause-whole
+returns-clause-whole g c = c.serve.ensures.whole c.lines_have_answers.ensures

@@ -1,0 +1,14 @@
+-- The codes of policies.
+use Rattle.std.specs.Prelude.{◌<◌, List, length, Contains}
+use Rattle.cedar_ast.specs.PolicyTree.{PolicyTree}
+use Rattle.cedar_ast.specs.Condition.{condition_of}
+use Rattle.cedar_code.specs.declared.instruction.Instruction.{Instruction}
+use Rattle.cedar_code.specs.Code.{code_of, most_instructions}
+
+-- The code of a policy: that of its condition (Cedar language reference, policy scope and conditions).
+abbrev pub policy_code : PolicyTree → List Instruction
+policy_code p = code_of (condition_of p)
+
+-- The code of one of the policies would have over 1,000,000 instructions (own).
+abbrev pub HasLongCode : List PolicyTree → Type 0
+HasLongCode ps = (p : PolicyTree) × Contains ps p × (most_instructions < length (policy_code p))

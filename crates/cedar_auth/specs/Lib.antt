@@ -1,0 +1,7 @@
+pub mod AnswerJson
+pub mod AnswerLine
+pub mod Codes
+pub mod Headline
+pub mod Private
+pub mod Ready
+pub mod Validation

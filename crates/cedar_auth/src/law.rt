@@ -1,0 +1,20 @@
+//! The law of the engine.
+ghost use Rattle.cedar_auth.specs.Headline.{EngineIsSound, PremisesAreMet};
+
+use cedar_code::execution_is_evaluation;
+use cedar_typing::typing_is_sound;
+
+/// For a schema, policies that strict validation accepts, a world that conforms and a request that fits: every
+/// policy's code runs without stack fault, type error, decimal error or missing attribute, in at most as many steps as
+/// it has instructions, and errs only by overflow or a missing entity; and the response is Cedar's: forbid overrides
+/// permit, policies that err are skipped and named, determining ones are named (Cedar language reference,
+/// authorization; cedar-spec, Lean: Cedar.Thm). Some schema, policies, world and request meet all premises. It is a law
+/// of the definitions, and runs nothing.
+pub fn engine_is_sound()
+    ensures sound { EngineIsSound }
+    ensures premises { PremisesAreMet }
+{
+    // The laws of the two halves: they run nothing.
+    execution_is_evaluation();
+    typing_is_sound();
+}

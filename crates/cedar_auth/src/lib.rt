@@ -1,0 +1,40 @@
+//! The authoriser of the Cedar policy language: policies that strict validation accepted for a schema, entities that
+//! conform to it, and the answers that they give.
+//!
+//! ```
+//! let validated = Validated::new(alloc, schema, policies)?;
+//! let ready = Ready::new(alloc, validated, entities_json)?;
+//! if ready.fits(&request) {
+//!     let response = ready.answer(alloc, &request)?;
+//!     assert_eq!(rt; response.decision, Decision::Allow);
+//! }
+//! // Or line by line, from a source of request lines to a sink of answer lines:
+//! serve(alloc, &ready, &mut source, &mut sink)?;
+//! ```
+//!
+//! [`engine_is_sound`] says what all of it is for, over definitions alone: read `specs/Headline.antt` first. What answers a
+//! line stands in `specs/AnswerLine.antt`.
+#![tactic(auto)]
+
+mod answer;
+mod codes;
+mod law;
+mod not_ready;
+mod not_validated;
+mod part;
+mod ready;
+mod response;
+mod serving;
+mod tally;
+mod told;
+mod validated;
+mod validation_fault;
+
+pub use law::engine_is_sound;
+pub use not_ready::NotReady;
+pub use not_validated::NotValidated;
+pub use ready::Ready;
+pub use response::{Erring, Response};
+pub use serving::serve;
+pub use validated::Validated;
+pub use validation_fault::ValidationFault;

@@ -1,0 +1,109 @@
+//! Answers request lines.
+ghost use Rattle.std.specs.Prelude.{◌≡◌, ◌≢◌, ◌-◌, ◌^◌, ◌<◌, ◌++◌, IfSome, OnOk, OnErr, IsErrOf};
+ghost use Rattle.serde_json.specs.Written.{compact_text};
+ghost use Rattle.cedar_value.specs.declared.request.Request.{Request as RequestTree};
+ghost use Rattle.cedar_lines.specs.Lines.{lines_of, ended_lines_of};
+ghost use Rattle.cedar_lines.specs.AnswerText.{AnswersEach, AnswersFirst, BeginsAnswers, BeginsAnswerText, IsAnswerText, Receives, Writes};
+ghost use Rattle.cedar_data.specs.declared.conform_fault.ConformFault.TheVariants.{OutOfMemory};
+ghost use Rattle.cedar_data.specs.Numbers.{number_of};
+ghost use Rattle.cedar_schema.specs.Conformance.{Fits};
+ghost use Rattle.cedar_auth.specs.AnswerJson.{refused_data};
+ghost use Rattle.cedar_auth.specs.AnswerLine.{AnswersLine};
+ghost use Rattle.cedar_auth.specs.Headline.{IsAnsweredSoundly};
+
+use crate::answer::{append_refusal, append_response};
+use crate::ready::Ready;
+use crate::tally::Tally;
+use cedar_conform::read_request;
+use cedar_data::ConformFault;
+use cedar_lines::{Engine, ServeFault, Sink, Source};
+use std::alloc::{AllocError, Global};
+
+/// Answers lines by policies that are ready, which lend it their ids.
+#[derive(Clone, Copy)]
+struct Answering<'r> {
+    ready: &'r Ready,
+}
+
+// Appends the refusal of a fault; want of memory is passed on.
+fn append_fault(alloc: Global, fault: &ConformFault, out: &mut Vec<u8>) -> Result<(), AllocError>
+    ensures ok { OnOk result (out.new.items ≡ out.old.items ++ compact_text (refused_data (number_of fault.now))) }
+    ensures told { OnOk result (fault.now ≢ OutOfMemory) }
+    ensures err { OnErr result (out.new.items ≡ out.old.items) }
+{
+    let number = fault.number();
+    if number == 1 {
+        return Err(AllocError);
+    }
+    append_refusal(alloc, number, out)?;
+    Ok(())
+}
+
+impl<'r> Engine for Answering<'r> {
+    type Buffers = Tally<'r>;
+
+    ghost answers = { λ answering line text. AnswersLine answering.ready.now line text };
+
+    fn answer_line(
+        &self,
+        alloc: Global,
+        buffers: &mut Tally<'r>,
+        line: &[u8],
+        out: &mut Vec<u8>,
+    ) -> Result<(), AllocError> {
+        let ready = self.ready;
+        match read_request(alloc, ready.validated().schema(), line) {
+            Ok(request) => {
+                ready.tally(alloc, &request, buffers)?;
+                append_response(alloc, &buffers.told(), out)?;
+                Ok(())
+            }
+            Err(fault) => {
+                append_fault(alloc, &fault, out)?;
+                Ok(())
+            }
+        }
+    }
+}
+
+/// Answers each line of the source by one line to the sink: the response of the policies to the request that the line
+/// denotes by the schema, or `{"refused":N}`. At `Ok` all of the answer text was written.
+///
+/// 1 where memory ran out: the answers of some first lines were written, whole. 2 only where the source failed during
+/// the call: the answers to the lines that were read with their LF were written, whole. 3 only where the sink failed
+/// during the call: a beginning of the answers was written, which may end within a line.
+pub fn serve<S: Source, K: Sink>(
+    alloc: Global,
+    ready: &Ready,
+    source: &mut S,
+    sink: &mut K,
+) -> Result<(), ServeFault>
+    requires source_count { S.failed source.old < 2 ^ 64 - 1 }
+    requires sink_count { K.failed sink.old < 2 ^ 64 - 1 }
+
+    ensures ok { OnOk result (IfSome (S.left source.old) (λ input.
+        Writes (K.written sink.old) (K.written sink.new) (IsAnswerText (AnswersLine ready.now) input))) }
+    ensures err { OnErr result (IfSome (S.left source.old) (λ input.
+        Writes (K.written sink.old) (K.written sink.new) (BeginsAnswers (AnswersLine ready.now) (lines_of input)))) }
+    // What was written is a beginning of an answer text of the whole input.
+    ensures whole { OnErr result (IfSome (S.left source.old) (λ input.
+        Writes (K.written sink.old) (K.written sink.new) (BeginsAnswerText (AnswersLine ready.now) input))) }
+    ensures memory { IsErrOf result ServeFault.OutOfMemory → IfSome (S.left source.old) (λ input.
+        Writes (K.written sink.old) (K.written sink.new) (AnswersFirst (AnswersLine ready.now) (lines_of input))) }
+    // The lines of what was read that had their LF, and no part of another.
+    ensures read { IsErrOf result ServeFault.ReadFailed → Receives (S.left source.old) (S.left source.new) (λ given.
+        Writes (K.written sink.old) (K.written sink.new) (AnswersEach (AnswersLine ready.now) (ended_lines_of given))) }
+
+    ensures read_rose { IsErrOf result ServeFault.ReadFailed → S.failed source.old < S.failed source.new }
+    ensures write_rose { IsErrOf result ServeFault.WriteFailed → K.failed sink.old < K.failed sink.new }
+
+    // Each request that a line denotes fits, and is answered soundly: no other error is named than overflow and missing
+    // entity.
+    ensures sound { (q : RequestTree) → Fits ready.now.schema q → IsAnsweredSoundly ready.now.policies.policies q ready.now.world }
+{
+    // Laws, which run nothing.
+    ready.soundness();
+    ready.lines_have_answers();
+    let mut buffers = Tally::new(alloc);
+    cedar_lines::serve(alloc, &Answering { ready }, &mut buffers, source, sink)
+}

@@ -1,0 +1,158 @@
+//! Policies that strict validation accepted.
+ghost use Rattle.std.specs.Prelude.{◌≡◌, IfOk, IfErr, OnOk, option_copied, slice_get};
+ghost use Rattle.cedar_ast.specs.Response.{response};
+ghost use Rattle.cedar_auth.specs.Validation.{HasFault, IsValidated};
+ghost use Rattle.cedar_auth.specs.Private.Kept.{AreCodes};
+ghost use Rattle.cedar_auth.specs.Private.Tally.{tally_of};
+
+use crate::codes::codes_of;
+use crate::not_validated::NotValidated;
+use crate::part::Part;
+use crate::response::Response;
+use crate::tally::Tally;
+use crate::validation_fault::ValidationFault;
+use cedar_ast::PolicySet;
+use cedar_check::check;
+use cedar_code::{Code, CodeFault};
+use cedar_machine::Operands;
+use cedar_schema::Schema;
+use cedar_typing::typing_is_computed;
+use cedar_value::{Hierarchy, Request};
+use std::alloc::{AllocError, Global};
+use std::marker::Model;
+
+/// A schema and policies that strict validation accepts for it, with the policies' codes, compiled once. Contracts see
+/// the schema beside the policies.
+#[derive(Drop)]
+pub struct Validated {
+    schema: Schema,
+    policies: PolicySet,
+    compiled: Vec<Code>,
+}
+
+impl Model for Validated {
+    ghost use Rattle.std.specs.Coded.{codes};
+    ghost use Rattle.cedar_types.specs.Private.TypeCode.{type_code};
+    ghost use Rattle.cedar_ast.specs.Private.ExpressionCode.{expression_code};
+    ghost use Rattle.cedar_auth.specs.Validation.{ValidatedTree};
+    ghost use Rattle.cedar_auth.specs.Private.Kept.{IsKept};
+
+    ghost Value = { ValidatedTree };
+
+    ghost coded = { Prim.hlevel (codes, type_code, expression_code) };
+
+    ghost view = { λ v. record { schema = v.schema; policies = v.policies } };
+
+    ghost invariant = { λ v. IsKept v.schema v.policies.policies v.compiled.items };
+}
+
+// The codes of policies that strict validation accepts for a schema.
+fn judge(alloc: Global, schema: &Schema, policies: &PolicySet) -> Result<Vec<Code>, ValidationFault>
+    ensures accepted { OnOk result (IsValidated schema.now policies.now.policies) }
+    ensures codes { IfOk result (λ codes. AreCodes codes.items policies.now.policies) }
+    ensures refused { IfErr result (HasFault schema.now policies.now.policies) }
+{
+    // A law of typing: it runs nothing.
+    typing_is_computed();
+    let Ok(report) = check(alloc, schema, policies) else {
+        return Err(ValidationFault::OutOfMemory);
+    };
+    if !report.faults.is_empty() {
+        return Err(ValidationFault::Faults(report));
+    }
+    match codes_of(alloc, policies) {
+        Ok(codes) => Ok(codes),
+        Err(CodeFault::OutOfMemory) => Err(ValidationFault::OutOfMemory),
+        Err(CodeFault::TooLong) => Err(ValidationFault::TooLong),
+    }
+}
+
+impl Validated {
+    /// The policies for the schema, where strict validation accepts each of them in every environment (Cedar
+    /// documentation, policy validation). A refusal hands both back: with the report where that has faults, 701 where
+    /// the code of some policy would have over 1,000,000 instructions, 1 where memory was refused.
+    pub fn new(
+        alloc: Global,
+        schema: Schema,
+        policies: PolicySet,
+    ) -> Result<Validated, NotValidated>
+        ensures accepted { OnOk result (IsValidated schema policies.policies) }
+        ensures holds { IfOk result (λ v. v ≡ record { schema = schema; policies = policies }) }
+        ensures refused { IfErr result (λ e. HasFault schema policies.policies e.fault) }
+        ensures handed_back { IfErr result (λ e. (e.schema ≡ schema) × (e.policies ≡ policies)) }
+    {
+        match judge(alloc, &schema, &policies) {
+            Ok(compiled) => Ok(Validated {
+                schema,
+                policies,
+                compiled,
+            }),
+            Err(fault) => Err(NotValidated {
+                fault,
+                schema,
+                policies,
+            }),
+        }
+    }
+
+    /// The schema.
+    pub fn schema(&self) -> &Schema
+        ensures value { result.now ≡ self.now.schema }
+        ensures accepted { IsValidated self.now.schema self.now.policies.policies }
+    {
+        &self.schema
+    }
+
+    /// The policies, and the templates beside them.
+    pub fn policies(&self) -> &PolicySet
+        ensures value { result.now ≡ self.now.policies }
+        ensures accepted { IsValidated self.now.schema self.now.policies.policies }
+    {
+        &self.policies
+    }
+
+    // The policy at a position from 0, beside its code.
+    fn part(&self, position: usize) -> Option<Part<'_>>
+        ensures { result ≡ slice_get self.now.policies.policies position }
+    {
+        let policy = self.policies.policy(position)?;
+        let code = self.compiled.get(position)?;
+        Some(Part { policy, code })
+    }
+
+    // Runs each policy's code for the request, in order, and gathers how they ended.
+    pub(crate) fn tally<'v, H: Hierarchy>(
+        &'v self,
+        alloc: Global,
+        request: &Request,
+        hierarchy: &H,
+        tally: &mut Tally<'v>,
+    ) -> Result<(), AllocError>
+        ensures { OnOk result (tally.new ≡ tally_of request.now (H.world hierarchy.now) self.now.policies.policies) }
+    {
+        let mut operands = Operands::new(alloc);
+        tally.clear();
+        for position in 0..self.policies.count() {
+            if let Some(part) = self.part(position) {
+                let verdict = operands.decide(alloc, part.code, request, hierarchy)?;
+                tally.enter(part.policy.id().as_str(), part.policy.effect(), verdict)?;
+            }
+        }
+        Ok(())
+    }
+
+    /// The response to a request over a hierarchy of entities, by the evaluation of every policy (Cedar language
+    /// reference, authorization). 1: memory was refused, which is never a decision.
+    pub fn answer<H: Hierarchy>(
+        &self,
+        alloc: Global,
+        request: &Request,
+        hierarchy: &H,
+    ) -> Result<Response<'_>, AllocError>
+        ensures { IfOk result (λ r. r ≡ response self.now.policies.policies request.now (H.world hierarchy.now)) }
+    {
+        let mut tally = Tally::new(alloc);
+        self.tally(alloc, request, hierarchy, &mut tally)?;
+        Ok(tally.into_response())
+    }
+}

@@ -1,0 +1,21 @@
+-- What prepared conditions stand for.
+use Rattle.std.specs.Prelude.{◌≡◌, false}
+use Rattle.cedar_ast.specs.Expression.{Expression, and}
+use Rattle.cedar_check.specs.declared.prepared.Parts.{Parts}
+use Rattle.cedar_check.specs.declared.prepared.Prepared.{Prepared}
+use Rattle.cedar_check.specs.declared.prepared.Prepared.TheVariants as prepared
+use Rattle.cedar_check.specs.Private.Mention.{mentions}
+
+-- The condition that these are the parts of.
+abbrev pub whole : Parts → Expression
+whole p = and p.principal.now (and p.action.now p.rest.now)
+
+-- The condition.
+abbrev pub condition_in : Prepared → Expression
+condition_in (prepared.Parts p) = whole p
+condition_in (prepared.Whole e) = e.now
+
+-- The action stands neither in what is asked of the principal nor in what else is asked, where there are parts.
+abbrev pub IsReady : Prepared → Type 0
+IsReady (prepared.Parts p) = (mentions p.principal.now ≡ false) × (mentions p.rest.now ≡ false)
+IsReady (prepared.Whole e) = Unit {0}

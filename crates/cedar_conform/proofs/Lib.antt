@@ -1,0 +1,4 @@
+pub mod EnvironmentSources
+pub mod FitLemmas
+pub mod LinkLemmas
+pub mod RequestLemmas

@@ -1,0 +1,3 @@
+pub mod Links
+pub mod Private
+pub mod Requests

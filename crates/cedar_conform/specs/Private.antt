@@ -1,0 +1,3 @@
+-- What only proofs and private contracts use.
+pub mod Answers
+pub mod Refusals

@@ -1,0 +1,24 @@
+//! Requests of the Cedar policy language by a schema.
+//!
+//! ```rust
+//! use cedar_conform::{fits, read_request};
+//!
+//! let request = read_request(alloc, &schema, line)?;
+//! assert!(rt; fits(&schema, &request));
+//! ```
+//!
+//! Values and uids come from cedar_data.
+#![tactic(auto)]
+
+mod context;
+mod fitting;
+mod links;
+mod request;
+
+pub use cedar_data::{
+    ConformFault, is_member, is_record_member, one_written_uid, read_record, read_value,
+    read_values_belong, uid_of_object, written_uid,
+};
+pub use fitting::fits;
+pub use links::read_links;
+pub use request::read_request;

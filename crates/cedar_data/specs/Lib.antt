@@ -1,0 +1,9 @@
+pub mod Belonging
+pub mod Faults
+pub mod Numbers
+pub mod Objects
+pub mod Private
+pub mod Reads
+pub mod Uids
+pub mod Values
+pub mod WrittenUids

@@ -1,0 +1,8 @@
+mod Conforming
+mod Denoted
+mod EntryLemmas
+mod Exact
+mod ListLemmas
+mod Repeats
+mod StoreLemmas
+mod TwiceLemmas

@@ -1,0 +1,7 @@
+pub mod Worlds
+pub mod Entries
+pub mod Denotes
+pub mod Faults
+pub mod Bytes
+pub mod Exactness
+pub mod Private

@@ -1,0 +1,75 @@
+//! What an entry writes, whatever the schema is.
+ghost use Rattle.std.specs.Prelude.{MatchResult};
+ghost use Rattle.serde_json.specs.View.{items_view, view};
+ghost use Rattle.cedar_data.specs.WrittenUids.{IsUidObject};
+ghost use Rattle.cedar_entities.specs.Entries.{AreUids, IsUidOf, Writes};
+ghost use Rattle.cedar_entities.specs.Private.Parts.{AreParentsOf, IsNoEntry, Refuses};
+
+use crate::keys::{has_attributes, has_entry_keys, has_no_tags};
+use cedar_data::{ConformFault, uid_of_object};
+use cedar_value::Uid;
+use serde_json::Value as Json;
+use std::alloc::Global;
+
+/// The uid and the direct parents that an entry writes.
+#[derive(Drop)]
+pub(crate) struct Written {
+    pub(crate) uid: Uid,
+    pub(crate) parents: Vec<Uid>,
+}
+
+/// What the entry writes, or 502 where it is none.
+pub(crate) fn read_written(alloc: Global, json: &Json) -> Result<Written, ConformFault>
+    ensures { MatchResult result (λ w. Writes (view json.now) w.uid w.parents.items) (IsNoEntry (view json.now)) }
+{
+    if !has_entry_keys(json) || !has_attributes(json) || !has_no_tags(json) {
+        return Err(ConformFault::Shape);
+    }
+    let uid = read_uid_of(alloc, json)?;
+    let parents = read_parents(alloc, json)?;
+    Ok(Written { uid, parents })
+}
+
+fn read_uid_of(alloc: Global, json: &Json) -> Result<Uid, ConformFault>
+    ensures { MatchResult result (IsUidOf (view json.now)) (Refuses (IsUidOf (view json.now))) }
+{
+    match json.get("uid") {
+        Some(found) => read_uid(alloc, found),
+        None => Err(ConformFault::Shape),
+    }
+}
+
+// The uid that a JSON writes as an object, or 502.
+fn read_uid(alloc: Global, json: &Json) -> Result<Uid, ConformFault>
+    ensures { MatchResult result (IsUidObject (view json.now)) (Refuses (IsUidObject (view json.now))) }
+{
+    match uid_of_object(alloc, json)? {
+        Some(uid) => Ok(uid),
+        None => Err(ConformFault::Shape),
+    }
+}
+
+fn read_parents(alloc: Global, json: &Json) -> Result<Vec<Uid>, ConformFault>
+    ensures { MatchResult result (λ v. AreParentsOf (view json.now) v.items) (Refuses (AreParentsOf (view json.now))) }
+{
+    let Some(found) = json.get("parents") else {
+        return Ok(Vec::new(alloc));
+    };
+    match found.as_array() {
+        Some(items) => read_uids(alloc, items),
+        None => Err(ConformFault::Shape),
+    }
+}
+
+fn read_uids(alloc: Global, items: &[Json]) -> Result<Vec<Uid>, ConformFault>
+    ensures { MatchResult result (λ v. AreUids (items_view items.now) v.items) (Refuses (AreUids (items_view items.now))) }
+{
+    let mut uids = Vec::new(alloc);
+    let mut rest = items;
+    'walk: while let Some((item, others)) = rest.split_first() {
+        let uid = read_uid(alloc, item)?;
+        uids.push(uid)?;
+        rest = others;
+    }
+    Ok(uids)
+}

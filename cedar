@@ -5,20 +5,7 @@
 set -eu
 top=$(cd "$(dirname "$0")" && pwd)
 folder=$top/crates/cedar_cli
-program=$folder/out/cedar_cli
-
-is_current() {
-  [ -x "$program" ] || return 1
-  local crate part parts=("$top/crates.txt")
-  for crate in $("$top/tools/crates.py" cedar_cli); do
-    for part in "$top/crates/$crate/"{src,specs,proofs}; do
-      [ ! -d "$part" ] || parts+=("$part")
-    done
-  done
-  [ -z "$(find "${parts[@]}" -newer "$program" -print -quit)" ]
-}
-
-if is_current; then
+if program=$("$top/tools/current"); then
   exec "$program" "$@"
 fi
 echo "cedar: this run is of a build that is not proved; ./build makes the proved one" >&2

@@ -92,7 +92,9 @@ fn check_and<'a>(
         Typing::Typed(x) => x,
         Typing::Refused(fault) => return Ok(Typing::Refused(fault)),
     };
-    let Some(truth) = x.ty.truth() else {
+    let known = x.ty.truth();
+    drop(x.ty);
+    let Some(truth) = known else {
         return Ok(Typing::Refused(TypeFault::OperandKind));
     };
     if truth == Truth::False {
@@ -145,7 +147,9 @@ fn check_or<'a>(
         Typing::Typed(x) => x,
         Typing::Refused(fault) => return Ok(Typing::Refused(fault)),
     };
-    match x.ty.truth() {
+    let known = x.ty.truth();
+    drop(x.ty);
+    match known {
         None => Ok(Typing::Refused(TypeFault::OperandKind)),
         Some(Truth::True) => Ok(Typing::plain(alloc, LentType::Boolean(Truth::True))),
         Some(Truth::False) => {
@@ -177,7 +181,9 @@ fn check_if<'a>(
         Typing::Typed(x) => x,
         Typing::Refused(fault) => return Ok(Typing::Refused(fault)),
     };
-    match x.ty.truth() {
+    let known = x.ty.truth();
+    drop(x.ty);
+    match known {
         None => Ok(Typing::Refused(TypeFault::OperandKind)),
         Some(Truth::False) => check(alloc, schema, environment, held, second),
         Some(Truth::True) => {

@@ -74,6 +74,30 @@ fn check_in(
     }
 }
 
+// Adds the faults of a policy, one for each environment in which its condition is not accepted; whether that is known
+// false in each.
+fn check_everywhere(
+    alloc: Global,
+    schema: &Schema,
+    policy: &Policy,
+    condition: Prepared<'_>,
+    faults: &mut Vec<Fault>,
+) -> Result<bool, AllocError>
+    requires condition { condition_in condition ≡ condition_of policy.now }
+    requires ready { IsReady condition }
+    ensures faults { OnOk result (map fault_view faults.new.items ≡ map fault_view faults.old.items ++ faults_of schema.now policy.now) }
+    ensures impossible { IfOk result (λ impossible. impossible ≡ is_impossible schema.now policy.now) }
+{
+    let environments = schema.environments();
+    let mut impossible = true;
+    for environment in environments {
+        if !check_in(alloc, schema, environment, policy, condition, faults)? {
+            impossible = false;
+        }
+    }
+    Ok(impossible)
+}
+
 /// Adds the faults of a policy, one for each environment in which it is not accepted, in the order of the
 /// environments; whether no request can satisfy it. 1: memory was refused.
 pub(crate) fn check_policy(
@@ -86,13 +110,7 @@ pub(crate) fn check_policy(
     ensures impossible { IfOk result (λ impossible. impossible ≡ is_impossible schema.now policy.now) }
 {
     let condition = policy.condition(alloc)?;
-    let prepared = Prepared::new(&condition);
-    let environments = schema.environments();
-    let mut impossible = true;
-    for environment in environments {
-        if !check_in(alloc, schema, environment, policy, prepared, faults)? {
-            impossible = false;
-        }
-    }
-    Ok(impossible)
+    let impossible = check_everywhere(alloc, schema, policy, Prepared::new(&condition), faults);
+    drop(condition);
+    impossible
 }

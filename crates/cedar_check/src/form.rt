@@ -24,11 +24,11 @@ pub(crate) enum Form {
 }
 
 // The form that a typing tells.
-fn form_in(typing: &Typing<'_>) -> Form
-    ensures { form_view result ≡ option_and_then (λ x. truth_in x.ty) (typing_view typing.now) }
+fn form_in(typing: Typing<'_>) -> Form
+    ensures { form_view result ≡ option_and_then (λ x. truth_in x.ty) (typing_view typing.entry) }
 {
     match typing {
-        Typing::Refused(fault) => Form::Refused(*fault),
+        Typing::Refused(fault) => Form::Refused(fault),
         Typing::Typed(x) => match x.ty.truth() {
             Some(truth) => Form::Known(truth),
             None => Form::Refused(TypeFault::OperandKind),
@@ -46,15 +46,19 @@ fn form_of_parts(
     ensures { IfOk result (λ form. form_view form ≡ option_and_then (λ x. truth_in x.ty) (type_of schema.now environment.now [] (and parts.entry.principal.now (and (replace environment.now.action parts.entry.action.now) parts.entry.rest.now)))) }
 {
     let action = parts.action.with_action(alloc, &environment.action)?;
-    let typing = check_scoped(
+    let form = match check_scoped(
         alloc,
         schema,
         environment,
         parts.principal,
         &action,
         parts.rest,
-    )?;
-    Ok(form_in(&typing))
+    ) {
+        Ok(typing) => Ok(form_in(typing)),
+        Err(error) => Err(error),
+    };
+    drop(action);
+    form
 }
 
 // The form of a condition in which the variable may stand anywhere.
@@ -67,8 +71,12 @@ fn form_of_whole(
     ensures { IfOk result (λ form. form_view form ≡ option_and_then (λ x. truth_in x.ty) (type_of schema.now environment.now [] (replace environment.now.action condition.now))) }
 {
     let replaced = condition.with_action(alloc, &environment.action)?;
-    let typing = check(alloc, schema, environment, &[], &replaced)?;
-    Ok(form_in(&typing))
+    let form = match check(alloc, schema, environment, &[], &replaced) {
+        Ok(typing) => Ok(form_in(typing)),
+        Err(error) => Err(error),
+    };
+    drop(replaced);
+    form
 }
 
 /// The form of a condition in an environment, with the environment's action in the place of the

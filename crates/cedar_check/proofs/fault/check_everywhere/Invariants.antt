@@ -3,7 +3,7 @@ use Rattle.std.specs.List.{list_all}
 use Rattle.cedar_typing.specs.Reports.{faults_in}
 use Rattle.cedar_check.specs.FaultView.{fault_view}
 use Rattle.cedar_check.proofs.Environments.{known_false}
-use Rattle.cedar_check.proofs.fault.check_policy.Given as goal
+use Rattle.cedar_check.proofs.fault.check_everywhere.Given as goal
 
 abbrev pub invariant-loop-environment : goal.invariant-loop-environment
 invariant-loop-environment l = record {

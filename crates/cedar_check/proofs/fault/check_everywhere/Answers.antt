@@ -3,8 +3,8 @@ use Rattle.std.specs.List.{list_all}
 use Rattle.cedar_typing.specs.Reports.{faults_in}
 use Rattle.cedar_check.specs.FaultView.{fault_view}
 use Rattle.cedar_check.proofs.Environments.{known_false, faults_step, impossible_step, not_known, still_known, all_so_far, nil_right}
-use Rattle.cedar_check.proofs.fault.check_policy.Goals.{then-not-branch, else-not-branch}
-use Rattle.cedar_check.proofs.fault.check_policy.Goals as goal
+use Rattle.cedar_check.proofs.fault.check_everywhere.Goals.{then-not-branch, else-not-branch}
+use Rattle.cedar_check.proofs.fault.check_everywhere.Goals as goal
 
 pub loop-environment-preserved : goal.loop-environment-preserved
 loop-environment-preserved c =

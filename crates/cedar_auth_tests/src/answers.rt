@@ -5,6 +5,7 @@ use cedar_ast::{Decision, EvaluationError};
 use cedar_auth::{Ready, Response, Validated, engine_is_sound};
 use cedar_value::{NoEntities, Request};
 use std::alloc::{AllocError, Global};
+use std::process::Abort;
 use std::test::Fail;
 
 /// Ann asks to delete her document.
@@ -158,13 +159,18 @@ fn answer_by(alloc: Global, policies: &str, asked: &Asked) -> Result<String, Fai
     told
 }
 
-#[test]
-fn answers_worked_examples(rt: HostRuntime) -> Result<(), Fail> {
-    for (policies, asked, wanted) in &ROWS {
-        let told = answer_by(rt.alloc(), policies, asked)?;
+/// Checks the rows: policies, what is asked, and the answer.
+fn check_answers(rt: &impl Abort, alloc: Global, rows: &[(&str, Asked, &str)]) -> Result<(), Fail> {
+    for (policies, asked, wanted) in rows {
+        let told = answer_by(alloc, policies, asked)?;
         assert_eq!(rt; told.as_str(), *wanted, "{policies}");
     }
     Ok(())
+}
+
+#[test]
+fn answers_worked_examples(rt: HostRuntime) -> Result<(), Fail> {
+    check_answers(&rt, rt.alloc(), &ROWS)
 }
 
 #[test]

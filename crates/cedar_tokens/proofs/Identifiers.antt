@@ -7,6 +7,7 @@ use Rattle.std.proofs.lemmas.Bool.{and_parts}
 use Rattle.std.proofs.lemmas.Slice.Eq.{bytes_eq-Decides}
 use Rattle.cedar_value.specs.Names.{is_word_start, is_word_byte, is_word, is_reserved, is_identifier, reserved_words}
 use Rattle.cedar_text.specs.Bytes as bytes
+use Rattle.cedar_text.specs.Bytes.{Stops}
 use Rattle.cedar_text.specs.Signs as sign
 use Rattle.cedar_text.specs.Signs.{IsSign}
 use Rattle.cedar_text.specs.Tokens as cut
@@ -127,13 +128,16 @@ no_identifier_sign front kind sign.minus e = absurd cc
 no_identifier_sign front kind sign.star e = absurd cc
 no_identifier_sign front kind sign.not e = absurd cc
 
-pub identifier_token : (word : List ℕ) → is_identifier word ≡ true → IsToken k.Identifier 0 word []
-identifier_token [] e = absurd cc
-identifier_token (b ∷ bs) e =
+pub identifier_before : (word rest : List ℕ) → is_identifier word ≡ true → Stops bytes.is_word rest → IsToken k.Identifier 0 word rest
+identifier_before [] rest e stops = absurd cc
+identifier_before (b ∷ bs) rest e stops =
     let p = and_parts (is_word (b ∷ bs)) (not (is_reserved (b ∷ bs))) e in
     let q = and_parts (is_word_start b) (list_all is_word_byte bs) p.0 in
-    subst (λ (kind : TokenKind). IsToken kind 0 (b ∷ bs) []) (identifier_kind (b ∷ bs) (not_false (is_reserved (b ∷ bs)) p.1))
-    (cut.word (letter_same b ∙ q.0) (words_same bs ∙ q.1) tt)
+    subst (λ (kind : TokenKind). IsToken kind 0 (b ∷ bs) rest) (identifier_kind (b ∷ bs) (not_false (is_reserved (b ∷ bs)) p.1))
+    (cut.word (letter_same b ∙ q.0) (words_same bs ∙ q.1) stops)
+
+pub identifier_token : (word : List ℕ) → is_identifier word ≡ true → IsToken k.Identifier 0 word []
+identifier_token word e = identifier_before word [] e tt
 
 pub token_identifier : (n : ℕ) (kind : TokenKind) (word rest : List ℕ) → IsToken kind n word rest → kind ≡ k.Identifier → is_identifier word ≡ true
 token_identifier n kind word rest (cut.word {b = b} {bs = bs} h a s) e =

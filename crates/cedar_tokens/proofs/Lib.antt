@@ -7,3 +7,5 @@ pub mod UidLemmas
 pub mod UidOrNone
 pub mod OneUid
 pub mod Identifiers
+pub mod PlainLetters
+pub mod PlainUids

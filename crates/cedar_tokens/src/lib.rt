@@ -13,6 +13,7 @@ mod content;
 mod cursor;
 mod names;
 mod parse_fault;
+mod plain_uid;
 mod spelled;
 mod uid;
 

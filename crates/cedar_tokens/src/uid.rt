@@ -7,6 +7,7 @@ use crate::content::Content;
 use crate::cursor::Cursor;
 use crate::names::entity;
 use crate::parse_fault::ParseFault;
+use crate::plain_uid::plain_uid;
 use crate::spelled::spelled_tokens;
 use cedar_text::{letters_or_none, one_list, one_spelling, tokens_or_none};
 use cedar_value::Uid;
@@ -24,6 +25,11 @@ pub fn read_uid(alloc: Global, source: &str) -> Result<Uid, ParseFault>
     // Each fault comes only where it is.
     ensures fault { IfErr result (HasUidFault source.now) }
 {
+    // A law: it runs nothing.
+    one_uid();
+    if let Some(plain) = plain_uid(alloc, source)? {
+        return Ok(plain);
+    }
     let spelled = spelled_tokens(alloc, source)?;
     let mut cursor = Cursor::new(spelled.as_slice(), source.len());
     let written = entity(alloc, &mut cursor)?;

@@ -1,5 +1,7 @@
-use Rattle.std.proofs.Common.{◌≡◌, sym, ap, subst, ◌∙◌, [], ◌<◌, length, Ok, arith}
+use Rattle.std.proofs.Common.{◌≡◌, sym, ap, subst, ◌∙◌, [], ◌<◌, length, Option, Ok, arith}
+use Rattle.std.specs.Prelude.{IfSome}
 use Rattle.std.proofs.lemmas.Result.{err_from_is_err_and}
+use Rattle.cedar_value.specs.declared.uid.Uid.{Uid}
 use Rattle.cedar_tokens.specs.Marks.{Marks}
 use Rattle.cedar_tokens.specs.Names.{Entity}
 use Rattle.cedar_tokens.specs.Private.Reading.{entity}
@@ -84,12 +86,16 @@ returns-in_err-written-clause-fault c =
 
 pub returns-in_err-spelled-clause-only : goal.returns-in_err-spelled-clause-only
 returns-in_err-spelled-clause-only c =
-    let p = err_from_is_err_and c.from_residual.result c.from_residual.ensures.1 in
+    let p = err_from_is_err_and c.from_residual-in_err-spelled.result c.from_residual-in_err-spelled.ensures.1 in
     rw (p.1, p.2)
     (λ uid h. unread_uid uid h.tokens c.in_err-spelled.field-0.0 (c.in_err-spelled.ensures.only h.tokens h.are_tokens))
 
 pub returns-in_err-spelled-clause-fault : goal.returns-in_err-spelled-clause-fault
 returns-in_err-spelled-clause-fault c =
-    let p = err_from_is_err_and c.from_residual.result c.from_residual.ensures.1 in
+    let p = err_from_is_err_and c.from_residual-in_err-spelled.result c.from_residual-in_err-spelled.ensures.1 in
     rw (p.1, p.2)
     (unread_uid_fault c.args.source.now c.in_err-spelled.field-0.0 c.in_err-spelled.ensures.fault)
+
+pub returns-in-Some-clause-only : goal.returns-in-Some-clause-only
+returns-in-Some-clause-only c = λ uid h.
+    c.one_uid.ensures c.args.source.now c.in-Some.plain uid (subst (λ (o : Option Uid). IfSome o (IsUidText c.args.source.now)) c.in-Some.is c.in_ok-plain.ensures) h

@@ -59,6 +59,33 @@ const CONDITIONS: [&str; 28] = [
     "!(principal.a.contains(1)) && !true",
 ];
 
+/// Texts of uids, with the path and the id: first such as have the plain form, and then such as have a blank, a comment or an
+/// escape.
+#[rattlefmt::skip]
+const UIDS: [(&str, &str, &str); 21] = [
+    ("User::\"ann\"", "User", "ann"),
+    ("User::\"\"", "User", ""),
+    ("_::\"_\"", "_", "_"),
+    ("ifs::In::has_::\"if\"", "ifs::In::has_", "if"),
+    ("N::A::User::\"x y\"", "N::A::User", "x y"),
+    ("User::\"Zoë 字 😀\"", "User", "Zoë 字 😀"),
+    ("User::\"a*b // c\"", "User", "a*b // c"),
+    ("User::\"a::b::\"", "User", "a::b::"),
+    ("User::\"two\nlines\"", "User", "two\nlines"),
+    (" N :: U :: \"x y\" // c", "N::U", "x y"),
+    ("User::\"ann\" ", "User", "ann"),
+    (" User::\"ann\"", "User", "ann"),
+    ("User:: \"ann\"", "User", "ann"),
+    ("N ::User::\"ann\"", "N::User", "ann"),
+    ("User::// \"\n\"ann\"", "User", "ann"),
+    ("// N::\"\nUser::\"ann\"", "User", "ann"),
+    ("User::\"a\\\"b\"", "User", "a\"b"),
+    ("User::\"\\\"::\\\"\"", "User", "\"::\""),
+    ("User::\"\\\\\"", "User", "\\"),
+    ("User::\"a\\n\"", "User", "a\n"),
+    ("User::\"a\\u{e9}\"", "User", "aé"),
+];
+
 #[test]
 fn texts_that_read(rt: HostRuntime) -> Result<(), Fail> {
     let alloc = rt.alloc();
@@ -163,8 +190,10 @@ fn the_id_is_what_the_annotation_tells(rt: HostRuntime) -> Result<(), Fail> {
 #[test]
 fn uids(rt: HostRuntime) -> Result<(), Fail> {
     let alloc = rt.alloc();
-    let uid = read_uid(alloc, " N :: U :: \"x y\" // c")?;
-    assert_eq!(rt; uid.ty.as_str(), "N::U");
-    assert_eq!(rt; uid.id.as_str(), "x y");
+    for (text, ty, id) in UIDS {
+        let uid = read_uid(alloc, text)?;
+        assert_eq!(rt; uid.ty.as_str(), ty, "{text}");
+        assert_eq!(rt; uid.id.as_str(), id, "{text}");
+    }
     Ok(())
 }

@@ -152,7 +152,7 @@ const CONDITIONS: [(&str, u16, usize); 91] = [
 ];
 
 /// Texts that are no uid.
-const UIDS: [(&str, u16, usize); 13] = [
+const UIDS: [(&str, u16, usize); 23] = [
     ("User", 201, 4),
     ("User::\"a\" b", 201, 10),
     ("User::\"a", 102, 6),
@@ -166,6 +166,16 @@ const UIDS: [(&str, u16, usize); 13] = [
     ("User::\"a\"::\"b\"", 201, 9),
     ("User::\"\\*\"", 103, 7),
     ("?principal", 201, 0),
+    ("A::if::\"a\"", 201, 3),
+    ("1::\"a\"", 201, 0),
+    ("é::\"a\"", 101, 0),
+    ("\"a\"::\"b\"", 201, 0),
+    ("User::::\"a\"", 201, 6),
+    ("User::\"a\"b\"", 102, 10),
+    ("User::\"a\" \"", 102, 10),
+    ("User::\"a\\\"", 102, 6),
+    ("User::\"\\q\"", 103, 7),
+    ("User::\"a\\*b\"", 103, 8),
 ];
 
 /// The methods, each of which takes one argument.

@@ -247,6 +247,22 @@ contains_any_of_number = refl
 number_contains_any : value (binary two.ContainsAny (number 1) (members [])) ≡ Err «Type»
 number_contains_any = refl
 
+-- `isEmpty`
+is_empty : value (unary one.IsEmpty (members [])) ≡ Ok (boolean true)
+is_empty = refl
+
+is_not_empty : value (unary one.IsEmpty (members (number 1 ∷ []))) ≡ Ok (boolean false)
+is_not_empty = refl
+
+is_empty_number : value (unary one.IsEmpty (number 0)) ≡ Err «Type»
+is_empty_number = refl
+
+is_empty_record : value (unary one.IsEmpty (record_with (entries_of []))) ≡ Err «Type»
+is_empty_record = refl
+
+is_empty_error : value (unary one.IsEmpty (members (binary two.Add greatest (number 1) ∷ []))) ≡ Err Overflow
+is_empty_error = refl
+
 -- `has`: false of an absent entity
 has_attribute : value (unary (one.Has a) (the a)) ≡ Ok (boolean true)
 has_attribute = refl

@@ -1,5 +1,5 @@
 -- What each operator gives for the values of its operands (Cedar language reference, operators).
-use Rattle.std.specs.Prelude.{ℕ, ℤ, pos, negsuc, ◌+ℤ◌, ◌-ℤ◌, ◌*ℤ◌, Bool, true, false, not, ◌&&◌, ◌||◌, if◌then◌else◌, int_lt, int_le, List, Option, Some, None, is_some, Ok, Err}
+use Rattle.std.specs.Prelude.{ℕ, ℤ, pos, negsuc, ◌+ℤ◌, ◌-ℤ◌, ◌*ℤ◌, Bool, true, false, not, ◌&&◌, ◌||◌, if◌then◌else◌, int_lt, int_le, List, [], ◌∷◌, Option, Some, None, is_some, Ok, Err}
 use Rattle.std.specs.List.{list_all, list_any}
 use Rattle.std.specs.Str.{bytes_eq, chars}
 use Rattle.cedar_ext.specs.Matching.{is_match}
@@ -90,6 +90,16 @@ abbrev pub decimal_of_value : Datum → Answer Datum
 decimal_of_value (text s) = decimal_or_error (decimal_of s)
 decimal_of_value _ = Err error.«Type»
 
+-- Of a set what is said of it, else the error type (Cedar language reference, set operators).
+abbrev pub of_set : (List Datum → Bool) → Datum → Answer Datum
+of_set f (set ms) = Ok (boolean (f (list_of ms)))
+of_set f _ = Err error.«Type»
+
+-- Whether there is no member (Cedar language reference, set operators, `isEmpty`).
+abbrev pub is_empty : List Datum → Bool
+is_empty [] = true
+is_empty (d ∷ ds) = false
+
 -- An operator's answer for its operand (Cedar language reference, operators).
 abbrev pub unary_of : World → UnaryOperator → Datum → Answer Datum
 unary_of w operator.Not x = not_of x
@@ -99,6 +109,7 @@ unary_of w (operator.Get a) x = get_in a (source w x)
 unary_of w (operator.Like p) x = like_of x (is_match p)
 unary_of w (operator.Is ty) x = is_of ty x
 unary_of w operator.Decimal x = decimal_of_value x
+unary_of w operator.IsEmpty x = of_set is_empty x
 
 -- Of two numbers what is said of them, else the error type (Cedar language reference, operators).
 abbrev pub of_longs : (ℤ → ℤ → Answer Datum) → Datum → Datum → Answer Datum
@@ -109,11 +120,6 @@ of_longs f _ _ = Err error.«Type»
 abbrev pub of_decimals : (ℤ → ℤ → Bool) → Datum → Datum → Answer Datum
 of_decimals f (decimal m) (decimal n) = Ok (boolean (f m n))
 of_decimals f _ _ = Err error.«Type»
-
--- Of a set what is said of it, else the error type (Cedar language reference, set operators).
-abbrev pub of_set : (List Datum → Bool) → Datum → Answer Datum
-of_set f (set ms) = Ok (boolean (f (list_of ms)))
-of_set f _ = Err error.«Type»
 
 -- Of two sets what is said of them, else the error type (Cedar language reference, set operators).
 abbrev pub of_sets : (List Datum → List Datum → Bool) → Datum → Datum → Answer Datum

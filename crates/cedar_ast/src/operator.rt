@@ -22,6 +22,8 @@ pub enum UnaryOperator {
     Is(Name),
     /// `decimal(s)`, of a text.
     Decimal,
+    /// `isEmpty()`, of a set.
+    IsEmpty,
 }
 
 impl UnaryOperator {
@@ -37,6 +39,7 @@ impl UnaryOperator {
             UnaryOperator::Like(pattern) => Ok(UnaryOperator::Like(pattern.try_clone(alloc)?)),
             UnaryOperator::Is(ty) => Ok(UnaryOperator::Is(ty.try_clone(alloc)?)),
             UnaryOperator::Decimal => Ok(UnaryOperator::Decimal),
+            UnaryOperator::IsEmpty => Ok(UnaryOperator::IsEmpty),
         }
     }
 }
@@ -72,6 +75,7 @@ pub(crate) fn same_operator(one: &UnaryOperator, two: &UnaryOperator) -> bool
         (UnaryOperator::Not, UnaryOperator::Not) => true,
         (UnaryOperator::Negate, UnaryOperator::Negate) => true,
         (UnaryOperator::Decimal, UnaryOperator::Decimal) => true,
+        (UnaryOperator::IsEmpty, UnaryOperator::IsEmpty) => true,
         (UnaryOperator::Has(first), UnaryOperator::Has(second)) => first == second,
         (UnaryOperator::Get(first), UnaryOperator::Get(second)) => first == second,
         (UnaryOperator::Is(first), UnaryOperator::Is(second)) => first == second,

@@ -24,6 +24,7 @@ fn operators(alloc: Global) -> Result<Vec<UnaryOperator>, AllocError> {
         UnaryOperator::Not,
         UnaryOperator::Negate,
         UnaryOperator::Decimal,
+        UnaryOperator::IsEmpty,
     ]?;
     all.push(UnaryOperator::Has(text(alloc, "a")?))?;
     all.push(UnaryOperator::Has(text(alloc, "b")?))?;

@@ -1,11 +1,16 @@
 pub mod Answerable
-pub mod Answered
+pub mod CandidateRows
 pub mod CodesBeside
+pub mod Environments
 pub mod Headlines
 pub mod Listed
+pub mod Makings
+pub mod PoliciesAt
 pub mod Responses
+pub mod Sifts
 pub mod Taken
 pub mod Tallies
+pub mod TalliesOfParts
 pub mod Texts
 pub mod TrueFaults
 pub mod Validations

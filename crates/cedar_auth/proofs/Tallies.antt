@@ -1,5 +1,5 @@
 -- Lemmas on what the policies gather.
-use Rattle.std.proofs.Common.{◌≡◌, ℕ, zero, suc, ◌+◌, ◌<◌, Bool, true, false, not, ◌&&◌, if◌then◌else◌, List, [], ◌∷◌, ◌++◌, length, map, filter, take, Some, None, Ok, Err, arith, refl, sym, ap, ◌∙◌, append-nil}
+use Rattle.std.proofs.Common.{◌≡◌, ℕ, ◌+◌, ◌<◌, get_or, Bool, true, false, not, ◌&&◌, if◌then◌else◌, List, [], ◌∷◌, ◌++◌, length, map, filter, take, Option, Some, None, Ok, Err, refl, sym, ap, ◌∙◌, append-nil}
 use Rattle.std.specs.List.{slice_get, cons_option}
 use Rattle.std.proofs.lemmas.List.{map-append}
 use Rattle.std.proofs.lemmas.List.Elements.{filter-append, filter_map-append}
@@ -12,7 +12,8 @@ use Rattle.cedar_ast.specs.Answer.{Answer}
 use Rattle.cedar_ast.specs.PolicyTree.{PolicyTree}
 use Rattle.cedar_ast.specs.Response.{ErringTree, meaning, is_true, is_permit, permits, forbids, erring_by, erring_of}
 use Rattle.cedar_machine.specs.Verdict.{Verdict, verdict_of}
-use Rattle.cedar_auth.proofs.Taken.{take-next}
+use Rattle.cedar_auth.proofs.PoliciesAt.{policies_at-more}
+use Rattle.cedar_auth.specs.Private.Sifting.{policies_at}
 use Rattle.cedar_auth.specs.Private.Tally.{TallyTree, ids_where, tally_of, entered}
 
 one_id : (b : Bool) (p : PolicyTree) → map (λ (p : PolicyTree). p.id) (if b then p ∷ [] else []) ≡ (if b then p.id ∷ [] else [])
@@ -55,17 +56,23 @@ tally_of-append q w ps p =
     same_tally _ _ _ _ _ _ (ids_where-append (permits q w) ps p) (ids_where-append (forbids q w) ps p) (filter_map-append (erring_of q w) ps (p ∷ []))
     ∙ entered_by (tally_of q w ps) p.id p.effect (meaning q w p)
 
-pub tally_of-next : (q : Request) (w : World) (ps : List PolicyTree) (i : ℕ) (p : PolicyTree) (t t' : TallyTree) (id : List ℕ) (effect : Effect) (v : Verdict)
-    → Some p ≡ slice_get ps i → t ≡ tally_of q w (take i ps) → t' ≡ entered t id effect v → id ≡ p.id → effect ≡ p.effect → v ≡ verdict_of (meaning q w p)
-    → t' ≡ tally_of q w (take (i + 1) ps)
-tally_of-next q w ps i p t t' id effect v at was is same_id same_effect same_verdict =
+pub tally_of-next : (q : Request) (w : World) (ps : List PolicyTree) (ks : List ℕ) (i : ℕ) (p : PolicyTree) (t t' : TallyTree) (id : List ℕ) (effect : Effect) (v : Verdict)
+    → i < length ks → Some p ≡ slice_get ps (get_or ks i 0) → t ≡ tally_of q w (policies_at ps (take i ks)) → t' ≡ entered t id effect v → id ≡ p.id → effect ≡ p.effect → v ≡ verdict_of (meaning q w p)
+    → t' ≡ tally_of q w (policies_at ps (take (i + 1) ks))
+tally_of-next q w ps ks i p t t' id effect v low at was is same_id same_effect same_verdict =
     is
     ∙ rw (was, same_id, same_effect, same_verdict) refl
-    ∙ sym (tally_of-append q w (take i ps) p)
-    ∙ ap (tally_of q w) (sym (take-next ps i p (sym at)))
+    ∙ sym (tally_of-append q w (policies_at ps (take i ks)) p)
+    ∙ ap (λ (o : Option PolicyTree). tally_of q w (policies_at ps (take i ks) ++ cons_option o [])) at
+    ∙ ap (tally_of q w) (sym (policies_at-more ps ks i low))
 
--- a place past the last policy has none
-pub not_past : (ps : List PolicyTree) (i : ℕ) → slice_get ps i ≡ None → i < length ps → ⊥
-not_past [] i e lt = absurd (omega arith)
-not_past (p ∷ ps) zero e lt = cc
-not_past (p ∷ ps) (suc i) e lt = not_past ps i e (omega arith)
+-- no policy stands at the position
+pub tally_of-none : (q : Request) (w : World) (ps : List PolicyTree) (ks : List ℕ) (i : ℕ) (t t' : TallyTree)
+    → i < length ks → None ≡ slice_get ps (get_or ks i 0) → t ≡ tally_of q w (policies_at ps (take i ks)) → t' ≡ t
+    → t' ≡ tally_of q w (policies_at ps (take (i + 1) ks))
+tally_of-none q w ps ks i t t' low at was is =
+    is
+    ∙ was
+    ∙ ap (tally_of q w) (sym (append-nil (policies_at ps (take i ks))))
+    ∙ ap (λ (o : Option PolicyTree). tally_of q w (policies_at ps (take i ks) ++ cons_option o [])) at
+    ∙ ap (tally_of q w) (sym (policies_at-more ps ks i low))

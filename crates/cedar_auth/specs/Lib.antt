@@ -1,5 +1,6 @@
 pub mod AnswerJson
 pub mod AnswerLine
+pub mod Candidates
 pub mod Codes
 pub mod Headline
 pub mod Private

@@ -1,4 +1,5 @@
 -- What proofs and private contracts speak of, and no public clause.
 pub mod Kept
+pub mod Sifting
 pub mod Tally
 pub mod Tokens

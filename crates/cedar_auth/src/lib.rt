@@ -17,14 +17,18 @@
 #![tactic(auto)]
 
 mod answer;
+mod candidates;
 mod codes;
 mod law;
 mod not_ready;
 mod not_validated;
 mod part;
+mod question;
 mod ready;
 mod response;
+mod scope_tests;
 mod serving;
+mod sifting;
 mod tally;
 mod told;
 mod validated;

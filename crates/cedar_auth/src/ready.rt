@@ -1,25 +1,37 @@
 //! Policies that are ready to answer.
-ghost use Rattle.std.specs.Prelude.{ℕ, List, ◌≡◌, ◌≢◌, ◌↔◌, Contains, IfErr, IfOk, IsTrue, OnOk};
+ghost use Rattle.std.specs.Prelude.{ℕ, List, ◌≡◌, ◌≢◌, ◌↔◌, ◌<◌, length, Contains, IfErr, IfOk, IsTrue, OnOk};
+ghost use Rattle.std.specs.List.{range_with_len};
 ghost use Rattle.cedar_ast.specs.Response.{ErringTree, response};
 ghost use Rattle.cedar_data.specs.declared.conform_fault.ConformFault.TheVariants.{OutOfMemory};
 ghost use Rattle.cedar_entities.specs.Bytes.{BytesDenote, BytesHaveFault};
-ghost use Rattle.cedar_schema.specs.Conformance.{Conforms, Fits};
+ghost use Rattle.cedar_conform.specs.Requests.{AnswersRequest, LineDenotes, LineHasFault};
+ghost use Rattle.cedar_schema.specs.Conformance.{Conforms, Fits, FitsIn};
+ghost use Rattle.cedar_schema.specs.declared.schema.environment.Environment.{Environment as EnvironmentTree};
 ghost use Rattle.cedar_value.specs.declared.request.Request.{Request as RequestTree};
+ghost use Rattle.cedar_typing.specs.Candidates.{IsCandidate};
 ghost use Rattle.cedar_typing.specs.Soundness.{IsAllowed};
 ghost use Rattle.cedar_auth.specs.AnswerLine.{AnswersLine};
+ghost use Rattle.cedar_auth.specs.Candidates.{AreCandidates, OthersAreFalse};
+ghost use Rattle.cedar_auth.specs.Codes.{IsPartAt};
 ghost use Rattle.cedar_auth.specs.Headline.{IsAnsweredSoundly};
+ghost use Rattle.cedar_auth.specs.Private.Sifting.{SiftedBy};
 ghost use Rattle.cedar_auth.specs.Private.Tally.{tally_of};
 
+use crate::candidates::Candidates;
 use crate::law::engine_is_sound;
 use crate::not_ready::NotReady;
 use crate::response::Response;
 use crate::tally::Tally;
 use crate::validated::Validated;
-use cedar_data::read_values_belong;
+use cedar_ast::Effect;
+use cedar_code::Code;
+use cedar_conform::read_request;
+use cedar_data::{ConformFault, read_values_belong};
 use cedar_entities::read_entities;
 use cedar_schema::tests_of_schemas_decide;
 use cedar_store::Store;
 use cedar_tokens::uid_or_none;
+use cedar_typing::candidates_are_enough;
 use cedar_value::{Request, is_name_tells_names};
 use std::alloc::{AllocError, Global};
 use std::marker::Model;
@@ -30,6 +42,7 @@ use std::marker::Model;
 pub struct Ready {
     validated: Validated,
     store: Store,
+    candidates: Candidates,
 }
 
 impl Model for Ready {
@@ -37,8 +50,8 @@ impl Model for Ready {
     ghost use Rattle.cedar_value.specs.Private.DatumCode.{datum_code};
     ghost use Rattle.cedar_types.specs.Private.TypeCode.{type_code};
     ghost use Rattle.cedar_ast.specs.Private.ExpressionCode.{expression_code};
-    ghost use Rattle.cedar_schema.specs.Conformance.{Conforms};
     ghost use Rattle.cedar_auth.specs.Ready.{ReadyTree};
+    ghost use Rattle.cedar_auth.specs.Private.Kept.{IsReady};
 
     ghost Value = { ReadyTree };
 
@@ -46,7 +59,7 @@ impl Model for Ready {
 
     ghost view = { λ r. record { schema = r.validated.schema; policies = r.validated.policies; world = r.store } };
 
-    ghost invariant = { λ r. Conforms r.validated.schema r.store };
+    ghost invariant = { λ r. IsReady r.validated.schema r.validated.policies.policies r.store r.candidates.rows };
 }
 
 impl Ready {
@@ -60,9 +73,20 @@ impl Ready {
         ensures refused { IfErr result (λ e. e.fault ≢ OutOfMemory → BytesHaveFault validated.schema entities.now e.fault) }
         ensures handed_back { IfErr result (λ e. e.validated ≡ validated) }
     {
-        match read_entities(alloc, validated.schema(), entities) {
-            Ok(store) => Ok(Ready { validated, store }),
-            Err(fault) => Err(NotReady { fault, validated }),
+        let store = match read_entities(alloc, validated.schema(), entities) {
+            Ok(store) => store,
+            Err(fault) => return Err(NotReady { fault, validated }),
+        };
+        match Candidates::new(alloc, validated.schema(), validated.policies()) {
+            Ok(candidates) => Ok(Ready {
+                validated,
+                store,
+                candidates,
+            }),
+            Err(_) => Err(NotReady {
+                fault: ConformFault::OutOfMemory,
+                validated,
+            }),
         }
     }
 
@@ -71,6 +95,35 @@ impl Ready {
         ensures { result.now ≡ record { schema = self.now.schema; policies = self.now.policies } }
     {
         &self.validated
+    }
+
+    /// The entities. Takes no memory.
+    pub fn store(&self) -> &Store
+        ensures { result.now ≡ self.now.world }
+    {
+        &self.store
+    }
+
+    /// The code, the id and the effect of the policy at a position from 0. Takes no memory.
+    pub fn part(&self, position: usize) -> (&Code, &str, Effect)
+        requires { position < length self.now.policies.policies }
+        ensures { IsPartAt self.now.policies.policies position result.0.now.instructions result.1.now result.2 }
+    {
+        let Some(part) = self.validated.part(position) else {
+            unreachable!()
+        };
+        (part.code, part.policy.id().as_str(), part.policy.effect())
+    }
+
+    /// The request that a line denotes by the schema (Cedar documentation, entities and context in JSON). Refused with 1
+    /// for want of memory, and else with 501 to 506 or 509 to 511 only where that fault is in the line.
+    pub fn read(&self, alloc: Global, line: &[u8]) -> Result<Request, ConformFault>
+        ensures denotes { IfOk result (LineDenotes self.now.schema line.now) }
+        ensures fits { IfOk result (Fits self.now.schema) }
+        ensures only { (q : RequestTree) → LineDenotes self.now.schema line.now q → AnswersRequest q result }
+        ensures refused { IfErr result (λ e. e ≢ OutOfMemory → LineHasFault self.now.schema line.now e) }
+    {
+        read_request(alloc, self.validated.schema(), line)
     }
 
     /// Whether a request fits the schema: its action applies to its principal and its resource, and its context belongs
@@ -92,19 +145,53 @@ impl Ready {
     {
         // A law, which runs nothing.
         self.soundness();
-        self.validated.answer(alloc, request, &self.store)
+        let mut tally = Tally::new(alloc);
+        self.tally(alloc, request, &mut tally)?;
+        Ok(tally.into_response())
     }
 
-    // Runs each policy's code for the request, in order, and gathers how they ended.
+    // The positions of the policies whose scopes may be met in the request's environment.
+    fn positions(&self, request: &Request) -> &[usize]
+        requires { Fits self.now.schema request.now }
+        ensures { (env : EnvironmentTree) → FitsIn self.now.schema env request.now
+            → SiftedBy self.now.policies.policies (IsCandidate self.now.schema env) (range_with_len 0 (length self.now.policies.policies)) result.now }
+    {
+        // A law of schemas, which does nothing.
+        self.validated.schema().well_formedness();
+        self.candidates.positions(&request.action, &request.principal.ty, &request.resource.ty)
+    }
+
+    /// The positions of the candidates for a request that fits, ascending: of the policies whose scopes may be met by its
+    /// action and by the types of its principal and resource. A policy at another position is false for it. Takes no
+    /// memory, and comparisons by the logarithm of the number of actions and of types.
+    pub fn candidates(&self, request: &Request) -> &[usize]
+        requires { Fits self.now.schema request.now }
+        ensures exact { (env : EnvironmentTree) → FitsIn self.now.schema env request.now
+            → AreCandidates self.now.schema self.now.policies.policies env result.now }
+        ensures others { OthersAreFalse self.now.policies.policies request.now self.now.world result.now }
+    {
+        // Laws, which run nothing.
+        candidates_are_enough();
+        self.validated.schema().well_formedness();
+        self.positions(request)
+    }
+
+    // Runs the code of the candidates for the request, in order, and gathers how they ended.
     pub(crate) fn tally<'r>(
         &'r self,
         alloc: Global,
         request: &Request,
         tally: &mut Tally<'r>,
     ) -> Result<(), AllocError>
+        requires { Fits self.now.schema request.now }
         ensures { OnOk result (tally.new ≡ tally_of request.now self.now.world self.now.policies.policies) }
     {
-        self.validated.tally(alloc, request, &self.store, tally)
+        // Laws, which run nothing.
+        candidates_are_enough();
+        self.validated.schema().well_formedness();
+        let positions = self.positions(request);
+        self.validated
+            .tally(alloc, request, &self.store, positions, tally)
     }
 
     /// Every request that fits is answered soundly: what [`engine_is_sound`] says of these policies and this world. It is

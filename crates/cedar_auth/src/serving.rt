@@ -14,7 +14,6 @@ ghost use Rattle.cedar_auth.specs.Headline.{IsAnsweredSoundly};
 use crate::answer::{append_refusal, append_response};
 use crate::ready::Ready;
 use crate::tally::Tally;
-use cedar_conform::read_request;
 use cedar_data::ConformFault;
 use cedar_lines::{Engine, ServeFault, Sink, Source};
 use std::alloc::{AllocError, Global};
@@ -52,7 +51,7 @@ impl<'r> Engine for Answering<'r> {
         out: &mut Vec<u8>,
     ) -> Result<(), AllocError> {
         let ready = self.ready;
-        match read_request(alloc, ready.validated().schema(), line) {
+        match ready.read(alloc, line) {
             Ok(request) => {
                 ready.tally(alloc, &request, buffers)?;
                 append_response(alloc, &buffers.told(), out)?;

@@ -3,8 +3,10 @@ ghost use Rattle.std.specs.Prelude.{◌≡◌, IfOk, IfErr, OnOk, option_copied,
 ghost use Rattle.cedar_ast.specs.Response.{response};
 ghost use Rattle.cedar_auth.specs.Validation.{HasFault, IsValidated};
 ghost use Rattle.cedar_auth.specs.Private.Kept.{AreCodes};
+ghost use Rattle.cedar_auth.specs.Private.Sifting.{policies_at};
 ghost use Rattle.cedar_auth.specs.Private.Tally.{tally_of};
 
+use crate::candidates::all_positions;
 use crate::codes::codes_of;
 use crate::not_validated::NotValidated;
 use crate::part::Part;
@@ -112,7 +114,7 @@ impl Validated {
     }
 
     // The policy at a position from 0, beside its code.
-    fn part(&self, position: usize) -> Option<Part<'_>>
+    pub(crate) fn part(&self, position: usize) -> Option<Part<'_>>
         ensures { result ≡ slice_get self.now.policies.policies position }
     {
         let policy = self.policies.policy(position)?;
@@ -120,20 +122,21 @@ impl Validated {
         Some(Part { policy, code })
     }
 
-    // Runs each policy's code for the request, in order, and gathers how they ended.
+    // Runs the code of the policies at these positions for the request, in order, and gathers how they ended.
     pub(crate) fn tally<'v, H: Hierarchy>(
         &'v self,
         alloc: Global,
         request: &Request,
         hierarchy: &H,
+        positions: &[usize],
         tally: &mut Tally<'v>,
     ) -> Result<(), AllocError>
-        ensures { OnOk result (tally.new ≡ tally_of request.now (H.world hierarchy.now) self.now.policies.policies) }
+        ensures { OnOk result (tally.new ≡ tally_of request.now (H.world hierarchy.now) (policies_at self.now.policies.policies positions.now)) }
     {
         let mut operands = Operands::new(alloc);
         tally.clear();
-        for position in 0..self.policies.count() {
-            if let Some(part) = self.part(position) {
+        for position in positions {
+            if let Some(part) = self.part(*position) {
                 let verdict = operands.decide(alloc, part.code, request, hierarchy)?;
                 tally.enter(part.policy.id().as_str(), part.policy.effect(), verdict)?;
             }
@@ -151,8 +154,9 @@ impl Validated {
     ) -> Result<Response<'_>, AllocError>
         ensures { IfOk result (λ r. r ≡ response self.now.policies.policies request.now (H.world hierarchy.now)) }
     {
+        let positions = all_positions(alloc, &self.policies)?;
         let mut tally = Tally::new(alloc);
-        self.tally(alloc, request, hierarchy, &mut tally)?;
+        self.tally(alloc, request, hierarchy, &positions, &mut tally)?;
         Ok(tally.into_response())
     }
 }

@@ -140,6 +140,16 @@ fn told(alloc: Global, ready: &Ready, request: &Request) -> Result<String, Fail>
         return Err("the request does not fit".into());
     }
     let response = ready.answer(alloc, request)?;
+    let text = response_text(alloc, &response)?;
+    if text.as_str() != told_by_all(alloc, ready, request)?.as_str() {
+        return Err("the candidates answer otherwise than all policies".into());
+    }
+    Ok(text)
+}
+
+/// What is told by the evaluation of every policy, candidates or not.
+fn told_by_all(alloc: Global, ready: &Ready, request: &Request) -> Result<String, Fail> {
+    let response = ready.validated().answer(alloc, request, ready.store())?;
     Ok(response_text(alloc, &response)?)
 }
 

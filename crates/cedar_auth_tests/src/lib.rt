@@ -3,11 +3,13 @@
 //! crate once more.
 //!
 //! The schema and the entities stand in `world.rt`, accepted policies with their answers in `answers.rt` and `lines.rt`,
-//! refused ones in `refusals.rt`, entities and requests in `readiness.rt`.
+//! which of them run in `candidates.rt`, refused ones in `refusals.rt`, entities and requests in `readiness.rt`.
 #![tactic(auto)]
 
 #[cfg(test)]
 mod answers;
+#[cfg(test)]
+mod candidates;
 #[cfg(test)]
 mod lines;
 #[cfg(test)]

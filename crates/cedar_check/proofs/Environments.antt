@@ -5,9 +5,10 @@ use Rattle.std.specs.List.{list_all}
 use Rattle.cedar_ast.specs.PolicyTree.{PolicyTree}
 use Rattle.cedar_schema.specs.SchemaTree.{SchemaTree}
 use Rattle.cedar_schema.specs.declared.schema.environment.Environment.{Environment}
-use Rattle.cedar_typing.specs.Checking.{form_in}
-use Rattle.cedar_typing.specs.Reports.{FaultTree, fault_at, faults_in, is_known_false}
+use Rattle.cedar_typing.specs.Checking.{form_in_with}
+use Rattle.cedar_typing.specs.Reports.{FaultTree, fault_at, faults_in_with, is_known_false}
 use Rattle.cedar_check.proofs.Held.{drop_here}
+use Rattle.cedar_typing.specs.declared.settings.Settings.{Settings}
 
 put : (b : Bool) (x : FaultTree) (old rest : List FaultTree) → (old ++ cond b [] (x ∷ [])) ++ rest ≡ old ++ cond b rest (x ∷ rest)
 put true x [] rest = refl
@@ -18,16 +19,16 @@ pub nil_right : {A : Type 0} (xs : List A) → xs ++ [] ≡ xs
 nil_right [] = refl
 nil_right (x ∷ xs) = ap (λ l. x ∷ l) (nil_right xs)
 
-module _ (s : SchemaTree) (p : PolicyTree) where
-  pub faults_step : (envs : List Environment) (i : ℕ) (env : Environment) (old new : List FaultTree) → i < length envs → env ≡ get_or envs i env → new ≡ old ++ cond (is_some (form_in s env p)) [] (fault_at p env ∷ [])
-      → new ++ faults_in s p (drop (i + 1) envs) ≡ old ++ faults_in s p (drop i envs)
+module _ (settings : Settings) (s : SchemaTree) (p : PolicyTree) where
+  pub faults_step : (envs : List Environment) (i : ℕ) (env : Environment) (old new : List FaultTree) → i < length envs → env ≡ get_or envs i env → new ≡ old ++ cond (is_some (form_in_with settings s env p)) [] (fault_at p env ∷ [])
+      → new ++ faults_in_with settings s p (drop (i + 1) envs) ≡ old ++ faults_in_with settings s p (drop i envs)
   faults_step envs i env old new lt is e =
-      ap (λ l. l ++ faults_in s p (drop (i + 1) envs)) e
-      ∙ put (is_some (form_in s env p)) (fault_at p env) old (faults_in s p (drop (i + 1) envs))
-      ∙ ap (λ l. old ++ faults_in s p l) (sym (drop_here envs i env lt is))
+      ap (λ l. l ++ faults_in_with settings s p (drop (i + 1) envs)) e
+      ∙ put (is_some (form_in_with settings s env p)) (fault_at p env) old (faults_in_with settings s p (drop (i + 1) envs))
+      ∙ ap (λ l. old ++ faults_in_with settings s p l) (sym (drop_here envs i env lt is))
 
   abbrev pub known_false : Environment → Bool
-  known_false env = is_known_false (form_in s env p)
+  known_false env = is_known_false (form_in_with settings s env p)
 
   moved : (a b c : Bool) → ((a && b) && c) ≡ (a && (b && c))
   moved true b c = refl

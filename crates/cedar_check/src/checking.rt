@@ -2,7 +2,7 @@
 ghost use Rattle.std.specs.Prelude.{◌≡◌, ◌++◌, [], IfOk};
 ghost use Rattle.cedar_ast.specs.Expression.{and, entries_of, expressions_of, if_else, or, record_with, set_with, unary, binary};
 ghost use Rattle.cedar_ast.specs.Keys.{AreDistinct, keys_of};
-ghost use Rattle.cedar_typing.specs.Checking.{type_of, types_onto};
+ghost use Rattle.cedar_typing.specs.Checking.{type_of_with, types_onto};
 ghost use Rattle.cedar_check.specs.Private.View.{element_view, held_view, tree_of, typing_view};
 
 use crate::branches::{if_joined, if_known};
@@ -16,38 +16,82 @@ use crate::type_fault::TypeFault;
 use crate::typing::Typing;
 use cedar_ast::{BinaryOperator, Expr, ExprKind, UnaryOperator};
 use cedar_schema::{Environment, RecordType, Schema, Truth, Type, TypeKind};
+use cedar_typing::Settings;
 use cedar_value::Text;
 use std::alloc::{AllocError, Global};
 
-/// The type of an expression in an environment where these capabilities are held, and what it gains, or
-/// why it has no type (Cedar documentation, strict validation).
+/// The type of an expression under these settings, in an environment where these capabilities are held, and
+/// what it gains, or why it has no type (Cedar documentation, strict validation).
 #[cycle(check)]
 pub(crate) fn check<'a>(
     alloc: Global,
+    settings: Settings,
     schema: &'a Schema,
     environment: &'a Environment,
     held: &[Capability<'a>],
     expression: &'a Expr,
 ) -> Result<Typing<'a>, AllocError>
-    ensures { IfOk result (λ t. typing_view t ≡ type_of schema.now environment.now (held_view held.now) expression.now) }
+    ensures { IfOk result (λ t. typing_view t ≡ type_of_with settings schema.now environment.now (held_view held.now) expression.now) }
 {
     match expression.kind() {
         ExprKind::Literal(value) => Ok(literal_type(alloc, schema, value)),
         ExprKind::Variable(variable) => Ok(variable_type(alloc, environment, *variable)),
-        ExprKind::And(left, right) => check_and(alloc, schema, environment, held, left, right),
-        ExprKind::Or(left, right) => check_or(alloc, schema, environment, held, left, right),
+        ExprKind::And(left, right) => check_and(
+            alloc,
+            settings,
+            schema,
+            environment,
+            held,
+            left,
+            right,
+        ),
+        ExprKind::Or(left, right) => check_or(
+            alloc,
+            settings,
+            schema,
+            environment,
+            held,
+            left,
+            right,
+        ),
         ExprKind::If(condition, first, second) => {
-            check_if(alloc, schema, environment, held, condition, first, second)
+            check_if(
+                alloc,
+                settings,
+                schema,
+                environment,
+                held,
+                condition,
+                first,
+                second,
+            )
         }
         ExprKind::Unary(operator, operand) => {
-            check_unary(alloc, schema, environment, held, operator, operand)
+            check_unary(
+                alloc,
+                settings,
+                schema,
+                environment,
+                held,
+                operator,
+                operand,
+            )
         }
         ExprKind::Binary(operator, left, right) => {
-            check_binary(alloc, schema, environment, held, *operator, left, right)
+            check_binary(
+                alloc,
+                settings,
+                schema,
+                environment,
+                held,
+                *operator,
+                left,
+                right,
+            )
         }
-        ExprKind::Set(members) => check_set(alloc, schema, environment, held, members),
+        ExprKind::Set(members) => check_set(alloc, settings, schema, environment, held, members),
         ExprKind::Record(entries) => {
-            check_record(alloc, schema, environment, held, entries.pairs())
+            check_record(alloc, settings, schema, environment, held, entries.pairs())
         }
     }
 }
@@ -57,22 +101,23 @@ pub(crate) fn check<'a>(
 #[inline(never)]
 fn check_holding<'a>(
     alloc: Global,
+    settings: Settings,
     schema: &'a Schema,
     environment: &'a Environment,
     held: &[Capability<'a>],
     gained: &[Capability<'a>],
     expression: &'a Expr,
 ) -> Result<Typing<'a>, AllocError>
-    ensures { IfOk result (λ t. typing_view t ≡ type_of schema.now environment.now (held_view held.now ++ held_view gained.now) expression.now) }
+    ensures { IfOk result (λ t. typing_view t ≡ type_of_with settings schema.now environment.now (held_view held.now ++ held_view gained.now) expression.now) }
 {
     if gained.is_empty() {
-        return check(alloc, schema, environment, held, expression);
+        return check(alloc, settings, schema, environment, held, expression);
     }
     if held.is_empty() {
-        return check(alloc, schema, environment, gained, expression);
+        return check(alloc, settings, schema, environment, gained, expression);
     }
     let more = extended(alloc, held, gained)?;
-    check(alloc, schema, environment, &more, expression)
+    check(alloc, settings, schema, environment, &more, expression)
 }
 
 // `left && right`.
@@ -80,15 +125,16 @@ fn check_holding<'a>(
 #[inline(never)]
 fn check_and<'a>(
     alloc: Global,
+    settings: Settings,
     schema: &'a Schema,
     environment: &'a Environment,
     held: &[Capability<'a>],
     left: &'a Expr,
     right: &'a Expr,
 ) -> Result<Typing<'a>, AllocError>
-    ensures { IfOk result (λ t. typing_view t ≡ type_of schema.now environment.now (held_view held.now) (and left.now right.now)) }
+    ensures { IfOk result (λ t. typing_view t ≡ type_of_with settings schema.now environment.now (held_view held.now) (and left.now right.now)) }
 {
-    let x = match check(alloc, schema, environment, held, left)? {
+    let x = match check(alloc, settings, schema, environment, held, left)? {
         Typing::Typed(x) => x,
         Typing::Refused(fault) => return Ok(Typing::Refused(fault)),
     };
@@ -100,7 +146,7 @@ fn check_and<'a>(
     if truth == Truth::False {
         return Ok(Typing::plain(alloc, LentType::Boolean(Truth::False)));
     }
-    let right = check_holding(alloc, schema, environment, held, &x.gained, right)?;
+    let right = check_holding(alloc, settings, schema, environment, held, &x.gained, right)?;
     and_right(alloc, truth, x.gained, right)
 }
 
@@ -108,15 +154,16 @@ fn check_and<'a>(
 /// rest is not looked at.
 pub(crate) fn check_scoped<'a>(
     alloc: Global,
+    settings: Settings,
     schema: &'a Schema,
     environment: &'a Environment,
     principal: &'a Expr,
     action: &'a Expr,
     rest: &'a Expr,
 ) -> Result<Typing<'a>, AllocError>
-    ensures { IfOk result (λ t. typing_view t ≡ type_of schema.now environment.now [] (and principal.now (and action.now rest.now))) }
+    ensures { IfOk result (λ t. typing_view t ≡ type_of_with settings schema.now environment.now [] (and principal.now (and action.now rest.now))) }
 {
-    let x = match check(alloc, schema, environment, &[], principal)? {
+    let x = match check(alloc, settings, schema, environment, &[], principal)? {
         Typing::Typed(x) => x,
         Typing::Refused(fault) => return Ok(Typing::Refused(fault)),
     };
@@ -126,7 +173,15 @@ pub(crate) fn check_scoped<'a>(
     if truth == Truth::False {
         return Ok(Typing::plain(alloc, LentType::Boolean(Truth::False)));
     }
-    let right = check_and(alloc, schema, environment, &x.gained, action, rest)?;
+    let right = check_and(
+        alloc,
+        settings,
+        schema,
+        environment,
+        &x.gained,
+        action,
+        rest,
+    )?;
     and_right(alloc, truth, x.gained, right)
 }
 
@@ -135,15 +190,16 @@ pub(crate) fn check_scoped<'a>(
 #[inline(never)]
 fn check_or<'a>(
     alloc: Global,
+    settings: Settings,
     schema: &'a Schema,
     environment: &'a Environment,
     held: &[Capability<'a>],
     left: &'a Expr,
     right: &'a Expr,
 ) -> Result<Typing<'a>, AllocError>
-    ensures { IfOk result (λ t. typing_view t ≡ type_of schema.now environment.now (held_view held.now) (or left.now right.now)) }
+    ensures { IfOk result (λ t. typing_view t ≡ type_of_with settings schema.now environment.now (held_view held.now) (or left.now right.now)) }
 {
-    let x = match check(alloc, schema, environment, held, left)? {
+    let x = match check(alloc, settings, schema, environment, held, left)? {
         Typing::Typed(x) => x,
         Typing::Refused(fault) => return Ok(Typing::Refused(fault)),
     };
@@ -153,11 +209,11 @@ fn check_or<'a>(
         None => Ok(Typing::Refused(TypeFault::OperandKind)),
         Some(Truth::True) => Ok(Typing::plain(alloc, LentType::Boolean(Truth::True))),
         Some(Truth::False) => {
-            let right = check(alloc, schema, environment, held, right)?;
+            let right = check(alloc, settings, schema, environment, held, right)?;
             Ok(boolean_alone(right))
         }
         Some(Truth::Any) => {
-            let right = check(alloc, schema, environment, held, right)?;
+            let right = check(alloc, settings, schema, environment, held, right)?;
             or_right(alloc, x.gained, right)
         }
     }
@@ -168,6 +224,7 @@ fn check_or<'a>(
 #[inline(never)]
 fn check_if<'a>(
     alloc: Global,
+    settings: Settings,
     schema: &'a Schema,
     environment: &'a Environment,
     held: &[Capability<'a>],
@@ -175,9 +232,9 @@ fn check_if<'a>(
     first: &'a Expr,
     second: &'a Expr,
 ) -> Result<Typing<'a>, AllocError>
-    ensures { IfOk result (λ t. typing_view t ≡ type_of schema.now environment.now (held_view held.now) (if_else condition.now first.now second.now)) }
+    ensures { IfOk result (λ t. typing_view t ≡ type_of_with settings schema.now environment.now (held_view held.now) (if_else condition.now first.now second.now)) }
 {
-    let x = match check(alloc, schema, environment, held, condition)? {
+    let x = match check(alloc, settings, schema, environment, held, condition)? {
         Typing::Typed(x) => x,
         Typing::Refused(fault) => return Ok(Typing::Refused(fault)),
     };
@@ -185,14 +242,30 @@ fn check_if<'a>(
     drop(x.ty);
     match known {
         None => Ok(Typing::Refused(TypeFault::OperandKind)),
-        Some(Truth::False) => check(alloc, schema, environment, held, second),
+        Some(Truth::False) => check(alloc, settings, schema, environment, held, second),
         Some(Truth::True) => {
-            let chosen = check_holding(alloc, schema, environment, held, &x.gained, first)?;
+            let chosen = check_holding(
+                alloc,
+                settings,
+                schema,
+                environment,
+                held,
+                &x.gained,
+                first,
+            )?;
             if_known(x.gained, chosen)
         }
         Some(Truth::Any) => {
-            let chosen = check_holding(alloc, schema, environment, held, &x.gained, first)?;
-            let other = check(alloc, schema, environment, held, second)?;
+            let chosen = check_holding(
+                alloc,
+                settings,
+                schema,
+                environment,
+                held,
+                &x.gained,
+                first,
+            )?;
+            let other = check(alloc, settings, schema, environment, held, second)?;
             if_joined(alloc, &x.gained, chosen, other)
         }
     }
@@ -203,17 +276,20 @@ fn check_if<'a>(
 #[inline(never)]
 fn check_unary<'a>(
     alloc: Global,
+    settings: Settings,
     schema: &'a Schema,
     environment: &'a Environment,
     held: &[Capability<'a>],
     operator: &'a UnaryOperator,
     operand: &'a Expr,
 ) -> Result<Typing<'a>, AllocError>
-    ensures { IfOk result (λ t. typing_view t ≡ type_of schema.now environment.now (held_view held.now) (unary operator.now operand.now)) }
+    ensures { IfOk result (λ t. typing_view t ≡ type_of_with settings schema.now environment.now (held_view held.now) (unary operator.now operand.now)) }
 {
-    match check(alloc, schema, environment, held, operand)? {
-        Typing::Typed(typed) => unary_type(alloc, schema, held, operator, operand, &typed),
-        Typing::Refused(fault) => Ok(Typing::Refused(unary_fault(operator, fault))),
+    match check(alloc, settings, schema, environment, held, operand)? {
+        Typing::Typed(typed) => unary_type(
+            alloc, settings, schema, held, operator, operand, &typed,
+        ),
+        Typing::Refused(fault) => Ok(Typing::Refused(unary_fault(settings, operator, fault))),
     }
 }
 
@@ -222,6 +298,7 @@ fn check_unary<'a>(
 #[inline(never)]
 fn check_binary<'a>(
     alloc: Global,
+    settings: Settings,
     schema: &'a Schema,
     environment: &'a Environment,
     held: &[Capability<'a>],
@@ -229,13 +306,13 @@ fn check_binary<'a>(
     left: &'a Expr,
     right: &'a Expr,
 ) -> Result<Typing<'a>, AllocError>
-    ensures { IfOk result (λ t. typing_view t ≡ type_of schema.now environment.now (held_view held.now) (binary operator left.now right.now)) }
+    ensures { IfOk result (λ t. typing_view t ≡ type_of_with settings schema.now environment.now (held_view held.now) (binary operator left.now right.now)) }
 {
-    let x = match check(alloc, schema, environment, held, left)? {
+    let x = match check(alloc, settings, schema, environment, held, left)? {
         Typing::Typed(x) => x,
         Typing::Refused(fault) => return Ok(Typing::Refused(fault)),
     };
-    let y = match check(alloc, schema, environment, held, right)? {
+    let y = match check(alloc, settings, schema, environment, held, right)? {
         Typing::Typed(y) => y,
         Typing::Refused(fault) => return Ok(Typing::Refused(fault)),
     };
@@ -247,17 +324,18 @@ fn check_binary<'a>(
 #[inline(never)]
 fn check_members<'a>(
     alloc: Global,
+    settings: Settings,
     schema: &'a Schema,
     environment: &'a Environment,
     held: &[Capability<'a>],
     first: LentType<'a>,
     others: &'a [Expr],
 ) -> Result<Typing<'a>, AllocError>
-    ensures { IfOk result (λ t. element_view t ≡ types_onto schema.now environment.now (held_view held.now) (tree_of first.entry) (expressions_of others.now)) }
+    ensures { IfOk result (λ t. element_view t ≡ types_onto settings schema.now environment.now (held_view held.now) (tree_of first.entry) (expressions_of others.now)) }
 {
     let mut joined = first;
     for member in others {
-        let x = match check(alloc, schema, environment, held, member)? {
+        let x = match check(alloc, settings, schema, environment, held, member)? {
             Typing::Typed(x) => x,
             Typing::Refused(fault) => return Ok(Typing::Refused(fault)),
         };
@@ -274,21 +352,22 @@ fn check_members<'a>(
 #[inline(never)]
 fn check_set<'a>(
     alloc: Global,
+    settings: Settings,
     schema: &'a Schema,
     environment: &'a Environment,
     held: &[Capability<'a>],
     members: &'a [Expr],
 ) -> Result<Typing<'a>, AllocError>
-    ensures { IfOk result (λ t. typing_view t ≡ type_of schema.now environment.now (held_view held.now) (set_with (expressions_of members.now))) }
+    ensures { IfOk result (λ t. typing_view t ≡ type_of_with settings schema.now environment.now (held_view held.now) (set_with (expressions_of members.now))) }
 {
     let Some((first, others)) = members.split_first() else {
         return Ok(Typing::Refused(TypeFault::EmptySet));
     };
-    let x = match check(alloc, schema, environment, held, first)? {
+    let x = match check(alloc, settings, schema, environment, held, first)? {
         Typing::Typed(x) => x,
         Typing::Refused(fault) => return Ok(Typing::Refused(fault)),
     };
-    let member = check_members(alloc, schema, environment, held, x.ty, others)?;
+    let member = check_members(alloc, settings, schema, environment, held, x.ty, others)?;
     set_type(alloc, member)
 }
 
@@ -297,17 +376,18 @@ fn check_set<'a>(
 #[inline(never)]
 fn check_record<'a>(
     alloc: Global,
+    settings: Settings,
     schema: &'a Schema,
     environment: &'a Environment,
     held: &[Capability<'a>],
     pairs: &'a [(Text, Expr)],
 ) -> Result<Typing<'a>, AllocError>
     requires { AreDistinct (keys_of pairs.now) }
-    ensures { IfOk result (λ t. typing_view t ≡ type_of schema.now environment.now (held_view held.now) (record_with (entries_of pairs.now))) }
+    ensures { IfOk result (λ t. typing_view t ≡ type_of_with settings schema.now environment.now (held_view held.now) (record_with (entries_of pairs.now))) }
 {
     let mut attributes = RecordType::new(alloc);
     for pair in pairs {
-        let x = match check(alloc, schema, environment, held, &pair.1)? {
+        let x = match check(alloc, settings, schema, environment, held, &pair.1)? {
             Typing::Typed(x) => x,
             Typing::Refused(fault) => return Ok(Typing::Refused(fault)),
         };

@@ -1,8 +1,8 @@
 //! Faults of policies.
 ghost use Rattle.std.specs.Prelude.{◌≡◌, ◌++◌, ◌∷◌, [], IfOk, OnOk, cond, is_some, map};
 ghost use Rattle.cedar_ast.specs.Condition.{condition_of};
-ghost use Rattle.cedar_typing.specs.Checking.{form_in};
-ghost use Rattle.cedar_typing.specs.Reports.{fault_at, faults_of, is_impossible, is_known_false};
+ghost use Rattle.cedar_typing.specs.Checking.{form_in_with};
+ghost use Rattle.cedar_typing.specs.Reports.{fault_at, faults_of_with, is_impossible_with, is_known_false};
 ghost use Rattle.cedar_check.specs.FaultView.{fault_view};
 ghost use Rattle.cedar_check.specs.Private.Condition.{condition_in, IsReady};
 
@@ -11,6 +11,7 @@ use crate::prepared::Prepared;
 use crate::type_fault::TypeFault;
 use cedar_ast::Policy;
 use cedar_schema::{Environment, Schema, Truth};
+use cedar_typing::Settings;
 use cedar_value::{Name, Text, Uid};
 use std::alloc::{AllocError, Global};
 
@@ -51,6 +52,7 @@ fn fault_at(
 // there.
 fn check_in(
     alloc: Global,
+    settings: Settings,
     schema: &Schema,
     environment: &Environment,
     policy: &Policy,
@@ -59,10 +61,10 @@ fn check_in(
 ) -> Result<bool, AllocError>
     requires condition { condition_in condition ≡ condition_of policy.now }
     requires ready { IsReady condition }
-    ensures faults { OnOk result (map fault_view faults.new.items ≡ map fault_view faults.old.items ++ cond (is_some (form_in schema.now environment.now policy.now)) [] (fault_at policy.now environment.now ∷ [])) }
-    ensures known { IfOk result (λ known. known ≡ is_known_false (form_in schema.now environment.now policy.now)) }
+    ensures faults { OnOk result (map fault_view faults.new.items ≡ map fault_view faults.old.items ++ cond (is_some (form_in_with settings schema.now environment.now policy.now)) [] (fault_at policy.now environment.now ∷ [])) }
+    ensures known { IfOk result (λ known. known ≡ is_known_false (form_in_with settings schema.now environment.now policy.now)) }
 {
-    match form_of(alloc, schema, environment, condition)? {
+    match form_of(alloc, settings, schema, environment, condition)? {
         Form::Known(Truth::False) => Ok(true),
         Form::Known(Truth::True) => Ok(false),
         Form::Known(Truth::Any) => Ok(false),
@@ -78,6 +80,7 @@ fn check_in(
 // false in each.
 fn check_everywhere(
     alloc: Global,
+    settings: Settings,
     schema: &Schema,
     policy: &Policy,
     condition: Prepared<'_>,
@@ -85,13 +88,21 @@ fn check_everywhere(
 ) -> Result<bool, AllocError>
     requires condition { condition_in condition ≡ condition_of policy.now }
     requires ready { IsReady condition }
-    ensures faults { OnOk result (map fault_view faults.new.items ≡ map fault_view faults.old.items ++ faults_of schema.now policy.now) }
-    ensures impossible { IfOk result (λ impossible. impossible ≡ is_impossible schema.now policy.now) }
+    ensures faults { OnOk result (map fault_view faults.new.items ≡ map fault_view faults.old.items ++ faults_of_with settings schema.now policy.now) }
+    ensures impossible { IfOk result (λ impossible. impossible ≡ is_impossible_with settings schema.now policy.now) }
 {
     let environments = schema.environments();
     let mut impossible = true;
     for environment in environments {
-        if !check_in(alloc, schema, environment, policy, condition, faults)? {
+        if !check_in(
+            alloc,
+            settings,
+            schema,
+            environment,
+            policy,
+            condition,
+            faults,
+        )? {
             impossible = false;
         }
     }
@@ -102,15 +113,23 @@ fn check_everywhere(
 /// environments; whether no request can satisfy it. 1: memory was refused.
 pub(crate) fn check_policy(
     alloc: Global,
+    settings: Settings,
     schema: &Schema,
     policy: &Policy,
     faults: &mut Vec<Fault>,
 ) -> Result<bool, AllocError>
-    ensures faults { OnOk result (map fault_view faults.new.items ≡ map fault_view faults.old.items ++ faults_of schema.now policy.now) }
-    ensures impossible { IfOk result (λ impossible. impossible ≡ is_impossible schema.now policy.now) }
+    ensures faults { OnOk result (map fault_view faults.new.items ≡ map fault_view faults.old.items ++ faults_of_with settings schema.now policy.now) }
+    ensures impossible { IfOk result (λ impossible. impossible ≡ is_impossible_with settings schema.now policy.now) }
 {
     let condition = policy.condition(alloc)?;
-    let impossible = check_everywhere(alloc, schema, policy, Prepared::new(&condition), faults);
+    let impossible = check_everywhere(
+        alloc,
+        settings,
+        schema,
+        policy,
+        Prepared::new(&condition),
+        faults,
+    );
     drop(condition);
     impossible
 }

@@ -2,7 +2,7 @@
 ghost use Rattle.std.specs.Prelude.{◌≡◌, [], IfOk, option_and_then};
 ghost use Rattle.cedar_ast.specs.Expression.{and};
 ghost use Rattle.cedar_ast.specs.Replacement.{replace};
-ghost use Rattle.cedar_typing.specs.Checking.{truth_in, type_of};
+ghost use Rattle.cedar_typing.specs.Checking.{truth_in, type_of_with};
 ghost use Rattle.cedar_check.specs.Private.Condition.{condition_in, IsReady};
 ghost use Rattle.cedar_check.specs.Private.View.{form_view, typing_view};
 
@@ -12,6 +12,7 @@ use crate::type_fault::TypeFault;
 use crate::typing::Typing;
 use cedar_ast::Expr;
 use cedar_schema::{Environment, Schema, Truth};
+use cedar_typing::Settings;
 use std::alloc::{AllocError, Global};
 
 /// What is known of a condition, or why it has no type of Booleans.
@@ -39,15 +40,17 @@ fn form_in(typing: Typing<'_>) -> Form
 // The form of a condition by its parts, of which that of the action alone is copied.
 fn form_of_parts(
     alloc: Global,
+    settings: Settings,
     schema: &Schema,
     environment: &Environment,
     parts: Parts<'_>,
 ) -> Result<Form, AllocError>
-    ensures { IfOk result (λ form. form_view form ≡ option_and_then (λ x. truth_in x.ty) (type_of schema.now environment.now [] (and parts.entry.principal.now (and (replace environment.now.action parts.entry.action.now) parts.entry.rest.now)))) }
+    ensures { IfOk result (λ form. form_view form ≡ option_and_then (λ x. truth_in x.ty) (type_of_with settings schema.now environment.now [] (and parts.entry.principal.now (and (replace environment.now.action parts.entry.action.now) parts.entry.rest.now)))) }
 {
     let action = parts.action.with_action(alloc, &environment.action)?;
     let form = match check_scoped(
         alloc,
+        settings,
         schema,
         environment,
         parts.principal,
@@ -64,14 +67,15 @@ fn form_of_parts(
 // The form of a condition in which the variable may stand anywhere.
 fn form_of_whole(
     alloc: Global,
+    settings: Settings,
     schema: &Schema,
     environment: &Environment,
     condition: &Expr,
 ) -> Result<Form, AllocError>
-    ensures { IfOk result (λ form. form_view form ≡ option_and_then (λ x. truth_in x.ty) (type_of schema.now environment.now [] (replace environment.now.action condition.now))) }
+    ensures { IfOk result (λ form. form_view form ≡ option_and_then (λ x. truth_in x.ty) (type_of_with settings schema.now environment.now [] (replace environment.now.action condition.now))) }
 {
     let replaced = condition.with_action(alloc, &environment.action)?;
-    let form = match check(alloc, schema, environment, &[], &replaced) {
+    let form = match check(alloc, settings, schema, environment, &[], &replaced) {
         Ok(typing) => Ok(form_in(typing)),
         Err(error) => Err(error),
     };
@@ -84,15 +88,16 @@ fn form_of_whole(
 #[tactic(auto, using(crate::proofs::Unmentioned::whole_replaced))]
 pub(crate) fn form_of(
     alloc: Global,
+    settings: Settings,
     schema: &Schema,
     environment: &Environment,
     condition: Prepared<'_>,
 ) -> Result<Form, AllocError>
     requires { IsReady condition }
-    ensures { IfOk result (λ form. form_view form ≡ option_and_then (λ x. truth_in x.ty) (type_of schema.now environment.now [] (replace environment.now.action (condition_in condition.entry)))) }
+    ensures { IfOk result (λ form. form_view form ≡ option_and_then (λ x. truth_in x.ty) (type_of_with settings schema.now environment.now [] (replace environment.now.action (condition_in condition.entry)))) }
 {
     match condition {
-        Prepared::Parts(parts) => form_of_parts(alloc, schema, environment, parts),
-        Prepared::Whole(whole) => form_of_whole(alloc, schema, environment, whole),
+        Prepared::Parts(parts) => form_of_parts(alloc, settings, schema, environment, parts),
+        Prepared::Whole(whole) => form_of_whole(alloc, settings, schema, environment, whole),
     }
 }

@@ -7,6 +7,9 @@
 //! assert!(rt; report.faults.is_empty());
 //! ```
 //!
+//! A service that wants `decimal` of any text, as of an attribute, calls `check_with` and says so in its
+//! settings.
+//!
 //! A condition is typed in one pass, with a function for each row of the rules that cedar_typing defines.
 //! Types are lent from the schema and the policy wherever they can be, so that a Boolean, a number, a
 //! text, an entity or an attribute takes no memory.
@@ -34,6 +37,7 @@ mod sets;
 mod type_fault;
 mod typing;
 
+pub use cedar_typing::Settings;
 pub use fault::Fault;
-pub use report::{Report, check};
+pub use report::{Report, check, check_with};
 pub use type_fault::TypeFault;

@@ -1,6 +1,6 @@
 //! The rows of operators, by the types of their operands.
 ghost use Rattle.std.specs.Prelude.{◌≡◌, IfOk, option_and_then};
-ghost use Rattle.cedar_typing.specs.Checking.{as_type, binary_type, decimal_type, unary_type};
+ghost use Rattle.cedar_typing.specs.Checking.{as_type, binary_type, decimal_type, literal_decimal_type, unary_type};
 ghost use Rattle.cedar_check.specs.Private.View.{held_view, tree_of, typed_view, typing_view};
 
 use crate::attributes::{get_type, has_type};
@@ -9,28 +9,58 @@ use crate::equality::equal_type;
 use crate::hierarchy::{in_type, is_type};
 use crate::lent_type::LentType;
 use crate::rows::{decimals_type, flipped, longs_type};
-use crate::sets::{contains_type, sets_type};
+use crate::sets::{contains_type, is_empty_type, sets_type};
 use crate::type_fault::TypeFault;
 use crate::typing::{Typed, Typing};
 use cedar_ast::{BinaryOperator, Expr, ExprKind, UnaryOperator};
 use cedar_ext::Decimal;
 use cedar_schema::{Schema, Truth};
-use cedar_value::ValueKind;
+use cedar_typing::Settings;
+use cedar_value::{Value, ValueKind};
 use std::alloc::{AllocError, Global};
 
-// The row of `decimal`: one string literal that is a decimal's.
-fn decimal_type<'a>(alloc: Global, operand: &Expr) -> Typing<'a>
-    ensures { typing_view result ≡ decimal_type operand.now }
+// Why `decimal` of what is no text has no type: with the setting on for its kind, and else since it is no
+// string literal.
+fn no_text(settings: Settings) -> TypeFault {
+    if settings.any_decimal {
+        TypeFault::OperandKind
+    } else {
+        TypeFault::NoDecimal
+    }
+}
+
+// The row of `decimal`, of a literal: a string that is a decimal's.
+fn literal_decimal_type<'a>(alloc: Global, settings: Settings, value: &Value) -> Typing<'a>
+    ensures { typing_view result ≡ literal_decimal_type value.now }
+{
+    match value.kind() {
+        ValueKind::String(text) => match Decimal::read(text.as_str()) {
+            Some(_) => Typing::plain(alloc, LentType::Decimal),
+            None => Typing::Refused(TypeFault::NoDecimal),
+        },
+        _ => Typing::Refused(no_text(settings)),
+    }
+}
+
+// The row of `decimal`: one string literal that is a decimal's, and with the setting on any text that is no
+// literal.
+fn decimal_type<'a>(
+    alloc: Global,
+    settings: Settings,
+    operand: &Expr,
+    ty: &LentType<'a>,
+) -> Typing<'a>
+    ensures { typing_view result ≡ decimal_type settings operand.now (tree_of ty.now) }
 {
     match operand.kind() {
-        ExprKind::Literal(value) => match value.kind() {
-            ValueKind::String(text) => match Decimal::read(text.as_str()) {
-                Some(_) => Typing::plain(alloc, LentType::Decimal),
-                None => Typing::Refused(TypeFault::NoDecimal),
-            },
-            _ => Typing::Refused(TypeFault::NoDecimal),
-        },
-        _ => Typing::Refused(TypeFault::NoDecimal),
+        ExprKind::Literal(value) => literal_decimal_type(alloc, settings, value),
+        _ => {
+            if settings.any_decimal && ty.is_string() {
+                Typing::plain(alloc, LentType::Decimal)
+            } else {
+                Typing::Refused(no_text(settings))
+            }
+        }
     }
 }
 
@@ -38,13 +68,14 @@ fn decimal_type<'a>(alloc: Global, operand: &Expr) -> Typing<'a>
 /// it takes no memory.
 pub(crate) fn unary_type<'a>(
     alloc: Global,
+    settings: Settings,
     schema: &'a Schema,
     held: &[Capability<'a>],
     operator: &'a UnaryOperator,
     operand: &'a Expr,
     typed: &Typed<'a>,
 ) -> Result<Typing<'a>, AllocError>
-    ensures { IfOk result (λ t. typing_view t ≡ unary_type schema.now (held_view held.now) operator.now operand.now (typed_view typed.now)) }
+    ensures { IfOk result (λ t. typing_view t ≡ unary_type settings schema.now (held_view held.now) operator.now operand.now (typed_view typed.now)) }
 {
     match operator {
         UnaryOperator::Not => match typed.ty.truth() {
@@ -84,7 +115,8 @@ pub(crate) fn unary_type<'a>(
             }
         }
         UnaryOperator::Is(name) => Ok(is_type(alloc, schema, name, &typed.ty)),
-        UnaryOperator::Decimal => Ok(decimal_type(alloc, operand)),
+        UnaryOperator::Decimal => Ok(decimal_type(alloc, settings, operand, &typed.ty)),
+        UnaryOperator::IsEmpty => Ok(is_empty_type(alloc, &typed.ty)),
     }
 }
 

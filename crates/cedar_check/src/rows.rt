@@ -15,6 +15,7 @@ use crate::type_fault::TypeFault;
 use crate::typing::{Typed, Typing};
 use cedar_ast::{Expr, ExprKind, UnaryOperator, Variable};
 use cedar_schema::{Attribute, Environment, Schema, Truth, TypeKind};
+use cedar_typing::Settings;
 use cedar_value::{Text, Uid, Value, ValueKind};
 use std::alloc::{AllocError, Global};
 
@@ -175,10 +176,21 @@ pub(crate) fn boolean_alone<'a>(typing: Typing<'a>) -> Typing<'a>
     }
 }
 
-/// Why an operator on a refused operand has no type: `decimal` of what is no literal is refused for that.
-pub(crate) fn unary_fault(operator: &UnaryOperator, fault: TypeFault) -> TypeFault {
+/// Why an operator on a refused operand has no type: `decimal` of what is no literal is refused for that,
+/// where it may not be asked of any text.
+pub(crate) fn unary_fault(
+    settings: Settings,
+    operator: &UnaryOperator,
+    fault: TypeFault,
+) -> TypeFault {
     match operator {
-        UnaryOperator::Decimal => TypeFault::NoDecimal,
+        UnaryOperator::Decimal => {
+            if settings.any_decimal {
+                fault
+            } else {
+                TypeFault::NoDecimal
+            }
+        }
         _ => fault,
     }
 }

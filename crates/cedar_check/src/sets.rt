@@ -1,6 +1,8 @@
-//! The rows of `contains`, `containsAll` and `containsAny`.
+//! The rows of `contains`, `containsAll`, `containsAny` and `isEmpty`.
 ghost use Rattle.std.specs.Prelude.{◌≡◌, option_and_then};
 ghost use Rattle.cedar_types.specs.Joining.{join};
+ghost use Rattle.cedar_types.specs.Types.{boolean};
+ghost use Rattle.cedar_types.specs.declared.truth.Truth.TheVariants.{Any};
 ghost use Rattle.cedar_typing.specs.Checking.{any_where, as_type, element_in, sets_type};
 ghost use Rattle.cedar_check.specs.Private.View.{tree_of, type_seen, typing_view};
 
@@ -42,5 +44,15 @@ pub(crate) fn sets_type<'a>(alloc: Global, one: &LentType<'a>, two: &LentType<'a
             None => Typing::Refused(TypeFault::OperandKind),
             Some(right) => any_where(alloc, glance_at(left), glance_at(right)),
         },
+    }
+}
+
+/// The row of `isEmpty`. Takes no memory.
+pub(crate) fn is_empty_type<'a>(alloc: Global, ty: &LentType<'a>) -> Typing<'a>
+    ensures { typing_view result ≡ option_and_then (λ m. as_type (boolean Any)) (element_in (tree_of ty.now)) }
+{
+    match ty.element() {
+        None => Typing::Refused(TypeFault::OperandKind),
+        Some(_) => Typing::plain(alloc, LentType::Boolean(Truth::Any)),
     }
 }

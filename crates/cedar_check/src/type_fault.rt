@@ -15,9 +15,11 @@ pub enum TypeFault {
     NoJoin,
     /// 605: an empty set.
     EmptySet,
-    /// 606: an operand of another kind.
+    /// 606: an operand of another kind; so is one of `decimal` that is no text, with the setting
+    /// `any_decimal` on.
     OperandKind,
-    /// 607: `decimal` of what is no string literal that is a decimal's.
+    /// 607: `decimal` of what is no string literal that is a decimal's; with the setting `any_decimal` on, of
+    /// a string literal that is no decimal's.
     NoDecimal,
 }
 

@@ -1,5 +1,5 @@
 //! Schemas of the tests, and reports as texts.
-use cedar_check::{Fault, Report, check};
+use cedar_check::{Fault, Report, Settings, check, check_with};
 use cedar_parser::parse;
 use cedar_schema::Schema;
 use cedar_value::Text;
@@ -10,7 +10,9 @@ use std::test::Fail;
 /// Documents with an owner. Its environments, in order: delete by a User, view by an Admin, view by a User, each of a Doc.
 pub const DOCUMENTS: &str = r#"{"":{"entityTypes":{
   "Team":{},
-  "User":{"memberOfTypes":["Team"],"shape":{"type":"Record","attributes":{"age":{"type":"Long","required":false}}}},
+  "User":{"memberOfTypes":["Team"],"shape":{"type":"Record","attributes":{
+    "age":{"type":"Long","required":false},
+    "home":{"type":"Record","required":false,"attributes":{"city":{"type":"String","required":false},"keys":{"type":"Set","element":{"type":"Long"}}}}}}},
   "Admin":{"shape":{"type":"Record","attributes":{"level":{"type":"Long"}}}},
   "Doc":{"shape":{"type":"Record","attributes":{"owner":{"type":"Entity","name":"User"},"name":{"type":"String"}}}}},
  "actions":{
@@ -50,9 +52,17 @@ fn report_text(alloc: Global, report: &Report) -> Result<String, AllocError> {
 }
 
 // The report on the policies of a text.
-fn report_on(alloc: Global, schema: &Schema, policies: &str) -> Result<Report, Fail> {
+fn report_on(
+    alloc: Global,
+    schema: &Schema,
+    policies: &str,
+    settings: Option<Settings>,
+) -> Result<Report, Fail> {
     let set = parse(alloc, policies)?;
-    let report = check(alloc, schema, &set)?;
+    let report = match settings {
+        Some(settings) => check_with(alloc, schema, &set, settings)?,
+        None => check(alloc, schema, &set)?,
+    };
     Ok(report)
 }
 
@@ -65,7 +75,7 @@ pub fn check_reports(
 ) -> Result<(), Fail> {
     let schema = Schema::read(alloc, schema.as_bytes())?;
     for (policies, told) in rows {
-        let report = report_on(alloc, &schema, policies)?;
+        let report = report_on(alloc, &schema, policies, None)?;
         let found = report_text(alloc, &report)?;
         assert_eq!(rt; found.as_str(), *told, "{policies}");
     }
@@ -73,14 +83,19 @@ pub fn check_reports(
 }
 
 /// The number of each condition, behind a permit of all over documents, is the one beside it in each environment; 650 of one
-/// that is never true, and 0 of one that is accepted.
-pub fn check_everywhere(rt: &impl Abort, alloc: Global, rows: &[(&str, u16)]) -> Result<(), Fail> {
+/// that is never true, and 0 of one that is accepted. Without settings they are checked by the function that takes none.
+pub fn check_everywhere(
+    rt: &impl Abort,
+    alloc: Global,
+    settings: Option<Settings>,
+    rows: &[(&str, u16)],
+) -> Result<(), Fail> {
     let schema = Schema::read(alloc, DOCUMENTS.as_bytes())?;
     for (condition, number) in rows {
         let policy = format!(in alloc;
             "permit(principal, action, resource) when {{ {condition} }};"
         )?;
-        let report = report_on(alloc, &schema, policy.as_str())?;
+        let report = report_on(alloc, &schema, policy.as_str(), settings)?;
         let found = report_text(alloc, &report)?;
         let told = everywhere(alloc, *number)?;
         assert_eq!(rt; found.as_str(), told.as_str(), "{condition}");

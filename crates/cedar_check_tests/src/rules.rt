@@ -1,10 +1,11 @@
 //! Policies with their reports, each worked out from the rules of strict validation (Cedar documentation, policy validation).
 use crate::report_text::{DOCUMENTS, TWO_NAMESPACES, check_everywhere, check_reports};
+use cedar_check::Settings;
 use std::test::Fail;
 
 /// Policies whose report differs by environment.
 #[rattlefmt::skip]
-const POLICIES: [(&str, &str); 36] = [
+const POLICIES: [(&str, &str); 51] = [
     // A part of the scope that is known false leaves the rest untyped, as the missing `n` of the context of delete.
     (r#"permit(principal, action == Action::"view", resource) when { context.n + 1 > 0 };"#, ""),
     ("permit(principal, action, resource) when { context.n + 1 > 0 };", "603 policy0 delete User Doc;"),
@@ -30,6 +31,23 @@ const POLICIES: [(&str, &str); 36] = [
     ("permit(principal is User, action, resource) when { if principal has age then true else principal.age > 0 };", "602 policy0 delete User Doc;602 policy0 view User Doc;"),
     // A guard repeated under itself is known true, so its denial makes the whole false.
     ("permit(principal is User, action, resource) when { principal has age && !(principal has age) };", "650 policy0;"),
+    // A guard of a path is one for each attribute on it, as `principal has home.city` asks.
+    (r#"permit(principal is User, action, resource) when { principal has home && principal.home has city && principal.home.city == "Ulm" };"#, ""),
+    (r#"permit(principal is User, action, resource) when { principal has home && (principal.home has city && principal.home.city == "Ulm") };"#, ""),
+    (r#"permit(principal is User, action, resource) when { if principal has home && principal.home has city then principal.home.city == "Ulm" else false };"#, ""),
+    (r#"permit(principal is User, action, resource) when { principal has home && principal.home.city == "Ulm" };"#, "602 policy0 delete User Doc;602 policy0 view User Doc;"),
+    (r#"permit(principal is User, action, resource) when { principal.home has city && principal.home.city == "Ulm" };"#, "602 policy0 delete User Doc;602 policy0 view User Doc;"),
+    (r#"permit(principal is User, action, resource) when { (principal has home || principal has age) && principal.home has city };"#, "602 policy0 delete User Doc;602 policy0 view User Doc;"),
+    (r#"permit(principal is User, action, resource) when { !(principal has home && principal.home has city) || principal.home.city == "Ulm" };"#, "602 policy0 delete User Doc;602 policy0 view User Doc;"),
+    (r#"permit(principal is User, action, resource) when { principal has home.city && principal.home.city == "Ulm" };"#, ""),
+    (r#"permit(principal, action, resource) when { resource has owner.home.city && resource.owner.home.city == "Ulm" };"#, ""),
+    (r#"permit(principal is User, action, resource) when { (principal has home.city || principal has home) && principal.home.city == "Ulm" };"#, "602 policy0 delete User Doc;602 policy0 view User Doc;"),
+    ("permit(principal is User, action, resource) when { principal has home && principal.home.keys.isEmpty() };", ""),
+    ("permit(principal is User, action, resource) when { (1).isEmpty() };", "606 policy0 delete User Doc;606 policy0 view User Doc;"),
+    // A required attribute of a record wants no guard, an entity on the way does where its attribute is optional.
+    ("permit(principal is User, action, resource) when { principal has home && principal.home.keys.contains(1) };", ""),
+    (r#"permit(principal, action, resource) when { resource has owner && resource.owner has home && resource.owner.home has city && resource.owner.home.city == "Ulm" };"#, ""),
+    (r#"permit(principal, action, resource) when { resource.owner has age && resource.owner.home has city };"#, "602 policy0 delete User Doc;602 policy0 view Admin Doc;602 policy0 view User Doc;"),
     // The type of a principal or a resource that is no candidate is known false.
     ("permit(principal, action, resource) when { principal is Admin && principal.level > 3 };", ""),
     ("permit(principal is User, action, resource) when { resource.owner == principal };", ""),
@@ -56,7 +74,7 @@ const POLICIES: [(&str, &str); 36] = [
 
 /// Conditions that have the same number in each environment.
 #[rattlefmt::skip]
-const CONDITIONS: [(&str, u16); 74] = [
+const CONDITIONS: [(&str, u16); 83] = [
     ("true", 0),
     ("false", 650),
     ("1", 606),
@@ -106,6 +124,15 @@ const CONDITIONS: [(&str, u16); 74] = [
     (r#"[[1]].containsAny([["a"]])"#, 604),
     ("[1].containsAny([2])", 0),
     ("[1].containsAny(2)", 606),
+    ("[1].isEmpty()", 0),
+    ("![resource.owner].isEmpty()", 0),
+    ("[1].isEmpty() && false", 650),
+    ("[].isEmpty()", 605),
+    (r#"[1, "a"].isEmpty()"#, 604),
+    ("(1).isEmpty()", 606),
+    (r#""a".isEmpty()"#, 606),
+    ("resource.isEmpty()", 606),
+    ("{a: 1}.isEmpty()", 606),
     // An entity may be absent, so even its required attributes are not known to be there.
     (r#"!(resource has owner) && (1 + "a" == 2)"#, 606),
     ("resource has owner", 0),
@@ -135,6 +162,34 @@ const CONDITIONS: [(&str, u16); 74] = [
     ("decimal(1).lessThan(1)", 607),
 ];
 
+/// Conditions, with their number where `decimal` may be asked of literals alone.
+#[rattlefmt::skip]
+const STRICT: [(&str, u16); 9] = [
+    (r#"decimal(resource.name).lessThan(decimal("2.0"))"#, 607),
+    (r#"decimal(if resource has name then "1.0" else "2.0").lessThan(decimal("2.0"))"#, 607),
+    (r#"decimal("1.") == decimal("1.0")"#, 607),
+    (r#"decimal("1.5") == decimal("1.0")"#, 0),
+    (r#"decimal(resource.owner) == decimal("1.0")"#, 607),
+    (r#"decimal(1) == decimal("1.0")"#, 607),
+    (r#"decimal(resource.size) == decimal("1.0")"#, 607),
+    (r#"decimal([]) == decimal("1.0")"#, 607),
+    (r#"decimal(resource.name) == resource.name"#, 607),
+];
+
+/// The same, where it may be asked of any text: what the operand lacks is told, a kind or what is wrong inside it.
+#[rattlefmt::skip]
+const ANY_DECIMAL: [(&str, u16); 9] = [
+    (r#"decimal(resource.name).lessThan(decimal("2.0"))"#, 0),
+    (r#"decimal(if resource has name then "1.0" else "2.0").lessThan(decimal("2.0"))"#, 0),
+    (r#"decimal("1.") == decimal("1.0")"#, 607),
+    (r#"decimal("1.5") == decimal("1.0")"#, 0),
+    (r#"decimal(resource.owner) == decimal("1.0")"#, 606),
+    (r#"decimal(1) == decimal("1.0")"#, 606),
+    (r#"decimal(resource.size) == decimal("1.0")"#, 603),
+    (r#"decimal([]) == decimal("1.0")"#, 605),
+    (r#"decimal(resource.name) == resource.name"#, 604),
+];
+
 #[test]
 fn policies_have_their_reports(rt: HostRuntime) -> Result<(), Fail> {
     let alloc = rt.alloc();
@@ -144,7 +199,16 @@ fn policies_have_their_reports(rt: HostRuntime) -> Result<(), Fail> {
 #[test]
 fn conditions_have_their_numbers(rt: HostRuntime) -> Result<(), Fail> {
     let alloc = rt.alloc();
-    check_everywhere(&rt, alloc, &CONDITIONS)
+    check_everywhere(&rt, alloc, None, &CONDITIONS)
+}
+
+#[test]
+fn decimals_go_by_the_setting(rt: HostRuntime) -> Result<(), Fail> {
+    let alloc = rt.alloc();
+    check_everywhere(&rt, alloc, None, &STRICT)?;
+    check_everywhere(&rt, alloc, Some(Settings::default()), &STRICT)?;
+    let settings = Settings { any_decimal: true };
+    check_everywhere(&rt, alloc, Some(settings), &ANY_DECIMAL)
 }
 
 #[test]

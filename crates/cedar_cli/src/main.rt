@@ -1,30 +1,11 @@
 //! `cedar`, the program: validates policies and links by a schema, and answers request lines by them and entities.
 #![tactic(auto)]
 
-pub mod authorizing;
-mod command;
-pub mod command_line;
-pub mod ending;
-pub mod files;
-pub mod linking;
-pub mod options;
-pub mod reading;
-pub mod refusal;
-pub mod report;
-#[cfg(test)]
-mod tests;
-pub mod validating;
-
-use authorizing::authorize;
 use cedar_lines::{StdSink, StdSource};
+use cedar_program::{End, NamedFiles, Subcommand, authorize, validate, words};
 use clap::error::ErrorKind;
-use command_line::words;
-use ending::End;
-use files::NamedFiles;
-use options::Subcommand;
 use std::process::ExitCode;
 use std::{env, io};
-use validating::validate;
 
 /// Tells what `clap` says of a command line that gives no words: a refusal, or the help that was asked for.
 fn tell(rt: &HostRuntime, error: &clap::Error) -> io::Result<End> {

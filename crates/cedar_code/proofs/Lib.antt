@@ -1,5 +1,6 @@
 mod Emitted
 mod Falls
+mod Forward
 mod Members
 pub mod OneEnd
 mod Runs

@@ -1,4 +1,5 @@
 pub mod Code
 pub mod CodeFault
 pub mod CodeView
+pub mod Jumps
 pub mod Machine

@@ -1,11 +1,18 @@
-//! The law of the compiler.
+//! The laws of the compiler.
 ghost use Rattle.cedar_value.specs.World.{World};
 ghost use Rattle.cedar_value.specs.declared.request.Request.{Request};
 ghost use Rattle.cedar_ast.specs.Expression.{Expression};
+ghost use Rattle.cedar_code.specs.Code.{code_of};
+ghost use Rattle.cedar_code.specs.Jumps.{JumpsForward};
 ghost use Rattle.cedar_code.specs.Machine.{RunsAsEvaluated};
 
 /// The execution of an expression's code meets no stack fault and ends as the expression evaluates, in no more steps
 /// than it has instructions, and never stands higher than stated, whatever the expression, the request and the world.
 pub fn execution_is_evaluation()
     ensures { (e : Expression) (q : Request) (w : World) → RunsAsEvaluated e q w }
+{}
+
+/// Each jump of an expression's code is to a later place. So each step comes to a later place, whatever code it is of.
+pub fn jumps_go_forward()
+    ensures { (e : Expression) → JumpsForward (code_of e) }
 {}

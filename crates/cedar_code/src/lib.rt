@@ -23,6 +23,6 @@ pub use code::Code;
 pub use compiler::{MOST_INSTRUCTIONS, compile};
 pub use fault::CodeFault;
 pub use instruction::Instruction;
-pub use law::execution_is_evaluation;
+pub use law::{execution_is_evaluation, jumps_go_forward};
 pub use literal_set::LiteralSet;
 pub use outcome::Outcome;

@@ -13,8 +13,8 @@ use std::alloc::Global;
 use std::process::Abort;
 use std::test::Fail;
 
-// The condition of the first policy of the text.
-fn condition(alloc: Global, source: &str) -> Result<Expr, Fail> {
+/// The condition of the first policy of the text.
+pub fn condition(alloc: Global, source: &str) -> Result<Expr, Fail> {
     let set = parse(alloc, source)?;
     let policy = set.policy(0).ok_or("no policy")?;
     let condition = policy.condition(alloc)?;

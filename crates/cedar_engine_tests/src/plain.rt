@@ -179,6 +179,7 @@ fn unary<H: Hierarchy>(
         UnaryOperator::Like(pattern) => boolean_of(like(alloc, operand, pattern)),
         UnaryOperator::Is(ty) => Ok(Value::boolean(entity(operand)?.ty == *ty)),
         UnaryOperator::Decimal => Ok(decimal(operand)?),
+        UnaryOperator::IsEmpty => Ok(Value::boolean(set(operand)?.members().len() == 0)),
     }
 }
 

@@ -128,6 +128,26 @@ fn a_set_has_the_values_of_its_members(rt: HostRuntime) -> Result<(), Fail> {
     Ok(())
 }
 
+fn is_empty(alloc: Global, of: Expr) -> Result<Expr, AllocError> {
+    Expr::unary(alloc, UnaryOperator::IsEmpty, of)
+}
+
+#[test]
+fn a_set_is_empty_or_has_members(rt: HostRuntime) -> Result<(), Fail> {
+    let alloc = rt.alloc();
+    // `permit(principal, action, resource) when { [1].isEmpty() };`
+    let mut condition = is_empty(alloc, longs(alloc, &[1])?)?;
+    for _scope in 0..3 {
+        condition = Expr::and(alloc, truth(true), condition)?;
+    }
+    assert_eq!(rt; ran(alloc, &condition)?, ("false", 12, 12, 1));
+    let of_none = is_empty(alloc, longs(alloc, &[])?)?;
+    assert_eq!(rt; ran(alloc, &of_none)?, ("true", 2, 2, 1));
+    let of_number = is_empty(alloc, long(0))?;
+    assert_eq!(rt; ran(alloc, &of_number)?, ("type", 2, 2, 1));
+    Ok(())
+}
+
 fn get(alloc: Global, of: Expr, key: &str) -> Result<Expr, AllocError> {
     let get = UnaryOperator::Get(Text::read(alloc, key)?);
     Expr::unary(alloc, get, of)

@@ -1,6 +1,6 @@
-//! Stores: small hierarchies by hand, refusals, and large ones.
+//! Stores, the one by rows of bits and the plain one: small hierarchies by hand, refusals, and large ones.
 use crate::world;
-use cedar_store::{Entity, Hierarchy, NoEntities, Store, StoreFault};
+use cedar_store::{Entity, Hierarchy, NoEntities, PlainStore, Store, StoreFault};
 use cedar_value::{Record, Uid, Value, ValueSet};
 use std::alloc::{AllocError, Global};
 use std::process::Abort;
@@ -36,12 +36,20 @@ fn set_of(alloc: Global, ids: &[&str]) -> Result<ValueSet, AllocError> {
     ValueSet::from_list(values)
 }
 
-fn store_of(alloc: Global, rows: &[(&str, &[&str])]) -> Result<Store, StoreFault> {
+fn entities_of(alloc: Global, rows: &[(&str, &[&str])]) -> Result<Vec<Entity>, AllocError> {
     let mut entities = Vec::new(alloc);
     for (id, parents) in rows {
         entities.push(entity(alloc, id, parents)?)?;
     }
-    Store::build(alloc, entities)
+    Ok(entities)
+}
+
+fn store_of(alloc: Global, rows: &[(&str, &[&str])]) -> Result<Store, StoreFault> {
+    Store::build(alloc, entities_of(alloc, rows)?)
+}
+
+fn plain_of(alloc: Global, rows: &[(&str, &[&str])]) -> Result<PlainStore, StoreFault> {
+    PlainStore::build(alloc, entities_of(alloc, rows)?)
 }
 
 fn is_below<H: Hierarchy>(
@@ -117,14 +125,25 @@ const BELOW_ANY: [(&str, &[&str], bool); 4] = [
     ("c", &["a", "b", "c"], false),
 ];
 
+const LINKS: [(&str, &[&str]); 2] = [("b", &["c"]), ("a", &["b"])];
+
+fn check_links<H: Hierarchy>(
+    rt: &impl Abort,
+    alloc: Global,
+    hierarchy: &H,
+) -> Result<(), AllocError> {
+    check_below(rt, alloc, hierarchy, &BELOW)?;
+    check_below_any(rt, alloc, hierarchy, &BELOW_ANY)?;
+    assert_eq!(rt; has(alloc, hierarchy, "a")?, (true, true));
+    assert_eq!(rt; has(alloc, hierarchy, "c")?, (false, false));
+    Ok(())
+}
+
 #[test]
 fn what_lies_above_goes_over_links(rt: HostRuntime) -> Result<(), Fail> {
     let alloc = rt.alloc();
-    let store = store_of(alloc, &[("b", &["c"]), ("a", &["b"])])?;
-    check_below(&rt, alloc, &store, &BELOW)?;
-    check_below_any(&rt, alloc, &store, &BELOW_ANY)?;
-    assert_eq!(rt; has(alloc, &store, "a")?, (true, true));
-    assert_eq!(rt; has(alloc, &store, "c")?, (false, false));
+    check_links(&rt, alloc, &store_of(alloc, &LINKS)?)?;
+    check_links(&rt, alloc, &plain_of(alloc, &LINKS)?)?;
     Ok(())
 }
 
@@ -147,8 +166,8 @@ const BELOW_IN_DIAMOND: [(&str, &str, bool); 6] = [
 #[test]
 fn a_diamond_and_a_parent_listed_twice(rt: HostRuntime) -> Result<(), Fail> {
     let alloc = rt.alloc();
-    let store = store_of(alloc, &DIAMOND)?;
-    check_below(&rt, alloc, &store, &BELOW_IN_DIAMOND)?;
+    check_below(&rt, alloc, &store_of(alloc, &DIAMOND)?, &BELOW_IN_DIAMOND)?;
+    check_below(&rt, alloc, &plain_of(alloc, &DIAMOND)?, &BELOW_IN_DIAMOND)?;
     Ok(())
 }
 
@@ -162,7 +181,10 @@ fn the_world_without_entities(rt: HostRuntime) -> Result<(), Fail> {
 }
 
 /// The number of the refusal and the id that it names.
-fn refusal(alloc: Global, built: Result<Store, StoreFault>) -> Result<(u16, String), AllocError> {
+fn refusal<S: Drop>(
+    alloc: Global,
+    built: Result<S, StoreFault>,
+) -> Result<(u16, String), AllocError> {
     let Err(fault) = built else {
         return Ok((0, String::new(alloc)));
     };
@@ -188,6 +210,9 @@ fn what_makes_no_store(rt: HostRuntime) -> Result<(), Fail> {
         let (found, named) = refusal(alloc, store_of(alloc, rows))?;
         assert_eq!(rt; found, *number);
         assert!(rt; ids.contains(&named.as_str()), "refused with {named}");
+        let (found, named) = refusal(alloc, plain_of(alloc, rows))?;
+        assert_eq!(rt; found, *number);
+        assert!(rt; ids.contains(&named.as_str()), "refused with {named}");
     }
     Ok(())
 }
@@ -207,8 +232,9 @@ fn row_of(alloc: Global, count: usize, last: &str) -> Result<Vec<Entity>, AllocE
 #[test]
 fn a_thousand_in_a_ring(rt: HostRuntime) -> Result<(), Fail> {
     let alloc = rt.alloc();
-    let built = Store::build(alloc, row_of(alloc, 1000, "999")?);
-    let (number, _) = refusal(alloc, built)?;
+    let (number, _) = refusal(alloc, Store::build(alloc, row_of(alloc, 1000, "999")?))?;
+    assert_eq!(rt; number, 402);
+    let (number, _) = refusal(alloc, PlainStore::build(alloc, row_of(alloc, 1000, "999")?))?;
     assert_eq!(rt; number, 402);
     Ok(())
 }
@@ -216,12 +242,98 @@ fn a_thousand_in_a_ring(rt: HostRuntime) -> Result<(), Fail> {
 #[test]
 fn four_hundred_in_a_row(rt: HostRuntime) -> Result<(), Fail> {
     let alloc = rt.alloc();
-    let store = Store::build(alloc, row_of(alloc, 400, "top")?)?;
     let rows = [
         ("399", "top", true),
         ("200", "199", true),
         ("0", "399", false),
     ];
-    check_below(&rt, alloc, &store, &rows)?;
+    check_below(
+        &rt,
+        alloc,
+        &Store::build(alloc, row_of(alloc, 400, "top")?)?,
+        &rows,
+    )?;
+    check_below(
+        &rt,
+        alloc,
+        &PlainStore::build(alloc, row_of(alloc, 400, "top")?)?,
+        &rows,
+    )?;
+    Ok(())
+}
+
+/// Entities 0, 1, .. up to the last, each but the last in the one after it, and the last in `top`.
+fn chain(alloc: Global, last: usize, top: &str) -> Result<Vec<Entity>, AllocError> {
+    let mut entities = Vec::new(alloc);
+    for number in 0..last {
+        let id = format!(in alloc; "{number}")?;
+        let next = format!(in alloc; "{}", number + 1)?;
+        entities.push(entity(alloc, id.as_str(), &[next.as_str()])?)?;
+    }
+    let id = format!(in alloc; "{last}")?;
+    entities.push(entity(alloc, id.as_str(), &[top])?)?;
+    Ok(entities)
+}
+
+fn check_chain<H: Hierarchy>(
+    rt: &impl Abort,
+    alloc: Global,
+    hierarchy: &H,
+) -> Result<(), AllocError> {
+    assert!(rt; is_below(alloc, hierarchy, "0", "1024")?);
+    assert!(rt; is_below_any(alloc, hierarchy, "0", &["1024"])?);
+    assert!(rt; !is_below_any(alloc, hierarchy, "1024", &["0", "1024"])?);
+    Ok(())
+}
+
+/// More links than a mask has numbers.
+#[test]
+fn a_thousand_and_twenty_four_links(rt: HostRuntime) -> Result<(), Fail> {
+    let alloc = rt.alloc();
+    check_chain(
+        &rt,
+        alloc,
+        &Store::build(alloc, chain(alloc, 1024, "top")?)?,
+    )?;
+    check_chain(
+        &rt,
+        alloc,
+        &PlainStore::build(alloc, chain(alloc, 1024, "top")?)?,
+    )?;
+    Ok(())
+}
+
+/// A long chain is built in a time by its links and the words of its rows, though each entity stands before its parent;
+/// and so is one refused whose end leads back to its middle.
+#[test]
+fn twenty_thousand_links(rt: HostRuntime) -> Result<(), Fail> {
+    let alloc = rt.alloc();
+    let store = Store::build(alloc, chain(alloc, 20_000, "top")?)?;
+    assert!(rt; is_below(alloc, &store, "0", "top")?);
+    assert!(rt; !is_below(alloc, &store, "20000", "0")?);
+    let ring = Store::build(alloc, chain(alloc, 20_000, "19000")?);
+    let (number, _) = refusal(alloc, ring)?;
+    assert_eq!(rt; number, 402);
+    Ok(())
+}
+
+/// An id whose hash is that of all others that this makes, by the hasher of tables that are given none, whose seed is fixed:
+/// behind the 24th byte its state is 0, and whatever stands in the next eight it stays so.
+fn colliding(alloc: Global, number: usize) -> Result<String, AllocError> {
+    let middle = 10_000_000 + number % 10_000_000;
+    format!(in alloc; "0000000000056790O3NnRUfH{middle}abcdefghijklmnop")
+}
+
+#[test]
+fn a_hundred_thousand_made_to_collide(rt: HostRuntime) -> Result<(), Fail> {
+    let alloc = rt.alloc();
+    let mut entities = Vec::new(alloc);
+    for number in 0..100_000 {
+        entities.push(entity(alloc, colliding(alloc, number)?.as_str(), &["group"])?)?;
+    }
+    let store = Store::build(alloc, entities)?;
+    for number in 0..100_000 {
+        assert!(rt; is_below(alloc, &store, colliding(alloc, number)?.as_str(), "group")?);
+    }
     Ok(())
 }

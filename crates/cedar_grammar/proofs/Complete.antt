@@ -18,7 +18,7 @@ use Rattle.cedar_grammar.specs.Written.{Written, members_of}
 use Rattle.cedar_grammar.specs.WrittenKind.{fields_of}
 use Rattle.cedar_grammar.specs.Grammar as g
 use Rattle.cedar_tokens.specs.Names.{Rule, Takes, Text, Path, Entity}
-use Rattle.cedar_grammar.specs.Grammar.{Opens, Series, Arguments, Entry, variable_of, slot_of, Primary, Suffixes, Member, Signed, Unary, Operands, chained, Chain, or_sign, and_sign, sum_sign, product_sign, relation_sign_of, Products, Sums, Relation, Ands, Ors, Expression, Nested}
+use Rattle.cedar_grammar.specs.Grammar.{Opens, Series, Arguments, Entry, Further, Asked, variable_of, slot_of, Primary, Suffixes, Member, Signed, Unary, Operands, chained, Chain, or_sign, and_sign, sum_sign, product_sign, relation_sign_of, Products, Sums, Relation, Ands, Ors, Expression, Nested}
 use Rattle.cedar_grammar.specs.Private.Reading as r
 use Rattle.cedar_tokens.specs.Private.Reading.{TooDeep, Outcome, Parser, and_then, same_kind, sees, expect, sign_at, on_some, next}
 use Rattle.cedar_grammar.specs.Private.Reading.{links_from, chain, nested}
@@ -28,7 +28,7 @@ use Rattle.cedar_grammar.proofs.Moves as m
 use Rattle.cedar_grammar.proofs.Moves.{shorter, takes_moves, Advances}
 use Rattle.cedar_grammar.proofs.Binds as b
 use Rattle.cedar_grammar.proofs.Binds.{bind, bind_at, Above, Below, Begins, start, no_sign, takes_bind, sees_nothing, sees_no}
-use Rattle.cedar_tokens.proofs.NamesComplete.{sees_other, sees_yes, next_is, if_true, if_false, at_next, expect_then, known_then, text_yes, key_yes, path_yes, uid_of_yes, stops_at_id, no_path_on, path_first}
+use Rattle.cedar_tokens.proofs.NamesComplete.{sees_other, sees_yes, next_is, if_true, if_false, at_next, expect_then, known_then, text_yes, key_yes, path_yes, expect_yes, uid_of_yes, stops_at_id, no_path_on, path_first}
 
 -- Where R reads a up to us, and the token there binds more loosely than n, the parser answers it.
 abbrev pub Complete : {A : Type 0} → Type 0 → Rule A → ℕ → Parser A → Type 0
@@ -89,6 +89,49 @@ module _ {A : Type 0} (P : Type 0) (Item : Rule A) (item : Parser A) (high : ℕ
       (answers_then (r.series item ts) xs us _ xs vs
       (series_on ts xs us s (omega arith) xs us (λ turns _. series_stops turns xs us (sees_other k.Comma c comma)))
       (expect_then (λ q ys. Ok (xs, ys)) c given))
+
+-- ---- what stands behind `has`
+
+-- What the turns from us on answer, the whole answers.
+further_on : (ts : Marks) (names : List (List ℕ)) (us : Marks) → Further ts names us → (found : List (List ℕ)) (vs : Marks)
+    → ((turns : ℕ) → length us ≤ turns → r.further_from turns names us ≡ Ok (found, vs)) → r.further ts ≡ Ok (found, vs)
+unfolding r.further r.further_from
+further_on ts _ us g.none found vs turn = turn (length ts) (omega arith)
+further_on ts _ us (g.more {us = xs} {vs = ys} {names = names} {t = t} f c i) found vs turn = further_on ts names xs f found vs go
+  where
+    step : (turns : ℕ) → length us ≤ turns → and_then (expect k.Identifier (next xs)) (λ t us. r.further_from turns (names ++ t.text ∷ []) us) ≡ Ok (found, vs)
+    step turns le =
+        ap (λ zs. and_then (expect k.Identifier zs) (λ t us. r.further_from turns (names ++ t.text ∷ []) us)) (next_is c)
+        ∙ ap (λ x. and_then x (λ t us. r.further_from turns (names ++ t.text ∷ []) us)) (expect_yes i) ∙ turn turns le
+
+    go : (turns : ℕ) → length xs ≤ turns → r.further_from turns names xs ≡ Ok (found, vs)
+    go zero le = absurd (let l = shorter (takes_moves c) in omega arith)
+    go (suc turns) le =
+        ap (λ q. cond q (and_then (expect k.Identifier (next xs)) (λ t us. r.further_from turns (names ++ t.text ∷ []) us)) (Ok (names, xs))) (sees_yes c)
+        ∙ step turns (let l = shorter (takes_moves c) in let l' = shorter (takes_moves i) in omega arith)
+
+further_stops : (turns : ℕ) (names : List (List ℕ)) (us : Marks) → sees k.Dot us ≡ false → r.further_from turns names us ≡ Ok (names, us)
+unfolding r.further_from
+further_stops zero names us h = refl
+further_stops (suc turns) names us h =
+    ap (λ q. cond q (and_then (expect k.Identifier (next us)) (λ t vs. r.further_from turns (names ++ t.text ∷ []) vs)) (Ok (names, us))) h
+
+further_yes : {ts us : Marks} {names : List (List ℕ)} → Further ts names us → sees k.Dot us ≡ false → r.further ts ≡ Ok (names, us)
+further_yes {ts = ts} {us = us} {names = names} f e = further_on ts names us f names us (λ turns _. further_stops turns names us e)
+
+text_there : {ts us : Marks} {c : Content} → Text ts c us → sees k.String ts ≡ true
+text_there (g.string h) = sees_yes h
+
+-- Where no point stands behind them, the attributes are read.
+attributes_yes : {ts us : Marks} {path : Content × List (List ℕ)} → Asked ts path us → sees k.Dot us ≡ false → r.attributes ts ≡ Ok (path, us)
+unfolding r.attributes
+attributes_yes {ts = ts} (g.quoted t) e =
+    ap (λ q. cond q (and_then (r.text ts) (λ c us. Ok ((c, []), us))) (and_then (expect k.Identifier ts) (λ t us. and_then (r.further us) (λ names vs. Ok ((Some t.text, names), vs))))) (text_there t)
+    ∙ ap (λ x. and_then x (λ c us. Ok ((c, []), us))) (text_yes t)
+attributes_yes {ts = ts} (g.words {t = t} h f) e =
+    ap (λ q. cond q (and_then (r.text ts) (λ c us. Ok ((c, []), us))) (and_then (expect k.Identifier ts) (λ t us. and_then (r.further us) (λ names vs. Ok ((Some t.text, names), vs))))) (sees_other k.String h refl)
+    ∙ ap (λ x. and_then x (λ t us. and_then (r.further us) (λ names vs. Ok ((Some t.text, names), vs)))) (expect_yes h)
+    ∙ ap (λ x. and_then x (λ names vs. Ok ((Some t.text, names), vs))) (further_yes f e)
 
 -- ---- chains
 
@@ -333,9 +376,9 @@ module _ (P : Type 0) (d' d : ℕ) (less : d < d' → P) (Inner : Rule Written) 
   relation_complete ts _ us (g.pair {us = xs} {a = a} {b = c} {t = t} {sign = sign} q e i) lt =
       answers_then (r.sums d inner ts) a (t ∷ xs) _ (w.relation sign a c) us (sums_complete ts a (t ∷ xs) q (b.relation_below t.kind sign e))
       (if_false _ _ (b.sign_no_has t.kind sign e) (if_false _ _ (b.sign_no_like t.kind sign e) (if_false _ _ (b.sign_no_is t.kind sign e) (related_pair a c t xs us sign e i lt))))
-  relation_complete ts _ us (g.has {us = xs} {a = a} {c = c} q t i) lt =
-      answers_then (r.sums d inner ts) a xs _ (w.has a c) us (sums_complete ts a xs q (let e = takes_bind t in omega arith))
-      (if_true _ _ (sees_yes t) (at_next (r.asked a) t (known_then _ (key_yes i) given)))
+  relation_complete ts _ us (g.has {us = xs} {a = a} {path = path} q t i) lt =
+      answers_then (r.sums d inner ts) a xs _ (w.has a path.0 path.1) us (sums_complete ts a xs q (let e = takes_bind t in omega arith))
+      (if_true _ _ (sees_yes t) (at_next (r.asked a) t (known_then _ (attributes_yes i (sees_nothing 6 k.Dot b.no_dot us (omega arith))) given)))
   relation_complete ts _ us (g.like {us = xs} {vs = ys} {a = a} {s = s} q t i) lt =
       answers_then (r.sums d inner ts) a xs _ (w.like a (pattern_of s.letters)) us (sums_complete ts a xs q (let e = takes_bind t in omega arith))
       (if_false _ _ (sees_other k.Has t refl) (if_true _ _ (sees_yes t) (at_next (r.matched a) t (answers_flat (expect k.String ys) _ _ (expect_then _ i given)))))

@@ -7,3 +7,4 @@ pub mod StatementsSound
 pub mod StatementsComplete
 pub mod StepLemmas
 pub mod StatementClauses
+pub mod EarlierReadings

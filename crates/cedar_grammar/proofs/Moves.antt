@@ -9,7 +9,7 @@ use Rattle.cedar_grammar.specs.Written.{Written}
 use Rattle.cedar_grammar.specs.Nesting.{opens, closes, opened, closed, IsDeep}
 use Rattle.cedar_grammar.specs.Grammar as g
 use Rattle.cedar_tokens.specs.Names.{Rule, Takes, Text, Key, Path, Entity}
-use Rattle.cedar_grammar.specs.Grammar.{Opens, Series, Arguments, Entry, Primary, Suffixes, Member, Signed, Unary, Operands, Chain, or_sign, and_sign, sum_sign, product_sign, relation_sign_of, Products, Sums, Relation, Ands, Ors, Expression, Nested}
+use Rattle.cedar_grammar.specs.Grammar.{Opens, Series, Arguments, Entry, Further, Asked, Primary, Suffixes, Member, Signed, Unary, Operands, Chain, or_sign, and_sign, sum_sign, product_sign, relation_sign_of, Products, Sums, Relation, Ands, Ors, Expression, Nested}
 
 -- From ts to us there are tokens, which open and close so that closes + gain ≤ opens + loss.
 pub record Moves (ts us : Marks) (gain loss : ℕ) : Type 0 where
@@ -136,6 +136,16 @@ path_moves ts a us (g.longer p c t) = level_then (path_moves _ _ _ p) (level_the
 pub entity_moves : Advances Entity
 entity_moves ts a us (g.entity p c t) = level_then (path_moves _ _ _ p) (level_then (takes_moves c) (text_moves _ _ _ t))
 
+-- ---- what stands behind `has`
+
+further_then : {ts us vs : Marks} {names : List (List ℕ)} → Level ts us → Further us names vs → Level ts vs
+further_then p g.none = p
+further_then p (g.more f c t) = level_then (further_then p f) (level_then (takes_moves c) (takes_moves t))
+
+pub asked_moves : Advances Asked
+asked_moves ts a us (g.quoted t) = text_moves _ _ _ t
+asked_moves ts a us (g.words t f) = further_then (takes_moves t) f
+
 -- ---- lists
 
 pub series_moves : {A : Type 0} (Item : Rule A) → Advances Item → Advances (Series Item)
@@ -213,7 +223,7 @@ module _ (d : ℕ) (Inner : Rule Written) (inner : Advances Inner) where
   relation_moves ts a us (g.alone q) = sums_move _ _ _ q
   relation_moves ts a us (g.pair {us = vs} {t = t} {sign = sign} q e r) =
       level_then (sums_move _ _ _ q) (level_then (sign_moves relation_sign_of relation_never t vs sign e) (sums_move _ _ _ r))
-  relation_moves ts a us (g.has q t c) = level_then (sums_move _ _ _ q) (level_then (takes_moves t) (key_moves _ _ _ c))
+  relation_moves ts a us (g.has q t c) = level_then (sums_move _ _ _ q) (level_then (takes_moves t) (asked_moves _ _ _ c))
   relation_moves ts a us (g.like q t s) = level_then (sums_move _ _ _ q) (level_then (takes_moves t) (takes_moves s))
   relation_moves ts a us (g.is q t p) = level_then (sums_move _ _ _ q) (level_then (takes_moves t) (path_moves _ _ _ p))
   relation_moves ts a us (g.is_in q t p s r) =

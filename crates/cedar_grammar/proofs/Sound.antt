@@ -14,7 +14,7 @@ use Rattle.cedar_grammar.specs.Written.{Written}
 use Rattle.cedar_grammar.specs.Nesting.{opens, closes}
 use Rattle.cedar_grammar.specs.Grammar as g
 use Rattle.cedar_tokens.specs.Names.{Rule, Takes, Text, Key, Path, Entity}
-use Rattle.cedar_grammar.specs.Grammar.{Opens, Series, Arguments, Entry, variable_of, slot_of, Primary, Suffixes, Member, Signed, Unary, Operands, chained, Chain, or_sign, and_sign, sum_sign, product_sign, relation_sign_of, Products, Sums, Relation, Ands, Ors, Expression, Nested}
+use Rattle.cedar_grammar.specs.Grammar.{Opens, Series, Arguments, Entry, Further, Asked, variable_of, slot_of, Primary, Suffixes, Member, Signed, Unary, Operands, chained, Chain, or_sign, and_sign, sum_sign, product_sign, relation_sign_of, Products, Sums, Relation, Ands, Ors, Expression, Nested}
 use Rattle.cedar_grammar.specs.Private.Reading as r
 use Rattle.cedar_tokens.specs.Private.Reading.{TooDeep, Outcome, Parser, and_then, sees, expect, sign_at, next}
 use Rattle.cedar_grammar.specs.Private.Reading.{links_from, chain, nested}
@@ -114,6 +114,26 @@ module _ (signs : TokenKind → Option ChainSign) (item : Parser Written) (Item 
       meets_then (λ a us. Item ts a us) (λ b vs. Chains ts b vs) (IsOver d ts) (item ts) _ (reads ts)
       (λ a us i. meets_then (λ found vs. Operands signs Item ts a found vs) (λ b vs. Chains ts b vs) (IsOver d ts) (links_from signs item (length us) [] us) _
       (links_from_read (length us) a [] ts us (g.first i)) (λ found vs o. g.operands o))
+
+-- ---- what stands behind `has`, which opens nothing
+
+further_from_reads : (D : Type 0) (n : ℕ) (names : List (List ℕ)) (ts us : Marks) → Further ts names us → Meets (λ more vs. Further ts more vs) D (r.further_from n names us)
+unfolding r.further_from
+further_from_reads D zero names ts us f = f
+further_from_reads D (suc n) names ts us f =
+    if_meets (λ more vs. Further ts more vs) D (sees k.Dot us) _ _
+    (λ e. let p = sees_takes k.Dot us e in
+    meets_then (λ t vs. Takes k.Identifier t (next us) vs) (λ more vs. Further ts more vs) D (expect k.Identifier (next us)) _ (expect_takes k.Identifier D (next us))
+    (λ t vs i. further_from_reads D n (names ++ t.text ∷ []) ts vs (g.more f p.1 i)))
+    (λ e. f)
+
+attributes_read : (D : Type 0) (ts : Marks) → Meets (λ path us. Asked ts path us) D (r.attributes ts)
+unfolding r.attributes r.further
+attributes_read D ts =
+    if_meets (λ path us. Asked ts path us) D (sees k.String ts) _ _
+    (λ e. meets_then (λ c us. Text ts c us) (λ path us. Asked ts path us) D (r.text ts) _ (text_reads D ts) (λ c us h. g.quoted h))
+    (λ e. meets_then (λ t us. Takes k.Identifier t ts us) (λ path us. Asked ts path us) D (expect k.Identifier ts) _ (expect_takes k.Identifier D ts)
+    (λ t us h. meets_then (λ names vs. Further us names vs) (λ path vs. Asked ts path vs) D (r.further us) _ (further_from_reads D (length us) [] us us g.none) (λ names vs f. g.words h f)))
 
 -- ---- expressions
 
@@ -344,7 +364,7 @@ module _ (d : ℕ) (Inner : Rule Written) (inner : Parser Written) (advances : A
   relation_from_reads a ts us q =
       let R : Written → Marks → Type 0 = λ b vs. Relation d Inner ts b vs in
       if_meets R (IsOver (suc d) ts) (sees k.Has us) _ _
-      (λ e. let t = sees_takes k.Has us e in meets_then (λ c vs. Key (next us) c vs) R (IsOver (suc d) ts) (r.key (next us)) _ (key_reads _ (next us)) (λ c vs h. g.has q t.1 h))
+      (λ e. let t = sees_takes k.Has us e in meets_then (λ p vs. Asked (next us) p vs) R (IsOver (suc d) ts) (r.attributes (next us)) _ (attributes_read _ (next us)) (λ p vs h. g.has q t.1 h))
       (λ e1. if_meets R (IsOver (suc d) ts) (sees k.Like us) _ _
       (λ e. let t = sees_takes k.Like us e in
       meets_flat R (IsOver (suc d) ts) (expect k.String (next us)) _ _

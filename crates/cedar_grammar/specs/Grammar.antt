@@ -6,7 +6,8 @@
 --     Expr     = "if" Expr "then" Expr "else" Expr | Or
 --     Or       = And { "||" And }
 --     And      = Relation { "&&" Relation }
---     Relation = Sum [ ("<" | "<=" | ">" | ">=" | "==" | "!=" | "in") Sum | "has" Key | "like" STR | "is" Path [ "in" Sum ] ]
+--     Relation = Sum [ ("<" | "<=" | ">" | ">=" | "==" | "!=" | "in") Sum | "has" Asked | "like" STR | "is" Path [ "in" Sum ] ]
+--     Asked    = STR | IDENT { "." IDENT }
 --     Sum      = Product { ("+" | "-") Product }
 --     Product  = Unary { "*" Unary }
 --     Unary    = up to four "!" Member | up to four "-" Member
@@ -56,6 +57,18 @@ pub data Arguments {A : Type 0} (Item : Rule A) : Marks → List A → Marks →
 -- Key ":" Expr
 pub data Entry (Inner : Rule Written) : Marks → Field → Marks → Type 0 where
   entry : {ts us vs ws : Marks} {c : Content} {a : Written} {t : Mark} → Key ts c us → Takes k.Colon t us vs → Inner vs a ws → Entry Inner ts (record { key = c; value = a }) ws
+
+-- ---- what stands behind `has`
+
+-- { "." IDENT }
+pub data Further : Marks → List (List ℕ) → Marks → Type 0 where
+  none : {ts : Marks} → Further ts [] ts
+  more : {ts us vs ws : Marks} {names : List (List ℕ)} {p t : Mark} → Further ts names us → Takes k.Dot p us vs → Takes k.Identifier t vs ws → Further ts (names ++ t.text ∷ []) ws
+
+-- STR | IDENT { "." IDENT }, as the first attribute and those behind it
+pub data Asked : Marks → Content × List (List ℕ) → Marks → Type 0 where
+  quoted : {ts us : Marks} {c : Content} → Text ts c us → Asked ts (c, []) us
+  words : {ts us vs : Marks} {t : Mark} {names : List (List ℕ)} → Takes k.Identifier t ts us → Further us names vs → Asked ts (Some t.text, names) vs
 
 -- ---- expressions
 
@@ -160,7 +173,7 @@ pub data Relation (d : ℕ) (Inner : Rule Written) : Marks → Written → Marks
   alone : {ts us : Marks} {a : Written} → Sums d Inner ts a us → Relation d Inner ts a us
   pair : {ts us vs : Marks} {a b : Written} {t : Mark} {sign : RelationSign} → Sums d Inner ts a (t ∷ us) → relation_sign_of t.kind ≡ Some sign → Sums d Inner us b vs
       → Relation d Inner ts (w.relation sign a b) vs
-  has : {ts us vs ws : Marks} {a : Written} {c : Content} {t : Mark} → Sums d Inner ts a us → Takes k.Has t us vs → Key vs c ws → Relation d Inner ts (w.has a c) ws
+  has : {ts us vs ws : Marks} {a : Written} {path : Content × List (List ℕ)} {t : Mark} → Sums d Inner ts a us → Takes k.Has t us vs → Asked vs path ws → Relation d Inner ts (w.has a path.0 path.1) ws
   like : {ts us vs ws : Marks} {a : Written} {t s : Mark} → Sums d Inner ts a us → Takes k.Like t us vs → Takes k.String s vs ws → Relation d Inner ts (w.like a (pattern_of s.letters)) ws
   is : {ts us vs ws : Marks} {a : Written} {ty : List ℕ} {t : Mark} → Sums d Inner ts a us → Takes k.Is t us vs → Path vs ty ws → Relation d Inner ts (w.is a ty) ws
   is_in : {ts us vs ws xs ys : Marks} {a b : Written} {ty : List ℕ} {t s : Mark} → Sums d Inner ts a us → Takes k.Is t us vs → Path vs ty ws → Takes k.In s ws xs → Sums d Inner xs b ys

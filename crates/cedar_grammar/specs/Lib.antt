@@ -4,5 +4,6 @@ pub mod Grammar
 pub mod Nesting
 pub mod StatementTree
 pub mod Statements
+pub mod Earlier
 pub mod StatementText
 pub mod Private

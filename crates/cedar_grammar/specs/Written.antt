@@ -21,7 +21,8 @@ mutual
     not : Written → Written
     negated : Written → Written
     relation : RelationSign → Written → Written → Written
-    has : Written → Content → Written
+    -- `has`: the first attribute, and those that stand behind it with points between them
+    has : Written → (first : Content) → (more : List (List ℕ)) → Written
     like : Written → List Element → Written
     is : Written → (ty : List ℕ) → Written
     is_in : Written → (ty : List ℕ) → Written → Written
@@ -70,7 +71,7 @@ abbrev mutual
   parts (not a) = suc (parts a)
   parts (negated a) = suc (parts a)
   parts (relation sign a b) = suc (parts a + parts b)
-  parts (has a c) = suc (parts a)
+  parts (has a c more) = suc (parts a)
   parts (like a p) = suc (parts a)
   parts (is a ty) = suc (parts a)
   parts (is_in a ty b) = suc (parts a + parts b)

@@ -5,6 +5,7 @@ ghost use Rattle.cedar_tokens.specs.Private.Contract.{Reads, ReadsItems};
 ghost use Rattle.cedar_grammar.specs.Private.Nests.{Nests};
 ghost use Rattle.cedar_grammar.specs.Private.Operands.{Operands};
 
+use crate::attribute_path::attributes;
 use crate::lookup::{chain_sign, relation_sign, slot_of, variable_of};
 use crate::making::{
     behind, choice, group, has, is, is_in, like, minus, not, push_field, push_item, push_link,
@@ -605,8 +606,8 @@ impl<F: Fn(Global, &mut Cursor<'_>, u8) -> Result<Written, ParseFault>> Expressi
 fn asked(alloc: Global, tokens: &mut Cursor<'_>, left: Written) -> Result<Written, ParseFault>
     ensures { Reads (spec.asked left tokens.old) result tokens.new }
 {
-    match key(alloc, tokens) {
-        Ok(key) => Ok(has(alloc, left, key)?),
+    match attributes(alloc, tokens) {
+        Ok(path) => Ok(has(alloc, left, path)?),
         Err(fault) => {
             drop(left);
             Err(fault)

@@ -11,6 +11,7 @@
 //! `specs/StatementTree.antt`.
 #![tactic(auto)]
 
+mod attribute_path;
 mod expressions;
 mod lookup;
 mod making;
@@ -21,6 +22,7 @@ mod statements;
 mod written;
 mod written_statement;
 
+pub use attribute_path::AttributePath;
 pub use series::Series;
 pub use sign::{ChainSign, RelationSign};
 pub use statements::statement;

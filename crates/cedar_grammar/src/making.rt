@@ -8,10 +8,11 @@ ghost use Rattle.cedar_tokens.specs.Marks.{Marks};
 ghost use Rattle.cedar_tokens.specs.Private.Reading.{Outcome};
 ghost use Rattle.cedar_tokens.specs.Private.Contract.{Reads, ReadsItems};
 
+use crate::attribute_path::AttributePath;
 use crate::sign::RelationSign;
 use crate::written::{Field, Link, Written, WrittenKind};
 use cedar_ext::Pattern;
-use cedar_tokens::{Content, ParseFault};
+use cedar_tokens::ParseFault;
 use cedar_value::Name;
 use std::alloc::{AllocError, Global};
 
@@ -114,11 +115,11 @@ fn boxed(
 }
 
 /// `has`
-pub fn has(alloc: Global, operand: Written, key: Content) -> Result<Written, AllocError>
-    ensures { IfOk result (λ w. w ≡ tree.has operand key) }
+pub fn has(alloc: Global, operand: Written, path: AttributePath) -> Result<Written, AllocError>
+    ensures { IfOk result (λ w. w ≡ tree.has operand path.0 path.1) }
 {
     let operand = Box::new(alloc, operand)?;
-    Ok(Written::new(WrittenKind::Has(operand, key)))
+    Ok(Written::new(WrittenKind::Has(operand, path)))
 }
 
 /// `like`

@@ -2,6 +2,7 @@
 ghost use Rattle.std.specs.Prelude.{◌≡◌};
 ghost use Rattle.cedar_grammar.specs.WrittenKind.{written_of};
 
+use crate::attribute_path::AttributePath;
 use crate::series::Series;
 use crate::sign::{ChainSign, RelationSign};
 use cedar_ast::Variable;
@@ -37,7 +38,7 @@ pub enum WrittenKind {
     /// A relation between two operands.
     Relation(RelationSign, Box<Written>, Box<Written>),
     /// `has`
-    Has(Box<Written>, Content),
+    Has(Box<Written>, AttributePath),
     /// `like`
     Like(Box<Written>, Pattern),
     /// `is`

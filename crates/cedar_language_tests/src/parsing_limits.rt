@@ -102,6 +102,37 @@ fn hostile_conditions(rt: HostRuntime) -> Result<(), Fail> {
 }
 
 #[test]
+fn paths_of_attributes(rt: HostRuntime) -> Result<(), Fail> {
+    let alloc = rt.alloc();
+    // A path of n attributes, from two on, has n (n + 1) / 2 + 2 n - 1 nodes, and stands beside 6 of the scope.
+    for (count, answer) in [
+        (30, (0, None)),
+        (444, (0, None)),
+        (445, (209, Some(0))),
+        (100_000, (202, Some(0))),
+    ] {
+        let more = repeated(alloc, ".a", count - 1)?;
+        let inside = format!(in alloc; "principal has a{more}")?;
+        let text = with_condition(alloc, inside.as_str())?;
+        assert_eq!(rt; refusal(alloc, text.as_str()), answer, "{count}");
+    }
+    // A path of two is 4 high, and stands below three `&&` and those behind it.
+    for (count, answer) in [(1_993, (0, None)), (1_994, (202, Some(0)))] {
+        let more = repeated(alloc, " && true", count)?;
+        let inside = format!(in alloc; "principal has a.b{more}")?;
+        let text = with_condition(alloc, inside.as_str())?;
+        assert_eq!(rt; refusal(alloc, text.as_str()), answer, "{count}");
+    }
+    // Each path asks twice of what is before it, so that 99 of them would have more nodes than can be counted.
+    let open = repeated(alloc, "(", 99)?;
+    let close = repeated(alloc, ") has a.b", 99)?;
+    let inside = format!(in alloc; "{open}principal{close}")?;
+    let text = with_condition(alloc, inside.as_str())?;
+    assert_eq!(rt; refusal(alloc, text.as_str()), (209, Some(0)));
+    Ok(())
+}
+
+#[test]
 fn large_sets_and_doubled_sides(rt: HostRuntime) -> Result<(), Fail> {
     let alloc = rt.alloc();
     for (count, answer) in [(99_990, (0, None)), (99_991, (209, Some(0)))] {

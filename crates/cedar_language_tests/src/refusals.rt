@@ -57,7 +57,7 @@ const TEXTS: [(&str, u16, usize); 49] = [
 ];
 
 /// Conditions; each begins at byte 43.
-const CONDITIONS: [(&str, u16, usize); 91] = [
+const CONDITIONS: [(&str, u16, usize); 100] = [
     ("9223372036854775808 == 0", 104, 43),
     ("9223372036854775809 == 0", 104, 43),
     ("1 < 2 < 3", 201, 49),
@@ -71,7 +71,10 @@ const CONDITIONS: [(&str, u16, usize); 91] = [
     ("ip(\"::1\")", 205, 43),
     ("principal(1)", 205, 43),
     ("N::decimal(\"1.0\")", 205, 43),
-    ("[1].isEmpty()", 205, 47),
+    ("[1].isEmpty(2)", 206, 47),
+    ("[1].isEmpty(2, 3)", 206, 47),
+    ("isEmpty([1])", 205, 43),
+    ("[1].IsEmpty()", 205, 47),
     ("decimal()", 206, 43),
     ("decimal(\"1.0\", \"2.0\")", 206, 43),
     ("[1].contains()", 206, 47),
@@ -80,7 +83,13 @@ const CONDITIONS: [(&str, u16, usize); 91] = [
     ("-----1 == 1", 201, 47),
     ("!-1", 201, 44),
     ("1 + if true then 1 else 2", 201, 47),
-    ("principal has a.b", 201, 58),
+    ("principal has a.", 201, 60),
+    ("principal has a.\"b\"", 201, 59),
+    ("principal has \"a\".b", 201, 60),
+    ("principal has a.b.", 201, 62),
+    ("principal has a.if", 201, 59),
+    ("principal has a.b[\"c\"]", 201, 60),
+    ("principal has a.b has c", 201, 61),
     ("{if: 1} == {}", 201, 44),
     ("{a: 1,} == {}", 201, 49),
     ("[1,] == []", 201, 46),

@@ -144,6 +144,7 @@ fn unary_text(
             format!(in alloc; "({operand} is {ty})")
         }
         UnaryOperator::Decimal => format!(in alloc; "decimal({operand})"),
+        UnaryOperator::IsEmpty => format!(in alloc; "({operand} isEmpty)"),
     }
 }
 

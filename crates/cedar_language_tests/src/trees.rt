@@ -9,7 +9,7 @@ use std::test::Fail;
 
 /// Conditions of `||`, `&&` and relations with their trees.
 #[rattlefmt::skip]
-const RELATIONS: [(&str, &str); 33] = [
+const RELATIONS: [(&str, &str); 39] = [
     // Chains of `||` and of `&&` group to the left.
     ("true || false", "(true || false)"),
     ("true || false || true", "((true || false) || true)"),
@@ -37,6 +37,13 @@ const RELATIONS: [(&str, &str); 33] = [
     ("principal has permit", r#"(principal has "permit")"#),
     (r#"principal has "a b""#, r#"(principal has "a b")"#),
     (r#"principal has "if""#, r#"(principal has "if")"#),
+    // Each further attribute of a path is asked of the one before it.
+    ("principal has a.b", r#"((principal has "a") && (principal["a"] has "b"))"#),
+    ("principal has a . b", r#"((principal has "a") && (principal["a"] has "b"))"#),
+    ("principal has a.b.c", r#"(((principal has "a") && (principal["a"] has "b")) && (principal["a"]["b"] has "c"))"#),
+    ("context.n has when.isEmpty", r#"((context["n"] has "when") && (context["n"]["when"] has "isEmpty"))"#),
+    ("!principal has a.b && true", r#"((((!principal) has "a") && ((!principal)["a"] has "b")) && true)"#),
+    ("(principal has a).b", r#"(principal has "a")["b"]"#),
     (r#"context.n like "a*\*b""#, r#"(context["n"] like <'a'*'*''b'>)"#),
     (r#"context.n like """#, r#"(context["n"] like <>)"#),
     (r#"context.n like "**""#, r#"(context["n"] like <**>)"#),
@@ -134,7 +141,7 @@ const IFS: [(&str, &str); 11] = [
 
 /// Attributes and methods.
 #[rattlefmt::skip]
-const MEMBERS: [(&str, &str); 19] = [
+const MEMBERS: [(&str, &str); 24] = [
     // Chains of attributes and methods.
     ("context.a", r#"context["a"]"#),
     (r#"context["a"]"#, r#"context["a"]"#),
@@ -148,6 +155,11 @@ const MEMBERS: [(&str, &str); 19] = [
     ("!context.a.contains(1)", r#"(!(context["a"] contains 1))"#),
     ("!context.a", r#"(!context["a"])"#),
     ("(!context).a", r#"(!context)["a"]"#),
+    ("context.isEmpty", r#"context["isEmpty"]"#),
+    ("[1].isEmpty()", "([1] isEmpty)"),
+    ("context.isEmpty.isEmpty()", r#"(context["isEmpty"] isEmpty)"#),
+    ("![].isEmpty()", "(!([] isEmpty))"),
+    ("[[].isEmpty()].contains(true)", "([([] isEmpty)] contains true)"),
     ("[1].contains(2)", "([1] contains 2)"),
     ("[1].containsAll([2])", "([1] containsAll [2])"),
     ("[1].containsAny([2])", "([1] containsAny [2])"),

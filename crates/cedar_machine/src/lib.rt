@@ -1,7 +1,7 @@
 //! The machine that runs flat code.
 //!
 //! ```rust
-//! use cedar_machine::{Machine, Operands, Progress, run};
+//! use cedar_machine::{Machine, Operands, Progress, Resting, run};
 //!
 //! // All at once, with the end and the count of instructions:
 //! let run = run(alloc, &code, &request, &store)?;
@@ -10,6 +10,9 @@
 //! // Or one instruction after another:
 //! let mut machine = Machine::new(alloc, &code, &request, &store)?;
 //! while machine.step()? == Progress::Going {}
+//! // Or with a rest between them, in which it borrows nothing:
+//! let mut resting = Resting::new(alloc, &code)?;
+//! while resting.step(alloc, &code, &request, &store)? == Progress::Going {}
 //! ```
 //!
 //! What contracts see of a machine stands in `specs/`; the steps of an execution stand in `cedar_code`.
@@ -22,9 +25,12 @@ mod execution;
 mod machine;
 mod making;
 mod operators;
+mod owning;
+mod resting;
 mod stack;
 mod state;
 
 pub use deciding::Operands;
 pub use execution::Run;
 pub use machine::{Machine, Progress, run};
+pub use resting::Resting;

@@ -5,7 +5,8 @@ ghost use Rattle.cedar_ext.specs.Matching.{is_match};
 ghost use Rattle.cedar_value.specs.Datum.{boolean, uid, set, members_of};
 ghost use Rattle.cedar_value.specs.Glance.{datum_seen};
 ghost use Rattle.cedar_value.specs.Sets.{has_member};
-ghost use Rattle.cedar_ast.specs.Operators.{unary_of, binary_of, not_of, negative_of, source, has_in, like_of, is_of, decimal_of_value, of_longs, of_decimals, of_set, of_sets, long_or_overflow, in_of, is_uid};
+ghost use Rattle.cedar_ast.specs.Operators.{unary_of, binary_of, not_of, negative_of, source, has_in, like_of, is_of, decimal_of_value, of_longs, of_decimals, of_set, of_sets, is_empty, long_or_overflow, in_of, is_uid};
+ghost use Rattle.cedar_machine.specs.Private.Access.{IsNoAccess};
 
 use crate::entry::Entry;
 use cedar_ast::{BinaryOperator, EvaluationError, UnaryOperator};
@@ -22,12 +23,28 @@ pub fn unary<'a, H: Hierarchy>(
 {
     match operator {
         UnaryOperator::Get(key) => operand.into_attribute(key.as_str(), hierarchy),
-        UnaryOperator::Not => not(operand.glance()),
-        UnaryOperator::Negate => negative(operand.glance()),
-        UnaryOperator::Has(key) => has(hierarchy, key.as_str(), operand.glance()),
-        UnaryOperator::Like(pattern) => like(pattern, operand.glance()),
-        UnaryOperator::Is(ty) => is(ty, operand.glance()),
-        UnaryOperator::Decimal => decimal(operand.glance()),
+        _ => unary_but_get(hierarchy, operator, operand.glance()),
+    }
+}
+
+/// The answer of an operator that looks no attribute up.
+pub fn unary_but_get<H: Hierarchy>(
+    hierarchy: &H,
+    operator: &UnaryOperator,
+    operand: Glance<'_>,
+) -> Result<Entry<'static>, EvaluationError>
+    requires { IsNoAccess operator.now }
+    ensures { result ≡ unary_of (H.world hierarchy.now) operator.now (datum_seen operand.entry) }
+{
+    match operator {
+        UnaryOperator::Get(_) => unreachable!(),
+        UnaryOperator::Not => not(operand),
+        UnaryOperator::Negate => negative(operand),
+        UnaryOperator::Has(key) => has(hierarchy, key.as_str(), operand),
+        UnaryOperator::Like(pattern) => like(pattern, operand),
+        UnaryOperator::Is(ty) => is(ty, operand),
+        UnaryOperator::Decimal => decimal(operand),
+        UnaryOperator::IsEmpty => is_empty(operand),
     }
 }
 
@@ -101,6 +118,16 @@ fn decimal(operand: Glance<'_>) -> Result<Entry<'static>, EvaluationError>
             Some(number) => Ok(Entry::decimal(number)),
             None => Err(EvaluationError::Decimal),
         },
+        _ => Err(EvaluationError::Type),
+    }
+}
+
+// `isEmpty`
+fn is_empty(operand: Glance<'_>) -> Result<Entry<'static>, EvaluationError>
+    ensures { result ≡ of_set is_empty (datum_seen operand.entry) }
+{
+    match operand {
+        Glance::Set(members) => Ok(Entry::boolean(members.members().is_empty())),
         _ => Err(EvaluationError::Type),
     }
 }

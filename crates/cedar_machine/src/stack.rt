@@ -66,6 +66,14 @@ impl<'a> Stack<'a> {
         Ok(())
     }
 
+    /// Makes room for one more entry. Where there is room it takes no memory.
+    pub fn make_room(&mut self) -> Result<(), AllocError>
+        ensures values { self.new.values ≡ self.old.values }
+        ensures room { OnOk result (length self.new.values < self.new.capacity) }
+    {
+        self.entries.reserve(1)
+    }
+
     /// Puts an entry on top, for which there is room.
     #[inline(always)]
     pub fn push(&mut self, entry: Entry<'a>)

@@ -130,11 +130,11 @@ pub fn apply<'a, H: Hierarchy>(
 }
 
 /// An operator on the two topmost entries.
-pub fn combine<'a, H: Hierarchy>(
+pub fn combine<H: Hierarchy>(
     code: &[Instruction],
     next: usize,
-    stack: &mut Stack<'a>,
-    hierarchy: &'a H,
+    stack: &mut Stack<'_>,
+    hierarchy: &H,
     operator: BinaryOperator,
 ) -> State
     requires { length stack.old.values ≤ stack.old.capacity }

@@ -4,3 +4,5 @@ pub mod Refusals
 pub mod ParseLemmas
 pub mod JudgeLemmas
 pub mod OneReading
+pub mod AskedLemmas
+pub mod EarlierLemmas

@@ -6,6 +6,8 @@ use Rattle.std.proofs.Common.{◌≡◌, refl, sym, ap, subst, ◌∙◌, false,
 use Rattle.cedar_value.specs.Datum.{boolean}
 use Rattle.cedar_ast.specs.Keys.{AreDistinct, keys_of}
 use Rattle.cedar_ast.specs.declared.operator.UnaryOperator.{UnaryOperator}
+use Rattle.cedar_ast.specs.declared.operator.UnaryOperator.TheVariants as operator
+use Rattle.cedar_parser.specs.declared.functions.Method.TheVariants.{IsEmpty, Binary}
 use Rattle.cedar_ast.specs.declared.operator.BinaryOperator.{BinaryOperator}
 use Rattle.cedar_parser.specs.declared.size.Size.{Size}
 use Rattle.cedar_parser.specs.Private.Capped.{capped}
@@ -206,11 +208,14 @@ expressions_next xs x ys i y lt at h q = expressions_one xs x (take i ys) y h q 
 
 -- ---- one argument
 
-pub applied_other : (o : Option BinaryOperator) (a : Expression) (xs : List Written) → (length xs ≡ 1 → ⊥) → applied o a (to_expressions (members_of xs)) ≡ a
-applied_other None a xs n = refl
-applied_other (Some op) a [] n = refl
-applied_other (Some op) a (x ∷ []) n = absurd (n refl)
-applied_other (Some op) a (x ∷ y ∷ xs) n = refl
+pub applied_other : (op : BinaryOperator) (a : Expression) (xs : List Written) → (length xs ≡ 1 → ⊥) → applied (Some (Binary op)) a (to_expressions (members_of xs)) ≡ a
+applied_other op a [] n = refl
+applied_other op a (x ∷ []) n = absurd (n refl)
+applied_other op a (x ∷ y ∷ xs) n = refl
+
+pub applied_some : (a : Expression) (xs : List Written) → (length xs ≡ 0 → ⊥) → applied (Some IsEmpty) a (to_expressions (members_of xs)) ≡ a
+applied_some a [] n = absurd (n refl)
+applied_some a (x ∷ xs) n = refl
 
 pub called_other : (o : Option UnaryOperator) (xs : List Written) → (length xs ≡ 1 → ⊥) → called o (to_expressions (members_of xs)) ≡ e.literal (boolean false)
 called_other None xs n = refl
@@ -218,11 +223,18 @@ called_other (Some op) [] n = refl
 called_other (Some op) (x ∷ []) n = absurd (n refl)
 called_other (Some op) (x ∷ y ∷ xs) n = refl
 
-pub applied_none : (o : Option BinaryOperator) (a : Expression) (xs : List Expression) → (length xs ≡ 1 → ⊥) → applied o a (e.expressions_of xs) ≡ a
-applied_none None a xs n = refl
-applied_none (Some op) a [] n = refl
-applied_none (Some op) a (x ∷ []) n = absurd (n refl)
-applied_none (Some op) a (x ∷ y ∷ xs) n = refl
+pub applied_none : (op : BinaryOperator) (a : Expression) (xs : List Expression) → (length xs ≡ 1 → ⊥) → applied (Some (Binary op)) a (e.expressions_of xs) ≡ a
+applied_none op a [] n = refl
+applied_none op a (x ∷ []) n = absurd (n refl)
+applied_none op a (x ∷ y ∷ xs) n = refl
+
+pub empty_none : (a : Expression) (xs : List Expression) → (length xs ≡ 0 → ⊥) → applied (Some IsEmpty) a (e.expressions_of xs) ≡ a
+empty_none a [] n = absurd (n refl)
+empty_none a (x ∷ xs) n = refl
+
+pub empty_all : (a : Expression) (xs : List Expression) → length xs ≡ 0 → applied (Some IsEmpty) a (e.expressions_of xs) ≡ e.unary operator.IsEmpty a
+empty_all a [] n = refl
+empty_all a (x ∷ xs) n = absurd (omega arith)
 
 pub called_none : (o : Option UnaryOperator) (xs : List Expression) → (length xs ≡ 1 → ⊥) → called o (e.expressions_of xs) ≡ e.literal (boolean false)
 called_none None xs n = refl
@@ -237,7 +249,7 @@ pub record IsAlike (a b : Size) : Type 0 where
   pub nodes : min a.nodes 18446744073709551615 ≡ min b.nodes 18446744073709551615
   pub height : min a.height 18446744073709551615 ≡ min b.height 18446744073709551615
 
-alike_capped : (a b : Size) → IsAlike a b → capped a ≡ capped b
+pub alike_capped : (a b : Size) → IsAlike a b → capped a ≡ capped b
 alike_capped a b h = λ k. record { nodes = h.nodes k; height = h.height k }
 
 both_nodes : (top a b : ℕ) → min (min a top + min b top) top ≡ min (a + b) top

@@ -3,4 +3,5 @@ pub mod Limits
 pub mod StatementMeaning
 pub mod StatementLimits
 pub mod PolicyText
+pub mod Earlier
 pub mod Private

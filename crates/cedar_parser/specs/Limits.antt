@@ -1,10 +1,12 @@
 -- What a statement must keep beside the grammar: side conditions, and the limits of its condition.
-use Rattle.std.specs.Prelude.{ℕ, suc, ◌+◌, ◌<◌, ◌≤◌, ◌^◌, ◌≡◌, max, List, [], ◌∷◌, Option, Some, None, IsSome, is_some, Bool, true}
+use Rattle.std.specs.Prelude.{ℕ, suc, ◌+◌, ◌<◌, ◌≤◌, ◌^◌, ◌≡◌, max, List, [], ◌∷◌, Option, Some, None, IsSome, option_map}
 use Rattle.cedar_ast.specs.Expression as e
 use Rattle.cedar_ast.specs.Expression.{Expression, Expressions, Entries}
 use Rattle.cedar_ast.specs.Keys.{AreDistinct}
 use Rattle.cedar_parser.specs.declared.side_condition.SideCondition.{SideCondition}
 use Rattle.cedar_parser.specs.declared.side_condition.SideCondition.TheVariants.{Strings, Numbers, Keys, Names, Counts, Slots}
+use Rattle.cedar_parser.specs.declared.functions.Method.{Method}
+use Rattle.cedar_parser.specs.declared.functions.Method.TheVariants.{IsEmpty, Binary}
 use Rattle.cedar_parser.specs.declared.size.Size.{Size}
 use Rattle.cedar_tokens.specs.Content.{Content}
 use Rattle.cedar_grammar.specs.Written.{Written, truth, number, negative, text, entity, variable, slot, group, not, negated, relation, has, like, is, is_in, chain, choice, set, record_of, call, Links, no_links, operand, attribute, method, Members, no_members, member, Fields, no_fields, field}
@@ -35,10 +37,22 @@ abbrev pub count_of : Members → ℕ
 count_of no_members = 0
 count_of (member a ms) = suc (count_of ms)
 
--- A function or method that there is has one argument; of one that there is not nothing is said.
-abbrev pub HasOne : SideCondition → Bool → Members → Type 0
-HasOne Counts true ms = count_of ms ≡ 1
-HasOne _ known ms = Unit {0}
+-- how many arguments a method has
+abbrev pub arity_of : Method → ℕ
+arity_of IsEmpty = 0
+arity_of (Binary op) = 1
+
+-- how many arguments the function of a name has, and the method of a name, if there is one
+abbrev pub function_arity : List ℕ → Option ℕ
+function_arity name = option_map (λ op. 1) (function_of name)
+
+abbrev pub method_arity : List ℕ → Option ℕ
+method_arity name = option_map arity_of (method_of name)
+
+-- A function or method that there is has as many arguments as it takes; of one that there is not nothing is said.
+abbrev pub HasArity : SideCondition → Option ℕ → Members → Type 0
+HasArity Counts (Some n) ms = count_of ms ≡ n
+HasArity _ arity ms = Unit {0}
 
 -- The keys of a record, in order: those that stand for texts. What stands for no text is no key.
 abbrev pub keys_in : Fields → List (List ℕ)
@@ -70,7 +84,7 @@ abbrev mutual
   Keeps c (not a) = Keeps c a
   Keeps c (negated a) = Keeps c a
   Keeps c (relation sign a b) = Keeps c a × Keeps c b
-  Keeps c (has a s) = Keeps c a × Stands c s
+  Keeps c (has a s more) = Keeps c a × Stands c s
   Keeps c (like a p) = Keeps c a
   Keeps c (is a ty) = Keeps c a
   Keeps c (is_in a ty b) = Keeps c a × Keeps c b
@@ -78,13 +92,13 @@ abbrev mutual
   Keeps c (choice q a b) = Keeps c q × Keeps c a × Keeps c b
   Keeps c (set ms) = KeepMembers c ms
   Keeps c (record_of fs) = HasDistinctKeys c fs × KeepFields c fs
-  Keeps c (call name ms) = IsKnown c (function_of name) × HasOne c (is_some (function_of name)) ms × KeepMembers c ms
+  Keeps c (call name ms) = IsKnown c (function_of name) × HasArity c (function_arity name) ms × KeepMembers c ms
 
   pub KeepLinks : SideCondition → Links → Type 0
   KeepLinks c no_links = Unit {0}
   KeepLinks c (operand sign a ls) = Keeps c a × KeepLinks c ls
   KeepLinks c (attribute s ls) = Stands c s × KeepLinks c ls
-  KeepLinks c (method name ms ls) = (IsKnown c (method_of name) × HasOne c (is_some (method_of name)) ms × KeepMembers c ms) × KeepLinks c ls
+  KeepLinks c (method name ms ls) = (IsKnown c (method_of name) × HasArity c (method_arity name) ms × KeepMembers c ms) × KeepLinks c ls
 
   pub KeepMembers : SideCondition → Members → Type 0
   KeepMembers c no_members = Unit {0}

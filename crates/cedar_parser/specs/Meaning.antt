@@ -1,10 +1,9 @@
 -- The expression that is written (Cedar language reference, grammar, operators).
-use Rattle.std.specs.Prelude.{false, ℕ, pos, neg_ℤ, List, Option, Some, None, codes, if◌then◌else◌}
+use Rattle.std.specs.Prelude.{false, ℕ, pos, neg_ℤ, List, [], ◌∷◌, Option, Some, None, codes, if◌then◌else◌}
 use Rattle.std.specs.Str.{bytes_eq}
 use Rattle.cedar_value.specs.Datum as datum
 use Rattle.cedar_ast.specs.declared.operator.UnaryOperator.{UnaryOperator}
-use Rattle.cedar_ast.specs.declared.operator.UnaryOperator.TheVariants.{Not, Negate, Has, Get, Like, Is, Decimal}
-use Rattle.cedar_ast.specs.declared.operator.BinaryOperator.{BinaryOperator}
+use Rattle.cedar_ast.specs.declared.operator.UnaryOperator.TheVariants.{Not, Negate, Has, Get, Like, Is, Decimal, IsEmpty}
 use Rattle.cedar_ast.specs.declared.operator.BinaryOperator.TheVariants as operator
 use Rattle.cedar_ast.specs.Expression as e
 use Rattle.cedar_ast.specs.Expression.{Expression, Expressions, Entries}
@@ -12,6 +11,8 @@ use Rattle.cedar_grammar.specs.declared.sign.ChainSign.{ChainSign}
 use Rattle.cedar_grammar.specs.declared.sign.ChainSign.TheVariants as chain_sign
 use Rattle.cedar_grammar.specs.declared.sign.RelationSign.{RelationSign}
 use Rattle.cedar_grammar.specs.declared.sign.RelationSign.TheVariants as relation_sign
+use Rattle.cedar_parser.specs.declared.functions.Method.{Method}
+use Rattle.cedar_parser.specs.declared.functions.Method.TheVariants as m
 use Rattle.cedar_tokens.specs.Content.{text_of}
 use Rattle.cedar_tokens.specs.Names.{to_uid}
 use Rattle.cedar_grammar.specs.Written.{Written, truth, number, negative, text, entity, variable, slot, group, not, negated, relation, has, like, is, is_in, chain, choice, set, record_of, call, Links, no_links, operand, attribute, method, Members, no_members, member, Fields, no_fields, field}
@@ -39,25 +40,36 @@ abbrev pub function_of : List ℕ → Option UnaryOperator
 function_of name = if bytes_eq name (codes "decimal") then Some Decimal else None
 
 -- the method of this name
-abbrev pub method_of : List ℕ → Option BinaryOperator
+abbrev pub method_of : List ℕ → Option Method
 method_of name =
-    if bytes_eq name (codes "contains") then Some operator.Contains
-    else (if bytes_eq name (codes "containsAll") then Some operator.ContainsAll
-    else (if bytes_eq name (codes "containsAny") then Some operator.ContainsAny
-    else (if bytes_eq name (codes "lessThan") then Some operator.DecimalLess
-    else (if bytes_eq name (codes "lessThanOrEqual") then Some operator.DecimalLessEqual
-    else (if bytes_eq name (codes "greaterThan") then Some operator.DecimalGreater
-    else (if bytes_eq name (codes "greaterThanOrEqual") then Some operator.DecimalGreaterEqual else None))))))
+    if bytes_eq name (codes "contains") then Some (m.Binary operator.Contains)
+    else (if bytes_eq name (codes "containsAll") then Some (m.Binary operator.ContainsAll)
+    else (if bytes_eq name (codes "containsAny") then Some (m.Binary operator.ContainsAny)
+    else (if bytes_eq name (codes "lessThan") then Some (m.Binary operator.DecimalLess)
+    else (if bytes_eq name (codes "lessThanOrEqual") then Some (m.Binary operator.DecimalLessEqual)
+    else (if bytes_eq name (codes "greaterThan") then Some (m.Binary operator.DecimalGreater)
+    else (if bytes_eq name (codes "greaterThanOrEqual") then Some (m.Binary operator.DecimalGreaterEqual)
+    else (if bytes_eq name (codes "isEmpty") then Some m.IsEmpty else None)))))))
 
 -- a function of one argument; what has no such function or other arguments is refused
 abbrev pub called : Option UnaryOperator → Expressions → Expression
 called (Some op) (e.and_then a e.no_more) = e.unary op a
 called _ _ = e.literal (datum.boolean false)
 
--- a method of one argument; what has no such method or other arguments is refused
-abbrev pub applied : Option BinaryOperator → Expression → Expressions → Expression
-applied (Some op) left (e.and_then a e.no_more) = e.binary op left a
+-- a method of one argument, or of none; what has no such method or other arguments is refused
+abbrev pub applied : Option Method → Expression → Expressions → Expression
+applied (Some (m.Binary op)) left (e.and_then a e.no_more) = e.binary op left a
+applied (Some m.IsEmpty) left e.no_more = e.unary IsEmpty left
 applied _ left _ = left
+
+-- What is asked so far, and what the next attribute is asked of: each further one is asked of the one before it.
+abbrev pub asked_from : (asked place : Expression) → List (List ℕ) → Expression
+asked_from asked place [] = asked
+asked_from asked place (a ∷ more) = asked_from (e.and asked (e.unary (Has a) place)) (e.unary (Get a) place) more
+
+-- `x has a.b.c` is `(x has a && x.a has b) && x.a.b has c`.
+abbrev pub asked_of : Expression → (first : List ℕ) → (more : List (List ℕ)) → Expression
+asked_of x a more = asked_from (e.unary (Has a) x) (e.unary (Get a) x) more
 
 -- Brackets are gone; chains group to the left; `x is T in e` asks both of x. A slot stands in no accepted expression.
 abbrev mutual
@@ -73,7 +85,7 @@ abbrev mutual
   to_expression (not a) = e.unary Not (to_expression a)
   to_expression (negated a) = e.unary Negate (to_expression a)
   to_expression (relation sign a b) = related sign (to_expression a) (to_expression b)
-  to_expression (has a c) = e.unary (Has (text_of c)) (to_expression a)
+  to_expression (has a c more) = asked_of (to_expression a) (text_of c) more
   to_expression (like a p) = e.unary (Like p) (to_expression a)
   to_expression (is a ty) = e.unary (Is ty) (to_expression a)
   to_expression (is_in a ty b) = e.and (e.unary (Is ty) (to_expression a)) (e.binary operator.In (to_expression a) (to_expression b))

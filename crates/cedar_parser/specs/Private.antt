@@ -2,3 +2,4 @@
 pub mod Capped
 pub mod Parts
 pub mod Entering
+pub mod AskedSizes

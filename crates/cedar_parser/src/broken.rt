@@ -4,11 +4,11 @@ ghost use Rattle.cedar_grammar.specs.Written.{members_of};
 ghost use Rattle.cedar_grammar.specs.WrittenKind.{links_of, fields_of};
 ghost use Rattle.cedar_tokens.specs.Content.{text_of};
 ghost use Rattle.cedar_parser.specs.Meaning.{function_of, method_of};
-ghost use Rattle.cedar_parser.specs.Limits.{Stands, Fits, FitsNegative, IsKnown, HasOne, HasDistinctKeys, HasNoSlot, Keeps, KeepLinks, KeepMembers, KeepFields, keys_in};
+ghost use Rattle.cedar_parser.specs.Limits.{Stands, Fits, FitsNegative, IsKnown, HasArity, HasDistinctKeys, HasNoSlot, Keeps, KeepLinks, KeepMembers, KeepFields, keys_in};
 ghost use Rattle.cedar_parser.specs.declared.side_condition.SideCondition.TheVariants.{Strings};
 ghost use Rattle.cedar_parser.specs.Private.Parts.{KeepLink, KeepField};
 
-use crate::functions::{function_of, is_function, is_method, method_of};
+use crate::functions::{function_arity, function_of, method_arity, method_of};
 use crate::side_condition::SideCondition;
 use cedar_ast::first_repeated;
 use cedar_grammar::{Field, Link, Written, WrittenKind};
@@ -43,11 +43,11 @@ pub fn broken(
             }
             broken(alloc, condition, right)
         }
-        WrittenKind::Has(operand, key) => {
+        WrittenKind::Has(operand, path) => {
             if let Some(at) = broken(alloc, condition, operand)? {
                 return Ok(Some(at));
             }
-            Ok(content_broken(condition, key))
+            Ok(content_broken(condition, path.first()))
         }
         WrittenKind::Like(operand, _) => broken(alloc, condition, operand),
         WrittenKind::Is(operand, _) => broken(alloc, condition, operand),
@@ -83,8 +83,8 @@ pub fn broken(
             if let Some(at) = function_broken(condition, *start, name) {
                 return Ok(Some(at));
             }
-            let known = is_function(name.as_str());
-            if let Some(at) = count_broken(condition, known, *start, arguments.items()) {
+            let arity = function_arity(name.as_str());
+            if let Some(at) = count_broken(condition, arity, *start, arguments.items()) {
                 return Ok(Some(at));
             }
             members_broken(alloc, condition, arguments.items())
@@ -123,8 +123,8 @@ fn link_broken(
             if let Some(at) = method_broken(condition, name) {
                 return Ok(Some(at));
             }
-            let known = is_method(name.as_str());
-            if let Some(at) = count_broken(condition, known, name.place(), arguments.items()) {
+            let arity = method_arity(name.as_str());
+            if let Some(at) = count_broken(condition, arity, name.place(), arguments.items()) {
                 return Ok(Some(at));
             }
             members_broken(alloc, condition, arguments.items())
@@ -261,18 +261,18 @@ fn method_broken(condition: SideCondition, name: &Word) -> Option<usize>
 #[tactic(auto, using(crate::proofs::PartLemmas::count_members))]
 fn count_broken(
     condition: SideCondition,
-    known: bool,
+    arity: Option<usize>,
     start: usize,
     arguments: &[Written],
 ) -> Option<usize>
-    ensures { MatchOption result (HasOne condition known (members_of arguments.now)) (λ at. HasOne condition known (members_of arguments.now) → ⊥) }
+    ensures { MatchOption result (HasArity condition arity (members_of arguments.now)) (λ at. HasArity condition arity (members_of arguments.now) → ⊥) }
 {
     match condition {
         SideCondition::Counts => {
-            if !known {
+            let Some(count) = arity else {
                 return None;
-            }
-            if arguments.len() == 1 {
+            };
+            if arguments.len() == count {
                 return None;
             }
             Some(start)

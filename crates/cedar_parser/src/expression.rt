@@ -1,5 +1,5 @@
 //! The expression that is written.
-ghost use Rattle.std.specs.Prelude.{◌≡◌, ◌≢◌, ◌≤◌, ◌^◌, ◌++◌, ◌∷◌, [], IfOk, OnOk, MatchOption, length, pos, neg_ℤ};
+ghost use Rattle.std.specs.Prelude.{◌≡◌, ◌≢◌, ◌≤◌, ◌^◌, ◌++◌, ◌∷◌, [], IfOk, OnOk, MatchOption, Some, length, pos, neg_ℤ};
 ghost use Rattle.cedar_ast.specs.Expression.{expressions_of, entries_of, unary, binary, and, record_with};
 ghost use Rattle.cedar_ast.specs.Keys.{AreDistinct, keys_of};
 ghost use Rattle.cedar_ast.specs.declared.operator.UnaryOperator.TheVariants.{Not, Get, Is};
@@ -9,11 +9,13 @@ ghost use Rattle.cedar_grammar.specs.Written as tree;
 ghost use Rattle.cedar_grammar.specs.Written.{chain, members_of};
 ghost use Rattle.cedar_grammar.specs.WrittenKind.{links_of, fields_of};
 ghost use Rattle.cedar_parser.specs.Meaning.{to_expression, to_expressions, to_entries, related, linked, called, applied, function_of, method_of};
+ghost use Rattle.cedar_parser.specs.declared.functions.Method.TheVariants.{IsEmpty, Binary};
 ghost use Rattle.cedar_tokens.specs.Content.{text_of};
 ghost use Rattle.cedar_parser.specs.Limits.{Keeps, KeepMembers, KeepFields};
 ghost use Rattle.cedar_parser.specs.Private.Parts.{KeepLink, behind, pairs_of};
 
-use crate::functions::{function_of, method_of};
+use crate::asked::asked;
+use crate::functions::{Method, function_of, method_of};
 use cedar_ast::{BinaryOperator, Expr, RecordFault, UnaryOperator};
 use cedar_grammar::{ChainSign, Field, Link, RelationSign, Written, WrittenKind};
 use cedar_tokens::Content;
@@ -44,9 +46,9 @@ pub fn to_expression(alloc: Global, written: &Written) -> Result<Expr, AllocErro
             let right = to_expression(alloc, right)?;
             related(alloc, *sign, left, right)
         }
-        WrittenKind::Has(operand, key) => {
-            let operator = UnaryOperator::Has(key.to_text(alloc)?);
-            asked_of(alloc, operator, operand)
+        WrittenKind::Has(operand, path) => {
+            let operand = to_expression(alloc, operand)?;
+            asked(alloc, operand, path)
         }
         WrittenKind::Like(operand, pattern) => {
             let operator = UnaryOperator::Like(pattern.try_clone(alloc)?);
@@ -159,7 +161,7 @@ fn link_expression(alloc: Global, left: Expr, link: &Link) -> Result<Expr, Alloc
         Link::Attribute(key) => attribute(alloc, left, key),
         Link::Method(name, arguments) => {
             let arguments = expressions(alloc, arguments.items())?;
-            applied(alloc, name.as_str(), left, arguments)
+            applied(alloc, method_of(name.as_str()), left, arguments)
         }
     }
 }
@@ -220,13 +222,42 @@ fn pairs(alloc: Global, fields: &[Field]) -> Result<Vec<(Text, Expr)>, AllocErro
     Ok(found)
 }
 
-// A method of one argument.
-fn applied(alloc: Global, name: &str, left: Expr, arguments: Vec<Expr>) -> Result<Expr, AllocError>
-    ensures { IfOk result (λ e. e ≡ applied (method_of name.now) left (expressions_of arguments.items)) }
+// A method on what stands before it and its arguments.
+fn applied(
+    alloc: Global,
+    method: Option<Method>,
+    left: Expr,
+    arguments: Vec<Expr>,
+) -> Result<Expr, AllocError>
+    ensures { IfOk result (λ e. e ≡ applied method left (expressions_of arguments.items)) }
 {
-    let Some(operator) = method_of(name) else {
+    match method {
+        None => Ok(left),
+        Some(Method::IsEmpty) => is_empty(alloc, left, arguments),
+        Some(Method::Binary(operator)) => compared(alloc, operator, left, arguments),
+    }
+}
+
+// Whether a set has no members, where there are no arguments.
+#[tactic(auto, using(crate::proofs::PartLemmas::empty_none, crate::proofs::PartLemmas::empty_all))]
+fn is_empty(alloc: Global, left: Expr, arguments: Vec<Expr>) -> Result<Expr, AllocError>
+    ensures { IfOk result (λ e. e ≡ applied (Some IsEmpty) left (expressions_of arguments.items)) }
+{
+    if !arguments.is_empty() {
         return Ok(left);
-    };
+    }
+    Expr::unary(alloc, UnaryOperator::IsEmpty, left)
+}
+
+// A method of one argument.
+fn compared(
+    alloc: Global,
+    operator: BinaryOperator,
+    left: Expr,
+    arguments: Vec<Expr>,
+) -> Result<Expr, AllocError>
+    ensures { IfOk result (λ e. e ≡ applied (Some (Binary operator)) left (expressions_of arguments.items)) }
+{
     let Some(argument) = sole(arguments) else {
         return Ok(left);
     };

@@ -1,14 +1,17 @@
 //! Sizes of the trees that expressions are written for.
-ghost use Rattle.std.specs.Prelude.{◌≡◌};
+ghost use Rattle.std.specs.Prelude.{◌≡◌, Some};
 ghost use Rattle.cedar_ast.specs.Expression.{Expression};
 ghost use Rattle.cedar_grammar.specs.Written.{chain, members_of};
 ghost use Rattle.cedar_grammar.specs.WrittenKind.{links_of, fields_of};
 ghost use Rattle.cedar_parser.specs.Meaning.{to_expression, to_expressions, to_entries, related, linked, called, applied, function_of, method_of};
+ghost use Rattle.cedar_ast.specs.declared.operator.BinaryOperator.{BinaryOperator};
+ghost use Rattle.cedar_parser.specs.declared.functions.Method.TheVariants.{IsEmpty, Binary};
 ghost use Rattle.cedar_parser.specs.Limits.{size_of, size_of_all, size_of_entries};
 ghost use Rattle.cedar_parser.specs.Private.Capped.{capped};
 ghost use Rattle.cedar_parser.specs.Private.Parts.{behind};
 
-use crate::functions::{is_function, method_of};
+use crate::asked::asked_size;
+use crate::functions::{Method, is_function, method_of};
 use crate::size::{Size, leaf, nothing};
 use cedar_grammar::{Field, Link, RelationSign, Written, WrittenKind};
 
@@ -29,7 +32,7 @@ pub fn size(written: &Written) -> Size
         WrittenKind::Not(operand) => size(operand).above(),
         WrittenKind::Negated(operand) => size(operand).above(),
         WrittenKind::Relation(sign, left, right) => related_size(*sign, size(left), size(right)),
-        WrittenKind::Has(operand, _) => size(operand).above(),
+        WrittenKind::Has(operand, path) => asked_size(size(operand), path.more()),
         WrittenKind::Like(operand, _) => size(operand).above(),
         WrittenKind::Is(operand, _) => size(operand).above(),
         WrittenKind::IsIn(left, _, right) => {
@@ -79,17 +82,38 @@ fn link_size(left: Size, link: &Link) -> Size
     match link {
         Link::Operand(_, operand) => left.above_both(size(operand)),
         Link::Attribute(_) => left.above(),
-        Link::Method(name, arguments) => applied_size(name.as_str(), left, arguments.items()),
+        Link::Method(name, arguments) => {
+            applied_size(method_of(name.as_str()), left, arguments.items())
+        }
     }
 }
 
 #[cycle(size)]
-fn applied_size(name: &str, left: Size, arguments: &[Written]) -> Size
-    ensures { (a : Expression) → left ≡ capped (size_of a) → result ≡ capped (size_of (applied (method_of name.now) a (to_expressions (members_of arguments.now)))) }
+fn applied_size(method: Option<Method>, left: Size, arguments: &[Written]) -> Size
+    ensures { (a : Expression) → left ≡ capped (size_of a) → result ≡ capped (size_of (applied method a (to_expressions (members_of arguments.now)))) }
 {
-    if method_of(name).is_none() {
-        return left;
+    match method {
+        None => left,
+        Some(Method::IsEmpty) => empty_size(left, arguments),
+        Some(Method::Binary(_)) => compared_size(left, arguments),
     }
+}
+
+// A method without arguments.
+fn empty_size(left: Size, arguments: &[Written]) -> Size
+    ensures { (a : Expression) → left ≡ capped (size_of a) → result ≡ capped (size_of (applied (Some IsEmpty) a (to_expressions (members_of arguments.now)))) }
+{
+    match arguments {
+        [] => left.above(),
+        _ => left,
+    }
+}
+
+// A method of one argument.
+#[cycle(size)]
+fn compared_size(left: Size, arguments: &[Written]) -> Size
+    ensures { (op : BinaryOperator) (a : Expression) → left ≡ capped (size_of a) → result ≡ capped (size_of (applied (Some (Binary op)) a (to_expressions (members_of arguments.now)))) }
+{
     match arguments {
         [argument] => left.above_both(size(argument)),
         _ => left,

@@ -26,7 +26,7 @@ const MAX_NODES: usize = 100_000;
 
 /// Refuses a statement that breaks a side condition or a limit: 103 for the escape `\*` outside a pattern, 104 for a
 /// number above 9223372036854775807, 203 for a key that stands twice in a record, 205 for an unknown function or method,
-/// 206 for another count of arguments than one, 207 for a slot elsewhere than in its variable's scope, 208 for an
+/// 206 for another count of arguments than it takes, 207 for a slot elsewhere than in its variable's scope, 208 for an
 /// annotation that stands twice, 202 for a condition that is too high, 209 for one that is too large, in this order.
 pub fn judge(alloc: Global, statement: &WrittenStatement) -> Result<(), ParseFault>
     ensures kept { OnOk result (IsWithinLimits statement.now) }

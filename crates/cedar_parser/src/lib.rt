@@ -10,6 +10,7 @@
 //! `specs/StatementLimits.antt`, and all of it together in `specs/PolicyText.antt`.
 #![tactic(auto)]
 
+mod asked;
 mod broken;
 mod condition_size;
 mod expression;
@@ -22,4 +23,4 @@ mod side_condition;
 mod size;
 
 pub use cedar_tokens::{ParseFault, read_uid};
-pub use parser::{one_policy_set, parse};
+pub use parser::{earlier_texts, one_policy_set, parse};

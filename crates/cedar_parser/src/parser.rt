@@ -1,11 +1,19 @@
 //! Policy texts.
-ghost use Rattle.std.specs.Prelude.{◌≡◌, [], ℕ, List, IfOk, OnOk, IfErr, Contains};
+ghost use Rattle.std.specs.Prelude.{◌≡◌, [], ℕ, List, Some, IfOk, OnOk, IfErr, Contains};
 ghost use Rattle.cedar_ast.specs.PolicySetTree.{PolicySetTree, entered, id_of, ids_in};
 ghost use Rattle.cedar_parser.specs.PolicyText.{ArePolicies, IsPolicyText, TokensFault, HasFault, Answers};
 ghost use Rattle.cedar_parser.specs.Private.Entering.{RefusesEntry, RefusesAdd, refusal_for};
 ghost use Rattle.cedar_ast.specs.AddFault.{number_of};
 ghost use Rattle.cedar_parser.specs.StatementMeaning.{statement_of, id_at};
 ghost use Rattle.cedar_parser.specs.StatementLimits.{IsWithinLimits};
+ghost use Rattle.cedar_ast.specs.Expression.{unary};
+ghost use Rattle.cedar_ast.specs.declared.operator.BinaryOperator.{BinaryOperator};
+ghost use Rattle.cedar_ast.specs.declared.operator.UnaryOperator.TheVariants.{Has};
+ghost use Rattle.cedar_grammar.specs.Written.{Written, has};
+ghost use Rattle.cedar_tokens.specs.Content.{Content, text_of};
+ghost use Rattle.cedar_parser.specs.declared.functions.Method.TheVariants.{Binary};
+ghost use Rattle.cedar_parser.specs.Meaning.{to_expression, method_of};
+ghost use Rattle.cedar_parser.specs.Earlier.{IsEarlierPolicyText, earlier_method_of};
 
 use crate::judge::judge;
 use crate::policy::{id_of, to_statement};
@@ -22,7 +30,7 @@ use std::alloc::{AllocError, Global};
 /// above 9223372036854775807, behind a minus sign above 9223372036854775808; 201 where the tokens are no statements;
 /// 202 where more than 100 brackets and `if`s are open at one place of a condition, or a condition is higher than 2,000
 /// nodes; 203 for a key that stands twice in a record; 204 where two statements have one id; 205 for an unknown
-/// function or method; 206 for another count of its arguments than one; 207 for a slot elsewhere than in its variable's
+/// function or method; 206 for another count of its arguments than it takes; 207 for a slot elsewhere than in its variable's
 /// scope; 208 for an annotation that stands twice; 209 where a condition has more than 100,000 nodes.
 pub fn parse(alloc: Global, source: &str) -> Result<PolicySet, ParseFault>
     // What is answered are the policies of the text.
@@ -45,6 +53,17 @@ pub fn one_policy_set()
     one_list();
     one_spelling();
 }
+
+/// The law that each text which was read before `has` could have a path of attributes, and before there was the method
+/// `isEmpty`, is read as it was (Cedar language reference, grammar). It runs nothing.
+pub fn earlier_texts()
+    // The policies that such a text had are its policies.
+    ensures texts { (source : List ℕ) (set : PolicySetTree) → IsEarlierPolicyText source set → IsPolicyText source set }
+    // `has` with one attribute asks for that one, as it did.
+    ensures attributes { (operand : Written) (first : Content) → to_expression (has operand first []) ≡ unary (Has (text_of first)) (to_expression operand) }
+    // Each method that there was is the operator that it was.
+    ensures methods { (name : List ℕ) (op : BinaryOperator) → earlier_method_of name ≡ Some op → method_of name ≡ Some (Binary op) }
+{}
 
 // The policies of all tokens.
 fn policies(alloc: Global, tokens: &mut Cursor<'_>) -> Result<PolicySet, ParseFault>

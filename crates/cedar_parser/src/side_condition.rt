@@ -11,7 +11,7 @@ pub enum SideCondition {
     Keys,
     /// Functions and methods are known.
     Names,
-    /// Functions and methods have one argument.
+    /// Functions and methods have as many arguments as they take.
     Counts,
     /// Slots stand in their own variable's scope alone.
     Slots,

@@ -1,2 +1,9 @@
+pub mod Above
+pub mod BitRows
+pub mod Bits
+pub mod Joins
+pub mod Masks
+pub mod Meets
+pub mod Numbered
 pub mod Places
-pub mod Rows
+pub mod PlainRows

@@ -8,17 +8,18 @@ ghost use Rattle.cedar_store.specs.Private.Kept.{ArePlaces};
 
 use crate::entity::Entity;
 use crate::store_fault::StoreFault;
+use crate::uid_hashing::UidHashing;
 use cedar_closure::Links;
 use cedar_value::Uid;
+use indexmap::IndexMap;
 use std::alloc::Global;
-use std::collections::BTreeMap;
 use std::marker::Model;
 
 /// Entities whose uids are distinct, in the order in which they came, and the place of each.
 #[derive(Drop)]
 pub(crate) struct EntityTable {
     entities: Vec<Entity>,
-    places: BTreeMap<Uid, usize>,
+    places: IndexMap<Uid, usize, UidHashing>,
 }
 
 impl Model for EntityTable {
@@ -53,6 +54,11 @@ impl EntityTable {
         ensures { result.now ≡ self.now }
     {
         &self.entities
+    }
+
+    /// How the uids are hashed.
+    pub(crate) fn hashing(&self) -> UidHashing {
+        *self.places.hasher()
     }
 
     /// The place of an entity, counted from 0.
@@ -94,11 +100,14 @@ impl Links<Uid> for EntityTable {
 }
 
 // The place of each entity, by its uid.
-fn places_of(alloc: Global, entities: &[Entity]) -> Result<BTreeMap<Uid, usize>, StoreFault>
+fn places_of(
+    alloc: Global,
+    entities: &[Entity],
+) -> Result<IndexMap<Uid, usize, UidHashing>, StoreFault>
     ensures places { IfOk result (λ m. ArePlaces m (uids_of entities.now)) }
     ensures refused { IfErr result (IsThere entities.now) }
 {
-    let mut places = BTreeMap::new(alloc);
+    let mut places = IndexMap::with_hasher(alloc, UidHashing::new(entities));
     for (place, entity) in entities.iter().enumerate() {
         let uid = &entity.uid;
         let earlier = places.insert(uid.try_clone(alloc)?, place)?;

@@ -10,16 +10,25 @@
 //! ```
 //!
 //! A contract sees a hierarchy as a world: the list of its entities with their attributes and direct
-//! parents.
+//! parents. [`Store`] keeps what an entity is below as a row of bits, [`PlainStore`] as a set of uids;
+//! the same is said of both.
 #![tactic(auto)]
 
-mod ancestors;
 mod entity;
 mod entity_table;
+mod mask;
+mod numbers;
+mod order;
+mod plain_ancestors;
+mod plain_store;
+mod row;
+mod rows;
 mod store;
 mod store_fault;
+mod uid_hashing;
 
 pub use cedar_value::{Hierarchy, NoEntities, below_is_a_chain_of_links};
 pub use entity::Entity;
+pub use plain_store::PlainStore;
 pub use store::Store;
 pub use store_fault::StoreFault;

@@ -1,34 +1,37 @@
 //! The entity store.
-ghost use Rattle.std.specs.Prelude.{◌≡◌, IfOk, IfErr, OnOk, MatchOption};
-ghost use Rattle.std.specs.List.{list_any};
-ghost use Rattle.cedar_value.specs.World.{Below};
+ghost use Rattle.std.specs.Prelude.{◌≡◌, IfOk, IfErr, OnOk};
 ghost use Rattle.cedar_store.specs.Entities.{AreUidsDistinct, IsAcyclic};
 ghost use Rattle.cedar_store.specs.Faults.{IsThere};
-ghost use Rattle.cedar_store.specs.Private.Kept.{AreAncestors, has_datum};
 
-use crate::ancestors::all_ancestors;
 use crate::entity::Entity;
 use crate::entity_table::EntityTable;
+use crate::mask::meets;
+use crate::numbers::{Numbers, has_uid, numbers_of};
+use crate::row::Row;
+use crate::rows::{all_rows, known_row};
 use crate::store_fault::StoreFault;
-use cedar_value::{Hierarchy, Record, Uid, ValueKind, ValueSet};
+use cedar_value::{Hierarchy, Record, Uid, ValueSet};
 use std::alloc::Global;
-use std::collections::BTreeSet;
 use std::marker::Model;
 
 /// Entities with what lies above each of them, which contracts see as their world: the list of the
 /// entities, in the order in which they were handed in.
+///
+/// Each uid that something lies below has a number, by the order in which they are first named as a
+/// parent, and each entity a row of bits with the numbers of all that it is below.
 #[derive(Drop)]
 pub struct Store {
     table: EntityTable,
-    ancestors: Vec<BTreeSet<Uid>>,
+    numbers: Numbers,
+    rows: Vec<Option<Row>>,
 }
 
 impl Model for Store {
-    ghost use Rattle.std.specs.List.{AllZip};
+    ghost use Rattle.std.specs.Prelude.{ℕ, ◌<◌, length};
     ghost use Rattle.std.specs.Coded.{codes};
     ghost use Rattle.cedar_value.specs.Private.DatumCode.{datum_code};
     ghost use Rattle.cedar_value.specs.World.{World};
-    ghost use Rattle.cedar_store.specs.Private.Kept.{HasAncestors};
+    ghost use Rattle.cedar_store.specs.Private.Kept.{AreRows, IsKnownAt};
 
     ghost Value = { World };
 
@@ -36,7 +39,7 @@ impl Model for Store {
 
     ghost view = { λ s. s.table };
 
-    ghost invariant = { λ s. AllZip (HasAncestors s.table) s.table s.ancestors.items };
+    ghost invariant = { λ s. AreRows s.numbers.keys s.table s.rows.items × ((k : ℕ) → k < length s.table → IsKnownAt s.rows.items k) };
 }
 
 impl Store {
@@ -44,8 +47,10 @@ impl Store {
     /// 401 where a uid stands twice, with 402 where an entity is below itself, and with 1 for want of
     /// memory. A refusal leaves nothing made.
     ///
-    /// Time and memory go by the number of pairs of an entity and what it is below, so that a long
-    /// row of entities, each in the next, costs the square of its length.
+    /// Time goes by the number of links times the words of a row, whatever the order of the entities,
+    /// and memory by the words of all rows. A row has a bit for each parent up to the last of those that
+    /// the entity is below, in the order in which they are first named: entities in 1,000 groups take 125
+    /// bytes each at most, but a chain of entities, each in the next, an eighth of the square of its length.
     pub fn build(alloc: Global, entities: Vec<Entity>) -> Result<Self, StoreFault>
         ensures world { IfOk result (λ s. s ≡ entities.items) }
         ensures distinct { OnOk result (AreUidsDistinct entities.items) }
@@ -53,19 +58,13 @@ impl Store {
         ensures refused { IfErr result (IsThere entities.items) }
     {
         let table = EntityTable::new(alloc, entities)?;
-        let ancestors = all_ancestors(alloc, &table)?;
-        Ok(Store { table, ancestors })
-    }
-
-    // What an entity is below. None where it is below nothing since the store lacks it.
-    fn ancestors(&self, low: &Uid) -> Option<&BTreeSet<Uid>>
-        ensures { MatchOption result ((v : Uid) → ¬ Below self.now low.now v)
-            (λ s. AreAncestors self.now low.now s.now) }
-    {
-        match self.table.place(low) {
-            Some(place) => self.ancestors.get(place),
-            None => None,
-        }
+        let numbers = numbers_of(alloc, &table)?;
+        let rows = all_rows(alloc, &table, &numbers)?;
+        Ok(Store {
+            table,
+            numbers,
+            rows,
+        })
     }
 }
 
@@ -84,30 +83,16 @@ impl Hierarchy for Store {
     }
 
     fn is_below(&self, low: &Uid, high: &Uid) -> bool {
-        match self.ancestors(low) {
-            Some(ancestors) => ancestors.contains(high),
+        match known_row(&self.table, &self.rows, low) {
+            Some(row) => has_uid(&self.numbers, row, high),
             None => false,
         }
     }
 
     fn is_below_any(&self, low: &Uid, highs: &ValueSet) -> bool {
-        match self.ancestors(low) {
-            Some(ancestors) => has_any(ancestors, highs),
+        match known_row(&self.table, &self.rows, low) {
+            Some(row) => meets(&self.numbers, row.words(), highs),
             None => false,
         }
     }
-}
-
-// Whether some uid of a set of values is in the set of uids.
-fn has_any(uids: &BTreeSet<Uid>, values: &ValueSet) -> bool
-    ensures { result ≡ list_any (has_datum uids.now) values.now }
-{
-    for value in values.members() {
-        if let ValueKind::Uid(uid) = value.kind() {
-            if uids.contains(uid) {
-                return true;
-            }
-        }
-    }
-    false
 }

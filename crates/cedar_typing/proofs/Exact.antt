@@ -23,17 +23,18 @@ use Rattle.cedar_schema.specs.SchemaTree.{SchemaTree}
 use Rattle.cedar_types.specs.Membership.{known}
 use Rattle.cedar_schema.specs.Declarations.{IsAction, is_entity_type, is_action, is_action_type, type_below}
 use Rattle.cedar_typing.specs.Capabilities.{Capability, Capabilities, Has, IsUnion, IsCommon, AreSame}
-use Rattle.cedar_typing.specs.Typing.{is_record, flipped, is_arithmetic, is_comparison, is_decimal_comparison, is_set_comparison, MayHold, written_uids, names_of, AreWritten, IsInOne, Target, one_entity, entity_set, Types, of_boolean, of_long, of_text, of_uid, of_principal, of_resource, of_context, of_not, and_false, and_then_false, and_then_true, and_then_any, or_true, or_false, or_any_true, or_any_false, or_any_any, if_true, if_false, if_any, of_negative, of_arithmetic, of_comparison, equal_literals, equal_joined, equal_apart, has_none, has_held, has_required, has_any, of_get, of_like, of_is, in_written, in_related, in_unrelated, of_contains, of_set_comparison, of_set, of_record, of_decimal, of_decimals, JoinsOnto, joined_all, joined_more, AddsOnto, added_all, added_more}
+use Rattle.cedar_typing.specs.Typing.{is_record, flipped, is_arithmetic, is_comparison, is_decimal_comparison, is_set_comparison, MayHold, written_uids, names_of, AreWritten, IsInOne, Target, one_entity, entity_set, is_literal, TypesWith, of_boolean, of_long, of_text, of_uid, of_principal, of_resource, of_context, of_not, and_false, and_then_false, and_then_true, and_then_any, or_true, or_false, or_any_true, or_any_false, or_any_any, if_true, if_false, if_any, of_negative, of_arithmetic, of_comparison, equal_literals, equal_joined, equal_apart, has_none, has_held, has_required, has_any, of_get, of_like, of_is, in_written, in_related, in_unrelated, of_contains, of_set_comparison, of_is_empty, of_set, of_record, of_decimal, of_any_decimal, of_decimals, JoinsOnto, joined_all, joined_more, AddsOnto, added_all, added_more}
 use Rattle.cedar_types.specs.Lookup.{attribute_at}
 use Rattle.cedar_types.specs.Ordered.{with_attribute}
-use Rattle.cedar_typing.specs.Checking.{Typed, is_held, common, as_type, gaining, truth_in, entity_in, target_in, on_boolean, on_two, and_right, and_type, or_type, if_type, has_type, get_type, unary_type, apart, any_or, equal_literal_type, any_if, names_action, is_or_descends, is_in_written, in_truth, any_where, binary_type, type_of, types_onto, types_entries, type_in}
+use Rattle.cedar_typing.specs.Checking.{Typed, is_held, common, as_type, gaining, truth_in, entity_in, target_in, on_boolean, on_two, and_right, and_type, or_type, if_type, has_type, get_type, unary_type, apart, any_or, equal_literal_type, any_if, names_action, is_or_descends, is_in_written, in_truth, any_where, binary_type, decimal_type, type_of_with, types_onto, types_entries, type_in_with}
 use Rattle.cedar_typing.proofs.Listed.{both_true, or_right as by_right}
 use Rattle.cedar_typing.proofs.Descents.{is_action-Decides, is_action_type-Decides}
 use Rattle.cedar_typing.proofs.Trees.{test_from_cap, cap_from_test, test_from_distinct}
 use Rattle.cedar_ast.specs.Condition.{condition_of}
 use Rattle.cedar_ast.specs.Replacement.{replace}
-use Rattle.cedar_typing.specs.Exactness.{FoundIsTyped, TypedIsFound, FormIsFound}
+use Rattle.cedar_typing.specs.Exactness.{FoundIsTypedWith, TypedIsFoundWith, FormIsFoundWith}
 use Rattle.cedar_typing.proofs.Found.{union_append, common_is, form_is, found, names_action-Decides, written-Decides, related-Decides}
+use Rattle.cedar_typing.specs.declared.settings.Settings.{Settings}
 
 nothing : AreSame [] []
 nothing = record { each = λ x. (λ m. m, λ m. m) }
@@ -88,17 +89,17 @@ not_both t b (inl e) = ap (λ x. x && b) e
 not_both (kind.record_of sh) b (inr e) = e
 not_both _ b (inr e) = refl
 
-module _ (s : SchemaTree) (env : Environment) where
+module _ (settings : Settings) (s : SchemaTree) (env : Environment) where
   pub record Exact (k : Capabilities) (e : Expression) (t : TypeTree) (g : Capabilities) : Type 0 where
     pub gained : Capabilities
-    pub gives : type_of s env k e ≡ Some (record { ty = t; gained = gained })
+    pub gives : type_of_with settings s env k e ≡ Some (record { ty = t; gained = gained })
     pub same : AreSame g gained
 
-  plainly : (k : Capabilities) (e : Expression) (t : TypeTree) → type_of s env k e ≡ as_type t → Exact k e t []
+  plainly : (k : Capabilities) (e : Expression) (t : TypeTree) → type_of_with settings s env k e ≡ as_type t → Exact k e t []
   plainly k e t p = record { gained = []; gives = p; same = nothing }
 
-  one : (k : Capabilities) (op : UnaryOperator) (e : Expression) (t u : TypeTree) (g : Capabilities) → Exact k e t g → ((h : Capabilities) → unary_type s k op e (record { ty = t; gained = h }) ≡ as_type u) → Exact k (unary op e) u []
-  one k op e t u g x f = plainly k (unary op e) u (ap (option_and_then (unary_type s k op e)) x.gives ∙ f x.gained)
+  one : (k : Capabilities) (op : UnaryOperator) (e : Expression) (t u : TypeTree) (g : Capabilities) → Exact k e t g → ((h : Capabilities) → unary_type settings s k op e (record { ty = t; gained = h }) ≡ as_type u) → Exact k (unary op e) u []
+  one k op e t u g x f = plainly k (unary op e) u (ap (option_and_then (unary_type settings s k op e)) x.gives ∙ f x.gained)
 
   two : (k : Capabilities) (op : BinaryOperator) (a b : Expression) (t u v : TypeTree) (ga gb : Capabilities) → Exact k a t ga → Exact k b u gb → binary_type s op a b t u ≡ Some v → Exact k (binary op a b) v []
   two k op a b t u v ga gb x y e =
@@ -109,8 +110,8 @@ module _ (s : SchemaTree) (env : Environment) where
   and_exact k a b f fb fr ga gb g gr x m y e same = record {
     gained = gr;
     gives =
-        ap (λ r. on_boolean r (and_type k (λ h. type_of s env h b))) x.gives
-        ∙ and_may k (λ h. type_of s env h b) f x.gained m
+        ap (λ r. on_boolean r (and_type k (λ h. type_of_with settings s env h b))) x.gives
+        ∙ and_may k (λ h. type_of_with settings s env h b) f x.gained m
         ∙ ap (λ r. on_boolean r (and_right f x.gained)) y.gives
         ∙ e;
     same = same;
@@ -118,7 +119,7 @@ module _ (s : SchemaTree) (env : Environment) where
 
   -- `in`
   not_written : (a b : Expression) → ¬ AreWritten s a b → (names_action s a && is_some (written_uids b)) ≡ false
-  not_written a b w = test_false (names_action s a && is_some (written_uids b)) (λ e. let p = both_true (names_action s a) (is_some (written_uids b)) e in w ((names_action-Decides s env a).0 p.0, p.1))
+  not_written a b w = test_false (names_action s a && is_some (written_uids b)) (λ e. let p = both_true (names_action s a) (is_some (written_uids b)) e in w ((names_action-Decides settings s env a).0 p.0, p.1))
 
   truth_by_types : (a b : Expression) (m n : List ℕ) (c : Bool) → ¬ AreWritten s a b → (bytes_eq m n || type_below s m n) ≡ c → in_truth s a b m n ≡ any_if c
   truth_by_types a b m n c w e = ap (λ x. cond x (known (is_in_written s a (written_uids b))) (any_if (bytes_eq m n || type_below s m n))) (not_written a b w) ∙ ap any_if e
@@ -126,7 +127,7 @@ module _ (s : SchemaTree) (env : Environment) where
   truth_written : (u : Uid) (b : Expression) (m n : List ℕ) (us : List Uid) (r : Bool) → IsAction s u → written_uids b ≡ Some us → Decides r (IsInOne s u us) → in_truth s (literal (uid u)) b m n ≡ known r
   truth_written u b m n us r act e d =
       ap₂ (λ x y. cond (x && is_some y) (known (is_in_written s (literal (uid u)) y)) (any_if (bytes_eq m n || type_below s m n))) ((is_action-Decides s u).1 act) e
-      ∙ ap known (one_answer (list_any (is_or_descends s u) us) r (written-Decides s env u us) d)
+      ∙ ap known (one_answer (list_any (is_or_descends s u) us) r (written-Decides settings s env u us) d)
 
   in_exact : (a b : Expression) (m n : List ℕ) (v : TypeTree) (f : Truth) → Target v n → in_truth s a b m n ≡ f → binary_type s binary_operator.In a b (kind.entity m) v ≡ Some (kind.boolean f)
   in_exact a b m n v f w e = ap (option_and_then (λ (x : List ℕ). let y : Option TypeTree = Some (kind.boolean (in_truth s a b m x)) in y)) (target_exact w) ∙ ap (λ x. Some (kind.boolean x)) e
@@ -158,8 +159,12 @@ module _ (s : SchemaTree) (env : Environment) where
   sets_exact binary_operator.ContainsAny a b t u v e j = ap any_where (join_found j)
   sets_exact _ a b t u v e j = cc
 
+  decimal_exact : (e : Expression) → is_literal e ≡ false → settings.any_decimal ≡ true → decimal_type settings e kind.string ≡ as_type kind.decimal
+  decimal_exact (literal v) n on = cc
+  decimal_exact _ n on = ap (λ b. only_if (b && true) (as_type kind.decimal)) on
+
   mutual
-    pub exact : {h g : Capabilities} {e : Expression} {t : TypeTree} → Types s env h e t g → (k : Capabilities) → AreSame h k → Exact k e t g
+    pub exact : {h g : Capabilities} {e : Expression} {t : TypeTree} → TypesWith settings s env h e t g → (k : Capabilities) → AreSame h k → Exact k e t g
     exact of_boolean k p = plainly k _ _ refl
     exact of_long k p = plainly k _ _ refl
     exact of_text k p = plainly k _ _ refl
@@ -168,7 +173,7 @@ module _ (s : SchemaTree) (env : Environment) where
     exact of_resource k p = plainly k _ _ refl
     exact of_context k p = plainly k _ _ refl
     exact (of_not {g = g} {e = e} {f = f} d) k p = one k operator.Not e (kind.boolean f) (kind.boolean (flipped f)) g (exact d k p) (λ h. refl)
-    exact (and_false {a = a} {b = b} d) k p = let x = exact d k p in plainly k (and a b) (kind.boolean False) (ap (λ r. on_boolean r (and_type k (λ h. type_of s env h b))) x.gives)
+    exact (and_false {a = a} {b = b} d) k p = let x = exact d k p in plainly k (and a b) (kind.boolean False) (ap (λ r. on_boolean r (and_type k (λ h. type_of_with settings s env h b))) x.gives)
     exact (and_then_false {h = h} {ga = ga} {gb = gb} {hb = hb} {a = a} {b = b} {f = f} da m u db) k p =
         let x = exact da k p in
         and_exact k a b f False False ga gb [] [] x m (exact db (k ++ x.gained) (same_union h ga hb k x.gained u p x.same)) refl nothing
@@ -180,7 +185,7 @@ module _ (s : SchemaTree) (env : Environment) where
         let x = exact da k p in
         let y = exact db (k ++ x.gained) (same_union h ga hb k x.gained u p x.same) in
         and_exact k a b f Any Any ga gb g (x.gained ++ y.gained) x m y refl (same_union ga gb g x.gained y.gained w x.same y.same)
-    exact (or_true {a = a} {b = b} d) k p = let x = exact d k p in plainly k (or a b) (kind.boolean True) (ap (λ r. on_boolean r (or_type (type_of s env k b))) x.gives)
+    exact (or_true {a = a} {b = b} d) k p = let x = exact d k p in plainly k (or a b) (kind.boolean True) (ap (λ r. on_boolean r (or_type (type_of_with settings s env k b))) x.gives)
     exact (or_false {a = a} {b = b} {f = f} da db) k p =
         let x = exact da k p in let y = exact db k p in
         record { gained = y.gained; gives = ap₂ (λ r q. on_boolean r (or_type q)) x.gives y.gives; same = y.same }
@@ -199,7 +204,7 @@ module _ (s : SchemaTree) (env : Environment) where
         record {
           gained = i.gained ++ x.gained;
           gives =
-              ap (λ r. on_boolean r (if_type (λ z. type_of s env (k ++ z) a) (type_of s env k b))) i.gives
+              ap (λ r. on_boolean r (if_type (λ z. type_of_with settings s env (k ++ z) a) (type_of_with settings s env k b))) i.gives
               ∙ ap (option_map (λ (t : Typed). let y : Typed = record { ty = t.ty; gained = i.gained ++ t.gained } in y)) x.gives;
           same = same_union gc gx g i.gained x.gained w i.same x.same;
         }
@@ -208,7 +213,7 @@ module _ (s : SchemaTree) (env : Environment) where
         let y = exact dy k p in
         record {
           gained = y.gained;
-          gives = ap (λ r. on_boolean r (if_type (λ z. type_of s env (k ++ z) a) (type_of s env k b))) i.gives ∙ y.gives;
+          gives = ap (λ r. on_boolean r (if_type (λ z. type_of_with settings s env (k ++ z) a) (type_of_with settings s env k b))) i.gives ∙ y.gives;
           same = y.same;
         }
     exact (if_any {h = h} {gc = gc} {gx = gx} {gy = gy} {hx = hx} {gcx = gcx} {g = g} {x = a} {y = b} {t = t} {u = u} {v = v} di w dx dy j m n) k p =
@@ -219,7 +224,7 @@ module _ (s : SchemaTree) (env : Environment) where
         record {
           gained = common (i.gained ++ x.gained) y.gained;
           gives =
-              ap (λ r. on_boolean r (if_type (λ z. type_of s env (k ++ z) a) (type_of s env k b))) i.gives
+              ap (λ r. on_boolean r (if_type (λ z. type_of_with settings s env (k ++ z) a) (type_of_with settings s env k b))) i.gives
               ∙ ap₂ (λ q r. option_and_then (λ (c : Typed). option_and_then (λ (d : Typed). option_map (end c d) (join c.ty d.ty)) r) q) x.gives y.gives
               ∙ ap (option_map (end (record { ty = t; gained = x.gained }) (record { ty = u; gained = y.gained }))) (join_found j);
           same = same_common gcx gy g (i.gained ++ x.gained) y.gained n (same_union gc gx gcx i.gained x.gained m i.same x.same) y.same;
@@ -249,7 +254,7 @@ module _ (s : SchemaTree) (env : Environment) where
         record {
           gained = record { on = e; key = a } ∷ [];
           gives =
-              ap (option_and_then (unary_type s k (operator.Has a) e)) x.gives
+              ap (option_and_then (unary_type settings s k (operator.Has a) e)) x.gives
               ∙ ap (option_and_then (λ (x : Attributes). has_type k e a t (attribute_at a x))) at ∙ ap (has_type k e a t) f
               ∙ ap₂ (λ b c. cond (b || c) (as_type (kind.boolean True)) (gaining (kind.boolean Any) (record { on = e; key = a } ∷ []))) (test_not (record { on = e; key = a }) h k p n) (not_both t d.required r);
           same = only (record { on = e; key = a });
@@ -264,42 +269,44 @@ module _ (s : SchemaTree) (env : Environment) where
     exact (in_written {ga = ga} {gb = gb} {u = u} {b = b} {m = m} {n = n} {v = v} {us = us} {r = r} da db w act e d) k p =
         two k binary_operator.In (literal (uid u)) b (kind.entity m) v (kind.boolean (known r)) ga gb (exact da k p) (exact db k p) (in_exact (literal (uid u)) b m n v (known r) w (truth_written u b m n us r act e d))
     exact (in_related {ga = ga} {gb = gb} {a = a} {b = b} {m = m} {n = n} {v = v} da db w e r) k p =
-        two k binary_operator.In a b (kind.entity m) v (kind.boolean Any) ga gb (exact da k p) (exact db k p) (in_exact a b m n v Any w (truth_by_types a b m n true e ((related-Decides s env m n).1 r)))
+        two k binary_operator.In a b (kind.entity m) v (kind.boolean Any) ga gb (exact da k p) (exact db k p) (in_exact a b m n v Any w (truth_by_types a b m n true e ((related-Decides settings s env m n).1 r)))
     exact (in_unrelated {ga = ga} {gb = gb} {a = a} {b = b} {m = m} {n = n} {v = v} da db w e r) k p =
-        two k binary_operator.In a b (kind.entity m) v (kind.boolean False) ga gb (exact da k p) (exact db k p) (in_exact a b m n v False w (truth_by_types a b m n false e (test_false (bytes_eq m n || type_below s m n) (λ c. r ((related-Decides s env m n).0 c)))))
+        two k binary_operator.In a b (kind.entity m) v (kind.boolean False) ga gb (exact da k p) (exact db k p) (in_exact a b m n v False w (truth_by_types a b m n false e (test_false (bytes_eq m n || type_below s m n) (λ c. r ((related-Decides settings s env m n).0 c)))))
     exact (of_contains {ga = ga} {gb = gb} {a = a} {b = b} {t = t} {u = u} da db j) k p = two k binary_operator.Contains a b (kind.set t) u (kind.boolean Any) ga gb (exact da k p) (exact db k p) (ap any_where (join_found j))
     exact (of_set_comparison {ga = ga} {gb = gb} {a = a} {b = b} {t = t} {u = u} {v = v} {op = op} is da db j) k p = two k op a b (kind.set t) (kind.set u) (kind.boolean Any) ga gb (exact da k p) (exact db k p) (sets_exact op a b t u v is j)
+    exact (of_is_empty {g = g} {e = e} {t = t} d) k p = one k operator.IsEmpty e (kind.set t) (kind.boolean Any) g (exact d k p) (λ h. refl)
     exact (of_set {g = g} {e = e} {es = es} {t = t} {v = v} d ds) k p =
         let x = exact d k p in
         plainly k (set_with (and_then e es)) (kind.set v)
-        (ap (λ r. option_and_then (λ (t : TypeTree). as_type (kind.set t)) (option_and_then (λ (y : Typed). types_onto s env k y.ty es) r)) x.gives
+        (ap (λ r. option_and_then (λ (t : TypeTree). as_type (kind.set t)) (option_and_then (λ (y : Typed). types_onto settings s env k y.ty es) r)) x.gives
         ∙ ap (option_and_then (λ (t : TypeTree). as_type (kind.set t))) (exact_onto ds k p))
     exact (of_record {fs = fs} {at = at} d ds) k p =
         plainly k (record_with fs) (kind.record_of at)
         (ap₂ (λ x y. only_if x (option_and_then (λ (at : Attributes). as_type (kind.record_of at)) y)) (test_from_distinct (names_of fs) d) (exact_entries ds k p))
     exact (of_decimal {t = t} e) k p = plainly k (unary operator.Decimal (literal (text t))) kind.decimal (ap (λ r. only_if (is_some r) (as_type kind.decimal)) e)
+    exact (of_any_decimal {g = g} {e = e} on n d) k p = one k operator.Decimal e kind.string kind.decimal g (exact d k p) (λ h. decimal_exact e n on)
     exact (of_decimals {ga = ga} {gb = gb} {a = a} {b = b} {op = op} is da db) k p = two k op a b kind.decimal kind.decimal (kind.boolean Any) ga gb (exact da k p) (exact db k p) (decimals_exact op a b is)
 
-    exact_onto : {h : Capabilities} {es : Expressions} {t v : TypeTree} → JoinsOnto s env h t es v → (k : Capabilities) → AreSame h k → types_onto s env k t es ≡ Some v
+    exact_onto : {h : Capabilities} {es : Expressions} {t v : TypeTree} → JoinsOnto settings s env h t es v → (k : Capabilities) → AreSame h k → types_onto settings s env k t es ≡ Some v
     exact_onto joined_all k p = refl
     exact_onto (joined_more {es = es} {t = t} {u = u} {v = v} d j ds) k p =
         let x = exact d k p in
-        ap (option_and_then (λ (y : Typed). option_and_then (λ (v : TypeTree). types_onto s env k v es) (join t y.ty))) x.gives
-        ∙ ap (option_and_then (λ (v : TypeTree). types_onto s env k v es)) (join_found j)
+        ap (option_and_then (λ (y : Typed). option_and_then (λ (v : TypeTree). types_onto settings s env k v es) (join t y.ty))) x.gives
+        ∙ ap (option_and_then (λ (v : TypeTree). types_onto settings s env k v es)) (join_found j)
         ∙ exact_onto ds k p
 
-    exact_entries : {h : Capabilities} {fs : Entries} {at more : Attributes} → AddsOnto s env h at fs more → (k : Capabilities) → AreSame h k → types_entries s env k at fs ≡ Some more
+    exact_entries : {h : Capabilities} {fs : Entries} {at more : Attributes} → AddsOnto settings s env h at fs more → (k : Capabilities) → AreSame h k → types_entries settings s env k at fs ≡ Some more
     exact_entries added_all k p = refl
     exact_entries (added_more {k = key} {fs = fs} {at = at} d ds) k p =
         let x = exact d k p in
-        ap (option_and_then (λ (y : Typed). types_entries s env k (with_attribute key true y.ty at) fs)) x.gives ∙ exact_entries ds k p
+        ap (option_and_then (λ (y : Typed). types_entries settings s env k (with_attribute key true y.ty at) fs)) x.gives ∙ exact_entries ds k p
 
-pub found_is_typed : FoundIsTyped
-found_is_typed s env h e x r = found s env e h x r
+pub found_is_typed : (settings : Settings) → FoundIsTypedWith settings
+found_is_typed settings s env h e x r = found settings s env e h x r
 
-pub typed_is_found : TypedIsFound
-typed_is_found s env h g e t d =
-    let x = exact s env d h (record { each = λ c. (λ m. m, λ m. m) }) in
+pub typed_is_found : (settings : Settings) → TypedIsFoundWith settings
+typed_is_found settings s env h g e t d =
+    let x = exact settings s env d h (record { each = λ c. (λ m. m, λ m. m) }) in
     record { answer = record { ty = t; gained = x.gained }; given = x.gives; ty = refl; same = x.same }
 
 -- a policy's form
@@ -307,8 +314,8 @@ form_from : (r : Option Typed) (f : Truth) → option_and_then (λ x. truth_in x
 form_from None f e = cc
 form_from (Some x) f e = (x, refl, form_is x.ty f e)
 
-pub form_is_found : FormIsFound
-form_is_found s env p f = (
-  λ h. let x = exact s env h.1 [] (record { each = λ c. (λ m. m, λ m. m) }) in ap (option_and_then (λ (y : Typed). truth_in y.ty)) x.gives,
-  λ e. let r = form_from (type_in s env p) f e in (r.0.gained, subst (λ (t : TypeTree). Types s env [] (replace env.action (condition_of p)) t r.0.gained) r.2 (found s env (replace env.action (condition_of p)) [] r.0 r.1)),
+pub form_is_found : (settings : Settings) → FormIsFoundWith settings
+form_is_found settings s env p f = (
+  λ h. let x = exact settings s env h.1 [] (record { each = λ c. (λ m. m, λ m. m) }) in ap (option_and_then (λ (y : Typed). truth_in y.ty)) x.gives,
+  λ e. let r = form_from (type_in_with settings s env p) f e in (r.0.gained, subst (λ (t : TypeTree). TypesWith settings s env [] (replace env.action (condition_of p)) t r.0.gained) r.2 (found settings s env (replace env.action (condition_of p)) [] r.0 r.1)),
 )

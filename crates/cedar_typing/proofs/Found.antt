@@ -28,14 +28,15 @@ use Rattle.cedar_schema.specs.Descents.{ActionDescends, TypeDescends}
 use Rattle.cedar_types.specs.Membership.{known}
 use Rattle.cedar_schema.specs.Declarations.{is_entity_type, is_action, is_action_type, action_below, type_below}
 use Rattle.cedar_typing.specs.Capabilities.{Capability, Capabilities, Has, IsUnion, IsCommon}
-use Rattle.cedar_typing.specs.Typing.{attributes_in, is_record, flipped, is_arithmetic, is_comparison, is_decimal_comparison, is_set_comparison, MayHold, two_literals, written_uids, names_of, NamesAction, AreWritten, IsInOne, IsOrDescends, Target, one_entity, entity_set, Types, of_boolean, of_long, of_text, of_uid, of_principal, of_resource, of_context, of_not, and_false, and_then_false, and_then_true, and_then_any, or_true, or_false, or_any_true, or_any_false, or_any_any, if_true, if_false, if_any, of_negative, of_arithmetic, of_comparison, equal_literals, equal_joined, equal_apart, has_none, has_held, has_required, has_any, of_get, of_like, of_is, in_written, in_related, in_unrelated, of_contains, of_set_comparison, of_set, of_record, of_decimal, of_decimals, JoinsOnto, joined_all, joined_more, AddsOnto, added_all, added_more}
+use Rattle.cedar_typing.specs.Typing.{attributes_in, is_record, flipped, is_arithmetic, is_comparison, is_decimal_comparison, is_set_comparison, MayHold, two_literals, written_uids, names_of, NamesAction, AreWritten, IsInOne, IsOrDescends, Target, one_entity, entity_set, is_literal, TypesWith, of_boolean, of_long, of_text, of_uid, of_principal, of_resource, of_context, of_not, and_false, and_then_false, and_then_true, and_then_any, or_true, or_false, or_any_true, or_any_false, or_any_any, if_true, if_false, if_any, of_negative, of_arithmetic, of_comparison, equal_literals, equal_joined, equal_apart, has_none, has_held, has_required, has_any, of_get, of_like, of_is, in_written, in_related, in_unrelated, of_contains, of_set_comparison, of_is_empty, of_set, of_record, of_decimal, of_any_decimal, of_decimals, JoinsOnto, joined_all, joined_more, AddsOnto, added_all, added_more}
 use Rattle.cedar_types.specs.Lookup.{attribute_at}
 use Rattle.cedar_types.specs.declared.attribute.Attribute.{Attribute}
 use Rattle.cedar_types.specs.Ordered.{with_attribute}
-use Rattle.cedar_typing.specs.Checking.{Typed, is_held, common, are_distinct, as_type, gaining, truth_in, entity_in, element_in, target_in, is_long, is_string, is_decimal, on_boolean, on_two, literal_type, variable_type, and_right, and_type, or_right, or_type, if_type, has_type, get_type, decimal_type, unary_type, apart, any_or, equal_literal_type, any_if, names_action, is_or_descends, is_in_written, in_truth, any_where, sets_type, longs_type, decimals_type, binary_type, type_of, types_all, types_onto, types_entries}
+use Rattle.cedar_typing.specs.Checking.{Typed, is_held, common, are_distinct, as_type, gaining, truth_in, entity_in, element_in, target_in, is_long, is_string, is_decimal, on_boolean, on_two, literal_type, variable_type, and_right, and_type, or_right, or_type, if_type, has_type, get_type, literal_decimal_type, decimal_type, unary_type, apart, any_or, equal_literal_type, any_if, names_action, is_or_descends, is_in_written, in_truth, any_where, sets_type, longs_type, decimals_type, binary_type, type_of_with, types_all, types_onto, types_entries}
 use Rattle.cedar_typing.proofs.Listed.{both_true, either_true, either_decides, any_decides}
 use Rattle.cedar_typing.proofs.Descents.{is_action-Decides, is_action_type-Decides, action_below-Decides, type_below-Decides}
 use Rattle.cedar_typing.proofs.Trees.{cap_from_test, no_cap_from_test, distinct_from_test}
+use Rattle.cedar_typing.specs.declared.settings.Settings.{Settings}
 
 -- taking apart an answer that is there
 pub and_then_some : {A B : Type 0} (f : A → Option B) (r : Option A) (x : B) → option_and_then f r ≡ Some x → (a : A) × (r ≡ Some a) × (f a ≡ Some x)
@@ -148,16 +149,16 @@ on_two_some a b k x e =
     let r = and_then_some as_type (k p.0.ty q.0.ty) x q.2 in
     record { left = p.0; right = q.0; ty = r.0; has_left = p.1; has_right = q.1; next = r.1; end = r.2 }
 
-module _ (s : SchemaTree) (env : Environment) where
+module _ (settings : Settings) (s : SchemaTree) (env : Environment) where
   -- a typing whose type and gains these are
   abbrev IsTyped : Capabilities → Expression → Typed → Type 0
-  IsTyped h e x = Types s env h e x.ty x.gained
+  IsTyped h e x = TypesWith settings s env h e x.ty x.gained
 
   from_some : (h : Capabilities) (e : Expression) (y x : Typed) → Some y ≡ Some x → IsTyped h e y → IsTyped h e x
   from_some h e y x d t = let p : y ≡ x = cc in subst (IsTyped h e) p t
 
-  as_form : (h : Capabilities) (e : Expression) (t : TypeTree) (g : Capabilities) (u : TypeTree) → t ≡ u → Types s env h e t g → Types s env h e u g
-  as_form h e t g u d h' = subst (λ (x : TypeTree). Types s env h e x g) d h'
+  as_form : (h : Capabilities) (e : Expression) (t : TypeTree) (g : Capabilities) (u : TypeTree) → t ≡ u → TypesWith settings s env h e t g → TypesWith settings s env h e u g
+  as_form h e t g u d h' = subst (λ (x : TypeTree). TypesWith settings s env h e x g) d h'
 
   found_literal : (h : Capabilities) (l : Datum) (x : Typed) → literal_type s l ≡ Some x → IsTyped h (literal l) x
   found_literal h (boolean b) x e = from_some h (literal (boolean b)) (record { ty = kind.boolean (known b); gained = [] }) x e of_boolean
@@ -174,44 +175,44 @@ module _ (s : SchemaTree) (env : Environment) where
   found_variable h Resource x e = from_some h (variable Resource) (record { ty = kind.entity env.resource; gained = [] }) x e of_resource
   found_variable h Context x e = from_some h (variable Context) (record { ty = env.context; gained = [] }) x e of_context
 
-  found_and_right : (h : Capabilities) (a b : Expression) (f fb : Truth) (ga gb : Capabilities) (x : Typed) → Types s env h a (kind.boolean f) ga → MayHold f → Types s env (h ++ ga) b (kind.boolean fb) gb → and_right f ga fb gb ≡ Some x → IsTyped h (and a b) x
+  found_and_right : (h : Capabilities) (a b : Expression) (f fb : Truth) (ga gb : Capabilities) (x : Typed) → TypesWith settings s env h a (kind.boolean f) ga → MayHold f → TypesWith settings s env (h ++ ga) b (kind.boolean fb) gb → and_right f ga fb gb ≡ Some x → IsTyped h (and a b) x
   found_and_right h a b f False ga gb x da m db e = from_some h (and a b) (record { ty = kind.boolean False; gained = [] }) x e (and_then_false da m (union_append h ga) db)
   found_and_right h a b f True ga gb x da m db e = from_some h (and a b) (record { ty = kind.boolean f; gained = ga ++ gb }) x e (and_then_true da m (union_append h ga) db (union_append ga gb))
   found_and_right h a b f Any ga gb x da m db e = from_some h (and a b) (record { ty = kind.boolean Any; gained = ga ++ gb }) x e (and_then_any da m (union_append h ga) db (union_append ga gb))
 
-  found_and : (h : Capabilities) (a b : Expression) (f : Truth) (ga : Capabilities) (x : Typed) → Types s env h a (kind.boolean f) ga → ((k : Capabilities) (y : Typed) → type_of s env k b ≡ Some y → IsTyped k b y) → and_type h (λ k. type_of s env k b) f ga ≡ Some x → IsTyped h (and a b) x
+  found_and : (h : Capabilities) (a b : Expression) (f : Truth) (ga : Capabilities) (x : Typed) → TypesWith settings s env h a (kind.boolean f) ga → ((k : Capabilities) (y : Typed) → type_of_with settings s env k b ≡ Some y → IsTyped k b y) → and_type h (λ k. type_of_with settings s env k b) f ga ≡ Some x → IsTyped h (and a b) x
   found_and h a b False ga x da rest e = from_some h (and a b) (record { ty = kind.boolean False; gained = [] }) x e (and_false da)
   found_and h a b True ga x da rest e =
-      let p = on_bool_some (type_of s env (h ++ ga) b) (and_right True ga) x e in
+      let p = on_bool_some (type_of_with settings s env (h ++ ga) b) (and_right True ga) x e in
       found_and_right h a b True p.form ga p.typed.gained x da tt (as_form (h ++ ga) b p.typed.ty p.typed.gained (kind.boolean p.form) p.is (rest (h ++ ga) p.typed p.given)) p.next
   found_and h a b Any ga x da rest e =
-      let p = on_bool_some (type_of s env (h ++ ga) b) (and_right Any ga) x e in
+      let p = on_bool_some (type_of_with settings s env (h ++ ga) b) (and_right Any ga) x e in
       found_and_right h a b Any p.form ga p.typed.gained x da tt (as_form (h ++ ga) b p.typed.ty p.typed.gained (kind.boolean p.form) p.is (rest (h ++ ga) p.typed p.given)) p.next
 
-  found_or_right : (h : Capabilities) (a b : Expression) (fb : Truth) (ga gb : Capabilities) (x : Typed) → Types s env h a (kind.boolean Any) ga → Types s env h b (kind.boolean fb) gb → or_right ga fb gb ≡ Some x → IsTyped h (or a b) x
+  found_or_right : (h : Capabilities) (a b : Expression) (fb : Truth) (ga gb : Capabilities) (x : Typed) → TypesWith settings s env h a (kind.boolean Any) ga → TypesWith settings s env h b (kind.boolean fb) gb → or_right ga fb gb ≡ Some x → IsTyped h (or a b) x
   found_or_right h a b True ga gb x da db e = from_some h (or a b) (record { ty = kind.boolean True; gained = [] }) x e (or_any_true da db)
   found_or_right h a b False ga gb x da db e = from_some h (or a b) (record { ty = kind.boolean Any; gained = ga }) x e (or_any_false da db)
   found_or_right h a b Any ga gb x da db e = from_some h (or a b) (record { ty = kind.boolean Any; gained = common ga gb }) x e (or_any_any da db (common_is ga gb))
 
-  found_or : (h : Capabilities) (a b : Expression) (f : Truth) (ga : Capabilities) (x : Typed) → Types s env h a (kind.boolean f) ga → ((y : Typed) → type_of s env h b ≡ Some y → IsTyped h b y) → or_type (type_of s env h b) f ga ≡ Some x → IsTyped h (or a b) x
+  found_or : (h : Capabilities) (a b : Expression) (f : Truth) (ga : Capabilities) (x : Typed) → TypesWith settings s env h a (kind.boolean f) ga → ((y : Typed) → type_of_with settings s env h b ≡ Some y → IsTyped h b y) → or_type (type_of_with settings s env h b) f ga ≡ Some x → IsTyped h (or a b) x
   found_or h a b True ga x da rest e = from_some h (or a b) (record { ty = kind.boolean True; gained = [] }) x e (or_true da)
   found_or h a b False ga x da rest e =
-      let p = on_bool_some (type_of s env h b) (λ f gb. gaining (kind.boolean f) gb) x e in
+      let p = on_bool_some (type_of_with settings s env h b) (λ f gb. gaining (kind.boolean f) gb) x e in
       from_some h (or a b) (record { ty = kind.boolean p.form; gained = p.typed.gained }) x p.next (or_false da (as_form h b p.typed.ty p.typed.gained (kind.boolean p.form) p.is (rest p.typed p.given)))
   found_or h a b Any ga x da rest e =
-      let p = on_bool_some (type_of s env h b) (or_right ga) x e in
+      let p = on_bool_some (type_of_with settings s env h b) (or_right ga) x e in
       found_or_right h a b p.form ga p.typed.gained x da (as_form h b p.typed.ty p.typed.gained (kind.boolean p.form) p.is (rest p.typed p.given)) p.next
 
-  found_if : (h : Capabilities) (i a b : Expression) (f : Truth) (gi : Capabilities) (x : Typed) → Types s env h i (kind.boolean f) gi → ((k : Capabilities) (y : Typed) → type_of s env k a ≡ Some y → IsTyped k a y) → ((y : Typed) → type_of s env h b ≡ Some y → IsTyped h b y) → if_type (λ g. type_of s env (h ++ g) a) (type_of s env h b) f gi ≡ Some x → IsTyped h (if_else i a b) x
+  found_if : (h : Capabilities) (i a b : Expression) (f : Truth) (gi : Capabilities) (x : Typed) → TypesWith settings s env h i (kind.boolean f) gi → ((k : Capabilities) (y : Typed) → type_of_with settings s env k a ≡ Some y → IsTyped k a y) → ((y : Typed) → type_of_with settings s env h b ≡ Some y → IsTyped h b y) → if_type (λ g. type_of_with settings s env (h ++ g) a) (type_of_with settings s env h b) f gi ≡ Some x → IsTyped h (if_else i a b) x
   found_if h i a b True gi x di first second e =
-      let p = map_some (λ (t : Typed). let y : Typed = record { ty = t.ty; gained = gi ++ t.gained } in y) (type_of s env (h ++ gi) a) x e in
+      let p = map_some (λ (t : Typed). let y : Typed = record { ty = t.ty; gained = gi ++ t.gained } in y) (type_of_with settings s env (h ++ gi) a) x e in
       let y : Typed = record { ty = p.0.ty; gained = gi ++ p.0.gained } in
       subst (IsTyped h (if_else i a b)) {x = y} p.2 (if_true di (union_append h gi) (first (h ++ gi) p.0 p.1) (union_append gi p.0.gained))
   found_if h i a b False gi x di first second e = if_false di (second x e)
   found_if h i a b Any gi x di first second e =
       let end = λ (t u : Typed) (v : TypeTree). let y : Typed = record { ty = v; gained = common (gi ++ t.gained) u.gained } in y in
-      let p = and_then_some (λ (t : Typed). option_and_then (λ (u : Typed). option_map (end t u) (join t.ty u.ty)) (type_of s env h b)) (type_of s env (h ++ gi) a) x e in
-      let q = and_then_some (λ (u : Typed). option_map (end p.0 u) (join p.0.ty u.ty)) (type_of s env h b) x p.2 in
+      let p = and_then_some (λ (t : Typed). option_and_then (λ (u : Typed). option_map (end t u) (join t.ty u.ty)) (type_of_with settings s env h b)) (type_of_with settings s env (h ++ gi) a) x e in
+      let q = and_then_some (λ (u : Typed). option_map (end p.0 u) (join p.0.ty u.ty)) (type_of_with settings s env h b) x p.2 in
       let r = map_some (end p.0 q.0) (join p.0.ty q.0.ty) x q.2 in
       let y : Typed = end p.0 q.0 r.0 in
       subst (IsTyped h (if_else i a b)) {x = y} r.2 (if_any {v = r.0} di (union_append h gi) (first (h ++ gi) p.0 p.1) (second q.0 q.1) (join_sound p.0.ty q.0.ty r.0 r.1) (union_append gi p.0.gained) (common_is (gi ++ p.0.gained) q.0.gained))
@@ -221,35 +222,45 @@ module _ (s : SchemaTree) (env : Environment) where
   not_required (kind.record_of sh) d e = inr e
   not_required _ d e = inl refl
 
-  required_record : (h g : Capabilities) (e : Expression) (a : List ℕ) (t : TypeTree) (sh : Attributes) (d : Attribute) → Types s env h e t g → attributes_in s t ≡ Some sh → attribute_at a sh ≡ Some d → (is_record t && d.required) ≡ true → Types s env h (unary (operator.Has a) e) (kind.boolean True) []
+  required_record : (h g : Capabilities) (e : Expression) (a : List ℕ) (t : TypeTree) (sh : Attributes) (d : Attribute) → TypesWith settings s env h e t g → attributes_in s t ≡ Some sh → attribute_at a sh ≡ Some d → (is_record t && d.required) ≡ true → TypesWith settings s env h (unary (operator.Has a) e) (kind.boolean True) []
   required_record h g e a (kind.record_of b) sh d de at f p =
       let q : b ≡ sh = cc in
-      has_required (subst (λ (x : Attributes). Types s env h e (kind.record_of x) g) q de) f p
+      has_required (subst (λ (x : Attributes). TypesWith settings s env h e (kind.record_of x) g) q de) f p
   required_record h g e a _ sh d de at f p = cc
 
-  found_has : (h g : Capabilities) (e : Expression) (a : List ℕ) (t : TypeTree) (sh : Attributes) (d : Attribute) (b c : Bool) (x : Typed) → Types s env h e t g → attributes_in s t ≡ Some sh → attribute_at a sh ≡ Some d → is_held (record { on = e; key = a }) h ≡ b → (is_record t && d.required) ≡ c → cond (b || c) (as_type (kind.boolean True)) (gaining (kind.boolean Any) (record { on = e; key = a } ∷ [])) ≡ Some x → IsTyped h (unary (operator.Has a) e) x
+  found_has : (h g : Capabilities) (e : Expression) (a : List ℕ) (t : TypeTree) (sh : Attributes) (d : Attribute) (b c : Bool) (x : Typed) → TypesWith settings s env h e t g → attributes_in s t ≡ Some sh → attribute_at a sh ≡ Some d → is_held (record { on = e; key = a }) h ≡ b → (is_record t && d.required) ≡ c → cond (b || c) (as_type (kind.boolean True)) (gaining (kind.boolean Any) (record { on = e; key = a } ∷ [])) ≡ Some x → IsTyped h (unary (operator.Has a) e) x
   found_has h g e a t sh d true c x de at f p q r = from_some h (unary (operator.Has a) e) (record { ty = kind.boolean True; gained = [] }) x r (has_held de at f (cap_from_test (record { on = e; key = a }) h p))
   found_has h g e a t sh d false true x de at f p q r = from_some h (unary (operator.Has a) e) (record { ty = kind.boolean True; gained = [] }) x r (required_record h g e a t sh d de at f q)
   found_has h g e a t sh d false false x de at f p q r = from_some h (unary (operator.Has a) e) (record { ty = kind.boolean Any; gained = record { on = e; key = a } ∷ [] }) x r (has_any de at f (no_cap_from_test (record { on = e; key = a }) h p) (not_required t d q))
 
-  found_has_at : (h g : Capabilities) (e : Expression) (a : List ℕ) (t : TypeTree) (sh : Attributes) (m : Option Attribute) (x : Typed) → Types s env h e t g → attributes_in s t ≡ Some sh → attribute_at a sh ≡ m → has_type h e a t m ≡ Some x → IsTyped h (unary (operator.Has a) e) x
+  found_has_at : (h g : Capabilities) (e : Expression) (a : List ℕ) (t : TypeTree) (sh : Attributes) (m : Option Attribute) (x : Typed) → TypesWith settings s env h e t g → attributes_in s t ≡ Some sh → attribute_at a sh ≡ m → has_type h e a t m ≡ Some x → IsTyped h (unary (operator.Has a) e) x
   found_has_at h g e a t sh None x de at f r = from_some h (unary (operator.Has a) e) (record { ty = kind.boolean False; gained = [] }) x r (has_none de at f)
   found_has_at h g e a t sh (Some d) x de at f r = found_has h g e a t sh d (is_held (record { on = e; key = a }) h) (is_record t && d.required) x de at f refl refl r
 
-  found_get_at : (h g : Capabilities) (e : Expression) (a : List ℕ) (t : TypeTree) (sh : Attributes) (m : Option Attribute) (x : Typed) → Types s env h e t g → attributes_in s t ≡ Some sh → attribute_at a sh ≡ m → get_type h e a m ≡ Some x → IsTyped h (unary (operator.Get a) e) x
+  found_get_at : (h g : Capabilities) (e : Expression) (a : List ℕ) (t : TypeTree) (sh : Attributes) (m : Option Attribute) (x : Typed) → TypesWith settings s env h e t g → attributes_in s t ≡ Some sh → attribute_at a sh ≡ m → get_type h e a m ≡ Some x → IsTyped h (unary (operator.Get a) e) x
   found_get_at h g e a t sh None x de at f r = cc
   found_get_at h g e a t sh (Some d) x de at f r =
       let p = only_if_some (d.required || is_held (record { on = e; key = a }) h) (as_type d.ty) x r in
       from_some h (unary (operator.Get a) e) (record { ty = d.ty; gained = [] }) x p.1 (of_get de at f (⊎_elim (λ q. inl q) (λ q. inr (cap_from_test (record { on = e; key = a }) h q)) (either_true d.required (is_held (record { on = e; key = a }) h) p.0)))
 
-  found_decimal : (h : Capabilities) (e : Expression) (x : Typed) → decimal_type e ≡ Some x → IsTyped h (unary operator.Decimal e) x
-  found_decimal h (literal (text t)) x e =
+  found_literal_decimal : (h : Capabilities) (l : Datum) (x : Typed) → literal_decimal_type l ≡ Some x → IsTyped h (unary operator.Decimal (literal l)) x
+  found_literal_decimal h (text t) x e =
       let p = only_if_some (is_some (decimal_of t)) (as_type kind.decimal) x e in
       let q = some_there (decimal_of t) p.0 in
       from_some h (unary operator.Decimal (literal (text t))) (record { ty = kind.decimal; gained = [] }) x p.1 (of_decimal q.1)
-  found_decimal h _ x e = cc
+  found_literal_decimal h _ x e = cc
 
-  found_unary : (h : Capabilities) (op : UnaryOperator) (e : Expression) (t x : Typed) → IsTyped h e t → unary_type s h op e t ≡ Some x → IsTyped h (unary op e) x
+  found_any_decimal : (h g : Capabilities) (e : Expression) (t : TypeTree) (x : Typed) → TypesWith settings s env h e t g → is_literal e ≡ false → only_if (settings.any_decimal && is_string t) (as_type kind.decimal) ≡ Some x → IsTyped h (unary operator.Decimal e) x
+  found_any_decimal h g e t x d n r =
+      let p = only_if_some (settings.any_decimal && is_string t) (as_type kind.decimal) x r in
+      let q = both_true settings.any_decimal (is_string t) p.0 in
+      from_some h (unary operator.Decimal e) (record { ty = kind.decimal; gained = [] }) x p.1 (of_any_decimal q.0 n (as_form h e t g kind.string (text_is t q.1) d))
+
+  found_decimal : (h g : Capabilities) (e : Expression) (t : TypeTree) (x : Typed) → TypesWith settings s env h e t g → decimal_type settings e t ≡ Some x → IsTyped h (unary operator.Decimal e) x
+  found_decimal h g (literal l) t x d r = found_literal_decimal h l x r
+  found_decimal h g _ t x d r = found_any_decimal h g _ t x d refl r
+
+  found_unary : (h : Capabilities) (op : UnaryOperator) (e : Expression) (t x : Typed) → IsTyped h e t → unary_type settings s h op e t ≡ Some x → IsTyped h (unary op e) x
   found_unary h operator.Not e t x d r =
       let p = and_then_some (λ (f : Truth). as_type (kind.boolean (flipped f))) (truth_in t.ty) x r in
       from_some h (unary operator.Not e) (record { ty = kind.boolean (flipped p.0); gained = [] }) x p.2 (of_not (as_form h e t.ty t.gained (kind.boolean p.0) (form_is t.ty p.0 p.1) d))
@@ -269,32 +280,35 @@ module _ (s : SchemaTree) (env : Environment) where
       let p = and_then_some (λ (n : List ℕ). only_if (is_entity_type s u || is_action_type s u) (as_type (kind.boolean (known (bytes_eq n u))))) (entity_in t.ty) x r in
       let q = only_if_some (is_entity_type s u || is_action_type s u) (as_type (kind.boolean (known (bytes_eq p.0 u)))) x p.2 in
       from_some h (unary (operator.Is u) e) (record { ty = kind.boolean (known (bytes_eq p.0 u)); gained = [] }) x q.1 (of_is (as_form h e t.ty t.gained (kind.entity p.0) (entity_is t.ty p.0 p.1) d) (⊎_elim (λ z. inl z) (λ z. inr ((is_action_type-Decides s u).0 z)) (either_true (is_entity_type s u) (is_action_type s u) q.0)))
-  found_unary h operator.Decimal e t x d r = found_decimal h e x r
+  found_unary h operator.Decimal e t x d r = found_decimal h t.gained e t.ty x d r
+  found_unary h operator.IsEmpty e t x d r =
+      let p = and_then_some (λ (m : TypeTree). as_type (kind.boolean Any)) (element_in t.ty) x r in
+      from_some h (unary operator.IsEmpty e) (record { ty = kind.boolean Any; gained = [] }) x p.2 (of_is_empty (as_form h e t.ty t.gained (kind.set p.0) (element_is t.ty p.0 p.1) d))
 
   -- two operands
   not_apart : (m n : List ℕ) → not (bytes_eq m n) ≡ true → m ≡ n → ⊥
   not_apart m n e p = let b : bytes_eq m n ≡ true = (bytes_eq-Decides m n).1 p in let c : not true ≡ true = ap not (sym b) ∙ e in cc
 
-  from_type : (h : Capabilities) (e : Expression) (t v : TypeTree) → Some t ≡ Some v → Types s env h e t [] → Types s env h e v []
-  from_type h e t v d k = let p : t ≡ v = cc in subst (λ (x : TypeTree). Types s env h e x []) p k
+  from_type : (h : Capabilities) (e : Expression) (t v : TypeTree) → Some t ≡ Some v → TypesWith settings s env h e t [] → TypesWith settings s env h e v []
+  from_type h e t v d k = let p : t ≡ v = cc in subst (λ (x : TypeTree). TypesWith settings s env h e x []) p k
 
-  found_apart : (h ga gb : Capabilities) (a b : Expression) (t u v : TypeTree) → Types s env h a t ga → Types s env h b u gb → two_literals a b ≡ false → (m n : Option (List ℕ)) → entity_in t ≡ m → entity_in u ≡ n → apart m n ≡ Some v → Types s env h (binary binary_operator.Equal a b) v []
+  found_apart : (h ga gb : Capabilities) (a b : Expression) (t u v : TypeTree) → TypesWith settings s env h a t ga → TypesWith settings s env h b u gb → two_literals a b ≡ false → (m n : Option (List ℕ)) → entity_in t ≡ m → entity_in u ≡ n → apart m n ≡ Some v → TypesWith settings s env h (binary binary_operator.Equal a b) v []
   found_apart h ga gb a b t u v da db n (Some m) (Some k) p q r =
       let w = only_if_some (not (bytes_eq m k)) (Some (kind.boolean False)) v r in
       from_type h (binary binary_operator.Equal a b) (kind.boolean False) v w.1 (equal_apart n (as_form h a t ga (kind.entity m) (entity_is t m p) da) (as_form h b u gb (kind.entity k) (entity_is u k q) db) (not_apart m k w.0))
   found_apart h ga gb a b t u v da db n (Some m) None p q r = cc
   found_apart h ga gb a b t u v da db n None k p q r = cc
 
-  found_any_or : (h ga gb : Capabilities) (a b : Expression) (t u v : TypeTree) → Types s env h a t ga → Types s env h b u gb → two_literals a b ≡ false → (m : Option TypeTree) → join t u ≡ m → any_or m (apart (entity_in t) (entity_in u)) ≡ Some v → Types s env h (binary binary_operator.Equal a b) v []
+  found_any_or : (h ga gb : Capabilities) (a b : Expression) (t u v : TypeTree) → TypesWith settings s env h a t ga → TypesWith settings s env h b u gb → two_literals a b ≡ false → (m : Option TypeTree) → join t u ≡ m → any_or m (apart (entity_in t) (entity_in u)) ≡ Some v → TypesWith settings s env h (binary binary_operator.Equal a b) v []
   found_any_or h ga gb a b t u v da db n (Some w) j r = from_type h (binary binary_operator.Equal a b) (kind.boolean Any) v r (equal_joined n da db (join_sound t u w j))
   found_any_or h ga gb a b t u v da db n None j r = found_apart h ga gb a b t u v da db n (entity_in t) (entity_in u) refl refl r
 
-  found_literals : (h ga gb : Capabilities) (a b : Expression) (t u v : TypeTree) → Types s env h a t ga → Types s env h b u gb → equal_literal_type a b ≡ Some v → Types s env h (binary binary_operator.Equal a b) v []
+  found_literals : (h ga gb : Capabilities) (a b : Expression) (t u v : TypeTree) → TypesWith settings s env h a t ga → TypesWith settings s env h b u gb → equal_literal_type a b ≡ Some v → TypesWith settings s env h (binary binary_operator.Equal a b) v []
   found_literals h ga gb (literal l) (literal m) t u v da db r = from_type h (binary binary_operator.Equal (literal l) (literal m)) (kind.boolean (known (same l m))) v r (equal_literals da db)
   found_literals h ga gb (literal l) _ t u v da db r = cc
   found_literals h ga gb _ b t u v da db r = cc
 
-  found_equal : (h ga gb : Capabilities) (a b : Expression) (t u v : TypeTree) → Types s env h a t ga → Types s env h b u gb → (c : Bool) → two_literals a b ≡ c → cond c (equal_literal_type a b) (any_or (join t u) (apart (entity_in t) (entity_in u))) ≡ Some v → Types s env h (binary binary_operator.Equal a b) v []
+  found_equal : (h ga gb : Capabilities) (a b : Expression) (t u v : TypeTree) → TypesWith settings s env h a t ga → TypesWith settings s env h b u gb → (c : Bool) → two_literals a b ≡ c → cond c (equal_literal_type a b) (any_or (join t u) (apart (entity_in t) (entity_in u))) ≡ Some v → TypesWith settings s env h (binary binary_operator.Equal a b) v []
   found_equal h ga gb a b t u v da db true n r = found_literals h ga gb a b t u v da db r
   found_equal h ga gb a b t u v da db false n r = found_any_or h ga gb a b t u v da db n (join t u) refl r
 
@@ -309,16 +323,16 @@ module _ (s : SchemaTree) (env : Environment) where
   names_action-Decides (literal (uid u)) = is_action-Decides s u
   names_action-Decides _ = (λ e. cc, λ h. absurd h)
 
-  found_by_types : (h ga gb : Capabilities) (a b : Expression) (m n : List ℕ) (v : TypeTree) → Types s env h a (kind.entity m) ga → Types s env h b v gb → Target v n → ¬ AreWritten s a b → (c : Bool) → (bytes_eq m n || type_below s m n) ≡ c → Types s env h (binary binary_operator.In a b) (kind.boolean (any_if c)) []
+  found_by_types : (h ga gb : Capabilities) (a b : Expression) (m n : List ℕ) (v : TypeTree) → TypesWith settings s env h a (kind.entity m) ga → TypesWith settings s env h b v gb → Target v n → ¬ AreWritten s a b → (c : Bool) → (bytes_eq m n || type_below s m n) ≡ c → TypesWith settings s env h (binary binary_operator.In a b) (kind.boolean (any_if c)) []
   found_by_types h ga gb a b m n v da db k w true e = in_related da db k w ((related-Decides m n).0 e)
   found_by_types h ga gb a b m n v da db k w false e = in_unrelated da db k w (λ r. let t = (related-Decides m n).1 r in let c : true ≡ false = sym t ∙ e in cc)
 
-  found_written : (h ga gb : Capabilities) (a b : Expression) (m n : List ℕ) (v : TypeTree) (o : Option (List Uid)) → Types s env h a (kind.entity m) ga → Types s env h b v gb → Target v n → NamesAction s a → written_uids b ≡ o → is_some o ≡ true → Types s env h (binary binary_operator.In a b) (kind.boolean (known (is_in_written s a o))) []
+  found_written : (h ga gb : Capabilities) (a b : Expression) (m n : List ℕ) (v : TypeTree) (o : Option (List Uid)) → TypesWith settings s env h a (kind.entity m) ga → TypesWith settings s env h b v gb → Target v n → NamesAction s a → written_uids b ≡ o → is_some o ≡ true → TypesWith settings s env h (binary binary_operator.In a b) (kind.boolean (known (is_in_written s a o))) []
   found_written h ga gb (literal (uid u)) b m n v (Some us) da db k act e p = in_written da db k act e (written-Decides u us)
   found_written h ga gb (literal (uid u)) b m n v None da db k act e p = cc
   found_written h ga gb _ b m n v o da db k act e p = absurd act
 
-  found_in : (h ga gb : Capabilities) (a b : Expression) (m n : List ℕ) (v : TypeTree) → Types s env h a (kind.entity m) ga → Types s env h b v gb → Target v n → (c : Bool) → (names_action s a && is_some (written_uids b)) ≡ c → Types s env h (binary binary_operator.In a b) (kind.boolean (cond c (known (is_in_written s a (written_uids b))) (any_if (bytes_eq m n || type_below s m n)))) []
+  found_in : (h ga gb : Capabilities) (a b : Expression) (m n : List ℕ) (v : TypeTree) → TypesWith settings s env h a (kind.entity m) ga → TypesWith settings s env h b v gb → Target v n → (c : Bool) → (names_action s a && is_some (written_uids b)) ≡ c → TypesWith settings s env h (binary binary_operator.In a b) (kind.boolean (cond c (known (is_in_written s a (written_uids b))) (any_if (bytes_eq m n || type_below s m n)))) []
   found_in h ga gb a b m n v da db k true e =
       let p = both_true (names_action s a) (is_some (written_uids b)) e in
       found_written h ga gb a b m n v (written_uids b) da db k ((names_action-Decides a).0 p.0) refl p.1
@@ -354,23 +368,23 @@ module _ (s : SchemaTree) (env : Environment) where
       let q = both_true (is_long t) (is_long u) p.0 in
       record { is_left = long_is t q.0; is_right = long_is u q.1; end = p.1 }
 
-  module _ (h ga gb : Capabilities) (op : BinaryOperator) (a b : Expression) (t u v : TypeTree) (da : Types s env h a t ga) (db : Types s env h b u gb) where
-    found_arithmetic : is_arithmetic op ≡ true → longs_type kind.long t u ≡ Some v → Types s env h (binary op a b) v []
+  module _ (h ga gb : Capabilities) (op : BinaryOperator) (a b : Expression) (t u v : TypeTree) (da : TypesWith settings s env h a t ga) (db : TypesWith settings s env h b u gb) where
+    found_arithmetic : is_arithmetic op ≡ true → longs_type kind.long t u ≡ Some v → TypesWith settings s env h (binary op a b) v []
     found_arithmetic is r = let p = longs_found t u v kind.long r in from_type h (binary op a b) kind.long v p.end (of_arithmetic is (as_form h a t ga kind.long p.is_left da) (as_form h b u gb kind.long p.is_right db))
 
-    found_comparison : is_comparison op ≡ true → longs_type (kind.boolean Any) t u ≡ Some v → Types s env h (binary op a b) v []
+    found_comparison : is_comparison op ≡ true → longs_type (kind.boolean Any) t u ≡ Some v → TypesWith settings s env h (binary op a b) v []
     found_comparison is r = let p = longs_found t u v (kind.boolean Any) r in from_type h (binary op a b) (kind.boolean Any) v p.end (of_comparison is (as_form h a t ga kind.long p.is_left da) (as_form h b u gb kind.long p.is_right db))
 
-    found_sets : is_set_comparison op ≡ true → sets_type t u ≡ Some v → Types s env h (binary op a b) v []
+    found_sets : is_set_comparison op ≡ true → sets_type t u ≡ Some v → TypesWith settings s env h (binary op a b) v []
     found_sets is r = let p = sets_found t u v r in from_type h (binary op a b) (kind.boolean Any) v p.end (of_set_comparison is (as_form h a t ga (kind.set p.left) p.is_left da) (as_form h b u gb (kind.set p.right) p.is_right db) p.join)
 
-    found_decimals : is_decimal_comparison op ≡ true → decimals_type t u ≡ Some v → Types s env h (binary op a b) v []
+    found_decimals : is_decimal_comparison op ≡ true → decimals_type t u ≡ Some v → TypesWith settings s env h (binary op a b) v []
     found_decimals is r =
         let p = only_if_some (is_decimal t && is_decimal u) (Some (kind.boolean Any)) v r in
         let q = both_true (is_decimal t) (is_decimal u) p.0 in
         from_type h (binary op a b) (kind.boolean Any) v p.1 (of_decimals is (as_form h a t ga kind.decimal (decimal_is t q.0) da) (as_form h b u gb kind.decimal (decimal_is u q.1) db))
 
-  found_binary : (h ga gb : Capabilities) (op : BinaryOperator) (a b : Expression) (t u v : TypeTree) → Types s env h a t ga → Types s env h b u gb → binary_type s op a b t u ≡ Some v → Types s env h (binary op a b) v []
+  found_binary : (h ga gb : Capabilities) (op : BinaryOperator) (a b : Expression) (t u v : TypeTree) → TypesWith settings s env h a t ga → TypesWith settings s env h b u gb → binary_type s op a b t u ≡ Some v → TypesWith settings s env h (binary op a b) v []
   found_binary h ga gb binary_operator.Equal a b t u v da db r = found_equal h ga gb a b t u v da db (two_literals a b) refl r
   found_binary h ga gb binary_operator.Less a b t u v da db r = found_comparison h ga gb binary_operator.Less a b t u v da db refl r
   found_binary h ga gb binary_operator.LessEqual a b t u v da db r = found_comparison h ga gb binary_operator.LessEqual a b t u v da db refl r
@@ -394,43 +408,43 @@ module _ (s : SchemaTree) (env : Environment) where
   found_binary h ga gb binary_operator.DecimalGreaterEqual a b t u v da db r = found_decimals h ga gb binary_operator.DecimalGreaterEqual a b t u v da db refl r
 
   mutual
-    pub found : (e : Expression) (h : Capabilities) (x : Typed) → type_of s env h e ≡ Some x → IsTyped h e x
+    pub found : (e : Expression) (h : Capabilities) (x : Typed) → type_of_with settings s env h e ≡ Some x → IsTyped h e x
     found (literal l) h x r = found_literal h l x r
     found (variable v) h x r = found_variable h v x r
     found (and a b) h x r =
-        let p = on_bool_some (type_of s env h a) (and_type h (λ k. type_of s env k b)) x r in
+        let p = on_bool_some (type_of_with settings s env h a) (and_type h (λ k. type_of_with settings s env k b)) x r in
         found_and h a b p.form p.typed.gained x (as_form h a p.typed.ty p.typed.gained (kind.boolean p.form) p.is (found a h p.typed p.given)) (λ k y q. found b k y q) p.next
     found (or a b) h x r =
-        let p = on_bool_some (type_of s env h a) (or_type (type_of s env h b)) x r in
+        let p = on_bool_some (type_of_with settings s env h a) (or_type (type_of_with settings s env h b)) x r in
         found_or h a b p.form p.typed.gained x (as_form h a p.typed.ty p.typed.gained (kind.boolean p.form) p.is (found a h p.typed p.given)) (λ y q. found b h y q) p.next
     found (if_else i a b) h x r =
-        let p = on_bool_some (type_of s env h i) (if_type (λ g. type_of s env (h ++ g) a) (type_of s env h b)) x r in
+        let p = on_bool_some (type_of_with settings s env h i) (if_type (λ g. type_of_with settings s env (h ++ g) a) (type_of_with settings s env h b)) x r in
         found_if h i a b p.form p.typed.gained x (as_form h i p.typed.ty p.typed.gained (kind.boolean p.form) p.is (found i h p.typed p.given)) (λ k y q. found a k y q) (λ y q. found b h y q) p.next
     found (unary op e) h x r =
-        let p = and_then_some (unary_type s h op e) (type_of s env h e) x r in
+        let p = and_then_some (unary_type settings s h op e) (type_of_with settings s env h e) x r in
         found_unary h op e p.0 x (found e h p.0 p.1) p.2
     found (binary op a b) h x r =
-        let p = on_two_some (type_of s env h a) (type_of s env h b) (binary_type s op a b) x r in
+        let p = on_two_some (type_of_with settings s env h a) (type_of_with settings s env h b) (binary_type s op a b) x r in
         from_some h (binary op a b) (record { ty = p.ty; gained = [] }) x p.end (found_binary h p.left.gained p.right.gained op a b p.left.ty p.right.ty p.ty (found a h p.left p.has_left) (found b h p.right p.has_right) p.next)
     found (set_with no_more) h x r = cc
     found (set_with (and_then e es)) h x r =
-        let p = and_then_some (λ (t : TypeTree). as_type (kind.set t)) (types_all s env h (and_then e es)) x r in
-        let d = and_then_some (λ (y : Typed). types_onto s env h y.ty es) (type_of s env h e) p.0 p.1 in
+        let p = and_then_some (λ (t : TypeTree). as_type (kind.set t)) (types_all settings s env h (and_then e es)) x r in
+        let d = and_then_some (λ (y : Typed). types_onto settings s env h y.ty es) (type_of_with settings s env h e) p.0 p.1 in
         from_some h (set_with (and_then e es)) (record { ty = kind.set p.0; gained = [] }) x p.2 (of_set (found e h d.0 d.1) (found_onto es h d.0.ty p.0 d.2))
     found (record_with fs) h x r =
-        let c = only_if_some (are_distinct (names_of fs)) (option_and_then (λ (at : Attributes). as_type (kind.record_of at)) (types_entries s env h no_attributes fs)) x r in
-        let p = and_then_some (λ (at : Attributes). as_type (kind.record_of at)) (types_entries s env h no_attributes fs) x c.1 in
+        let c = only_if_some (are_distinct (names_of fs)) (option_and_then (λ (at : Attributes). as_type (kind.record_of at)) (types_entries settings s env h no_attributes fs)) x r in
+        let p = and_then_some (λ (at : Attributes). as_type (kind.record_of at)) (types_entries settings s env h no_attributes fs) x c.1 in
         from_some h (record_with fs) (record { ty = kind.record_of p.0; gained = [] }) x p.2 (of_record (distinct_from_test (names_of fs) c.0) (found_entries fs h no_attributes p.0 p.1))
 
-    found_onto : (es : Expressions) (h : Capabilities) (t v : TypeTree) → types_onto s env h t es ≡ Some v → JoinsOnto s env h t es v
-    found_onto no_more h t v r = let p : t ≡ v = cc in subst (λ (x : TypeTree). JoinsOnto s env h t no_more x) p joined_all
+    found_onto : (es : Expressions) (h : Capabilities) (t v : TypeTree) → types_onto settings s env h t es ≡ Some v → JoinsOnto settings s env h t es v
+    found_onto no_more h t v r = let p : t ≡ v = cc in subst (λ (x : TypeTree). JoinsOnto settings s env h t no_more x) p joined_all
     found_onto (and_then e es) h t v r =
-        let p = and_then_some (λ (x : Typed). option_and_then (λ (u : TypeTree). types_onto s env h u es) (join t x.ty)) (type_of s env h e) v r in
-        let d = and_then_some (λ (u : TypeTree). types_onto s env h u es) (join t p.0.ty) v p.2 in
+        let p = and_then_some (λ (x : Typed). option_and_then (λ (u : TypeTree). types_onto settings s env h u es) (join t x.ty)) (type_of_with settings s env h e) v r in
+        let d = and_then_some (λ (u : TypeTree). types_onto settings s env h u es) (join t p.0.ty) v p.2 in
         joined_more (found e h p.0 p.1) (join_sound t p.0.ty d.0 d.1) (found_onto es h d.0 v d.2)
 
-    found_entries : (fs : Entries) (h : Capabilities) (at more : Attributes) → types_entries s env h at fs ≡ Some more → AddsOnto s env h at fs more
-    found_entries no_entries h at more r = let p : at ≡ more = cc in subst (λ (x : Attributes). AddsOnto s env h at no_entries x) p added_all
+    found_entries : (fs : Entries) (h : Capabilities) (at more : Attributes) → types_entries settings s env h at fs ≡ Some more → AddsOnto settings s env h at fs more
+    found_entries no_entries h at more r = let p : at ≡ more = cc in subst (λ (x : Attributes). AddsOnto settings s env h at no_entries x) p added_all
     found_entries (entry k e fs) h at more r =
-        let p = and_then_some (λ (x : Typed). types_entries s env h (with_attribute k true x.ty at) fs) (type_of s env h e) more r in
+        let p = and_then_some (λ (x : Typed). types_entries settings s env h (with_attribute k true x.ty at) fs) (type_of_with settings s env h e) more r in
         added_more (found e h p.0 p.1) (found_entries fs h (with_attribute k true p.0.ty at) more p.2)

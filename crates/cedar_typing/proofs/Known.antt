@@ -7,8 +7,9 @@ use Rattle.cedar_types.specs.Types.{TypeTree}
 use Rattle.cedar_schema.specs.SchemaTree.{SchemaTree}
 use Rattle.cedar_types.specs.Joins.{Join, join_boolean, join_long, join_string, join_entity, join_decimal, join_set, join_record}
 use Rattle.cedar_typing.specs.Capabilities.{Capability, Capabilities, Has}
-use Rattle.cedar_typing.specs.Typing.{Types, and_then_true, and_then_any, or_false, or_any_false, or_any_any, if_true, if_false, if_any, has_any}
-use Rattle.cedar_typing.specs.Exactness.{IsKnown, KnownGainsNothing}
+use Rattle.cedar_typing.specs.Typing.{TypesWith, and_then_true, and_then_any, or_false, or_any_false, or_any_any, if_true, if_false, if_any, has_any}
+use Rattle.cedar_typing.specs.Exactness.{IsKnown, KnownGainsNothingWith}
+use Rattle.cedar_typing.specs.declared.settings.Settings.{Settings}
 
 known_right : {t u v : TypeTree} → Join t u v → IsKnown v → IsKnown u
 known_right (join_boolean {f = True} {g = True}) k = tt
@@ -27,8 +28,8 @@ known_right join_decimal k = k
 known_right (join_set j) k = k
 known_right (join_record j) k = k
 
-module _ (s : SchemaTree) (env : Environment) where
-  none : {h g : Capabilities} {e : Expression} {t : TypeTree} → Types s env h e t g → IsKnown t → (x : Capability) → ¬ Has x g
+module _ (settings : Settings) (s : SchemaTree) (env : Environment) where
+  none : {h g : Capabilities} {e : Expression} {t : TypeTree} → TypesWith settings s env h e t g → IsKnown t → (x : Capability) → ¬ Has x g
   none (and_then_true da m u db w) k x n = ⊎_elim (none da k x) (none db tt x) ((w.each x).0 n)
   none (and_then_any da m u db w) k x n = k
   none (or_false da db) k x n = none db k x n
@@ -40,5 +41,5 @@ module _ (s : SchemaTree) (env : Environment) where
   none (has_any d at f p q) k x n = k
   none _ k x n = n
 
-pub known_gains_nothing : KnownGainsNothing
-known_gains_nothing s env h g e t d k = none s env d k
+pub known_gains_nothing : (settings : Settings) → KnownGainsNothingWith settings
+known_gains_nothing settings s env h g e t d k = none settings s env d k

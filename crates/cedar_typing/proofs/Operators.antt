@@ -1,11 +1,12 @@
 -- Each operator, on values of the types that its rule asks for.
 use Rattle.std.proofs.Common.{◌≡◌, ℕ, ℤ, Bool, true, false, cond, not, ◌&&◌, ◌||◌, is_some, List, [], ◌∷◌, map, Contains, ◌⊎◌, inl, inr, ⊎_elim, Option, Some, None, refl, sym, ap, subst, ◌∙◌}
-use Rattle.std.specs.Prelude.{Ok, Err, pos, ◌+ℤ◌, ◌-ℤ◌, ◌*ℤ◌}
+use Rattle.std.specs.Prelude.{Ok, Err, IsTrue, pos, ◌+ℤ◌, ◌-ℤ◌, ◌*ℤ◌}
 use Rattle.std.specs.Option.{option_map}
 use Rattle.std.specs.Bool.{Decides, one_answer}
 use Rattle.std.specs.List.{AllByRecursion, list_all, list_any}
 use Rattle.std.specs.Map.{keys_of}
 use Rattle.std.specs.Str.{bytes_eq}
+use Rattle.cedar_ext.specs.DecimalOf.{decimal_of}
 use Rattle.cedar_value.specs.Datum.{Datum, boolean, long, text, uid, set, record_of, decimal, same, same_uid, list_of, members_of, pairs_of, fields_of}
 use Rattle.cedar_value.specs.Private.Equality.{same_uid-Decides}
 use Rattle.cedar_value.specs.Private.Lists.{list_of-members_of, pairs_of-fields_of}
@@ -21,7 +22,7 @@ use Rattle.cedar_ast.specs.declared.error.EvaluationError.TheVariants.{Overflow}
 use Rattle.cedar_ast.specs.Answer.{Answer, with_answer}
 use Rattle.cedar_ast.specs.Expression.{Expression, literal, set_with, Expressions, no_more, and_then}
 use Rattle.cedar_ast.specs.Evaluation.{truth_of, and_of, or_of, if_of, set_of_values, eval, eval_all}
-use Rattle.cedar_ast.specs.Operators.{is_long, long_or_overflow, not_of, negative_of, Source, no_source, absent, present, entity_source, source, has_in, attribute_of, get_in, like_of, is_of, binary_of, of_longs, of_decimals, of_set, of_sets, is_uid, is_in, in_of}
+use Rattle.cedar_ast.specs.Operators.{is_long, long_or_overflow, not_of, negative_of, decimal_or_error, decimal_of_value, Source, no_source, absent, present, entity_source, source, has_in, attribute_of, get_in, like_of, is_of, binary_of, of_longs, of_decimals, of_set, of_sets, is_uid, is_in, in_of}
 use Rattle.cedar_types.specs.declared.truth.Truth.{Truth}
 use Rattle.cedar_types.specs.declared.truth.Truth.TheVariants.{True, False, Any}
 use Rattle.cedar_types.specs.Types.{TypeTree, Attributes, no_attributes}
@@ -36,12 +37,13 @@ use Rattle.cedar_typing.specs.Capabilities.{Capabilities, Hold}
 use Rattle.cedar_typing.specs.Typing.{shape_attributes, attributes_in, flipped, is_arithmetic, is_comparison, is_decimal_comparison, is_set_comparison, one_uid, joined_uids, all_uids, written_uids, IsInOne, IsOrDescends, Target, one_entity, entity_set}
 use Rattle.cedar_types.specs.Lookup.{attribute_at}
 use Rattle.cedar_types.specs.declared.attribute.Attribute.{Attribute}
-use Rattle.cedar_typing.specs.Soundness.{Good}
+use Rattle.cedar_typing.specs.Soundness.{GoodWith}
 use Rattle.cedar_typing.proofs.Goodness.{then_good, good_weaker}
 use Rattle.cedar_typing.proofs.Members.{FitsDeclared, HaveAttributes, at-find}
 use Rattle.cedar_typing.proofs.Made.{set_all, any-set_from}
 use Rattle.cedar_typing.proofs.Listed.{here, there, not_true, either_decides, decides_as, any_decides}
 use Rattle.cedar_typing.proofs.Descents.{is_action-Decides, shape_declared}
+use Rattle.cedar_typing.specs.declared.settings.Settings.{Settings}
 
 -- a member of the type; where it is true, what is gained holds
 pub record Fine (q : Request) (w : World) (t : TypeTree) (g : Capabilities) (v : Datum) : Type 0 where
@@ -51,11 +53,11 @@ pub record Fine (q : Request) (w : World) (t : TypeTree) (g : Capabilities) (v :
 pub nothing_held : (q : Request) (w : World) → Hold q w []
 nothing_held q w = λ x m. absurd m
 
-pub plain : (q : Request) (w : World) (t : TypeTree) (o : Answer Datum) → Good (Member t) o → Good (Fine q w t []) o
-plain q w t o h = good_weaker (Member t) (Fine q w t []) o h (λ v m. record { belongs = m; gains = λ e. nothing_held q w })
+pub plain : (settings : Settings) (q : Request) (w : World) (t : TypeTree) (o : Answer Datum) → GoodWith settings (Member t) o → GoodWith settings (Fine q w t []) o
+plain settings q w t o h = good_weaker settings (Member t) (Fine q w t []) o h (λ v m. record { belongs = m; gains = λ e. nothing_held q w })
 
-pub members : (q : Request) (w : World) (t : TypeTree) (g : Capabilities) (o : Answer Datum) → Good (Fine q w t g) o → Good (Member t) o
-members q w t g o h = good_weaker (Fine q w t g) (Member t) o h (λ v m. m.belongs)
+pub members : (settings : Settings) (q : Request) (w : World) (t : TypeTree) (g : Capabilities) (o : Answer Datum) → GoodWith settings (Fine q w t g) o → GoodWith settings (Member t) o
+members settings q w t g o h = good_weaker settings (Fine q w t g) (Member t) o h (λ v m. m.belongs)
 
 abbrev says : Bool → Answer Datum
 says b = Ok (boolean b)
@@ -69,36 +71,36 @@ boolean_cases P Q (boolean true) h on_true on_false = on_true refl h
 boolean_cases P Q (boolean false) h on_true on_false = on_false refl h
 boolean_cases P Q _ h on_true on_false = absurd h
 
-module _ (q : Request) (w : World) where
+module _ (settings : Settings) (q : Request) (w : World) where
   -- the right side, which must be a Boolean
-  right_side : (f fr : Truth) (g gr : Capabilities) (r : Answer Datum) → Good (Fine q w (kind.boolean f) g) r → ((x : Bool) → HasTruth f x → HasTruth fr x) → (HasTruth f true → Hold q w g → Hold q w gr) → Good (Fine q w (kind.boolean fr) gr) (with_answer r truth_of)
+  right_side : (f fr : Truth) (g gr : Capabilities) (r : Answer Datum) → GoodWith settings (Fine q w (kind.boolean f) g) r → ((x : Bool) → HasTruth f x → HasTruth fr x) → (HasTruth f true → Hold q w g → Hold q w gr) → GoodWith settings (Fine q w (kind.boolean fr) gr) (with_answer r truth_of)
   right_side f fr g gr r h forms gains =
-      then_good (Fine q w (kind.boolean f) g) (Fine q w (kind.boolean fr) gr) r truth_of h
-      (λ v fine. boolean_cases (HasTruth f) (λ x. Fine q w (kind.boolean f) g x → Good (Fine q w (kind.boolean fr) gr) (truth_of x)) v fine.belongs
+      then_good settings (Fine q w (kind.boolean f) g) (Fine q w (kind.boolean fr) gr) r truth_of h
+      (λ v fine. boolean_cases (HasTruth f) (λ x. Fine q w (kind.boolean f) g x → GoodWith settings (Fine q w (kind.boolean fr) gr) (truth_of x)) v fine.belongs
       (λ e p. λ m. record { belongs = forms true p; gains = λ d. gains p (m.gains refl) })
       (λ e p. λ m. record { belongs = forms false p; gains = λ d. cc })
       fine)
 
-  pub and_good : (f fb fr : Truth) (ga gb g : Capabilities) (a b : Answer Datum) → Good (Fine q w (kind.boolean f) ga) a → (HasTruth f true → Hold q w ga → Good (Fine q w (kind.boolean fb) gb) b) → (HasTruth f true → (x : Bool) → HasTruth fb x → HasTruth fr x) → (HasTruth f false → HasTruth fr false) → (Hold q w ga → Hold q w gb → Hold q w g) → Good (Fine q w (kind.boolean fr) g) (with_answer a (λ x. and_of x b))
+  pub and_good : (f fb fr : Truth) (ga gb g : Capabilities) (a b : Answer Datum) → GoodWith settings (Fine q w (kind.boolean f) ga) a → (HasTruth f true → Hold q w ga → GoodWith settings (Fine q w (kind.boolean fb) gb) b) → (HasTruth f true → (x : Bool) → HasTruth fb x → HasTruth fr x) → (HasTruth f false → HasTruth fr false) → (Hold q w ga → Hold q w gb → Hold q w g) → GoodWith settings (Fine q w (kind.boolean fr) g) (with_answer a (λ x. and_of x b))
   and_good f fb fr ga gb g a b left right on_true on_false gains =
-      then_good (Fine q w (kind.boolean f) ga) (Fine q w (kind.boolean fr) g) a (λ x. and_of x b) left
-      (λ v fine. boolean_cases (HasTruth f) (λ x. Fine q w (kind.boolean f) ga x → Good (Fine q w (kind.boolean fr) g) (and_of x b)) v fine.belongs
+      then_good settings (Fine q w (kind.boolean f) ga) (Fine q w (kind.boolean fr) g) a (λ x. and_of x b) left
+      (λ v fine. boolean_cases (HasTruth f) (λ x. Fine q w (kind.boolean f) ga x → GoodWith settings (Fine q w (kind.boolean fr) g) (and_of x b)) v fine.belongs
       (λ e p. λ m. right_side fb fr gb g b (right p (m.gains refl)) (on_true p) (λ d. gains (m.gains refl)))
       (λ e p. λ m. record { belongs = on_false p; gains = λ d. cc })
       fine)
 
-  pub or_good : (f fb fr : Truth) (ga gb g : Capabilities) (a b : Answer Datum) → Good (Fine q w (kind.boolean f) ga) a → (HasTruth f false → Good (Fine q w (kind.boolean fb) gb) b) → (HasTruth f true → HasTruth fr true) → (HasTruth f false → (x : Bool) → HasTruth fb x → HasTruth fr x) → (HasTruth f true → Hold q w ga → Hold q w g) → (HasTruth fb true → Hold q w gb → Hold q w g) → Good (Fine q w (kind.boolean fr) g) (with_answer a (λ x. or_of x b))
+  pub or_good : (f fb fr : Truth) (ga gb g : Capabilities) (a b : Answer Datum) → GoodWith settings (Fine q w (kind.boolean f) ga) a → (HasTruth f false → GoodWith settings (Fine q w (kind.boolean fb) gb) b) → (HasTruth f true → HasTruth fr true) → (HasTruth f false → (x : Bool) → HasTruth fb x → HasTruth fr x) → (HasTruth f true → Hold q w ga → Hold q w g) → (HasTruth fb true → Hold q w gb → Hold q w g) → GoodWith settings (Fine q w (kind.boolean fr) g) (with_answer a (λ x. or_of x b))
   or_good f fb fr ga gb g a b left right on_true on_false gains_left gains_right =
-      then_good (Fine q w (kind.boolean f) ga) (Fine q w (kind.boolean fr) g) a (λ x. or_of x b) left
-      (λ v fine. boolean_cases (HasTruth f) (λ x. Fine q w (kind.boolean f) ga x → Good (Fine q w (kind.boolean fr) g) (or_of x b)) v fine.belongs
+      then_good settings (Fine q w (kind.boolean f) ga) (Fine q w (kind.boolean fr) g) a (λ x. or_of x b) left
+      (λ v fine. boolean_cases (HasTruth f) (λ x. Fine q w (kind.boolean f) ga x → GoodWith settings (Fine q w (kind.boolean fr) g) (or_of x b)) v fine.belongs
       (λ e p. λ m. record { belongs = on_true p; gains = λ d. gains_left p (m.gains refl) })
       (λ e p. λ m. right_side fb fr gb g b (right p) (on_false p) gains_right)
       fine)
 
-  pub if_good : (f : Truth) (gi g : Capabilities) (t : TypeTree) (i x y : Answer Datum) → Good (Fine q w (kind.boolean f) gi) i → (HasTruth f true → Hold q w gi → Good (Fine q w t g) x) → (HasTruth f false → Good (Fine q w t g) y) → Good (Fine q w t g) (with_answer i (λ v. if_of v x y))
+  pub if_good : (f : Truth) (gi g : Capabilities) (t : TypeTree) (i x y : Answer Datum) → GoodWith settings (Fine q w (kind.boolean f) gi) i → (HasTruth f true → Hold q w gi → GoodWith settings (Fine q w t g) x) → (HasTruth f false → GoodWith settings (Fine q w t g) y) → GoodWith settings (Fine q w t g) (with_answer i (λ v. if_of v x y))
   if_good f gi g t i x y left on_true on_false =
-      then_good (Fine q w (kind.boolean f) gi) (Fine q w t g) i (λ v. if_of v x y) left
-      (λ v fine. boolean_cases (HasTruth f) (λ z. Fine q w (kind.boolean f) gi z → Good (Fine q w t g) (if_of z x y)) v fine.belongs
+      then_good settings (Fine q w (kind.boolean f) gi) (Fine q w t g) i (λ v. if_of v x y) left
+      (λ v fine. boolean_cases (HasTruth f) (λ z. Fine q w (kind.boolean f) gi z → GoodWith settings (Fine q w t g) (if_of z x y)) v fine.belongs
       (λ e p. λ m. on_true p (m.gains refl))
       (λ e p. λ m. on_false p)
       fine)
@@ -117,76 +119,84 @@ flipped_truth False b h = ap not h
 flipped_truth Any b h = tt
 
 -- unary operators
-pub not_good : (f : Truth) (v : Datum) → Member (kind.boolean f) v → Good (Member (kind.boolean (flipped f))) (not_of v)
-not_good f (boolean b) h = flipped_truth f b h
-not_good f _ h = absurd h
+pub not_good : (settings : Settings) (f : Truth) (v : Datum) → Member (kind.boolean f) v → GoodWith settings (Member (kind.boolean (flipped f))) (not_of v)
+not_good settings f (boolean b) h = flipped_truth f b h
+not_good settings f _ h = absurd h
 
-long_at : (b : Bool) (n : ℤ) → Good (Member kind.long) (cond b (Ok (long n)) (Err Overflow))
-long_at true n = tt
-long_at false n = tt
+long_at : (settings : Settings) (b : Bool) (n : ℤ) → GoodWith settings (Member kind.long) (cond b (Ok (long n)) (Err Overflow))
+long_at settings true n = tt
+long_at settings false n = tt
 
-long_good : (n : ℤ) → Good (Member kind.long) (long_or_overflow n)
-long_good n = long_at (is_long n) n
+long_good : (settings : Settings) (n : ℤ) → GoodWith settings (Member kind.long) (long_or_overflow n)
+long_good settings n = long_at settings (is_long n) n
 
-pub negative_good : (v : Datum) → Member kind.long v → Good (Member kind.long) (negative_of v)
-negative_good (long n) h = long_good (pos 0 -ℤ n)
-negative_good _ h = absurd h
+pub negative_good : (settings : Settings) (v : Datum) → Member kind.long v → GoodWith settings (Member kind.long) (negative_of v)
+negative_good settings (long n) h = long_good settings (pos 0 -ℤ n)
+negative_good settings _ h = absurd h
 
-pub like_good : (f : List ℕ → Bool) (v : Datum) → Member kind.string v → Good (Member (kind.boolean Any)) (like_of v f)
-like_good f (text s) h = tt
-like_good f _ h = absurd h
+decimal_at : (settings : Settings) (o : Option ℤ) → IsTrue settings.any_decimal → GoodWith settings (Member kind.decimal) (decimal_or_error o)
+decimal_at settings None on = on
+decimal_at settings (Some z) on = tt
 
-pub is_good : (m n : List ℕ) (v : Datum) → Member (kind.entity m) v → Good (Member (kind.boolean (known (bytes_eq m n)))) (is_of n v)
-is_good m n (uid u) h = known_as (bytes_eq u.ty n) (bytes_eq m n) (ap (λ k. bytes_eq k n) h)
-is_good m n _ h = absurd h
+pub decimal_good : (settings : Settings) (v : Datum) → IsTrue settings.any_decimal → Member kind.string v → GoodWith settings (Member kind.decimal) (decimal_of_value v)
+decimal_good settings (text s) on h = decimal_at settings (decimal_of s) on
+decimal_good settings _ on h = absurd h
+
+pub like_good : (settings : Settings) (f : List ℕ → Bool) (v : Datum) → Member kind.string v → GoodWith settings (Member (kind.boolean Any)) (like_of v f)
+like_good settings f (text s) h = tt
+like_good settings f _ h = absurd h
+
+pub is_good : (settings : Settings) (m n : List ℕ) (v : Datum) → Member (kind.entity m) v → GoodWith settings (Member (kind.boolean (known (bytes_eq m n)))) (is_of n v)
+is_good settings m n (uid u) h = known_as (bytes_eq u.ty n) (bytes_eq m n) (ap (λ k. bytes_eq k n) h)
+is_good settings m n _ h = absurd h
 
 -- binary operators
-longs_good : (t : TypeTree) (f : ℤ → ℤ → Answer Datum) (v x : Datum) → Member kind.long v → Member kind.long x → ((a b : ℤ) → Good (Member t) (f a b)) → Good (Member t) (of_longs f v x)
-longs_good t f (long a) (long b) h k each = each a b
-longs_good t f (long a) _ h k each = absurd k
-longs_good t f _ x h k each = absurd h
+longs_good : (settings : Settings) (t : TypeTree) (f : ℤ → ℤ → Answer Datum) (v x : Datum) → Member kind.long v → Member kind.long x → ((a b : ℤ) → GoodWith settings (Member t) (f a b)) → GoodWith settings (Member t) (of_longs f v x)
+longs_good settings t f (long a) (long b) h k each = each a b
+longs_good settings t f (long a) _ h k each = absurd k
+longs_good settings t f _ x h k each = absurd h
 
-pub arithmetic_good : (w : World) (op : BinaryOperator) (v x : Datum) → is_arithmetic op ≡ true → Member kind.long v → Member kind.long x → Good (Member kind.long) (binary_of w op v x)
-arithmetic_good w binary_operator.Add v x e h k = longs_good kind.long (λ m n. long_or_overflow (m +ℤ n)) v x h k (λ a b. long_good (a +ℤ b))
-arithmetic_good w binary_operator.Subtract v x e h k = longs_good kind.long (λ m n. long_or_overflow (m -ℤ n)) v x h k (λ a b. long_good (a -ℤ b))
-arithmetic_good w binary_operator.Multiply v x e h k = longs_good kind.long (λ m n. long_or_overflow (m *ℤ n)) v x h k (λ a b. long_good (a *ℤ b))
-arithmetic_good w _ v x e h k = cc
+pub arithmetic_good : (settings : Settings) (w : World) (op : BinaryOperator) (v x : Datum) → is_arithmetic op ≡ true → Member kind.long v → Member kind.long x → GoodWith settings (Member kind.long) (binary_of w op v x)
+arithmetic_good settings w binary_operator.Add v x e h k = longs_good settings kind.long (λ m n. long_or_overflow (m +ℤ n)) v x h k (λ a b. long_good settings (a +ℤ b))
+arithmetic_good settings w binary_operator.Subtract v x e h k = longs_good settings kind.long (λ m n. long_or_overflow (m -ℤ n)) v x h k (λ a b. long_good settings (a -ℤ b))
+arithmetic_good settings w binary_operator.Multiply v x e h k = longs_good settings kind.long (λ m n. long_or_overflow (m *ℤ n)) v x h k (λ a b. long_good settings (a *ℤ b))
+arithmetic_good settings w _ v x e h k = cc
 
-pub comparison_good : (w : World) (op : BinaryOperator) (v x : Datum) → is_comparison op ≡ true → Member kind.long v → Member kind.long x → Good (Member (kind.boolean Any)) (binary_of w op v x)
-comparison_good w binary_operator.Less v x e h k = longs_good (kind.boolean Any) _ v x h k (λ a b. tt)
-comparison_good w binary_operator.LessEqual v x e h k = longs_good (kind.boolean Any) _ v x h k (λ a b. tt)
-comparison_good w _ v x e h k = cc
+pub comparison_good : (settings : Settings) (w : World) (op : BinaryOperator) (v x : Datum) → is_comparison op ≡ true → Member kind.long v → Member kind.long x → GoodWith settings (Member (kind.boolean Any)) (binary_of w op v x)
+comparison_good settings w binary_operator.Less v x e h k = longs_good settings (kind.boolean Any) _ v x h k (λ a b. tt)
+comparison_good settings w binary_operator.LessEqual v x e h k = longs_good settings (kind.boolean Any) _ v x h k (λ a b. tt)
+comparison_good settings w _ v x e h k = cc
 
-decimals_both : (f : ℤ → ℤ → Bool) (v x : Datum) → Member kind.decimal v → Member kind.decimal x → Good (Member (kind.boolean Any)) (of_decimals f v x)
-decimals_both f (decimal a) (decimal b) h k = tt
-decimals_both f (decimal a) _ h k = absurd k
-decimals_both f _ x h k = absurd h
+decimals_both : (settings : Settings) (f : ℤ → ℤ → Bool) (v x : Datum) → Member kind.decimal v → Member kind.decimal x → GoodWith settings (Member (kind.boolean Any)) (of_decimals f v x)
+decimals_both settings f (decimal a) (decimal b) h k = tt
+decimals_both settings f (decimal a) _ h k = absurd k
+decimals_both settings f _ x h k = absurd h
 
-pub decimals_good : (w : World) (op : BinaryOperator) (v x : Datum) → is_decimal_comparison op ≡ true → Member kind.decimal v → Member kind.decimal x → Good (Member (kind.boolean Any)) (binary_of w op v x)
-decimals_good w binary_operator.DecimalLess v x e h k = decimals_both _ v x h k
-decimals_good w binary_operator.DecimalLessEqual v x e h k = decimals_both _ v x h k
-decimals_good w binary_operator.DecimalGreater v x e h k = decimals_both _ v x h k
-decimals_good w binary_operator.DecimalGreaterEqual v x e h k = decimals_both _ v x h k
-decimals_good w _ v x e h k = cc
+pub decimals_good : (settings : Settings) (w : World) (op : BinaryOperator) (v x : Datum) → is_decimal_comparison op ≡ true → Member kind.decimal v → Member kind.decimal x → GoodWith settings (Member (kind.boolean Any)) (binary_of w op v x)
+decimals_good settings w binary_operator.DecimalLess v x e h k = decimals_both settings _ v x h k
+decimals_good settings w binary_operator.DecimalLessEqual v x e h k = decimals_both settings _ v x h k
+decimals_good settings w binary_operator.DecimalGreater v x e h k = decimals_both settings _ v x h k
+decimals_good settings w binary_operator.DecimalGreaterEqual v x e h k = decimals_both settings _ v x h k
+decimals_good settings w _ v x e h k = cc
 
-pub apart_good : (m n : List ℕ) (v x : Datum) → Member (kind.entity m) v → Member (kind.entity n) x → (m ≡ n → ⊥) → Good (Member (kind.boolean False)) (Ok (boolean (same v x)))
-apart_good m n (uid a) (uid b) h k d = not_true (same_uid a b) (λ e. d (sym h ∙ ap (λ (u : Uid). u.ty) ((same_uid-Decides a b).0 e) ∙ k))
-apart_good m n (uid a) _ h k d = absurd k
-apart_good m n _ x h k d = absurd h
+pub apart_good : (settings : Settings) (m n : List ℕ) (v x : Datum) → Member (kind.entity m) v → Member (kind.entity n) x → (m ≡ n → ⊥) → GoodWith settings (Member (kind.boolean False)) (Ok (boolean (same v x)))
+apart_good settings m n (uid a) (uid b) h k d = not_true (same_uid a b) (λ e. d (sym h ∙ ap (λ (u : Uid). u.ty) ((same_uid-Decides a b).0 e) ∙ k))
+apart_good settings m n (uid a) _ h k d = absurd k
+apart_good settings m n _ x h k d = absurd h
 
-pub contains_good : (t : TypeTree) (f : List Datum → Bool) (v : Datum) → Member (kind.set t) v → Good (Member (kind.boolean Any)) (of_set f v)
-contains_good t f (set ms) h = tt
-contains_good t f _ h = absurd h
+pub contains_good : (settings : Settings) (t : TypeTree) (f : List Datum → Bool) (v : Datum) → Member (kind.set t) v → GoodWith settings (Member (kind.boolean Any)) (of_set f v)
+contains_good settings t f (set ms) h = tt
+contains_good settings t f _ h = absurd h
 
-sets_both : (t u : TypeTree) (f : List Datum → List Datum → Bool) (v x : Datum) → Member (kind.set t) v → Member (kind.set u) x → Good (Member (kind.boolean Any)) (of_sets f v x)
-sets_both t u f (set ms) (set ns) h k = tt
-sets_both t u f (set ms) _ h k = absurd k
-sets_both t u f _ x h k = absurd h
+sets_both : (settings : Settings) (t u : TypeTree) (f : List Datum → List Datum → Bool) (v x : Datum) → Member (kind.set t) v → Member (kind.set u) x → GoodWith settings (Member (kind.boolean Any)) (of_sets f v x)
+sets_both settings t u f (set ms) (set ns) h k = tt
+sets_both settings t u f (set ms) _ h k = absurd k
+sets_both settings t u f _ x h k = absurd h
 
-pub sets_good : (w : World) (op : BinaryOperator) (t u : TypeTree) (v x : Datum) → is_set_comparison op ≡ true → Member (kind.set t) v → Member (kind.set u) x → Good (Member (kind.boolean Any)) (binary_of w op v x)
-sets_good w binary_operator.ContainsAll t u v x e h k = sets_both t u (λ ms ns. list_all (has_member ms) ns) v x h k
-sets_good w binary_operator.ContainsAny t u v x e h k = sets_both t u (λ ms ns. list_any (has_member ms) ns) v x h k
-sets_good w _ t u v x e h k = cc
+pub sets_good : (settings : Settings) (w : World) (op : BinaryOperator) (t u : TypeTree) (v x : Datum) → is_set_comparison op ≡ true → Member (kind.set t) v → Member (kind.set u) x → GoodWith settings (Member (kind.boolean Any)) (binary_of w op v x)
+sets_good settings w binary_operator.ContainsAll t u v x e h k = sets_both settings t u (λ ms ns. list_all (has_member ms) ns) v x h k
+sets_good settings w binary_operator.ContainsAny t u v x e h k = sets_both settings t u (λ ms ns. list_any (has_member ms) ns) v x h k
+sets_good settings w _ t u v x e h k = cc
 
 -- the set of members of a type
 pub set_good : (t : TypeTree) (vs : List Datum) → AllByRecursion (Member t) vs → Member (kind.set t) (set_of_values vs)
@@ -205,8 +215,8 @@ is_entity_uid : (n : List ℕ) (v : Datum) → IsEntity n v → is_uid v ≡ tru
 is_entity_uid n (uid u) h = refl
 is_entity_uid n _ h = absurd h
 
-chosen : (P : Datum → Type 0) (b : Bool) (x y : Answer Datum) → b ≡ true → Good P x → Good P (cond b x y)
-chosen P b x y e h = subst (λ d. Good P (cond d x y)) (sym e) h
+chosen : (settings : Settings) (P : Datum → Type 0) (b : Bool) (x y : Answer Datum) → b ≡ true → GoodWith settings P x → GoodWith settings P (cond b x y)
+chosen settings P b x y e h = subst (λ d. GoodWith settings P (cond d x y)) (sym e) h
 
 -- what a source may have
 abbrev pub SourceFits : Attributes → Source → Type 0
@@ -219,33 +229,33 @@ no_attribute : (o : Option Datum) → IsAbsent o → is_some o ≡ false
 no_attribute None h = refl
 no_attribute (Some v) h = absurd h
 
-pub has_none_good : (a : List ℕ) (at : Attributes) (src : Source) → SourceFits at src → attribute_at a at ≡ None → Good (Member (kind.boolean False)) (has_in a src)
-has_none_good a at no_source h e = absurd h
-has_none_good a at absent h e = refl
-has_none_good a at (present ps) h e = no_attribute (value_at a ps) (subst (λ d. FitsDeclared d (value_at a ps)) e (at-find at a (value_at a ps) (h a)))
+pub has_none_good : (settings : Settings) (a : List ℕ) (at : Attributes) (src : Source) → SourceFits at src → attribute_at a at ≡ None → GoodWith settings (Member (kind.boolean False)) (has_in a src)
+has_none_good settings a at no_source h e = absurd h
+has_none_good settings a at absent h e = refl
+has_none_good settings a at (present ps) h e = no_attribute (value_at a ps) (subst (λ d. FitsDeclared d (value_at a ps)) e (at-find at a (value_at a ps) (h a)))
 
-pub has_good : (a : List ℕ) (at : Attributes) (src : Source) → SourceFits at src → Good (Member (kind.boolean Any)) (has_in a src)
-has_good a at no_source h = absurd h
-has_good a at absent h = tt
-has_good a at (present ps) h = tt
+pub has_good : (settings : Settings) (a : List ℕ) (at : Attributes) (src : Source) → SourceFits at src → GoodWith settings (Member (kind.boolean Any)) (has_in a src)
+has_good settings a at no_source h = absurd h
+has_good settings a at absent h = tt
+has_good settings a at (present ps) h = tt
 
 required_is_there : (r : Bool) (P : Datum → Type 0) (o : Option Datum) → r ≡ true → MayStand r P o → is_some o ≡ true
 required_is_there r P None e h = cc
 required_is_there r P (Some v) e h = refl
 
-pub has_required_good : (w : World) (a : List ℕ) (d : Attribute) (at : Attributes) (v : Datum) → Member (kind.record_of at) v → attribute_at a at ≡ Some d → d.required ≡ true → Good (Member (kind.boolean True)) (has_in a (source w v))
-has_required_good w a d at (record_of fs) h e r = required_is_there d.required (Member d.ty) (value_at a (pairs_of fs)) r (subst (λ x. FitsDeclared x (value_at a (pairs_of fs))) e (at-find at a (value_at a (pairs_of fs)) (h a)))
-has_required_good w a d at _ h e r = absurd h
+pub has_required_good : (settings : Settings) (w : World) (a : List ℕ) (d : Attribute) (at : Attributes) (v : Datum) → Member (kind.record_of at) v → attribute_at a at ≡ Some d → d.required ≡ true → GoodWith settings (Member (kind.boolean True)) (has_in a (source w v))
+has_required_good settings w a d at (record_of fs) h e r = required_is_there d.required (Member d.ty) (value_at a (pairs_of fs)) r (subst (λ x. FitsDeclared x (value_at a (pairs_of fs))) e (at-find at a (value_at a (pairs_of fs)) (h a)))
+has_required_good settings w a d at _ h e r = absurd h
 
-found_good : (d : Attribute) (o : Option Datum) → MayStand d.required (Member d.ty) o → (d.required ≡ true) ⊎ (is_some o ≡ true) → Good (Member d.ty) (attribute_of o)
-found_good d None h m = ⊎_elim (λ e. cc) (λ e. cc) m
-found_good d (Some v) h m = h
+found_good : (settings : Settings) (d : Attribute) (o : Option Datum) → MayStand d.required (Member d.ty) o → (d.required ≡ true) ⊎ (is_some o ≡ true) → GoodWith settings (Member d.ty) (attribute_of o)
+found_good settings d None h m = ⊎_elim (λ e. cc) (λ e. cc) m
+found_good settings d (Some v) h m = h
 
-pub get_good : (a : List ℕ) (at : Attributes) (d : Attribute) (src : Source) → SourceFits at src → attribute_at a at ≡ Some d → (d.required ≡ true) ⊎ (has_in a src ≡ Ok (boolean true)) → Good (Member d.ty) (get_in a src)
-get_good a at d no_source h e m = absurd h
-get_good a at d absent h e m = tt
-get_good a at d (present ps) h e m =
-    found_good d (value_at a ps) (subst (λ x. FitsDeclared x (value_at a ps)) e (at-find at a (value_at a ps) (h a)))
+pub get_good : (settings : Settings) (a : List ℕ) (at : Attributes) (d : Attribute) (src : Source) → SourceFits at src → attribute_at a at ≡ Some d → (d.required ≡ true) ⊎ (has_in a src ≡ Ok (boolean true)) → GoodWith settings (Member d.ty) (get_in a src)
+get_good settings a at d no_source h e m = absurd h
+get_good settings a at d absent h e m = tt
+get_good settings a at d (present ps) h e m =
+    found_good settings d (value_at a ps) (subst (λ x. FitsDeclared x (value_at a ps)) e (at-find at a (value_at a ps) (h a)))
     (⊎_elim (λ r. inl r) (λ r. inr (said (is_some (value_at a ps)) true r)) m)
 
 -- an entity of the world is one of its list
@@ -278,22 +288,22 @@ module _ (s : SchemaTree) (w : World) (apart : AreTypesApart s) (conforms : Conf
       ap (λ b. b || below w x y) apart_uids ∙ not_below
   unreached m n x _ k d h = absurd h
 
-  pub related_good : (m n : List ℕ) (t : TypeTree) (v x : Datum) → Target t n → Member (kind.entity m) v → Member t x → Good (Member (kind.boolean Any)) (in_of w v x)
-  related_good m n t (uid a) (uid b) one_entity h k = tt
-  related_good m n t (uid a) (set ms) entity_set h k = chosen (Member (kind.boolean Any)) (list_all is_uid (list_of ms)) (Ok (boolean (list_any (is_in w a) (list_of ms)))) _ (all_test (IsEntity n) is_uid (list_of ms) (is_entity_uid n) k) tt
-  related_good m n t (uid a) _ one_entity h k = absurd k
-  related_good m n t (uid a) _ entity_set h k = absurd k
-  related_good m n t _ x d h k = absurd h
+  pub related_good : (settings : Settings) (m n : List ℕ) (t : TypeTree) (v x : Datum) → Target t n → Member (kind.entity m) v → Member t x → GoodWith settings (Member (kind.boolean Any)) (in_of w v x)
+  related_good settings m n t (uid a) (uid b) one_entity h k = tt
+  related_good settings m n t (uid a) (set ms) entity_set h k = chosen settings (Member (kind.boolean Any)) (list_all is_uid (list_of ms)) (Ok (boolean (list_any (is_in w a) (list_of ms)))) _ (all_test (IsEntity n) is_uid (list_of ms) (is_entity_uid n) k) tt
+  related_good settings m n t (uid a) _ one_entity h k = absurd k
+  related_good settings m n t (uid a) _ entity_set h k = absurd k
+  related_good settings m n t _ x d h k = absurd h
 
-  pub unrelated_good : (m n : List ℕ) (t : TypeTree) (v x : Datum) → Target t n → Member (kind.entity m) v → Member t x → (IsOrDescends s m n → ⊥) → Good (Member (kind.boolean False)) (in_of w v x)
-  unrelated_good m n t (uid a) (uid b) one_entity h k d = unreached m n a (uid b) h d k
-  unrelated_good m n t (uid a) (set ms) entity_set h k d =
-      chosen (Member (kind.boolean False)) (list_all is_uid (list_of ms)) (Ok (boolean (list_any (is_in w a) (list_of ms)))) _
+  pub unrelated_good : (settings : Settings) (m n : List ℕ) (t : TypeTree) (v x : Datum) → Target t n → Member (kind.entity m) v → Member t x → (IsOrDescends s m n → ⊥) → GoodWith settings (Member (kind.boolean False)) (in_of w v x)
+  unrelated_good settings m n t (uid a) (uid b) one_entity h k d = unreached m n a (uid b) h d k
+  unrelated_good settings m n t (uid a) (set ms) entity_set h k d =
+      chosen settings (Member (kind.boolean False)) (list_all is_uid (list_of ms)) (Ok (boolean (list_any (is_in w a) (list_of ms)))) _
       (all_test (IsEntity n) is_uid (list_of ms) (is_entity_uid n) k)
       (none_test (IsEntity n) (is_in w a) (list_of ms) (λ v p. unreached m n a v h d p) k)
-  unrelated_good m n t (uid a) _ one_entity h k d = absurd k
-  unrelated_good m n t (uid a) _ entity_set h k d = absurd k
-  unrelated_good m n t _ x e h k d = absurd h
+  unrelated_good settings m n t (uid a) _ one_entity h k d = absurd k
+  unrelated_good settings m n t (uid a) _ entity_set h k d = absurd k
+  unrelated_good settings m n t _ x e h k d = absurd h
 
   -- an entity's attributes have its type's shape
   no_shape : (n : List ℕ) (o : Option TypeTree) → shape_of s n ≡ o → (Contains (keys_of s.entities) n → ⊥) → o ≡ None
@@ -387,11 +397,11 @@ module _ (s : SchemaTree) (w : World) (apart : AreTypesApart s) (conforms : Conf
         chosen_answer (list_all is_uid ms) (says (list_any (is_in w u) ms)) _ (all_test (λ v. is_uid v ≡ true) is_uid ms (λ v h. h) every)
         ∙ ap says (ap (list_any (is_in w u)) is ∙ any-set_from (is_in w u) xs ∙ any_uids u us)
 
-    pub written_good : (u : Uid) (b : Expression) (us : List Uid) (r : Bool) → IsAction s u → written_uids b ≡ Some us → Decides r (IsInOne s u us) → Good (Member (kind.boolean (known r))) (with_answer (eval b q w) (in_of w (uid u)))
-    written_good u (literal (uid v)) us r a e d =
+    pub written_good : (settings : Settings) (u : Uid) (b : Expression) (us : List Uid) (r : Bool) → IsAction s u → written_uids b ≡ Some us → Decides r (IsInOne s u us) → GoodWith settings (Member (kind.boolean (known r))) (with_answer (eval b q w) (in_of w (uid u)))
+    written_good settings u (literal (uid v)) us r a e d =
         let is : v ∷ [] ≡ us = cc in
         known_as (is_in w u (uid v)) r (sym (or_nothing (is_or_below u v)) ∙ ap (list_any (is_or_below u)) is ∙ written_truth u us r a d)
-    written_good u (set_with es) us r a e d =
+    written_good settings u (set_with es) us r a e d =
         let found = ap (λ x. with_answer (with_answer x (λ vs. Ok (set_of_values vs))) (in_of w (uid u))) (all_given es us e) ∙ in_set u us in
-        subst (λ o. Good (Member (kind.boolean (known r))) o) (sym found) (known_as (list_any (is_or_below u) us) r (written_truth u us r a d))
-    written_good u _ us r a e d = cc
+        subst (λ o. GoodWith settings (Member (kind.boolean (known r))) o) (sym found) (known_as (list_any (is_or_below u) us) r (written_truth u us r a d))
+    written_good settings u _ us r a e d = cc

@@ -21,7 +21,8 @@ use Rattle.cedar_schema.specs.Declarations.{IsAction, action_entity, action_enti
 use Rattle.cedar_schema.specs.Conformance.{IsOfSchema, of_type, Conforms, FitsIn}
 use Rattle.cedar_typing.proofs.Listed.{here, there, cases, nowhere}
 use Rattle.cedar_schema.proofs.DeclaredTests.{actions_conform}
-use Rattle.cedar_typing.specs.Soundness.{PremisesAreMet}
+use Rattle.cedar_typing.specs.Soundness.{PremisesAreMetWith}
+use Rattle.cedar_typing.specs.declared.settings.Settings.{Settings}
 use Rattle.cedar_typing.proofs.Descents.{chain_down}
 use Rattle.cedar_typing.proofs.Reports.{accepted_has_no_fault}
 use Rattle.cedar_typing.proofs.Members.{pair_fits}
@@ -236,8 +237,8 @@ fits = record {
   context = pair_fits (codes "n") kind.long no_attributes (long (pos 0)) [] tt (λ k. tt);
 }
 
-pub premises_are_met : PremisesAreMet
-premises_are_met = record {
+pub premises_are_met : (settings : Settings) → PremisesAreMetWith settings
+premises_are_met settings = record {
   schema = schema;
   environment = environment;
   request = request;
@@ -246,5 +247,5 @@ premises_are_met = record {
   apart = types_apart;
   conforms = conforms;
   fits = fits;
-  accepted = (accepted_has_no_fault schema guarded_policy).1 guarded_everywhere;
+  accepted = (accepted_has_no_fault settings schema guarded_policy).1 (guarded_everywhere settings);
 }

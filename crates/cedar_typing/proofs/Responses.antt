@@ -11,17 +11,18 @@ use Rattle.cedar_ast.specs.PolicyTree.{PolicyTree}
 use Rattle.cedar_schema.specs.SchemaTree.{SchemaTree}
 use Rattle.cedar_schema.specs.WellFormed.{AreTypesApart}
 use Rattle.cedar_schema.specs.Conformance.{Conforms, Fits}
-use Rattle.cedar_typing.specs.Acceptance.{IsAccepted}
-use Rattle.cedar_typing.specs.Soundness.{IsAllowed, Good, IsTruth, SoundResponse}
+use Rattle.cedar_typing.specs.Acceptance.{IsAcceptedWith}
+use Rattle.cedar_typing.specs.Soundness.{IsAllowedWith, GoodWith, IsTruth, SoundResponseWith}
 use Rattle.cedar_typing.proofs.Sound.{sound_acceptance}
+use Rattle.cedar_typing.specs.declared.settings.Settings.{Settings}
 
-erring_more : (id : List ℕ) (o : Answer Datum) (rest : List ErringTree) → Good IsTruth o → AllByRecursion (λ (x : ErringTree). IsAllowed x.error) rest → AllByRecursion (λ (x : ErringTree). IsAllowed x.error) (cons_option (erring_by o id) rest)
-erring_more id (Ok v) rest h m = m
-erring_more id (Err e) rest h m = (h, m)
+erring_more : (settings : Settings) (id : List ℕ) (o : Answer Datum) (rest : List ErringTree) → GoodWith settings IsTruth o → AllByRecursion (λ (x : ErringTree). IsAllowedWith settings x.error) rest → AllByRecursion (λ (x : ErringTree). IsAllowedWith settings x.error) (cons_option (erring_by o id) rest)
+erring_more settings id (Ok v) rest h m = m
+erring_more settings id (Err e) rest h m = (h, m)
 
-errors : (s : SchemaTree) (q : Request) (w : World) → AreTypesApart s → Conforms s w → Fits s q → (ps : List PolicyTree) → AllByRecursion (IsAccepted s) ps → AllByRecursion (λ (x : ErringTree). IsAllowed x.error) (filter_map (erring_of q w) ps)
-errors s q w apart conforms fits [] h = tt
-errors s q w apart conforms fits (p ∷ ps) h = erring_more p.id (meaning q w p) (filter_map (erring_of q w) ps) (sound_acceptance s q w p apart conforms fits h.0) (errors s q w apart conforms fits ps h.1)
+errors : (settings : Settings) (s : SchemaTree) (q : Request) (w : World) → AreTypesApart s → Conforms s w → Fits s q → (ps : List PolicyTree) → AllByRecursion (IsAcceptedWith settings s) ps → AllByRecursion (λ (x : ErringTree). IsAllowedWith settings x.error) (filter_map (erring_of q w) ps)
+errors settings s q w apart conforms fits [] h = tt
+errors settings s q w apart conforms fits (p ∷ ps) h = erring_more settings p.id (meaning q w p) (filter_map (erring_of q w) ps) (sound_acceptance settings s q w p apart conforms fits h.0) (errors settings s q w apart conforms fits ps h.1)
 
-pub sound_response : SoundResponse
-sound_response s q w ps apart conforms fits h = errors s q w apart conforms fits ps h
+pub sound_response : (settings : Settings) → SoundResponseWith settings
+sound_response settings s q w ps apart conforms fits h = errors settings s q w apart conforms fits ps h

@@ -21,8 +21,10 @@ use Rattle.cedar_types.specs.declared.truth.Truth.TheVariants.{True, False, Any}
 use Rattle.cedar_types.specs.Types.{TypeTree, Attributes, no_attributes, attribute}
 use Rattle.cedar_types.specs.Types as kind
 use Rattle.cedar_schema.specs.SchemaTree.{SchemaTree, EntityTypeTree, ActionTree, environments_of}
-use Rattle.cedar_typing.specs.Reports.{faults_of}
-use Rattle.cedar_typing.specs.Checking.{form_in}
+use Rattle.cedar_typing.specs.Settings.{default_settings}
+use Rattle.cedar_typing.specs.declared.settings.Settings.{Settings}
+use Rattle.cedar_typing.specs.Reports.{faults_of_with}
+use Rattle.cedar_typing.specs.Checking.{form_in_with}
 
 -- ---- a schema: users, who may be in teams, admins and docs, and three actions
 
@@ -68,14 +70,20 @@ policy p a e = record {
 }
 
 -- the forms in the environments of the schema: a user deletes, an admin views, a user views; of none the policy is refused there
+abbrev forms_with : Settings → SchemaTree → PolicyTree → List (Option Truth)
+forms_with settings s p = map (λ env. form_in_with settings s env p) (environments_of s.actions)
+
 abbrev forms : SchemaTree → PolicyTree → List (Option Truth)
-forms s p = map (λ env. form_in s env p) (environments_of s.actions)
+forms = forms_with default_settings
 
 abbrev of_users : Expression → List (Option Truth)
 of_users e = forms schema (policy (entity.Is (codes "User")) action.Any e)
 
+abbrev of_all_with : Settings → Expression → List (Option Truth)
+of_all_with settings e = forms_with settings schema (policy entity.Any action.Any e)
+
 abbrev of_all : Expression → List (Option Truth)
-of_all e = forms schema (policy entity.Any action.Any e)
+of_all = of_all_with default_settings
 
 abbrev principal : Expression
 principal = variable Principal
@@ -147,12 +155,41 @@ unlike_members = refl
 no_attribute : of_all (greater (get resource (codes "size")) (number 0)) ≡ None ∷ None ∷ None ∷ []
 no_attribute = refl
 
+-- `isEmpty` wants a set, of whatever members
+empty_or_not : of_all (unary one.IsEmpty (set_with (expressions_of (resource ∷ [])))) ≡ Some Any ∷ Some Any ∷ Some Any ∷ []
+empty_or_not = refl
+
+no_set : of_all (unary one.IsEmpty (number 1)) ≡ None ∷ None ∷ None ∷ []
+no_set = refl
+
 -- a decimal wants one literal that reads
 decimals : of_all (binary two.Equal (unary one.Decimal (literal (text (codes "1.0")))) (unary one.Decimal (literal (text (codes "1.00"))))) ≡ Some Any ∷ Some Any ∷ Some Any ∷ []
 decimals = refl
 
 no_decimal : of_all (binary two.Equal (unary one.Decimal (literal (text (codes "1.")))) (unary one.Decimal (literal (text (codes "1.0"))))) ≡ None ∷ None ∷ None ∷ []
 no_decimal = refl
+
+-- with the setting on, of any text, and still of no literal that does not read
+abbrev any_decimal : Settings
+any_decimal = record { any_decimal = true }
+
+abbrev below_two : Expression → Expression
+below_two e = binary two.DecimalLess (unary one.Decimal e) (unary one.Decimal (literal (text (codes "2.0"))))
+
+decimal_of_name : of_all_with any_decimal (below_two (get resource (codes "name"))) ≡ Some Any ∷ Some Any ∷ Some Any ∷ []
+decimal_of_name = refl
+
+no_decimal_of_name : of_all (below_two (get resource (codes "name"))) ≡ None ∷ None ∷ None ∷ []
+no_decimal_of_name = refl
+
+decimal_of_entity : of_all_with any_decimal (below_two (get resource (codes "owner"))) ≡ None ∷ None ∷ None ∷ []
+decimal_of_entity = refl
+
+no_decimal_literal : of_all_with any_decimal (below_two (literal (text (codes "1.")))) ≡ None ∷ None ∷ None ∷ []
+no_decimal_literal = refl
+
+decimal_literal : of_all_with any_decimal (below_two (literal (text (codes "1.5")))) ≡ Some Any ∷ Some Any ∷ Some Any ∷ []
+decimal_literal = refl
 
 -- records: keys in any order; a repeated key has no type
 record_keys : of_all (binary two.Equal (record_with (entries_of ((codes "b", number 1) ∷ (codes "a", number 2) ∷ []))) (record_with (entries_of ((codes "a", number 2) ∷ (codes "b", number 1) ∷ [])))) ≡ Some Any ∷ Some Any ∷ Some Any ∷ []
@@ -205,10 +242,10 @@ looked_at_behind = refl
 unlike_actions : forms two_spaces (policy entity.Any (action.InSet (in_space (codes "N::Action") (codes "view") ∷ in_space (codes "M::Action") (codes "g") ∷ [])) (literal (boolean true))) ≡ None ∷ []
 unlike_actions = refl
 
--- one of them, which no environment refuses
+-- one of them, which no environment refuses, whatever the settings
 abbrev pub guarded_policy : PolicyTree
 guarded_policy = policy (entity.Is (codes "User")) action.Any (and (has principal (codes "age")) adult)
 
-pub guarded_everywhere : faults_of schema guarded_policy ≡ []
+pub guarded_everywhere : (settings : Settings) → faults_of_with settings schema guarded_policy ≡ []
 unfolding same_expression
-guarded_everywhere = refl
+guarded_everywhere settings = refl

@@ -8,23 +8,44 @@ use Rattle.cedar_schema.specs.declared.schema.environment.Environment.{Environme
 use Rattle.cedar_types.specs.Types as kind
 use Rattle.cedar_schema.specs.SchemaTree.{SchemaTree, environments_of}
 use Rattle.cedar_typing.specs.Capabilities.{Capabilities}
-use Rattle.cedar_typing.specs.Typing.{Types}
+use Rattle.cedar_typing.specs.Settings.{default_settings}
+use Rattle.cedar_typing.specs.Typing.{TypesWith}
+use Rattle.cedar_typing.specs.declared.settings.Settings.{Settings}
 use Rattle.cedar_ast.specs.Replacement.{replace}
 
--- In the environment the policy's condition, with the environment's action in the place of the variable, is typed as a
--- Boolean of which this is known, from no held capabilities (cedar-spec, Lean: Cedar.Validation, typechecker).
+-- Under these settings, in the environment, the policy's condition, with the environment's action in the place of the
+-- variable, is typed as a Boolean of which this is known, from no held capabilities (cedar-spec, Lean: Cedar.Validation,
+-- typechecker).
+abbrev pub HasFormWith : Settings → SchemaTree → Environment → PolicyTree → Truth → Type 0
+HasFormWith settings s env p f = (g : Capabilities) × TypesWith settings s env [] (replace env.action (condition_of p)) (kind.boolean f) g
+
+-- Under these settings the policy is accepted in the environment: its condition is a Boolean there (Cedar documentation,
+-- policy validation).
+abbrev pub IsAcceptedInWith : Settings → SchemaTree → Environment → PolicyTree → Type 0
+IsAcceptedInWith settings s env p = (f : Truth) × HasFormWith settings s env p f
+
+-- Under these settings the policy is accepted in every environment of the schema (Cedar documentation, policy validation).
+abbrev pub IsAcceptedWith : Settings → SchemaTree → PolicyTree → Type 0
+IsAcceptedWith settings s p = (env : Environment) → Contains (environments_of s.actions) env → IsAcceptedInWith settings s env p
+
+-- Under these settings the condition is known false in every environment, also where there is none: no request can satisfy
+-- the policy (Cedar documentation, policy validation: impossible policies).
+abbrev pub IsImpossibleWith : Settings → SchemaTree → PolicyTree → Type 0
+IsImpossibleWith settings s p = (env : Environment) → Contains (environments_of s.actions) env → HasFormWith settings s env p False
+
+-- The condition is typed as a Boolean of which this is known, with no setting on (cedar-spec, Lean: Cedar.Validation,
+-- typechecker).
 abbrev pub HasForm : SchemaTree → Environment → PolicyTree → Truth → Type 0
-HasForm s env p f = (g : Capabilities) × Types s env [] (replace env.action (condition_of p)) (kind.boolean f) g
+HasForm = HasFormWith default_settings
 
--- The policy is accepted in the environment: its condition is a Boolean there (Cedar documentation, policy validation).
+-- The policy is accepted in the environment, with no setting on (Cedar documentation, policy validation).
 abbrev pub IsAcceptedIn : SchemaTree → Environment → PolicyTree → Type 0
-IsAcceptedIn s env p = (f : Truth) × HasForm s env p f
+IsAcceptedIn = IsAcceptedInWith default_settings
 
--- The policy is accepted in every environment of the schema (Cedar documentation, policy validation).
+-- The policy is accepted in every environment of the schema, with no setting on (Cedar documentation, policy validation).
 abbrev pub IsAccepted : SchemaTree → PolicyTree → Type 0
-IsAccepted s p = (env : Environment) → Contains (environments_of s.actions) env → IsAcceptedIn s env p
+IsAccepted = IsAcceptedWith default_settings
 
--- The condition is known false in every environment, also where there is none: no request can satisfy the policy (Cedar
--- documentation, policy validation: impossible policies).
+-- No request can satisfy the policy, with no setting on (Cedar documentation, policy validation: impossible policies).
 abbrev pub IsImpossible : SchemaTree → PolicyTree → Type 0
-IsImpossible s p = (env : Environment) → Contains (environments_of s.actions) env → HasForm s env p False
+IsImpossible = IsImpossibleWith default_settings

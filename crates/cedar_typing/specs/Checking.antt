@@ -26,6 +26,8 @@ use Rattle.cedar_schema.specs.SchemaTree.{SchemaTree}
 use Rattle.cedar_types.specs.Membership.{known}
 use Rattle.cedar_schema.specs.Declarations.{is_entity_type, is_action, is_action_type, action_below, type_below}
 use Rattle.cedar_typing.specs.Capabilities.{Capability, Capabilities}
+use Rattle.cedar_typing.specs.Settings.{default_settings}
+use Rattle.cedar_typing.specs.declared.settings.Settings.{Settings}
 use Rattle.cedar_typing.specs.Typing.{attributes_in, is_record, flipped, two_literals, written_uids, names_of}
 use Rattle.cedar_types.specs.Lookup.{attribute_at}
 use Rattle.cedar_types.specs.declared.attribute.Attribute.{Attribute}
@@ -163,20 +165,26 @@ abbrev pub get_type : Capabilities → Expression → List ℕ → Option Attrib
 get_type h e a None = None
 get_type h e a (Some d) = only_if (d.required || is_held (record { on = e; key = a }) h) (as_type d.ty)
 
--- The row of `decimal`: one string literal that is a decimal's.
-abbrev pub decimal_type : Expression → Option Typed
-decimal_type (literal (text t)) = only_if (is_some (decimal_of t)) (as_type kind.decimal)
-decimal_type _ = None
+-- The row of `decimal`, of a literal: a string that is a decimal's.
+abbrev pub literal_decimal_type : Datum → Option Typed
+literal_decimal_type (text t) = only_if (is_some (decimal_of t)) (as_type kind.decimal)
+literal_decimal_type _ = None
+
+-- The row of `decimal`: one string literal that is a decimal's, and with the setting on any text that is no literal.
+abbrev pub decimal_type : Settings → Expression → TypeTree → Option Typed
+decimal_type settings (literal v) t = literal_decimal_type v
+decimal_type settings _ t = only_if (settings.any_decimal && is_string t) (as_type kind.decimal)
 
 -- The rows of the operators of one operand.
-abbrev pub unary_type : SchemaTree → Capabilities → UnaryOperator → Expression → Typed → Option Typed
-unary_type s h operator.Not e t = option_and_then (λ f. as_type (kind.boolean (flipped f))) (truth_in t.ty)
-unary_type s h operator.Negate e t = only_if (is_long t.ty) (as_type kind.long)
-unary_type s h (operator.Has a) e t = option_and_then (λ at. has_type h e a t.ty (attribute_at a at)) (attributes_in s t.ty)
-unary_type s h (operator.Get a) e t = option_and_then (λ at. get_type h e a (attribute_at a at)) (attributes_in s t.ty)
-unary_type s h (operator.Like p) e t = only_if (is_string t.ty) (as_type (kind.boolean Any))
-unary_type s h (operator.Is n) e t = option_and_then (λ m. only_if (is_entity_type s n || is_action_type s n) (as_type (kind.boolean (known (bytes_eq m n))))) (entity_in t.ty)
-unary_type s h operator.Decimal e t = decimal_type e
+abbrev pub unary_type : Settings → SchemaTree → Capabilities → UnaryOperator → Expression → Typed → Option Typed
+unary_type settings s h operator.Not e t = option_and_then (λ f. as_type (kind.boolean (flipped f))) (truth_in t.ty)
+unary_type settings s h operator.Negate e t = only_if (is_long t.ty) (as_type kind.long)
+unary_type settings s h (operator.Has a) e t = option_and_then (λ at. has_type h e a t.ty (attribute_at a at)) (attributes_in s t.ty)
+unary_type settings s h (operator.Get a) e t = option_and_then (λ at. get_type h e a (attribute_at a at)) (attributes_in s t.ty)
+unary_type settings s h (operator.Like p) e t = only_if (is_string t.ty) (as_type (kind.boolean Any))
+unary_type settings s h (operator.Is n) e t = option_and_then (λ m. only_if (is_entity_type s n || is_action_type s n) (as_type (kind.boolean (known (bytes_eq m n))))) (entity_in t.ty)
+unary_type settings s h operator.Decimal e t = decimal_type settings e t.ty
+unary_type settings s h operator.IsEmpty e t = option_and_then (λ m. as_type (kind.boolean Any)) (element_in t.ty)
 
 -- Known false of two entity types that differ.
 abbrev pub apart : Option (List ℕ) → Option (List ℕ) → Option TypeTree
@@ -253,40 +261,52 @@ binary_type s binary_operator.DecimalLessEqual a b t u = decimals_type t u
 binary_type s binary_operator.DecimalGreater a b t u = decimals_type t u
 binary_type s binary_operator.DecimalGreaterEqual a b t u = decimals_type t u
 
--- The type of an expression in an environment of a schema, where these capabilities are held, and what it gains; none where
--- no rule types it (Cedar documentation, strict validation).
+-- The type of an expression under these settings, in an environment of a schema, where these capabilities are held, and what
+-- it gains; none where no rule types it (Cedar documentation, strict validation).
 abbrev mutual
-  pub type_of : SchemaTree → Environment → Capabilities → Expression → Option Typed
-  type_of s env h (literal v) = literal_type s v
-  type_of s env h (variable x) = variable_type env x
-  type_of s env h (and a b) = on_boolean (type_of s env h a) (and_type h (λ k. type_of s env k b))
-  type_of s env h (or a b) = on_boolean (type_of s env h a) (or_type (type_of s env h b))
-  type_of s env h (if_else i x y) = on_boolean (type_of s env h i) (if_type (λ g. type_of s env (h ++ g) x) (type_of s env h y))
-  type_of s env h (unary op e) = option_and_then (unary_type s h op e) (type_of s env h e)
-  type_of s env h (binary op a b) = on_two (type_of s env h a) (type_of s env h b) (binary_type s op a b)
-  type_of s env h (set_with es) = option_and_then (λ t. as_type (kind.set t)) (types_all s env h es)
-  type_of s env h (record_with fs) = only_if (are_distinct (names_of fs)) (option_and_then (λ at. as_type (kind.record_of at)) (types_entries s env h no_attributes fs))
+  pub type_of_with : Settings → SchemaTree → Environment → Capabilities → Expression → Option Typed
+  type_of_with settings s env h (literal v) = literal_type s v
+  type_of_with settings s env h (variable x) = variable_type env x
+  type_of_with settings s env h (and a b) = on_boolean (type_of_with settings s env h a) (and_type h (λ k. type_of_with settings s env k b))
+  type_of_with settings s env h (or a b) = on_boolean (type_of_with settings s env h a) (or_type (type_of_with settings s env h b))
+  type_of_with settings s env h (if_else i x y) = on_boolean (type_of_with settings s env h i) (if_type (λ g. type_of_with settings s env (h ++ g) x) (type_of_with settings s env h y))
+  type_of_with settings s env h (unary op e) = option_and_then (unary_type settings s h op e) (type_of_with settings s env h e)
+  type_of_with settings s env h (binary op a b) = on_two (type_of_with settings s env h a) (type_of_with settings s env h b) (binary_type s op a b)
+  type_of_with settings s env h (set_with es) = option_and_then (λ t. as_type (kind.set t)) (types_all settings s env h es)
+  type_of_with settings s env h (record_with fs) = only_if (are_distinct (names_of fs)) (option_and_then (λ at. as_type (kind.record_of at)) (types_entries settings s env h no_attributes fs))
 
   -- What the types of one or more members join to.
-  pub types_all : SchemaTree → Environment → Capabilities → Expressions → Option TypeTree
-  types_all s env h no_more = None
-  types_all s env h (and_then e es) = option_and_then (λ x. types_onto s env h x.ty es) (type_of s env h e)
+  pub types_all : Settings → SchemaTree → Environment → Capabilities → Expressions → Option TypeTree
+  types_all settings s env h no_more = None
+  types_all settings s env h (and_then e es) = option_and_then (λ x. types_onto settings s env h x.ty es) (type_of_with settings s env h e)
 
   -- What a type joins to with those of further members, from the left.
-  pub types_onto : SchemaTree → Environment → Capabilities → TypeTree → Expressions → Option TypeTree
-  types_onto s env h t no_more = Some t
-  types_onto s env h t (and_then e es) = option_and_then (λ x. option_and_then (λ v. types_onto s env h v es) (join t x.ty)) (type_of s env h e)
+  pub types_onto : Settings → SchemaTree → Environment → Capabilities → TypeTree → Expressions → Option TypeTree
+  types_onto settings s env h t no_more = Some t
+  types_onto settings s env h t (and_then e es) = option_and_then (λ x. option_and_then (λ v. types_onto settings s env h v es) (join t x.ty)) (type_of_with settings s env h e)
 
   -- The attributes with those of the entries, each required.
-  pub types_entries : SchemaTree → Environment → Capabilities → Attributes → Entries → Option Attributes
-  types_entries s env h at no_entries = Some at
-  types_entries s env h at (entry k e fs) = option_and_then (λ x. types_entries s env h (with_attribute k true x.ty at) fs) (type_of s env h e)
+  pub types_entries : Settings → SchemaTree → Environment → Capabilities → Attributes → Entries → Option Attributes
+  types_entries settings s env h at no_entries = Some at
+  types_entries settings s env h at (entry k e fs) = option_and_then (λ x. types_entries settings s env h (with_attribute k true x.ty at) fs) (type_of_with settings s env h e)
 
 -- The typing of a policy's condition in an environment, with the environment's action in the place of the variable, from no
 -- held capabilities.
-abbrev pub type_in : SchemaTree → Environment → PolicyTree → Option Typed
-type_in s env p = type_of s env [] (replace env.action (condition_of p))
+abbrev pub type_in_with : Settings → SchemaTree → Environment → PolicyTree → Option Typed
+type_in_with settings s env p = type_of_with settings s env [] (replace env.action (condition_of p))
 
 -- What is known of the condition there, where it has a type of Booleans.
+abbrev pub form_in_with : Settings → SchemaTree → Environment → PolicyTree → Option Truth
+form_in_with settings s env p = option_and_then (λ x. truth_in x.ty) (type_in_with settings s env p)
+
+-- The type of an expression, and what it gains, with no setting on (Cedar documentation, strict validation).
+abbrev pub type_of : SchemaTree → Environment → Capabilities → Expression → Option Typed
+type_of = type_of_with default_settings
+
+-- The typing of a policy's condition in an environment, with no setting on.
+abbrev pub type_in : SchemaTree → Environment → PolicyTree → Option Typed
+type_in = type_in_with default_settings
+
+-- What is known of the condition there, with no setting on.
 abbrev pub form_in : SchemaTree → Environment → PolicyTree → Option Truth
-form_in s env p = option_and_then (λ x. truth_in x.ty) (type_in s env p)
+form_in = form_in_with default_settings

@@ -1,3 +1,4 @@
+pub mod Settings
 pub mod Capabilities
 pub mod Typing
 pub mod Acceptance

@@ -1,5 +1,5 @@
 -- Strict typing, rule by rule (Cedar documentation, strict validation; cedar-spec, Lean: Cedar.Validation, typechecker).
-use Rattle.std.specs.Prelude.{◌≡◌, ◌≢◌, ℕ, ℤ, Bool, true, false, ◌&&◌, List, [], ◌∷◌, Option, Some, None, Contains, IsSome, ◌⊎◌}
+use Rattle.std.specs.Prelude.{◌≡◌, ◌≢◌, ℕ, ℤ, Bool, true, false, ◌&&◌, List, [], ◌∷◌, Option, Some, None, Contains, IsSome, IsTrue, ◌⊎◌}
 use Rattle.std.specs.Bool.{Decides}
 use Rattle.std.specs.Str.{bytes_eq}
 use Rattle.cedar_ext.specs.declared.pattern.Element.{Element}
@@ -26,6 +26,8 @@ use Rattle.cedar_schema.specs.Descents.{ActionDescends, TypeDescends}
 use Rattle.cedar_types.specs.Membership.{known}
 use Rattle.cedar_schema.specs.Declarations.{IsEntityType, IsAction, IsActionType}
 use Rattle.cedar_typing.specs.Capabilities.{Capabilities, Has, IsUnion, IsCommon}
+use Rattle.cedar_typing.specs.Settings.{default_settings}
+use Rattle.cedar_typing.specs.declared.settings.Settings.{Settings}
 
 -- The attributes of an entity type's shape; a type that the schema gives no shape, which is an action's, has none
 -- (Cedar documentation, JSON schema format: shape).
@@ -143,83 +145,92 @@ names_of no_entries = []
 names_of (entry k e fs) = k ∷ names_of fs
 
 mutual
-  -- In an environment of a schema, where these capabilities are held, the expression has the type and gains the
-  -- capabilities, which hold where it is true: one rule for each row of the table of strict validation (Cedar documentation,
-  -- strict validation; cedar-spec, Lean: Cedar.Validation, typechecker).
-  pub data Types (s : SchemaTree) (env : Environment) : Capabilities → Expression → TypeTree → Capabilities → Type 0 where
+  -- Under these settings, in an environment of a schema, where these capabilities are held, the expression has the type and
+  -- gains the capabilities, which hold where it is true: one rule for each row of the table of strict validation (Cedar
+  -- documentation, strict validation; cedar-spec, Lean: Cedar.Validation, typechecker).
+  pub data TypesWith (settings : Settings) (s : SchemaTree) (env : Environment) : Capabilities → Expression → TypeTree → Capabilities → Type 0 where
     -- a literal has its own type: what is known of a Boolean, whole numbers, texts
-    of_boolean : {h : Capabilities} {b : Bool} → Types s env h (literal (boolean b)) (kind.boolean (known b)) []
-    of_long : {h : Capabilities} {n : ℤ} → Types s env h (literal (long n)) kind.long []
-    of_text : {h : Capabilities} {t : List ℕ} → Types s env h (literal (text t)) kind.string []
+    of_boolean : {h : Capabilities} {b : Bool} → TypesWith settings s env h (literal (boolean b)) (kind.boolean (known b)) []
+    of_long : {h : Capabilities} {n : ℤ} → TypesWith settings s env h (literal (long n)) kind.long []
+    of_text : {h : Capabilities} {t : List ℕ} → TypesWith settings s env h (literal (text t)) kind.string []
     -- a uid has its entity type, which is declared, or the uid is that of a declared action
-    of_uid : {h : Capabilities} {u : Uid} → IsEntityType s u.ty ⊎ IsAction s u → Types s env h (literal (uid u)) (kind.entity u.ty) []
+    of_uid : {h : Capabilities} {u : Uid} → IsEntityType s u.ty ⊎ IsAction s u → TypesWith settings s env h (literal (uid u)) (kind.entity u.ty) []
     -- the variables have the types of the environment; `action` has no rule, since its uid stands in its place
-    of_principal : {h : Capabilities} → Types s env h (variable Principal) (kind.entity env.principal) []
-    of_resource : {h : Capabilities} → Types s env h (variable Resource) (kind.entity env.resource) []
-    of_context : {h : Capabilities} → Types s env h (variable Context) env.context []
+    of_principal : {h : Capabilities} → TypesWith settings s env h (variable Principal) (kind.entity env.principal) []
+    of_resource : {h : Capabilities} → TypesWith settings s env h (variable Resource) (kind.entity env.resource) []
+    of_context : {h : Capabilities} → TypesWith settings s env h (variable Context) env.context []
     -- `!`: true and false are exchanged, and any stays
-    of_not : {h g : Capabilities} {e : Expression} {f : Truth} → Types s env h e (kind.boolean f) g → Types s env h (unary operator.Not e) (kind.boolean (flipped f)) []
+    of_not : {h g : Capabilities} {e : Expression} {f : Truth} → TypesWith settings s env h e (kind.boolean f) g → TypesWith settings s env h (unary operator.Not e) (kind.boolean (flipped f)) []
     -- `&&`: behind what is known false nothing is typed; else the right side is typed where the gains of the left are held,
     -- and both gain where the right side is not known false
-    and_false : {h g : Capabilities} {a b : Expression} → Types s env h a (kind.boolean False) g → Types s env h (and a b) (kind.boolean False) []
-    and_then_false : {h ga gb hb : Capabilities} {a b : Expression} {f : Truth} → Types s env h a (kind.boolean f) ga → MayHold f → IsUnion h ga hb → Types s env hb b (kind.boolean False) gb → Types s env h (and a b) (kind.boolean False) []
-    and_then_true : {h ga gb hb g : Capabilities} {a b : Expression} {f : Truth} → Types s env h a (kind.boolean f) ga → MayHold f → IsUnion h ga hb → Types s env hb b (kind.boolean True) gb → IsUnion ga gb g → Types s env h (and a b) (kind.boolean f) g
-    and_then_any : {h ga gb hb g : Capabilities} {a b : Expression} {f : Truth} → Types s env h a (kind.boolean f) ga → MayHold f → IsUnion h ga hb → Types s env hb b (kind.boolean Any) gb → IsUnion ga gb g → Types s env h (and a b) (kind.boolean Any) g
+    and_false : {h g : Capabilities} {a b : Expression} → TypesWith settings s env h a (kind.boolean False) g → TypesWith settings s env h (and a b) (kind.boolean False) []
+    and_then_false : {h ga gb hb : Capabilities} {a b : Expression} {f : Truth} → TypesWith settings s env h a (kind.boolean f) ga → MayHold f → IsUnion h ga hb → TypesWith settings s env hb b (kind.boolean False) gb → TypesWith settings s env h (and a b) (kind.boolean False) []
+    and_then_true : {h ga gb hb g : Capabilities} {a b : Expression} {f : Truth} → TypesWith settings s env h a (kind.boolean f) ga → MayHold f → IsUnion h ga hb → TypesWith settings s env hb b (kind.boolean True) gb → IsUnion ga gb g → TypesWith settings s env h (and a b) (kind.boolean f) g
+    and_then_any : {h ga gb hb g : Capabilities} {a b : Expression} {f : Truth} → TypesWith settings s env h a (kind.boolean f) ga → MayHold f → IsUnion h ga hb → TypesWith settings s env hb b (kind.boolean Any) gb → IsUnion ga gb g → TypesWith settings s env h (and a b) (kind.boolean Any) g
     -- `||`: behind what is known true nothing is typed; behind what is known false the right side decides; else what both
     -- gain is gained
-    or_true : {h g : Capabilities} {a b : Expression} → Types s env h a (kind.boolean True) g → Types s env h (or a b) (kind.boolean True) []
-    or_false : {h ga gb : Capabilities} {a b : Expression} {f : Truth} → Types s env h a (kind.boolean False) ga → Types s env h b (kind.boolean f) gb → Types s env h (or a b) (kind.boolean f) gb
-    or_any_true : {h ga gb : Capabilities} {a b : Expression} → Types s env h a (kind.boolean Any) ga → Types s env h b (kind.boolean True) gb → Types s env h (or a b) (kind.boolean True) []
-    or_any_false : {h ga gb : Capabilities} {a b : Expression} → Types s env h a (kind.boolean Any) ga → Types s env h b (kind.boolean False) gb → Types s env h (or a b) (kind.boolean Any) ga
-    or_any_any : {h ga gb g : Capabilities} {a b : Expression} → Types s env h a (kind.boolean Any) ga → Types s env h b (kind.boolean Any) gb → IsCommon ga gb g → Types s env h (or a b) (kind.boolean Any) g
+    or_true : {h g : Capabilities} {a b : Expression} → TypesWith settings s env h a (kind.boolean True) g → TypesWith settings s env h (or a b) (kind.boolean True) []
+    or_false : {h ga gb : Capabilities} {a b : Expression} {f : Truth} → TypesWith settings s env h a (kind.boolean False) ga → TypesWith settings s env h b (kind.boolean f) gb → TypesWith settings s env h (or a b) (kind.boolean f) gb
+    or_any_true : {h ga gb : Capabilities} {a b : Expression} → TypesWith settings s env h a (kind.boolean Any) ga → TypesWith settings s env h b (kind.boolean True) gb → TypesWith settings s env h (or a b) (kind.boolean True) []
+    or_any_false : {h ga gb : Capabilities} {a b : Expression} → TypesWith settings s env h a (kind.boolean Any) ga → TypesWith settings s env h b (kind.boolean False) gb → TypesWith settings s env h (or a b) (kind.boolean Any) ga
+    or_any_any : {h ga gb g : Capabilities} {a b : Expression} → TypesWith settings s env h a (kind.boolean Any) ga → TypesWith settings s env h b (kind.boolean Any) gb → IsCommon ga gb g → TypesWith settings s env h (or a b) (kind.boolean Any) g
     -- `if`: a condition that is known leaves one branch alone; else the branches join, and what both ways gain is gained
-    if_true : {h gc gx hx g : Capabilities} {i x y : Expression} {t : TypeTree} → Types s env h i (kind.boolean True) gc → IsUnion h gc hx → Types s env hx x t gx → IsUnion gc gx g → Types s env h (if_else i x y) t g
-    if_false : {h gc gy : Capabilities} {i x y : Expression} {t : TypeTree} → Types s env h i (kind.boolean False) gc → Types s env h y t gy → Types s env h (if_else i x y) t gy
-    if_any : {h gc gx gy hx gcx g : Capabilities} {i x y : Expression} {t u v : TypeTree} → Types s env h i (kind.boolean Any) gc → IsUnion h gc hx → Types s env hx x t gx → Types s env h y u gy → Join t u v → IsUnion gc gx gcx → IsCommon gcx gy g → Types s env h (if_else i x y) v g
+    if_true : {h gc gx hx g : Capabilities} {i x y : Expression} {t : TypeTree} → TypesWith settings s env h i (kind.boolean True) gc → IsUnion h gc hx → TypesWith settings s env hx x t gx → IsUnion gc gx g → TypesWith settings s env h (if_else i x y) t g
+    if_false : {h gc gy : Capabilities} {i x y : Expression} {t : TypeTree} → TypesWith settings s env h i (kind.boolean False) gc → TypesWith settings s env h y t gy → TypesWith settings s env h (if_else i x y) t gy
+    if_any : {h gc gx gy hx gcx g : Capabilities} {i x y : Expression} {t u v : TypeTree} → TypesWith settings s env h i (kind.boolean Any) gc → IsUnion h gc hx → TypesWith settings s env hx x t gx → TypesWith settings s env h y u gy → Join t u v → IsUnion gc gx gcx → IsCommon gcx gy g → TypesWith settings s env h (if_else i x y) v g
     -- negation, `+`, `-` and `*`: whole numbers of whole numbers
-    of_negative : {h g : Capabilities} {e : Expression} → Types s env h e kind.long g → Types s env h (unary operator.Negate e) kind.long []
-    of_arithmetic : {h ga gb : Capabilities} {a b : Expression} {op : BinaryOperator} → is_arithmetic op ≡ true → Types s env h a kind.long ga → Types s env h b kind.long gb → Types s env h (binary op a b) kind.long []
+    of_negative : {h g : Capabilities} {e : Expression} → TypesWith settings s env h e kind.long g → TypesWith settings s env h (unary operator.Negate e) kind.long []
+    of_arithmetic : {h ga gb : Capabilities} {a b : Expression} {op : BinaryOperator} → is_arithmetic op ≡ true → TypesWith settings s env h a kind.long ga → TypesWith settings s env h b kind.long gb → TypesWith settings s env h (binary op a b) kind.long []
     -- `<` and `<=`: any Boolean, of whole numbers
-    of_comparison : {h ga gb : Capabilities} {a b : Expression} {op : BinaryOperator} → is_comparison op ≡ true → Types s env h a kind.long ga → Types s env h b kind.long gb → Types s env h (binary op a b) (kind.boolean Any) []
+    of_comparison : {h ga gb : Capabilities} {a b : Expression} {op : BinaryOperator} → is_comparison op ≡ true → TypesWith settings s env h a kind.long ga → TypesWith settings s env h b kind.long gb → TypesWith settings s env h (binary op a b) (kind.boolean Any) []
     -- `==`: of two literals it is known; else any Boolean where the types join, and known false of two entity types
-    equal_literals : {h ga gb : Capabilities} {v w : Datum} {t u : TypeTree} → Types s env h (literal v) t ga → Types s env h (literal w) u gb → Types s env h (binary binary_operator.Equal (literal v) (literal w)) (kind.boolean (known (same v w))) []
-    equal_joined : {h ga gb : Capabilities} {a b : Expression} {t u v : TypeTree} → two_literals a b ≡ false → Types s env h a t ga → Types s env h b u gb → Join t u v → Types s env h (binary binary_operator.Equal a b) (kind.boolean Any) []
-    equal_apart : {h ga gb : Capabilities} {a b : Expression} {m n : List ℕ} → two_literals a b ≡ false → Types s env h a (kind.entity m) ga → Types s env h b (kind.entity n) gb → m ≢ n → Types s env h (binary binary_operator.Equal a b) (kind.boolean False) []
+    equal_literals : {h ga gb : Capabilities} {v w : Datum} {t u : TypeTree} → TypesWith settings s env h (literal v) t ga → TypesWith settings s env h (literal w) u gb → TypesWith settings s env h (binary binary_operator.Equal (literal v) (literal w)) (kind.boolean (known (same v w))) []
+    equal_joined : {h ga gb : Capabilities} {a b : Expression} {t u v : TypeTree} → two_literals a b ≡ false → TypesWith settings s env h a t ga → TypesWith settings s env h b u gb → Join t u v → TypesWith settings s env h (binary binary_operator.Equal a b) (kind.boolean Any) []
+    equal_apart : {h ga gb : Capabilities} {a b : Expression} {m n : List ℕ} → two_literals a b ≡ false → TypesWith settings s env h a (kind.entity m) ga → TypesWith settings s env h b (kind.entity n) gb → m ≢ n → TypesWith settings s env h (binary binary_operator.Equal a b) (kind.boolean False) []
     -- `has`: false of what is not declared, true of what is held or what a record type requires, and else gained
-    has_none : {h g : Capabilities} {e : Expression} {t : TypeTree} {at : Attributes} {a : List ℕ} → Types s env h e t g → attributes_in s t ≡ Some at → attribute_at a at ≡ None → Types s env h (unary (operator.Has a) e) (kind.boolean False) []
-    has_held : {h g : Capabilities} {e : Expression} {t : TypeTree} {at : Attributes} {a : List ℕ} {d : Attribute} → Types s env h e t g → attributes_in s t ≡ Some at → attribute_at a at ≡ Some d → Has (record { on = e; key = a }) h → Types s env h (unary (operator.Has a) e) (kind.boolean True) []
-    has_required : {h g : Capabilities} {e : Expression} {at : Attributes} {a : List ℕ} {d : Attribute} → Types s env h e (kind.record_of at) g → attribute_at a at ≡ Some d → d.required ≡ true → Types s env h (unary (operator.Has a) e) (kind.boolean True) []
-    has_any : {h g : Capabilities} {e : Expression} {t : TypeTree} {at : Attributes} {a : List ℕ} {d : Attribute} → Types s env h e t g → attributes_in s t ≡ Some at → attribute_at a at ≡ Some d → ¬ Has (record { on = e; key = a }) h → (is_record t ≡ false) ⊎ (d.required ≡ false) → Types s env h (unary (operator.Has a) e) (kind.boolean Any) (record { on = e; key = a } ∷ [])
+    has_none : {h g : Capabilities} {e : Expression} {t : TypeTree} {at : Attributes} {a : List ℕ} → TypesWith settings s env h e t g → attributes_in s t ≡ Some at → attribute_at a at ≡ None → TypesWith settings s env h (unary (operator.Has a) e) (kind.boolean False) []
+    has_held : {h g : Capabilities} {e : Expression} {t : TypeTree} {at : Attributes} {a : List ℕ} {d : Attribute} → TypesWith settings s env h e t g → attributes_in s t ≡ Some at → attribute_at a at ≡ Some d → Has (record { on = e; key = a }) h → TypesWith settings s env h (unary (operator.Has a) e) (kind.boolean True) []
+    has_required : {h g : Capabilities} {e : Expression} {at : Attributes} {a : List ℕ} {d : Attribute} → TypesWith settings s env h e (kind.record_of at) g → attribute_at a at ≡ Some d → d.required ≡ true → TypesWith settings s env h (unary (operator.Has a) e) (kind.boolean True) []
+    has_any : {h g : Capabilities} {e : Expression} {t : TypeTree} {at : Attributes} {a : List ℕ} {d : Attribute} → TypesWith settings s env h e t g → attributes_in s t ≡ Some at → attribute_at a at ≡ Some d → ¬ Has (record { on = e; key = a }) h → (is_record t ≡ false) ⊎ (d.required ≡ false) → TypesWith settings s env h (unary (operator.Has a) e) (kind.boolean Any) (record { on = e; key = a } ∷ [])
     -- `.`: the attribute's type, where it is required or held
-    of_get : {h g : Capabilities} {e : Expression} {t : TypeTree} {at : Attributes} {a : List ℕ} {d : Attribute} → Types s env h e t g → attributes_in s t ≡ Some at → attribute_at a at ≡ Some d → (d.required ≡ true) ⊎ Has (record { on = e; key = a }) h → Types s env h (unary (operator.Get a) e) d.ty []
+    of_get : {h g : Capabilities} {e : Expression} {t : TypeTree} {at : Attributes} {a : List ℕ} {d : Attribute} → TypesWith settings s env h e t g → attributes_in s t ≡ Some at → attribute_at a at ≡ Some d → (d.required ≡ true) ⊎ Has (record { on = e; key = a }) h → TypesWith settings s env h (unary (operator.Get a) e) d.ty []
     -- `like`: any Boolean, of a text
-    of_like : {h g : Capabilities} {e : Expression} {p : List Element} → Types s env h e kind.string g → Types s env h (unary (operator.Like p) e) (kind.boolean Any) []
+    of_like : {h g : Capabilities} {e : Expression} {p : List Element} → TypesWith settings s env h e kind.string g → TypesWith settings s env h (unary (operator.Like p) e) (kind.boolean Any) []
     -- `is`: known by the entity's type; the name is that of a declared entity type or of the type of a declared action
-    of_is : {h g : Capabilities} {e : Expression} {m n : List ℕ} → Types s env h e (kind.entity m) g → IsEntityType s n ⊎ IsActionType s n → Types s env h (unary (operator.Is n) e) (kind.boolean (known (bytes_eq m n))) []
+    of_is : {h g : Capabilities} {e : Expression} {m n : List ℕ} → TypesWith settings s env h e (kind.entity m) g → IsEntityType s n ⊎ IsActionType s n → TypesWith settings s env h (unary (operator.Is n) e) (kind.boolean (known (bytes_eq m n))) []
     -- `in`: of a declared action and of uids that are written it is known by the schema's links; else any Boolean where the
     -- one type is or descends from the other, and known false where not
-    in_written : {h ga gb : Capabilities} {u : Uid} {b : Expression} {m n : List ℕ} {v : TypeTree} {us : List Uid} {r : Bool} → Types s env h (literal (uid u)) (kind.entity m) ga → Types s env h b v gb → Target v n → IsAction s u → written_uids b ≡ Some us → Decides r (IsInOne s u us) → Types s env h (binary binary_operator.In (literal (uid u)) b) (kind.boolean (known r)) []
-    in_related : {h ga gb : Capabilities} {a b : Expression} {m n : List ℕ} {v : TypeTree} → Types s env h a (kind.entity m) ga → Types s env h b v gb → Target v n → ¬ AreWritten s a b → IsOrDescends s m n → Types s env h (binary binary_operator.In a b) (kind.boolean Any) []
-    in_unrelated : {h ga gb : Capabilities} {a b : Expression} {m n : List ℕ} {v : TypeTree} → Types s env h a (kind.entity m) ga → Types s env h b v gb → Target v n → ¬ AreWritten s a b → ¬ IsOrDescends s m n → Types s env h (binary binary_operator.In a b) (kind.boolean False) []
+    in_written : {h ga gb : Capabilities} {u : Uid} {b : Expression} {m n : List ℕ} {v : TypeTree} {us : List Uid} {r : Bool} → TypesWith settings s env h (literal (uid u)) (kind.entity m) ga → TypesWith settings s env h b v gb → Target v n → IsAction s u → written_uids b ≡ Some us → Decides r (IsInOne s u us) → TypesWith settings s env h (binary binary_operator.In (literal (uid u)) b) (kind.boolean (known r)) []
+    in_related : {h ga gb : Capabilities} {a b : Expression} {m n : List ℕ} {v : TypeTree} → TypesWith settings s env h a (kind.entity m) ga → TypesWith settings s env h b v gb → Target v n → ¬ AreWritten s a b → IsOrDescends s m n → TypesWith settings s env h (binary binary_operator.In a b) (kind.boolean Any) []
+    in_unrelated : {h ga gb : Capabilities} {a b : Expression} {m n : List ℕ} {v : TypeTree} → TypesWith settings s env h a (kind.entity m) ga → TypesWith settings s env h b v gb → Target v n → ¬ AreWritten s a b → ¬ IsOrDescends s m n → TypesWith settings s env h (binary binary_operator.In a b) (kind.boolean False) []
     -- `contains`, `containsAll`, `containsAny`: any Boolean, where the types of the members join
-    of_contains : {h ga gb : Capabilities} {a b : Expression} {t u v : TypeTree} → Types s env h a (kind.set t) ga → Types s env h b u gb → Join t u v → Types s env h (binary binary_operator.Contains a b) (kind.boolean Any) []
-    of_set_comparison : {h ga gb : Capabilities} {a b : Expression} {t u v : TypeTree} {op : BinaryOperator} → is_set_comparison op ≡ true → Types s env h a (kind.set t) ga → Types s env h b (kind.set u) gb → Join t u v → Types s env h (binary op a b) (kind.boolean Any) []
+    of_contains : {h ga gb : Capabilities} {a b : Expression} {t u v : TypeTree} → TypesWith settings s env h a (kind.set t) ga → TypesWith settings s env h b u gb → Join t u v → TypesWith settings s env h (binary binary_operator.Contains a b) (kind.boolean Any) []
+    of_set_comparison : {h ga gb : Capabilities} {a b : Expression} {t u v : TypeTree} {op : BinaryOperator} → is_set_comparison op ≡ true → TypesWith settings s env h a (kind.set t) ga → TypesWith settings s env h b (kind.set u) gb → Join t u v → TypesWith settings s env h (binary op a b) (kind.boolean Any) []
+    -- `isEmpty`: any Boolean, of a set
+    of_is_empty : {h g : Capabilities} {e : Expression} {t : TypeTree} → TypesWith settings s env h e (kind.set t) g → TypesWith settings s env h (unary operator.IsEmpty e) (kind.boolean Any) []
     -- a set: its members join; an empty set has no type
-    of_set : {h g : Capabilities} {e : Expression} {es : Expressions} {t v : TypeTree} → Types s env h e t g → JoinsOnto s env h t es v → Types s env h (set_with (and_then e es)) (kind.set v) []
+    of_set : {h g : Capabilities} {e : Expression} {es : Expressions} {t v : TypeTree} → TypesWith settings s env h e t g → JoinsOnto settings s env h t es v → TypesWith settings s env h (set_with (and_then e es)) (kind.set v) []
     -- a record: each key is required, with its value's type
-    of_record : {h : Capabilities} {fs : Entries} {at : Attributes} → AreDistinct (names_of fs) → AddsOnto s env h no_attributes fs at → Types s env h (record_with fs) (kind.record_of at) []
+    of_record : {h : Capabilities} {fs : Entries} {at : Attributes} → AreDistinct (names_of fs) → AddsOnto settings s env h no_attributes fs at → TypesWith settings s env h (record_with fs) (kind.record_of at) []
     -- `decimal`: of one string literal that is a decimal's
-    of_decimal : {h : Capabilities} {t : List ℕ} {z : ℤ} → decimal_of t ≡ Some z → Types s env h (unary operator.Decimal (literal (text t))) kind.decimal []
+    of_decimal : {h : Capabilities} {t : List ℕ} {z : ℤ} → decimal_of t ≡ Some z → TypesWith settings s env h (unary operator.Decimal (literal (text t))) kind.decimal []
+    -- with the setting on, also of any text that is not written as a literal
+    of_any_decimal : {h g : Capabilities} {e : Expression} → IsTrue settings.any_decimal → is_literal e ≡ false → TypesWith settings s env h e kind.string g → TypesWith settings s env h (unary operator.Decimal e) kind.decimal []
     -- comparisons of decimals: any Boolean
-    of_decimals : {h ga gb : Capabilities} {a b : Expression} {op : BinaryOperator} → is_decimal_comparison op ≡ true → Types s env h a kind.decimal ga → Types s env h b kind.decimal gb → Types s env h (binary op a b) (kind.boolean Any) []
+    of_decimals : {h ga gb : Capabilities} {a b : Expression} {op : BinaryOperator} → is_decimal_comparison op ≡ true → TypesWith settings s env h a kind.decimal ga → TypesWith settings s env h b kind.decimal gb → TypesWith settings s env h (binary op a b) (kind.boolean Any) []
 
   -- The type of the members so far joins with that of each further one, from the left (Cedar documentation, strict
   -- validation: sets).
-  pub data JoinsOnto (s : SchemaTree) (env : Environment) : Capabilities → TypeTree → Expressions → TypeTree → Type 0 where
-    joined_all : {h : Capabilities} {t : TypeTree} → JoinsOnto s env h t no_more t
-    joined_more : {h g : Capabilities} {e : Expression} {es : Expressions} {t u v w : TypeTree} → Types s env h e u g → Join t u v → JoinsOnto s env h v es w → JoinsOnto s env h t (and_then e es) w
+  pub data JoinsOnto (settings : Settings) (s : SchemaTree) (env : Environment) : Capabilities → TypeTree → Expressions → TypeTree → Type 0 where
+    joined_all : {h : Capabilities} {t : TypeTree} → JoinsOnto settings s env h t no_more t
+    joined_more : {h g : Capabilities} {e : Expression} {es : Expressions} {t u v w : TypeTree} → TypesWith settings s env h e u g → Join t u v → JoinsOnto settings s env h v es w → JoinsOnto settings s env h t (and_then e es) w
 
   -- Each key comes in, required, with its value's type (Cedar documentation, strict validation: records).
-  pub data AddsOnto (s : SchemaTree) (env : Environment) : Capabilities → Attributes → Entries → Attributes → Type 0 where
-    added_all : {h : Capabilities} {at : Attributes} → AddsOnto s env h at no_entries at
-    added_more : {h g : Capabilities} {k : List ℕ} {e : Expression} {fs : Entries} {t : TypeTree} {at more : Attributes} → Types s env h e t g → AddsOnto s env h (with_attribute k true t at) fs more → AddsOnto s env h at (entry k e fs) more
+  pub data AddsOnto (settings : Settings) (s : SchemaTree) (env : Environment) : Capabilities → Attributes → Entries → Attributes → Type 0 where
+    added_all : {h : Capabilities} {at : Attributes} → AddsOnto settings s env h at no_entries at
+    added_more : {h g : Capabilities} {k : List ℕ} {e : Expression} {fs : Entries} {t : TypeTree} {at more : Attributes} → TypesWith settings s env h e t g → AddsOnto settings s env h (with_attribute k true t at) fs more → AddsOnto settings s env h at (entry k e fs) more
+
+-- The rules of strict validation as it is documented, with no setting on (Cedar documentation, strict validation; cedar-spec,
+-- Lean: Cedar.Validation, typechecker).
+abbrev pub Types : SchemaTree → Environment → Capabilities → Expression → TypeTree → Capabilities → Type 0
+Types = TypesWith default_settings

@@ -3,6 +3,8 @@
 //! The crate holds definitions and the laws between them; each law is the contract of a function with an
 //! empty body, which runs nothing. Read the definitions in `specs/` in this order:
 //!
+//! - `Settings`: the choices beyond strict validation that a service may take. Names that end in `With` or
+//!   `_with` take them; those without mean that none is taken.
 //! - `Capabilities`: what is known to be there, as `principal.name` behind `principal has name`.
 //! - `Typing`: the rules, as a relation between what is held, an expression, its type and what it gains.
 //! - `Replacement` and `Acceptance`: the action of an environment in the place of `action`, and which
@@ -14,32 +16,44 @@
 //!
 //! A policy that is accepted for a schema is safe to evaluate: [`typing_is_sound`] says that its condition
 //! is a Boolean for every request that fits the schema and every world that conforms to it, or else that a
-//! number left the 64 bits or an entity was missing, and that nothing else can go wrong.
+//! number left the 64 bits or an entity was missing, and that nothing else can go wrong. Under the setting
+//! `any_decimal` a text that is no decimal's is the third thing that can.
 #![tactic(auto)]
 
+mod settings;
+
 ghost use Rattle.cedar_typing.specs.Candidates.{CandidatesAreEnough, FalseOnesMayGo};
-ghost use Rattle.cedar_typing.specs.Exactness.{FoundIsTyped, TypedIsFound, KnownGainsNothing, FormIsFound};
-ghost use Rattle.cedar_typing.specs.Reports.{AcceptedHasNoFault, ImpossibleIsComputed};
-ghost use Rattle.cedar_typing.specs.Soundness.{SoundTyping, SoundReplacement, SoundAcceptance, SoundResponse, PremisesAreMet};
+ghost use Rattle.cedar_typing.specs.Exactness.{FoundIsTyped, FoundIsTypedWith, TypedIsFound, TypedIsFoundWith, KnownGainsNothing, KnownGainsNothingWith, FormIsFound, FormIsFoundWith};
+ghost use Rattle.cedar_typing.specs.Reports.{AcceptedHasNoFault, AcceptedHasNoFaultWith, ImpossibleIsComputed, ImpossibleIsComputedWith};
+ghost use Rattle.cedar_typing.specs.Soundness.{SoundTyping, SoundTypingWith, SoundReplacement, SoundAcceptance, SoundAcceptanceWith, SoundResponse, SoundResponseWith, PremisesAreMet, PremisesAreMetWith};
+
+pub use settings::Settings;
 
 /// What is typed evaluates to a member of its type, or overflows, or meets an absent entity; where it is
 /// true, what it gains holds. To replace `action` by the request's action changes no evaluation. So the
 /// condition of an accepted policy is a Boolean, or one of the two errors, and no response names another
 /// error (cedar-spec, Lean: Cedar.Thm.Validation). Some schema, world, request and policy meet the
-/// premises. It is a law of the definitions, and runs nothing.
+/// premises. It is one statement for all settings, where the error `decimal` is left too under the setting
+/// `any_decimal`; the clauses without `with` are its reading with no setting on. It is a law of the
+/// definitions, and runs nothing.
 pub fn typing_is_sound()
     ensures typing { SoundTyping }
     ensures replacement { SoundReplacement }
     ensures acceptance { SoundAcceptance }
     ensures response { SoundResponse }
     ensures premises { PremisesAreMet }
+    ensures typing_with { (settings : Settings) → SoundTypingWith settings }
+    ensures acceptance_with { (settings : Settings) → SoundAcceptanceWith settings }
+    ensures response_with { (settings : Settings) → SoundResponseWith settings }
+    ensures premises_with { (settings : Settings) → PremisesAreMetWith settings }
 {}
 
 /// The rules, which are a relation, are what a function computes: each answer is a typing, and each typing
 /// is the answer, up to the order in which gained capabilities stand. What is known true or known false
 /// gains nothing. The form of a policy's condition in an environment is the one that is computed. A policy
-/// is accepted where it has no fault, and it is impossible where each form of it is known false. It is a
-/// law of the definitions, and runs nothing.
+/// is accepted where it has no fault, and it is impossible where each form of it is known false. So it is
+/// under all settings; the clauses without `with` are that with no setting on. It is a law of the
+/// definitions, and runs nothing.
 pub fn typing_is_computed()
     ensures found { FoundIsTyped }
     ensures typed { TypedIsFound }
@@ -47,6 +61,12 @@ pub fn typing_is_computed()
     ensures forms { FormIsFound }
     ensures accepted { AcceptedHasNoFault }
     ensures impossible { ImpossibleIsComputed }
+    ensures found_with { (settings : Settings) → FoundIsTypedWith settings }
+    ensures typed_with { (settings : Settings) → TypedIsFoundWith settings }
+    ensures known_with { (settings : Settings) → KnownGainsNothingWith settings }
+    ensures forms_with { (settings : Settings) → FormIsFoundWith settings }
+    ensures accepted_with { (settings : Settings) → AcceptedHasNoFaultWith settings }
+    ensures impossible_with { (settings : Settings) → ImpossibleIsComputedWith settings }
 {}
 
 /// A policy whose scope cannot be met in the request's environment, by the types of its entities or by the

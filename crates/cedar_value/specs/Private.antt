@@ -3,6 +3,7 @@ pub mod Compare
 pub mod DatumCode
 pub mod Equality
 pub mod Falls
+pub mod Hashed
 pub mod KindFalls
 pub mod Laws
 pub mod Lists

@@ -8,6 +8,7 @@ use crate::text::Text;
 use cedar_closure::Key;
 use std::alloc::{AllocError, Global};
 use std::cmp::Ordering;
+use std::hash::{Hash, Hasher};
 use std::marker::Model;
 
 /// A path of identifiers, as `Photos::Album`, which contracts see as the bytes of its text
@@ -154,6 +155,20 @@ impl Eq for Name {
     ghost use Rattle.cedar_value.specs.Private.Equality.{text_equivalence};
 
     ghost laws = { text_equivalence };
+}
+
+impl Hash for Name {
+    ghost use Rattle.std.specs.Hash as fed;
+    ghost use Rattle.std.proofs.Common.{ap};
+    ghost use Rattle.std.proofs.lemmas.Slice.Eq.{bytes_eq-Decides};
+
+    ghost hash_input = { fed.str };
+
+    ghost respects_eq = { λ s t h. ap fed.str ((bytes_eq-Decides s t).0 h) };
+
+    fn hash<H: Hasher>(&self, state: &mut H) {
+        self.path.hash(state);
+    }
 }
 
 impl PartialOrd for Name {

@@ -4,6 +4,7 @@ ghost use Rattle.std.specs.Str.{bytes_eq};
 
 use std::alloc::{AllocError, Global};
 use std::cmp::Ordering;
+use std::hash::{Hash, Hasher};
 use std::marker::Model;
 
 /// A text, which contracts see as the list of its bytes.
@@ -73,6 +74,20 @@ impl Eq for Text {
     ghost use Rattle.cedar_value.specs.Private.Equality.{text_equivalence};
 
     ghost laws = { text_equivalence };
+}
+
+impl Hash for Text {
+    ghost use Rattle.std.specs.Hash as fed;
+    ghost use Rattle.std.proofs.Common.{ap};
+    ghost use Rattle.std.proofs.lemmas.Slice.Eq.{bytes_eq-Decides};
+
+    ghost hash_input = { fed.str };
+
+    ghost respects_eq = { λ s t h. ap fed.str ((bytes_eq-Decides s t).0 h) };
+
+    fn hash<H: Hasher>(&self, state: &mut H) {
+        self.content.as_str().hash(state);
+    }
 }
 
 impl PartialOrd for Text {

@@ -7,6 +7,7 @@ use crate::text::Text;
 use cedar_closure::Key;
 use std::alloc::{AllocError, Global};
 use std::cmp::Ordering;
+use std::hash::{Hash, Hasher};
 
 /// The uid of an entity: the name of its type, and its id (Cedar language reference, entity identifiers).
 #[derive(Drop)]
@@ -52,7 +53,7 @@ impl PartialEq for Uid {
         ensures gives { result ≡ same_uid self.now other.now }
         ensures equal { IsTrue result ↔ (self.now ≡ other.now) }
     {
-        self.ty == other.ty && self.id == other.id
+        self.id == other.id && self.ty == other.ty
     }
 }
 
@@ -60,6 +61,19 @@ impl Eq for Uid {
     ghost use Rattle.cedar_value.specs.Private.Equality.{uid_equivalence};
 
     ghost laws = { uid_equivalence };
+}
+
+impl Hash for Uid {
+    ghost use Rattle.cedar_value.specs.Private.Hashed.{uid_input, uid_input-same};
+
+    ghost hash_input = { uid_input };
+
+    ghost respects_eq = { uid_input-same };
+
+    fn hash<H: Hasher>(&self, state: &mut H) {
+        self.ty.hash(state);
+        self.id.hash(state);
+    }
 }
 
 impl PartialOrd for Uid {

@@ -8,7 +8,7 @@ use Rattle.cedar_value.specs.Private.DatumCode.{bytes_tree, bytes_from, bytes_ba
 use Rattle.cedar_ast.specs.declared.variable.Variable.{Variable}
 use Rattle.cedar_ast.specs.declared.variable.Variable.TheVariants.{Principal, Action, Resource, Context}
 use Rattle.cedar_ast.specs.declared.operator.UnaryOperator.{UnaryOperator}
-use Rattle.cedar_ast.specs.declared.operator.UnaryOperator.TheVariants.{Not, Negate, Has, Get, Like, Is, Decimal}
+use Rattle.cedar_ast.specs.declared.operator.UnaryOperator.TheVariants.{Not, Negate, Has, Get, Like, Is, Decimal, IsEmpty}
 use Rattle.cedar_ast.specs.declared.operator.BinaryOperator.{BinaryOperator}
 use Rattle.cedar_ast.specs.declared.operator.BinaryOperator.TheVariants as operator
 
@@ -103,6 +103,7 @@ abbrev pub unary_tree : UnaryOperator → Gv
 unary_tree Not = gnil
 unary_tree Negate = gnum zero
 unary_tree Decimal = gnum (suc zero)
+unary_tree IsEmpty = gnum (suc (suc zero))
 unary_tree (Has a) = gcons (gnum zero) (bytes_tree a)
 unary_tree (Get a) = gcons (gnum (suc zero)) (bytes_tree a)
 unary_tree (Is ty) = gcons (gnum (suc (suc zero))) (bytes_tree ty)
@@ -111,7 +112,8 @@ unary_tree (Like p) = gcons gnil (elements_tree p)
 abbrev pub unary_from : Gv → UnaryOperator
 unary_from gnil = Not
 unary_from (gnum zero) = Negate
-unary_from (gnum (suc n)) = Decimal
+unary_from (gnum (suc zero)) = Decimal
+unary_from (gnum (suc (suc n))) = IsEmpty
 unary_from (gcons gnil t) = Like (elements_from t)
 unary_from (gcons (gnum zero) t) = Has (bytes_from t)
 unary_from (gcons (gnum (suc zero)) t) = Get (bytes_from t)
@@ -122,6 +124,7 @@ pub unary_back : (op : UnaryOperator) → unary_from (unary_tree op) ≡ op
 unary_back Not = refl
 unary_back Negate = refl
 unary_back Decimal = refl
+unary_back IsEmpty = refl
 unary_back (Has a) = ap Has (bytes_back a)
 unary_back (Get a) = ap Get (bytes_back a)
 unary_back (Is ty) = ap Is (bytes_back ty)

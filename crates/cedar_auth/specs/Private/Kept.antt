@@ -1,10 +1,16 @@
--- What a `Validated` keeps.
-use Rattle.std.specs.Prelude.{◌≡◌, List, map}
+-- What a `Validated` and a `Ready` keep.
+use Rattle.std.specs.Prelude.{◌≡◌, ℕ, List, map}
+use Rattle.std.specs.Global.{Vec}
+use Rattle.std.specs.BTreeMap.{BTreeMap}
+use Rattle.cedar_value.specs.World.{World}
+use Rattle.cedar_value.specs.declared.uid.Uid.{Uid}
 use Rattle.cedar_ast.specs.PolicyTree.{PolicyTree}
 use Rattle.cedar_schema.specs.SchemaTree.{SchemaTree}
+use Rattle.cedar_schema.specs.Conformance.{Conforms}
 use Rattle.cedar_code.specs.CodeView.{CodeView}
 use Rattle.cedar_auth.specs.Codes.{policy_code}
 use Rattle.cedar_auth.specs.Validation.{IsValidated}
+use Rattle.cedar_auth.specs.Private.Sifting.{ByAction}
 
 -- the codes are those of the policies, one by one
 abbrev pub AreCodes : List CodeView → List PolicyTree → Type 0
@@ -13,3 +19,7 @@ AreCodes codes ps = map (λ c. c.instructions) codes ≡ map policy_code ps
 pub record IsKept (s : SchemaTree) (ps : List PolicyTree) (codes : List CodeView) : Type 0 where
   pub accepted : IsValidated s ps
   pub compiled : AreCodes codes ps
+
+pub record IsReady (s : SchemaTree) (ps : List PolicyTree) (w : World) (rows : BTreeMap Uid (BTreeMap (List ℕ) (BTreeMap (List ℕ) (Vec ℕ)))) : Type 0 where
+  pub conforms : Conforms s w
+  pub candidates : ByAction s ps rows

@@ -2,7 +2,7 @@
 use crate::ending::End;
 
 /// The conditions with their ends.
-pub const ROWS: [(&str, End); 49] = [
+pub const ROWS: [(&str, End); 60] = [
     ("[] == []", End::True),
     ("[] == [1]", End::False),
     ("[1, 2] == [2, 1]", End::True),
@@ -45,6 +45,17 @@ pub const ROWS: [(&str, End); 49] = [
     ("[1].containsAny(1)", End::Type),
     ("principal.containsAny([1])", End::Type),
     (r#"[1].containsAny("1")"#, End::Type),
+    ("[].isEmpty()", End::True),
+    ("[1].isEmpty()", End::False),
+    ("[[]].isEmpty()", End::False),
+    ("[1, 1].isEmpty()", End::False),
+    ("context.numbers.isEmpty()", End::False),
+    ("1.isEmpty()", End::Type),
+    (r#""".isEmpty()"#, End::Type),
+    ("{}.isEmpty()", End::Type),
+    ("principal.isEmpty()", End::Type),
+    ("[principal.nope].isEmpty()", End::MissingAttribute),
+    (r#"User::"gone".a.isEmpty()"#, End::MissingEntity),
     ("context.numbers == [3, 2, 1]", End::True),
     ("context.numbers.containsAll([3])", End::True),
     ("context.numbers.containsAny([0, 4])", End::False),

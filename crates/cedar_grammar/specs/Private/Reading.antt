@@ -13,6 +13,7 @@ use Rattle.cedar_ext.specs.declared.pattern.Element.{Element}
 use Rattle.cedar_tokens.specs.Marks.{Mark, Marks, pattern_of}
 pub use Rattle.cedar_tokens.specs.Private.Reading.{Refusal, Syntax, TooDeep, Outcome, and_then, Parser, same_kind, sign_at, on_some, goes_on}
 unfoldable pub use Rattle.cedar_tokens.specs.Private.Reading.{sees, next, first, expect, kind_at, text, key, path_from, path, uid_of, entity}
+use Rattle.cedar_tokens.specs.Content.{Content}
 use Rattle.cedar_grammar.specs.Written as w
 use Rattle.cedar_grammar.specs.Written.{Written, members_of}
 use Rattle.cedar_grammar.specs.WrittenKind.{fields_of}
@@ -83,9 +84,23 @@ entry inner ts = and_then (key ts) (λ c us. and_then (expect k.Colon us) (λ t 
 abbrev pub has_suffix : Marks → Bool
 has_suffix ts = sees k.Dot ts || sees k.LeftBracket ts
 
+-- The number bounds the turns, and each turn takes a token.
+unfoldable pub further_from : ℕ → List (List ℕ) → Parser (List (List ℕ))
+further_from zero names ts = Ok (names, ts)
+further_from (suc n) names ts = if sees k.Dot ts then and_then (expect k.Identifier (next ts)) (λ t us. further_from n (names ++ t.text ∷ []) us) else Ok (names, ts)
+
+unfoldable pub further : Parser (List (List ℕ))
+further ts = further_from (length ts) [] ts
+
+-- the attributes behind `has`
+unfoldable pub attributes : Parser (Content × List (List ℕ))
+attributes ts =
+    if sees k.String ts then and_then (text ts) (λ c us. Ok ((c, []), us))
+    else and_then (expect k.Identifier ts) (λ t us. and_then (further us) (λ names vs. Ok ((Some t.text, names), vs)))
+
 -- what stands behind `has`
 unfoldable pub asked : Written → Parser Written
-asked left ts = and_then (key ts) (λ c us. Ok (w.has left c, us))
+asked left ts = and_then (attributes ts) (λ path us. Ok (w.has left path.0 path.1, us))
 
 -- what stands behind `like`
 unfoldable pub pattern : Parser (List Element)

@@ -92,6 +92,19 @@ content_back : (c : Content) → content_from (content_tree c) ≡ c
 content_back None = refl
 content_back (Some s) = ap Some (bytes_back s)
 
+abbrev names_tree : List (List ℕ) → Gv
+names_tree [] = gnil
+names_tree (s ∷ names) = gcons (bytes_tree s) (names_tree names)
+
+abbrev names_from : Gv → List (List ℕ)
+names_from gnil = []
+names_from (gnum n) = []
+names_from (gcons s t) = bytes_from s ∷ names_from t
+
+names_back : (names : List (List ℕ)) → names_from (names_tree names) ≡ names
+names_back [] = refl
+names_back (s ∷ names) = λ k. bytes_back s k ∷ names_back names k
+
 abbrev elements_tree : List Element → Gv
 elements_tree [] = gnil
 elements_tree (Star ∷ es) = gcons gnil (elements_tree es)
@@ -141,7 +154,7 @@ abbrev mutual
   tree (not a) = gcons (gnum (suc (suc (suc (suc (suc (suc (suc (suc zero))))))))) (tree a)
   tree (negated a) = gcons (gnum (suc (suc (suc (suc (suc (suc (suc (suc (suc zero)))))))))) (tree a)
   tree (relation s a b) = gcons (gnum (suc (suc (suc (suc (suc (suc (suc (suc (suc (suc zero))))))))))) (gcons (relation_sign_tree s) (gcons (tree a) (tree b)))
-  tree (has a c) = gcons (gnum (suc (suc (suc (suc (suc (suc (suc (suc (suc (suc (suc zero)))))))))))) (gcons (tree a) (content_tree c))
+  tree (has a c names) = gcons (gnum (suc (suc (suc (suc (suc (suc (suc (suc (suc (suc (suc zero)))))))))))) (gcons (tree a) (gcons (content_tree c) (names_tree names)))
   tree (like a p) = gcons (gnum (suc (suc (suc (suc (suc (suc (suc (suc (suc (suc (suc (suc zero))))))))))))) (gcons (tree a) (elements_tree p))
   tree (is a ty) = gcons (gnum (suc (suc (suc (suc (suc (suc (suc (suc (suc (suc (suc (suc (suc zero)))))))))))))) (gcons (tree a) (bytes_tree ty))
   tree (is_in a ty b) = gcons (gnum (suc (suc (suc (suc (suc (suc (suc (suc (suc (suc (suc (suc (suc (suc zero))))))))))))))) (gcons (tree a) (gcons (bytes_tree ty) (tree b)))
@@ -188,7 +201,9 @@ abbrev mutual
   from (gcons (gnum (suc (suc (suc (suc (suc (suc (suc (suc (suc (suc zero))))))))))) (gcons x (gcons y z))) = relation (relation_sign_from x) (from y) (from z)
   from (gcons (gnum (suc (suc (suc (suc (suc (suc (suc (suc (suc (suc (suc zero)))))))))))) gnil) = nothing
   from (gcons (gnum (suc (suc (suc (suc (suc (suc (suc (suc (suc (suc (suc zero)))))))))))) (gnum m)) = nothing
-  from (gcons (gnum (suc (suc (suc (suc (suc (suc (suc (suc (suc (suc (suc zero)))))))))))) (gcons x y)) = has (from x) (content_from y)
+  from (gcons (gnum (suc (suc (suc (suc (suc (suc (suc (suc (suc (suc (suc zero)))))))))))) (gcons x gnil)) = nothing
+  from (gcons (gnum (suc (suc (suc (suc (suc (suc (suc (suc (suc (suc (suc zero)))))))))))) (gcons x (gnum m))) = nothing
+  from (gcons (gnum (suc (suc (suc (suc (suc (suc (suc (suc (suc (suc (suc zero)))))))))))) (gcons x (gcons y z))) = has (from x) (content_from y) (names_from z)
   from (gcons (gnum (suc (suc (suc (suc (suc (suc (suc (suc (suc (suc (suc (suc zero))))))))))))) gnil) = nothing
   from (gcons (gnum (suc (suc (suc (suc (suc (suc (suc (suc (suc (suc (suc (suc zero))))))))))))) (gnum m)) = nothing
   from (gcons (gnum (suc (suc (suc (suc (suc (suc (suc (suc (suc (suc (suc (suc zero))))))))))))) (gcons x y)) = like (from x) (elements_from y)
@@ -254,7 +269,7 @@ mutual
   back (not a) = λ k. not (back a k)
   back (negated a) = λ k. negated (back a k)
   back (relation s a b) = λ k. relation (relation_sign_back s k) (back a k) (back b k)
-  back (has a c) = λ k. has (back a k) (content_back c k)
+  back (has a c names) = λ k. has (back a k) (content_back c k) (names_back names k)
   back (like a p) = λ k. like (back a k) (elements_back p k)
   back (is a ty) = λ k. is (back a k) (bytes_back ty k)
   back (is_in a ty b) = λ k. is_in (back a k) (bytes_back ty k) (back b k)

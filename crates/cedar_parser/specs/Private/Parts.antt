@@ -1,5 +1,5 @@
 -- What the parts of lists keep, and what they make.
-use Rattle.std.specs.Prelude.{ℕ, List, map, is_some}
+use Rattle.std.specs.Prelude.{ℕ, List, map}
 use Rattle.cedar_ast.specs.declared.operator.UnaryOperator.TheVariants.{Get}
 use Rattle.cedar_ast.specs.Expression as e
 use Rattle.cedar_ast.specs.Expression.{Expression}
@@ -10,12 +10,12 @@ use Rattle.cedar_grammar.specs.declared.written.Link.TheVariants.{Operand, Attri
 use Rattle.cedar_grammar.specs.Written.{members_of}
 use Rattle.cedar_tokens.specs.Content.{text_of}
 use Rattle.cedar_parser.specs.Meaning.{linked, applied, method_of, to_expression, to_expressions}
-use Rattle.cedar_parser.specs.Limits.{Stands, IsKnown, HasOne, Keeps, KeepMembers}
+use Rattle.cedar_parser.specs.Limits.{Stands, IsKnown, HasArity, method_arity, Keeps, KeepMembers}
 
 abbrev pub KeepLink : SideCondition → Link → Type 0
 KeepLink c (Operand sign a) = Keeps c a
 KeepLink c (Attribute s) = Stands c s
-KeepLink c (Method name ms) = IsKnown c (method_of name) × HasOne c (is_some (method_of name)) (members_of ms) × KeepMembers c (members_of ms)
+KeepLink c (Method name ms) = IsKnown c (method_of name) × HasArity c (method_arity name) (members_of ms) × KeepMembers c (members_of ms)
 
 abbrev pub KeepField : SideCondition → Field → Type 0
 KeepField c f = Stands c f.key × Keeps c f.value

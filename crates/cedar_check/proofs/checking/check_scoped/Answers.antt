@@ -7,31 +7,33 @@ use Rattle.cedar_types.specs.declared.truth.Truth.TheVariants.{True, False, Any}
 use Rattle.cedar_ast.specs.Expression.{Expression, and}
 use Rattle.cedar_schema.specs.SchemaTree.{SchemaTree}
 use Rattle.cedar_schema.specs.declared.schema.environment.Environment.{Environment}
-use Rattle.cedar_typing.specs.Checking.{Typed, and_right, and_type, on_boolean, truth_in, type_of}
+use Rattle.cedar_typing.specs.Checking.{Typed, and_right, and_type, on_boolean, truth_in, type_of_with}
 use Rattle.cedar_check.specs.Private.View.{held_view, tree_of, typed_view, typing_view}
 use Rattle.cedar_check.proofs.checking.check_scoped.Goals as goal
+use Rattle.cedar_typing.specs.declared.settings.Settings.{Settings}
 
-opened : (s : SchemaTree) (env : Environment) (p q : Expression) (x : Typed) (t : Truth) → type_of s env [] p ≡ Some x → truth_in x.ty ≡ Some t → type_of s env [] (and p q) ≡ and_type [] (λ k. type_of s env k q) t x.gained
-opened s env p q x t typed known =
-    ap (λ o. on_boolean o (and_type [] (λ k. type_of s env k q))) typed
-    ∙ ap (option_and_then (λ f. and_type [] (λ k. type_of s env k q) f x.gained)) known
+opened : (settings : Settings) (s : SchemaTree) (env : Environment) (p q : Expression) (x : Typed) (t : Truth) → type_of_with settings s env [] p ≡ Some x → truth_in x.ty ≡ Some t → type_of_with settings s env [] (and p q) ≡ and_type [] (λ k. type_of_with settings s env k q) t x.gained
+opened settings s env p q x t typed known =
+    ap (λ o. on_boolean o (and_type [] (λ k. type_of_with settings s env k q))) typed
+    ∙ ap (option_and_then (λ f. and_type [] (λ k. type_of_with settings s env k q) f x.gained)) known
 
 -- the row of `&&`, where nothing is held and the left is not known false
-from_right : (s : SchemaTree) (env : Environment) (p q : Expression) (x : Typed) (t : Truth) → type_of s env [] p ≡ Some x → truth_in x.ty ≡ Some t → false ≡ sameb the_type t False → on_boolean (type_of s env x.gained q) (and_right t x.gained) ≡ type_of s env [] (and p q)
-from_right s env p q x True typed known h = sym (opened s env p q x True typed known)
-from_right s env p q x False typed known h = cc
-from_right s env p q x Any typed known h = sym (opened s env p q x Any typed known)
+from_right : (settings : Settings) (s : SchemaTree) (env : Environment) (p q : Expression) (x : Typed) (t : Truth) → type_of_with settings s env [] p ≡ Some x → truth_in x.ty ≡ Some t → false ≡ sameb the_type t False → on_boolean (type_of_with settings s env x.gained q) (and_right t x.gained) ≡ type_of_with settings s env [] (and p q)
+from_right settings s env p q x True typed known h = sym (opened settings s env p q x True typed known)
+from_right settings s env p q x False typed known h = cc
+from_right settings s env p q x Any typed known h = sym (opened settings s env p q x Any typed known)
 
 pub returns : goal.returns
 returns c =
+    let settings = c.args.settings in
     let s = c.args.schema.now in
     let env = c.args.environment.now in
     let rest = and c.args.action.now c.args.rest.now in
     let x = c.in-Typed.x in
     let t = c.in-Some.truth in
-    let right : typing_view c.in_ok-right.right ≡ type_of s env (held_view x.gained.items) rest = c.in_ok-right.ensures ∙ ap (λ h. type_of s env (held_view h) rest) c.deref.ensures.value in
-    let typed : type_of s env [] c.args.principal.now ≡ Some (typed_view x) = sym c.in_ok-x.ensures ∙ ap typing_view c.in-Typed.is in
+    let right : typing_view c.in_ok-right.right ≡ type_of_with settings s env (held_view x.gained.items) rest = c.in_ok-right.ensures ∙ ap (λ h. type_of_with settings s env (held_view h) rest) c.deref.ensures.value in
+    let typed : type_of_with settings s env [] c.args.principal.now ≡ Some (typed_view x) = sym c.in_ok-x.ensures ∙ ap typing_view c.in-Typed.is in
     let known : truth_in (tree_of x.ty) ≡ Some t = sym c.truth.ensures ∙ c.in-Some.is in
     subst (λ (r : Option Typed). IfOk c.and_right.result (λ y. typing_view y ≡ r))
-    (ap (λ o. on_boolean o (and_right t (held_view x.gained.items))) right ∙ from_right s env c.args.principal.now rest (typed_view x) t typed known c.if-eq.ensures)
+    (ap (λ o. on_boolean o (and_right t (held_view x.gained.items))) right ∙ from_right settings s env c.args.principal.now rest (typed_view x) t typed known c.if-eq.ensures)
     c.and_right.ensures

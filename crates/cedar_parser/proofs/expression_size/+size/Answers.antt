@@ -2,7 +2,7 @@ use Rattle.std.proofs.Common.{◌≡◌, sym, ap, ◌∙◌, ◌<◌, length, ar
 use Rattle.cedar_parser.specs.Meaning.{to_expression}
 use Rattle.cedar_parser.specs.Limits.{size_of}
 use Rattle.cedar_parser.specs.Private.Capped.{capped}
-use Rattle.cedar_parser.specs.Meaning.{function_of, method_of}
+use Rattle.cedar_parser.specs.Meaning.{function_of}
 use Rattle.cedar_parser.proofs.PartLemmas.{link_lighter, member_lighter, field_lighter, behind_all, applied_other, called_other, members_step, fields_step}
 use Rattle.cedar_parser.proofs.expression_size.+size.Goals as goal
 
@@ -35,10 +35,10 @@ fields_size-loop-field-preserved t c =
     let within : c.loop-field.field-index < length c.args.fields.now = omega arith in
     fields_step c.args.fields.now c.loop-field.field-index c.field-item.result c.loop-field.whole c.size.result c.both-whole.result within c.field-item.is c.loop-field.invariant c.size.ensures c.both-whole.ensures
 
-pub applied_size-returns-in_default-2 : goal.applied_size-returns-in_default-2
-applied_size-returns-in_default-2 t c = λ a e.
+pub compared_size-returns-in_default-2 : goal.compared_size-returns-in_default-2
+compared_size-returns-in_default-2 t c = λ op a e.
     let other : length c.args.arguments.now ≡ 1 → ⊥ = λ (n : length c.args.arguments.now ≡ 1). omega arith in
-    e ∙ ap (λ x. capped (size_of x)) (sym (applied_other (method_of c.args.name.now) a c.args.arguments.now other))
+    e ∙ ap (λ x. capped (size_of x)) (sym (applied_other op a c.args.arguments.now other))
 
 pub called_size-returns-in_default-2 : goal.called_size-returns-in_default-2
 called_size-returns-in_default-2 t c =

@@ -20,6 +20,9 @@ decreases-link_size l = suc (2 * link_weight l.link.now)
 abbrev pub decreases-applied_size : goal.decreases-applied_size
 decreases-applied_size l = suc (2 * member_parts (members_of l.arguments.now))
 
+abbrev pub decreases-compared_size : goal.decreases-compared_size
+decreases-compared_size l = 2 * member_parts (members_of l.arguments.now)
+
 abbrev pub decreases-called_size : goal.decreases-called_size
 decreases-called_size l = suc (2 * member_parts (members_of l.arguments.now))
 

@@ -14,4 +14,4 @@ returns c =
     (λ q. c.engine_is_sound.ensures.sound inside.validated.schema inside.validated.policies.policies inside.store q
     (subst (λ (s : SchemaTree). AreTypesApart s) c.schema.ensures.value c.well_formedness.ensures.apart)
     c.schema.ensures.accepted
-    c.self.invariant)
+    c.self.invariant.conforms)

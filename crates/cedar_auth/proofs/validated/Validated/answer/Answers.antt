@@ -1,10 +1,18 @@
-use Rattle.std.proofs.Common.{◌∙◌, ap}
-use Rattle.cedar_auth.specs.Private.Tally.{response_by}
+use Rattle.std.proofs.Common.{◌≡◌, ℕ, List, length, ap, ◌∙◌}
+use Rattle.std.specs.List.{range_with_len}
+use Rattle.cedar_auth.specs.Private.Sifting.{policies_at}
+use Rattle.cedar_auth.specs.Private.Tally.{response_by, tally_of}
+use Rattle.cedar_auth.specs.Validation.{ValidatedTree}
+use Rattle.cedar_auth.proofs.PoliciesAt.{policies_at-all}
 use Rattle.cedar_auth.proofs.Responses.{response_by-tally}
 use Rattle.cedar_auth.proofs.validated.Validated.answer.Goals as goal
 
 pub returns : goal.returns
 returns g c =
+    let ps = c.args.self.now.policies.policies in
+    let q = c.args.request.now in
+    let w = g.H.Hierarchy.world c.args.hierarchy.now in
+    let all : c.deref.result.now ≡ range_with_len 0 (length ps) = c.deref.ensures.value ∙ c.in_ok-positions.ensures ∙ ap (λ (v : ValidatedTree). range_with_len 0 (length v.policies.policies)) c.self.view_is in
     c.into_response.ensures
-    ∙ ap response_by c.in_ok-tally.ensures
-    ∙ response_by-tally c.args.request.now (g.H.Hierarchy.world c.args.hierarchy.now) c.args.self.now.policies.policies
+    ∙ ap response_by (c.in_ok-tally.ensures ∙ ap (λ (ks : List ℕ). tally_of q w (policies_at ps ks)) all ∙ ap (tally_of q w) (policies_at-all ps))
+    ∙ response_by-tally q w ps

@@ -1,0 +1,14 @@
+use Rattle.std.proofs.Common.{subst}
+use Rattle.cedar_ast.specs.PolicySetTree.{PolicySetTree}
+use Rattle.cedar_schema.specs.Conformance.{Conforms}
+use Rattle.cedar_schema.specs.SchemaTree.{SchemaTree}
+use Rattle.cedar_auth.specs.Private.Sifting.{ByAction}
+use Rattle.cedar_auth.proofs.ready.Ready.new.Goals as goal
+
+pub invariant_of-result : goal.invariant_of-result
+invariant_of-result c =
+    let rows = c.in-Ok-new.candidates.rows in record {
+      conforms = subst (λ (s : SchemaTree). Conforms s c.in-Ok.store) c.schema.ensures.value c.in-Ok.ensures.conforms;
+      candidates = subst (λ (s : SchemaTree). ByAction s c.args.validated.policies.policies rows) c.schema-2.ensures.value
+          (subst (λ (set : PolicySetTree). ByAction c.schema-2.result.now set.policies rows) c.policies.ensures.value c.in-Ok-new.ensures);
+    }

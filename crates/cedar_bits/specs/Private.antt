@@ -1,0 +1,2 @@
+-- What contracts within the crate cite, and nobody needs to believe.
+pub mod Apart

@@ -1,0 +1,6 @@
+mod OneEnd
+mod Tells
+mod Costs
+mod Moments
+mod Kept
+mod Laws

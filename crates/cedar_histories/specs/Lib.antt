@@ -1,0 +1,5 @@
+pub mod Fair
+pub mod Histories
+pub mod Jobs
+pub mod Results
+pub mod Service

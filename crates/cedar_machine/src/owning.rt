@@ -1,0 +1,171 @@
+//! One instruction over operands that borrow nothing.
+ghost use Rattle.std.specs.Prelude.{◌≡◌, ◌<◌, ◌≤◌, ◌∷◌, length, IfOk, OnErr, option_copied};
+ghost use Rattle.cedar_value.specs.Glance.{datum_seen};
+ghost use Rattle.cedar_ast.specs.Operators.{unary_of, source, get_in, attribute_of};
+ghost use Rattle.cedar_code.specs.Machine.{arrive, give, next, on_top};
+ghost use Rattle.cedar_machine.specs.Private.Access.{IsNoAccess};
+ghost use Rattle.cedar_machine.specs.Private.State.{configuration_of};
+
+use crate::entry::Entry;
+use crate::making::{make_record, make_set};
+use crate::operators::unary_but_get;
+use crate::stack::Stack;
+use crate::state::{State, and_else, arrive, branch, combine, give, or_else, test};
+use cedar_ast::{EvaluationError, UnaryOperator};
+use cedar_code::Instruction;
+use cedar_value::{Glance, Hierarchy, Request, Value};
+use std::alloc::{AllocError, Global};
+
+/// One instruction at a place, which copies what the code, the request or an entity would lend. Want of memory leaves the
+/// operands as they were.
+pub fn perform_owned<H: Hierarchy>(
+    alloc: Global,
+    code: &[Instruction],
+    request: &Request,
+    hierarchy: &H,
+    place: usize,
+    stack: &mut Stack<'static>,
+) -> Result<State, AllocError>
+    requires { length stack.old.values < stack.old.capacity }
+    ensures configuration { IfOk result (λ s. configuration_of s stack.new.values ≡ next code.now request.now (H.world hierarchy.now) place stack.old.values) }
+    ensures refused { OnErr result (stack.new.values ≡ stack.old.values) }
+{
+    let Some(instruction) = code.get(place) else {
+        return Ok(State::Faulted);
+    };
+    match instruction {
+        Instruction::Push(value) => push_copy(alloc, code, place + 1, stack, value.glance()),
+        Instruction::Var(name) => push_copy(alloc, code, place + 1, stack, name.of(request)),
+        Instruction::Unary(operator) => {
+            apply_owned(alloc, code, place + 1, stack, hierarchy, operator)
+        }
+        Instruction::Binary(operator) => {
+            Ok(combine(code, place + 1, stack, hierarchy, *operator))
+        }
+        Instruction::And(end) => Ok(and_else(code, place, *end, stack)),
+        Instruction::Or(end) => Ok(or_else(code, place, *end, stack)),
+        Instruction::Test => Ok(test(code, place, stack)),
+        Instruction::Branch(other) => Ok(branch(code, place, *other, stack)),
+        Instruction::Jump(end) => Ok(arrive(code, *end, stack)),
+        Instruction::Set(count) => make_set(alloc, code, place + 1, stack, *count, None),
+        Instruction::Record(keys) => make_record(alloc, code, place + 1, stack, keys),
+    }
+}
+
+// Pushes a copy.
+fn push_copy(
+    alloc: Global,
+    code: &[Instruction],
+    next: usize,
+    stack: &mut Stack<'static>,
+    value: Glance<'_>,
+) -> Result<State, AllocError>
+    requires { length stack.old.values < stack.old.capacity }
+    ensures configuration { IfOk result (λ s. configuration_of s stack.new.values ≡ arrive code.now next (datum_seen value.entry ∷ stack.old.values)) }
+    ensures refused { OnErr result (stack.new.values ≡ stack.old.values) }
+{
+    let entry = Entry::owned(alloc, value)?;
+    stack.push(entry);
+    Ok(arrive(code, next, stack))
+}
+
+// An operator on the top.
+fn apply_owned<H: Hierarchy>(
+    alloc: Global,
+    code: &[Instruction],
+    next: usize,
+    stack: &mut Stack<'static>,
+    hierarchy: &H,
+    operator: &UnaryOperator,
+) -> Result<State, AllocError>
+    requires { length stack.old.values ≤ stack.old.capacity }
+    ensures configuration { IfOk result (λ s. configuration_of s stack.new.values
+        ≡ on_top stack.old.values (λ x rest. give code.now next rest (unary_of (H.world hierarchy.now) operator.now x))) }
+    ensures refused { OnErr result (stack.new.values ≡ stack.old.values) }
+{
+    match operator {
+        UnaryOperator::Get(key) => { get_owned(alloc, code, next, stack, hierarchy, key.as_str()) }
+        _ => Ok(compute(code, next, stack, hierarchy, operator)),
+    }
+}
+
+// An operator on the top that looks no attribute up.
+fn compute<H: Hierarchy>(
+    code: &[Instruction],
+    next: usize,
+    stack: &mut Stack<'_>,
+    hierarchy: &H,
+    operator: &UnaryOperator,
+) -> State
+    requires fits { length stack.old.values ≤ stack.old.capacity }
+    requires kind { IsNoAccess operator.now }
+    ensures { configuration_of result stack.new.values
+        ≡ on_top stack.old.values (λ x rest. give code.now next rest (unary_of (H.world hierarchy.now) operator.now x)) }
+{
+    let Some(operand) = stack.pop() else {
+        return State::Faulted;
+    };
+    give(
+        code,
+        next,
+        stack,
+        unary_but_get(hierarchy, operator, operand.glance()),
+    )
+}
+
+// The attribute of the top, which stands there until a copy is made.
+fn get_owned<H: Hierarchy>(
+    alloc: Global,
+    code: &[Instruction],
+    next: usize,
+    stack: &mut Stack<'static>,
+    hierarchy: &H,
+    key: &str,
+) -> Result<State, AllocError>
+    requires { length stack.old.values ≤ stack.old.capacity }
+    ensures configuration { IfOk result (λ s. configuration_of s stack.new.values
+        ≡ on_top stack.old.values (λ x rest. give code.now next rest (get_in key.now (source (H.world hierarchy.now) x)))) }
+    ensures refused { OnErr result (stack.new.values ≡ stack.old.values) }
+{
+    let Some(top) = stack.top() else {
+        return Ok(State::Faulted);
+    };
+    let answer = attribute_copy(alloc, top.glance(), key, hierarchy)?;
+    let _ = stack.pop();
+    Ok(give(code, next, stack, answer))
+}
+
+// A copy of the attribute that a value has.
+fn attribute_copy<H: Hierarchy>(
+    alloc: Global,
+    value: Glance<'_>,
+    key: &str,
+    hierarchy: &H,
+) -> Result<Result<Entry<'static>, EvaluationError>, AllocError>
+    ensures { IfOk result (λ a. a ≡ get_in key.now (source (H.world hierarchy.now) (datum_seen value.entry))) }
+{
+    match value {
+        Glance::Record(pairs) => copy_found(alloc, pairs.get(key)),
+        Glance::Uid(entity) => match hierarchy.attributes(entity) {
+            Some(pairs) => copy_found(alloc, pairs.get(key)),
+            None => Ok(Err(EvaluationError::MissingEntity)),
+        },
+        _ => Ok(Err(EvaluationError::Type)),
+    }
+}
+
+// A copy of the attribute that was found.
+fn copy_found(
+    alloc: Global,
+    found: Option<&Value>,
+) -> Result<Result<Entry<'static>, EvaluationError>, AllocError>
+    ensures { IfOk result (λ a. a ≡ attribute_of (option_copied found.entry)) }
+{
+    match found {
+        Some(value) => {
+            let copy = Entry::owned(alloc, value.glance())?;
+            Ok(Ok(copy))
+        }
+        None => Ok(Err(EvaluationError::MissingAttribute)),
+    }
+}

@@ -1,0 +1,35 @@
+-- Lemmas on what the files hold.
+use Rattle.std.proofs.Common.{◌≡◌, ℕ, List, Option, sym, subst}
+use Rattle.std.specs.Prelude.{IfSome}
+use Rattle.cedar_ast.specs.PolicySetTree.{PolicySetTree}
+use Rattle.cedar_schema.specs.SchemaTree.{SchemaTree}
+use Rattle.cedar_auth.specs.Ready.{ReadyTree}
+use Rattle.cedar_auth.specs.Validation.{IsValidated, ValidatedTree}
+use Rattle.cedar_program.specs.Authorization.{HoldAll}
+use Rattle.cedar_program.specs.EntitiesFile.{HoldsWorld}
+use Rattle.cedar_program.specs.LinksFile.{HoldsLinked}
+use Rattle.cedar_program.specs.Roles.{Holdings}
+use Rattle.cedar_program.specs.Validation.{Hold, HoldText}
+use Rattle.cedar_program.specs.declared.files.Role.TheVariants.{Links, Entities}
+
+-- what the files hold, once the links are entered
+pub hold-linked : (holds : Holdings) (s : SchemaTree) (text set : PolicySetTree) → HoldText holds s text
+    → IfSome (holds Links) (λ held. HoldsLinked held text set) → Hold holds s set
+hold-linked holds s text set h linked = record { text = text; hold_text = h; are_linked = linked }
+
+-- the same of a schema and policies that were handed back
+pub hold-back : (holds : Holdings) (s back_s : SchemaTree) (set back_set : PolicySetTree) → Hold holds s set → (back_s ≡ s) × (back_set ≡ set)
+    → Hold holds back_s back_set
+hold-back holds s back_s set back_set hold same =
+    subst (λ (x : SchemaTree). Hold holds x back_set) (sym same.0) (subst (λ (x : PolicySetTree). Hold holds s x) (sym same.1) hold)
+
+-- the same of policies that are ready over the entities
+pub hold-all : (holds : Holdings) (v : ValidatedTree) (r : ReadyTree) → Hold holds v.schema v.policies → IsValidated v.schema v.policies.policies
+    → (r.schema ≡ v.schema) × (r.policies ≡ v.policies) → IfSome (holds Entities) (λ held. HoldsWorld v.schema held r.world) → HoldAll holds r
+hold-all holds v r hold validated same world = record {
+  hold = hold-back holds v.schema r.schema v.policies r.policies hold same;
+  validated =
+      subst (λ (x : SchemaTree). IsValidated x r.policies.policies) (sym same.0)
+      (subst (λ (x : PolicySetTree). IsValidated v.schema x.policies) (sym same.1) validated);
+  is_world = subst (λ (x : SchemaTree). IfSome (holds Entities) (λ held. HoldsWorld x held r.world)) (sym same.0) world;
+}

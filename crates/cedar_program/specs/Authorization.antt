@@ -1,0 +1,54 @@
+-- What authorization writes, by what the files hold.
+use Rattle.std.specs.Prelude.{◌≡◌, ◌⊎◌, ℕ, List, Option, None, IfSome}
+use Rattle.std.specs.Io.KnownBytes.{Keeps}
+use Rattle.cedar_ast.specs.PolicySetTree.{PolicySetTree}
+use Rattle.cedar_schema.specs.SchemaTree.{SchemaTree}
+use Rattle.cedar_lines.specs.AnswerText.{AnswersFirst, BeginsAnswers, Writes}
+use Rattle.cedar_lines.specs.Lines.{lines_of}
+use Rattle.cedar_auth.specs.AnswerLine.{AnswersLine}
+use Rattle.cedar_auth.specs.Codes.{HasLongCode}
+use Rattle.cedar_auth.specs.Ready.{ReadyTree}
+use Rattle.cedar_auth.specs.Validation.{IsValidated}
+use Rattle.cedar_program.specs.EntitiesFile.{HoldsNoWorld, HoldsWorld}
+use Rattle.cedar_program.specs.Roles.{Holdings}
+use Rattle.cedar_program.specs.Standing.{BeginsRefusal}
+use Rattle.cedar_program.specs.Validation.{BeginsReport, Hold, IsRefused}
+use Rattle.cedar_program.specs.declared.files.Role.{Role}
+use Rattle.cedar_program.specs.declared.files.Role.TheVariants.{Schema, Policies, Links, Entities}
+use Rattle.cedar_program.specs.declared.refusal.FileRefusal.{FileRefusal}
+
+-- The files hold a schema, policies that strict validation accepts for it, and a world by it, where it is known what they hold
+-- (own).
+pub record HoldAll (holds : Holdings) (r : ReadyTree) : Type 0 where
+  pub hold : Hold holds r.schema r.policies
+  pub validated : IsValidated r.schema r.policies.policies
+  pub is_world : IfSome (holds Entities) (λ held. HoldsWorld r.schema held r.world)
+
+-- The code of one of the policies, or of one that is linked, would have over 1,000,000 instructions, for which the policy file
+-- is refused by 701, without a place (own).
+abbrev pub IsTooLong : Holdings → FileRefusal → Type 0
+IsTooLong holds refusal =
+    (s : SchemaTree) × (set : PolicySetTree) × Hold holds s set × HasLongCode set.policies × (refusal ≡ record { number = 701; offset = None })
+
+-- The file that is judged first among those that are refused, and why: the schema file; or the policy file beside a schema; or the
+-- links file beside both; or, for too long a code, the policy file; or the entities file beside a schema and policies that strict
+-- validation accepts (own).
+abbrev pub IsFirstRefused : Holdings → Role → FileRefusal → Type 0
+IsFirstRefused holds Schema refusal = IsRefused holds Schema refusal
+IsFirstRefused holds Policies refusal = IsRefused holds Policies refusal ⊎ IsTooLong holds refusal
+IsFirstRefused holds Links refusal = IsRefused holds Links refusal
+IsFirstRefused holds Entities refusal =
+    (s : SchemaTree) × (set : PolicySetTree) × Hold holds s set × IsValidated s set.policies × IfSome (holds Entities) (λ held. HoldsNoWorld s held refusal)
+
+-- Whole lines were written: none, or the answers of some first lines by what the files hold (own).
+abbrev pub StandsWhole : Holdings → Option (List ℕ) → Option (List ℕ) → Option (List ℕ) → Type 0
+StandsWhole holds source old new = Keeps old new
+    ⊎ ((r : ReadyTree) × HoldAll holds r × IfSome source (λ input. Writes old new (AnswersFirst (AnswersLine r) (lines_of input))))
+
+-- Where a device failed: nothing was written, or a beginning of the line that refuses a file, or a beginning of the report on
+-- what the files hold, or a beginning of the answers by it (own).
+abbrev pub Stands : Holdings → Option (List ℕ) → Option (List ℕ) → Option (List ℕ) → Type 0
+Stands holds source old new = Keeps old new
+    ⊎ ((role : Role) × (refusal : FileRefusal) × IsFirstRefused holds role refusal × Writes old new (BeginsRefusal role refusal))
+    ⊎ ((s : SchemaTree) × (set : PolicySetTree) × Hold holds s set × Writes old new (BeginsReport s set.policies))
+    ⊎ ((r : ReadyTree) × HoldAll holds r × IfSome source (λ input. Writes old new (BeginsAnswers (AnswersLine r) (lines_of input))))

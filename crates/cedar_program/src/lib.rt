@@ -1,0 +1,38 @@
+//! What the program `cedar` does: it reads a schema, policies, links and entities from their files, reports on policies, and
+//! answers request lines by them.
+//!
+//! ```
+//! let words = words(alloc, &texts)?;
+//! let end = match words.subcommand {
+//!     Subcommand::Validate => validate(alloc, &files, &mut sink),
+//!     Subcommand::Authorize => authorize(alloc, &files, &mut source, &mut sink),
+//! };
+//! assert_eq!(rt; end.status(), 0);
+//! ```
+//!
+//! [`authorize`] and [`validate`] say what is written and how the program ends, by what the files hold: read
+//! `specs/Authorization.antt` and `specs/Validation.antt` first. The files are read by [`Files`], the command line by [`words`].
+#![tactic(auto)]
+
+mod authorizing;
+mod command;
+mod command_line;
+mod ending;
+mod files;
+mod linking;
+mod options;
+mod reading;
+mod refusal;
+mod report;
+mod validating;
+
+pub use authorizing::authorize;
+pub use command_line::words;
+pub use ending::End;
+pub use files::{FileFault, Files, MemoryFiles, NamedFiles, Role};
+pub use linking::enter_links;
+pub use options::{Subcommand, Words};
+pub use reading::{Unread, read_policies, read_ready, read_schema};
+pub use refusal::{FileRefusal, refusal_line, refuse};
+pub use report::report_text;
+pub use validating::{validate, write_report};

@@ -1,0 +1,25 @@
+//! The tests of what the program does, by its public functions over files in memory: worked examples of answers and of reports,
+//! the order in which files are judged, and files, sources and sinks that fail. They stand apart from what they test, since the
+//! tests of a crate are proved with the whole crate once more.
+//!
+//! The schema and the entities stand in `documents.rt`, answers in `answers.rt`, reports in `reports.rt`, the files in
+//! `judging.rt`, devices in `devices.rt`, command lines in `command_lines.rt`. What the program answers to each number's example,
+//! to input that is large or deep and to refused command lines is shown by `tools/cases`.
+#![tactic(auto)]
+
+#[cfg(test)]
+mod answers;
+#[cfg(test)]
+mod command_lines;
+#[cfg(test)]
+mod devices;
+#[cfg(test)]
+mod documents;
+#[cfg(test)]
+mod judging;
+#[cfg(test)]
+mod lacking_files;
+#[cfg(test)]
+mod peer;
+#[cfg(test)]
+mod reports;

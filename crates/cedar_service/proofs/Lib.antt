@@ -1,0 +1,6 @@
+mod Calls
+mod Lefts
+mod Positions
+mod Reached
+mod Refusals
+mod Tables

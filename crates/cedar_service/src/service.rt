@@ -1,0 +1,194 @@
+//! The service.
+ghost use Rattle.std.specs.Prelude.{◌≡◌, Contains, IfOk, IfErr, OnOk, OnErr, Some, nat_eq, option_copied};
+ghost use Rattle.std.specs.HashMap.{Updates};
+ghost use Rattle.cedar_ast.specs.Response.{ErringTree};
+ghost use Rattle.cedar_typing.specs.Soundness.{IsAllowed};
+ghost use Rattle.cedar_histories.specs.Service.{first_state, publish, open_job, step, take_answer, published, opened, stepped, taken, refused, Happens};
+ghost use Rattle.cedar_histories.specs.Jobs.{job_at};
+ghost use Rattle.cedar_service.specs.Numbers.{number_of};
+ghost use Rattle.cedar_service.specs.Runs.{IsRunAt};
+
+use crate::job::Job;
+use crate::not_published::NotPublished;
+use crate::response::Response;
+use crate::service_fault::ServiceFault;
+use cedar_auth::Ready;
+use cedar_machine::Resting;
+use std::alloc::{AllocError, Global};
+use std::collections::HashMap;
+use std::marker::Model;
+use std::rc::Rc;
+
+/// The number of a job: 0, 1, 2 and on, in the order in which they are opened. No number is used again.
+pub type JobId = u64;
+
+/// A current version, which new jobs are answered by, and the jobs that are open, each with the version that was current
+/// when it was opened. A version that no job holds and that is no longer current is gone. Contracts see it as a
+/// `ServiceState`, and each call as one of its events (own).
+#[derive(Drop)]
+pub struct Service {
+    alloc: Global,
+    current: Rc<Ready>,
+    number: u64,
+    next_job: JobId,
+    jobs: HashMap<JobId, Job>,
+}
+
+impl Model for Service {
+    ghost use Rattle.std.specs.Coded.{codes};
+    ghost use Rattle.cedar_value.specs.Private.DatumCode.{datum_code};
+    ghost use Rattle.cedar_types.specs.Private.TypeCode.{type_code};
+    ghost use Rattle.cedar_ast.specs.Private.ExpressionCode.{expression_code};
+    ghost use Rattle.cedar_histories.specs.Service.{ServiceState};
+
+    ghost Value = { ServiceState };
+
+    ghost coded = { Prim.hlevel (codes, datum_code, type_code, expression_code) };
+
+    ghost view = { λ s. record { number = s.number; current = s.current.value; next_job = s.next_job; jobs = s.jobs.entries } };
+}
+
+// Another version takes the place of one.
+fn put_version(place: &mut Rc<Ready>, version: Rc<Ready>)
+    ensures { place.new.value ≡ version.value }
+{
+    *place = version;
+}
+
+// Puts something at a number. 1: memory was refused, and nothing is put.
+fn put<T: Drop>(table: &mut HashMap<JobId, T>, id: JobId, value: T) -> Result<(), AllocError>
+    ensures ok { OnOk result (Updates nat_eq table.old table.new id (Some value)) }
+    ensures refused { OnErr result (table.new.entries ≡ table.old.entries) }
+{
+    table.insert(id, value)?;
+    Ok(())
+}
+
+impl Service {
+    /// A service whose current version has number 0, without jobs. It keeps the allocator for its later calls. 1: memory
+    /// was refused, and the version is handed back.
+    pub fn new(alloc: Global, ready: Ready) -> Result<Service, NotPublished>
+        ensures first { IfOk result (λ s. s ≡ first_state ready) }
+        ensures refused { IfErr result (λ e. number_of e.fault ≡ 1) }
+        ensures handed_back { IfErr result (λ e. e.ready ≡ ready) }
+    {
+        match Rc::new(alloc, ready) {
+            Ok(current) => Ok(Service {
+                alloc,
+                current,
+                number: 0,
+                next_job: 0,
+                jobs: HashMap::new(alloc),
+            }),
+            Err(failed) => Err(NotPublished {
+                fault: ServiceFault::OutOfMemory,
+                ready: failed.value,
+            }),
+        }
+    }
+
+    /// Makes a version the current one, and gives its number, one more than the last's. Open jobs keep theirs. 1, and 803
+    /// where no number is left: the version is handed back, and nothing is changed.
+    pub fn publish(&mut self, ready: Ready) -> Result<u64, NotPublished>
+        ensures ok { IfOk result (λ n. Happens self.old (publish ready) (published n) self.new) }
+        ensures refused { IfErr result (λ e. Happens self.old (publish ready) (refused (number_of e.fault)) self.new) }
+        ensures handed_back { IfErr result (λ e. e.ready ≡ ready) }
+    {
+        if self.number == u64::MAX {
+            return Err(NotPublished {
+                fault: ServiceFault::NoMoreNumbers,
+                ready,
+            });
+        }
+        match Rc::new(self.alloc, ready) {
+            Ok(version) => {
+                put_version(&mut self.current, version);
+                self.number += 1;
+                Ok(self.number)
+            }
+            Err(failed) => Err(NotPublished {
+                fault: ServiceFault::OutOfMemory,
+                ready: failed.value,
+            }),
+        }
+    }
+
+    /// Opens a job for a request line, read by the current version's schema, and gives its number. A job with no policy to
+    /// run is finished at once. 1, 803 where no number is left, and else 501 to 506 or 509 to 511 only where the line has
+    /// that fault: nothing is changed.
+    pub fn open(&mut self, line: &[u8]) -> Result<JobId, ServiceFault>
+        ensures ok { IfOk result (λ j. Happens self.old (open_job line.now) (opened j) self.new) }
+        ensures refused { IfErr result (λ fault. Happens self.old (open_job line.now) (refused (number_of fault)) self.new) }
+    {
+        if self.next_job == u64::MAX {
+            return Err(ServiceFault::NoMoreNumbers);
+        }
+        let request = match self.current.read(self.alloc, line) {
+            Ok(request) => request,
+            Err(fault) => return Err(ServiceFault::from(fault)),
+        };
+        let version = self.current.clone()?;
+        let job = Job::new(self.alloc, version, request)?;
+        let id = self.next_job;
+        put(&mut self.jobs, id, job)?;
+        self.next_job += 1;
+        Ok(id)
+    }
+
+    /// One step of a job: one instruction of the policy under way, or, where that has ended, its result is entered and the
+    /// next begins. True where the job is now finished; a finished job stays as it is, and takes no memory. 1, and 801
+    /// where there is no such job: nothing is changed, and the step can be tried again.
+    pub fn step(&mut self, id: JobId) -> Result<bool, ServiceFault>
+        ensures ok { IfOk result (λ finished. Happens self.old (step id) (stepped finished) self.new) }
+        ensures refused { IfErr result (λ fault. Happens self.old (step id) (refused (number_of fault)) self.new) }
+    {
+        match self.jobs.get(&id) {
+            None => return Err(ServiceFault::NoSuchJob),
+            Some(job) => {
+                if job.is_finished() {
+                    return Ok(true);
+                }
+            }
+        }
+        let Some(job) = self.jobs.get_mut(&id) else {
+            unreachable!()
+        };
+        let finished = match job.step(self.alloc) {
+            Ok(finished) => finished,
+            Err(_) => return Err(ServiceFault::OutOfMemory),
+        };
+        Ok(finished)
+    }
+
+    /// The response to a finished job's request, by the version that was current at its opening; the job is gone then. The
+    /// errors that it names are overflow and missing entity alone. Takes no memory. 801 where there is no such job, 802
+    /// where it is not finished: nothing is changed.
+    pub fn take(&mut self, id: JobId) -> Result<Response, ServiceFault>
+        ensures ok { IfOk result (λ response. Happens self.old (take_answer id) (taken response) self.new) }
+        ensures errors { IfOk result (λ response. (x : ErringTree) → Contains response.erring x → IsAllowed x.error) }
+        ensures refused { IfErr result (λ fault. Happens self.old (take_answer id) (refused (number_of fault)) self.new) }
+    {
+        match self.jobs.get(&id) {
+            None => return Err(ServiceFault::NoSuchJob),
+            Some(job) => {
+                if !job.is_finished() {
+                    return Err(ServiceFault::NotFinished);
+                }
+            }
+        }
+        let Some(job) = self.jobs.remove(&id) else {
+            unreachable!()
+        };
+        Ok(job.into_response())
+    }
+
+    /// The run under way of a job, lent; none where there is no such job or it is finished. Takes no memory.
+    pub fn running(&self, id: JobId) -> Option<&Resting>
+        ensures { IsRunAt (job_at self.now.jobs id) (option_copied result) }
+    {
+        match self.jobs.get(&id) {
+            Some(job) => job.running(),
+            None => None,
+        }
+    }
+}

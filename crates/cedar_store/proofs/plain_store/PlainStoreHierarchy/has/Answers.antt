@@ -1,0 +1,6 @@
+use Rattle.std.proofs.Common.{◌∙◌}
+use Rattle.cedar_store.proofs.Places.{has_entity-placed}
+use Rattle.cedar_store.proofs.plain_store.PlainStoreHierarchy.has.Goals as goal
+
+pub returns : goal.returns
+returns c = rw (← c.self.view_is) (c.is_some.ensures ∙ has_entity-placed c.self.inside.table c.args.entity.now c.place.result c.place.ensures)

@@ -1,7 +1,0 @@
-use Rattle.std.proofs.Common.{◌≡◌, false, take}
-use Rattle.std.specs.List.{list_any}
-use Rattle.cedar_store.specs.Private.Kept.{has_datum}
-use Rattle.cedar_store.proofs.store.has_any.Given as goal
-
-abbrev pub invariant-loop-value : goal.invariant-loop-value
-invariant-loop-value l = list_any (has_datum l.uids) (take l.value-index l.value-items) ≡ false

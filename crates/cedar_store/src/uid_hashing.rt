@@ -1,0 +1,43 @@
+//! How uids are hashed.
+use crate::entity::Entity;
+use cedar_value::Uid;
+use std::hash::{BuildHasher, DefaultHasher, Hash, Hasher};
+
+/// Makes the hashers of a store's tables. Each begins as one that was fed a digest of all uids of the
+/// store, so that whoever picks uids that are to collide would have to know the digest of a list that
+/// has them all before he has picked them. The order of a table goes by its insertions alone, and the
+/// same list has the same digest, so that no answer and no order depends on it.
+#[derive(Clone, Copy)]
+pub(crate) struct UidHashing {
+    begun: DefaultHasher,
+}
+
+impl UidHashing {
+    /// The hashing for the uids of these entities and of their parents. Takes no memory.
+    pub(crate) fn new(entities: &[Entity]) -> Self {
+        let mut digest = DefaultHasher::new();
+        for entity in entities {
+            entity.uid.hash(&mut digest);
+            feed(&mut digest, &entity.parents);
+        }
+        let mut begun = DefaultHasher::new();
+        begun.write_u64(digest.finish());
+        UidHashing { begun }
+    }
+}
+
+fn feed(digest: &mut DefaultHasher, uids: &[Uid]) {
+    for uid in uids {
+        uid.hash(digest);
+    }
+}
+
+impl BuildHasher for UidHashing {
+    type Hasher = DefaultHasher;
+
+    ghost build_hasher = { λ h. h.begun };
+
+    fn build_hasher(&self) -> DefaultHasher {
+        self.begun
+    }
+}

@@ -24,10 +24,12 @@ when { principal has limit && resource.amount.lessThanOrEqual(principal.limit) }
 permit (principal is Tenants::User in Tenants::Group::"managers", action == Billing::Action::"pay", resource)
 when { context.amount == resource.amount && ["CHF", "EUR"].contains(context.currency) };
 
-// Managers export invoices and payments of up to 366 days, which are 8784 hours.
+// Managers export invoices and payments, one kind at least, of up to 366 days, which are 8784 hours.
 @id("export")
 permit (principal in Tenants::Group::"managers", action == Billing::Action::"export", resource)
-when { context.days * 24 <= 8784 && ["invoice", "payment"].containsAll(context.kinds) };
+when {
+  context.days * 24 <= 8784 && !context.kinds.isEmpty() && ["invoice", "payment"].containsAll(context.kinds)
+};
 
 // The support of the service views everything, where it names a ticket.
 @id("support")
@@ -43,7 +45,7 @@ unless { principal in Tenants::Group::"support" };
 // A suspended tenant changes nothing.
 @id("suspended")
 forbid (principal, action in Billing::Action::"change", resource)
-when { principal has tenant && principal.tenant has suspended && principal.tenant.suspended };
+when { principal has tenant.suspended && principal.tenant.suspended };
 
 // A device changes nothing where its risk is high or, if nobody rated it, where it is not trusted.
 @id("device")

@@ -12,11 +12,12 @@ use Rattle.cedar_ast.specs.Expression.{Expression}
 use Rattle.cedar_ast.specs.Condition.{condition_of}
 use Rattle.cedar_ast.specs.PolicyTree.{PolicyTree}
 use Rattle.cedar_ast.specs.Response.{ErringTree, meaning, is_true, is_permit, permits, forbids, erring_by, erring_of, allows, decided, response}
-use Rattle.cedar_typing.specs.Acceptance.{IsAccepted}
-use Rattle.cedar_typing.specs.Soundness.{Good, IsTruth, IsAllowed, SoundAcceptance}
+use Rattle.cedar_typing.specs.Acceptance.{IsAcceptedWith}
+use Rattle.cedar_typing.specs.Soundness.{GoodWith, IsTruth, IsAllowedWith, SoundAcceptanceWith}
+use Rattle.cedar_typing.specs.declared.settings.Settings.{Settings}
 use Rattle.cedar_typing.specs.Soundness as typing
 use Rattle.cedar_code.specs.Machine.{RunsAsEvaluated, outcome_of}
-use Rattle.cedar_auth.specs.Headline.{IsSafe, RunsSafely, IsSatisfied, Errs, SomeIsSatisfied, determining_effect, IsCedars, EngineIsSound, PremisesAreMet}
+use Rattle.cedar_auth.specs.Headline.{IsSafeWith, RunsSafelyWith, IsSatisfied, Errs, SomeIsSatisfied, determining_effect, IsCedars, EngineIsSoundWith, PremisesAreMetWith}
 use Rattle.cedar_auth.proofs.Listed.{cases, nowhere, mapped, from_mapped, filtered, from_filtered, given, from_given, not_true, any_found, any_at}
 
 -- ---- policies that are satisfied
@@ -126,31 +127,32 @@ module _ (q : Request) (w : World) where
 
 -- ---- every code runs safely
 
-safe_end : (a : Answer Datum) → Good IsTruth a → IsSafe (outcome_of a)
-safe_end (Ok v) h = h
-safe_end (Err e) h = h
+module _ (settings : Settings) where
+  safe_end : (a : Answer Datum) → GoodWith settings IsTruth a → IsSafeWith settings (outcome_of a)
+  safe_end (Ok v) h = h
+  safe_end (Err e) h = h
 
-runs_safely : (q : Request) (w : World) (p : PolicyTree) → RunsAsEvaluated (condition_of p) q w → Good IsTruth (meaning q w p) → RunsSafely p q w
-runs_safely q w p law good = record { steps = law.count; runs = law.executes; few = law.few; safe = safe_end (meaning q w p) good }
+  runs_safely : (q : Request) (w : World) (p : PolicyTree) → RunsAsEvaluated (condition_of p) q w → GoodWith settings IsTruth (meaning q w p) → RunsSafelyWith settings p q w
+  runs_safely q w p law good = record { steps = law.count; runs = law.executes; few = law.few; safe = safe_end (meaning q w p) good }
 
--- the errors that are named are those that policies err by
-pub named_errors : (q : Request) (w : World) (ps : List PolicyTree) → ((p : PolicyTree) → Contains ps p → Good IsTruth (meaning q w p)) → (x : ErringTree) → Contains (response ps q w).erring x → IsAllowed x.error
-named_errors q w ps good x m = let n = (cedars_erring q w ps x).0 m in subst (Good IsTruth) n.3 (good n.0 n.1)
+  -- the errors that are named are those that policies err by
+  pub named_errors : (q : Request) (w : World) (ps : List PolicyTree) → ((p : PolicyTree) → Contains ps p → GoodWith settings IsTruth (meaning q w p)) → (x : ErringTree) → Contains (response ps q w).erring x → IsAllowedWith settings x.error
+  named_errors q w ps good x m = let n = (cedars_erring q w ps x).0 m in subst (GoodWith settings IsTruth) n.3 (good n.0 n.1)
 
-pub engine_is_sound : SoundAcceptance → ((e : Expression) (q : Request) (w : World) → RunsAsEvaluated e q w) → EngineIsSound
-engine_is_sound sound runs s ps w q apart validated conforms fits =
-    let good = λ (p : PolicyTree) (m : Contains ps p). sound s q w p apart conforms fits (validated.each p m) in
-    record { runs = λ p m. runs_safely q w p (runs (condition_of p) q w) (good p m); errors = named_errors q w ps good; cedars = cedars q w ps }
+  pub engine_is_sound : SoundAcceptanceWith settings → ((e : Expression) (q : Request) (w : World) → RunsAsEvaluated e q w) → EngineIsSoundWith settings
+  engine_is_sound sound runs s ps w q apart validated conforms fits =
+      let good = λ (p : PolicyTree) (m : Contains ps p). sound s q w p apart conforms fits (validated.each p m) in
+      record { runs = λ p m. runs_safely q w p (runs (condition_of p) q w) (good p m); errors = named_errors q w ps good; cedars = cedars q w ps }
 
-pub premises_are_met : typing.PremisesAreMet → PremisesAreMet
-premises_are_met m = record {
-  schema = m.schema;
-  policies = m.policy ∷ [];
-  world = m.world;
-  request = m.request;
-  some = λ e. cc;
-  apart = m.apart;
-  validated = record { each = λ p h. ⊎_elim (λ e. subst (λ (x : PolicyTree). IsAccepted m.schema x) e m.accepted) (λ n. absurd (nowhere p n)) (cases m.policy [] p h) };
-  conforms = m.conforms;
-  fits = (m.environment, m.fits);
-}
+  pub premises_are_met : typing.PremisesAreMetWith settings → PremisesAreMetWith settings
+  premises_are_met m = record {
+    schema = m.schema;
+    policies = m.policy ∷ [];
+    world = m.world;
+    request = m.request;
+    some = λ e. cc;
+    apart = m.apart;
+    validated = record { each = λ p h. ⊎_elim (λ e. subst (λ (x : PolicyTree). IsAcceptedWith settings m.schema x) e m.accepted) (λ n. absurd (nowhere p n)) (cases m.policy [] p h) };
+    conforms = m.conforms;
+    fits = (m.environment, m.fits);
+  }

@@ -1,4 +1,5 @@
--- The soundness of the engine, in one statement, `EngineIsSound`.
+-- The soundness of the engine, in one statement for all settings, `EngineIsSoundWith`, and its reading with no setting on,
+-- `EngineIsSound`.
 use Rattle.std.specs.Prelude.{◌≡◌, ◌≢◌, ◌↔◌, ◌≤◌, ℕ, true, List, [], length, Contains, Ok, Err}
 use Rattle.cedar_value.specs.Datum.{boolean}
 use Rattle.cedar_value.specs.World.{World}
@@ -13,29 +14,32 @@ use Rattle.cedar_ast.specs.Response.{ErringTree, ResponseTree, meaning, response
 use Rattle.cedar_schema.specs.SchemaTree.{SchemaTree}
 use Rattle.cedar_schema.specs.WellFormed.{AreTypesApart}
 use Rattle.cedar_schema.specs.Conformance.{Conforms, Fits}
-use Rattle.cedar_typing.specs.Soundness.{IsAllowed, IsTruth}
+use Rattle.cedar_typing.specs.Settings.{default_settings}
+use Rattle.cedar_typing.specs.Soundness.{IsAllowedWith, IsTruth}
+use Rattle.cedar_typing.specs.declared.settings.Settings.{Settings}
 use Rattle.cedar_code.specs.declared.outcome.Outcome.{Outcome}
 use Rattle.cedar_code.specs.declared.outcome.Outcome.TheVariants.{Value, Error, StackFault}
 use Rattle.cedar_code.specs.Machine.{Executes, outcome_of}
 use Rattle.cedar_auth.specs.Codes.{policy_code}
-use Rattle.cedar_auth.specs.Validation.{IsValidated}
+use Rattle.cedar_auth.specs.Validation.{IsValidatedWith}
 
 -- ---- every policy's code runs safely
 
--- An end is safe: it is a Boolean, or one of the two errors overflow and missing entity. No stack fault is, nor a type
--- error, a decimal error or a missing attribute (Cedar documentation, policy validation: what validation does not find).
-abbrev pub IsSafe : Outcome → Type 0
-IsSafe (Value v) = IsTruth v
-IsSafe (Error e) = IsAllowed e
-IsSafe StackFault = ⊥
+-- An end is safe under these settings: it is a Boolean, or one of the errors that they leave, which are overflow and missing
+-- entity, and with the setting on a decimal error. No stack fault is, nor a type error or a missing attribute (Cedar
+-- documentation, policy validation: what validation does not find).
+abbrev pub IsSafeWith : Settings → Outcome → Type 0
+IsSafeWith settings (Value v) = IsTruth v
+IsSafeWith settings (Error e) = IsAllowedWith settings e
+IsSafeWith settings StackFault = ⊥
 
 -- The policy's code runs to the end that the evaluation of its condition has, after so many steps, which are no more than
--- it has instructions, and that end is safe (cedar-spec, Lean: Cedar.Thm.Validation; own: the code).
-pub record RunsSafely (p : PolicyTree) (q : Request) (w : World) : Type 0 where
+-- it has instructions, and that end is safe under these settings (cedar-spec, Lean: Cedar.Thm.Validation; own: the code).
+pub record RunsSafelyWith (settings : Settings) (p : PolicyTree) (q : Request) (w : World) : Type 0 where
   pub steps : ℕ
   pub runs : Executes (policy_code p) q w steps (outcome_of (meaning q w p))
   pub few : steps ≤ length (policy_code p)
-  pub safe : IsSafe (outcome_of (meaning q w p))
+  pub safe : IsSafeWith settings (outcome_of (meaning q w p))
 
 -- ---- the response is Cedar's
 
@@ -69,27 +73,54 @@ pub record IsCedars (ps : List PolicyTree) (q : Request) (w : World) (r : Respon
 
 -- ---- the headline
 
--- What is promised of a request: every policy's code runs safely, the response names no other error than overflow and
--- missing entity, and it is Cedar's (Cedar language reference, authorization; cedar-spec, Lean: Cedar.Thm).
-pub record IsAnsweredSoundly (ps : List PolicyTree) (q : Request) (w : World) : Type 0 where
-  pub runs : (p : PolicyTree) → Contains ps p → RunsSafely p q w
-  pub errors : (x : ErringTree) → Contains (response ps q w).erring x → IsAllowed x.error
+-- What is promised of a request under these settings: every policy's code runs safely, the response names no other error than
+-- those that they leave, which are overflow and missing entity, and with the setting on a decimal error, and it is Cedar's
+-- (Cedar language reference, authorization; cedar-spec, Lean: Cedar.Thm).
+pub record IsAnsweredSoundlyWith (settings : Settings) (ps : List PolicyTree) (q : Request) (w : World) : Type 0 where
+  pub runs : (p : PolicyTree) → Contains ps p → RunsSafelyWith settings p q w
+  pub errors : (x : ErringTree) → Contains (response ps q w).erring x → IsAllowedWith settings x.error
   pub cedars : IsCedars ps q w (response ps q w)
 
--- Where strict validation accepts the policies for the schema, and the world and the request conform to it, the request is
--- answered soundly. That no action's type is an entity type is so of every schema that is read (Cedar documentation, policy
--- validation; cedar-spec, Lean: Cedar.Thm).
-abbrev pub EngineIsSound : Type 0
-EngineIsSound = (s : SchemaTree) (ps : List PolicyTree) (w : World) (q : Request) → AreTypesApart s → IsValidated s ps → Conforms s w → Fits s q → IsAnsweredSoundly ps q w
+-- Where strict validation under these settings accepts the policies for the schema, and the world and the request conform to
+-- it, the request is answered soundly. That no action's type is an entity type is so of every schema that is read (Cedar
+-- documentation, policy validation; cedar-spec, Lean: Cedar.Thm).
+abbrev pub EngineIsSoundWith : Settings → Type 0
+EngineIsSoundWith settings = (s : SchemaTree) (ps : List PolicyTree) (w : World) (q : Request) → AreTypesApart s → IsValidatedWith settings s ps → Conforms s w → Fits s q → IsAnsweredSoundlyWith settings ps q w
 
 -- Some schema, policies, world and request meet all premises at once, so that the promise is not empty.
-pub record PremisesAreMet : Type 0 where
+pub record PremisesAreMetWith (settings : Settings) : Type 0 where
   pub schema : SchemaTree
   pub policies : List PolicyTree
   pub world : World
   pub request : Request
   pub some : policies ≢ []
   pub apart : AreTypesApart schema
-  pub validated : IsValidated schema policies
+  pub validated : IsValidatedWith settings schema policies
   pub conforms : Conforms schema world
   pub fits : Fits schema request
+
+-- ---- the same with no setting on
+
+-- An end is safe: it is a Boolean, or one of the two errors overflow and missing entity. No stack fault is, nor a type
+-- error, a decimal error or a missing attribute (Cedar documentation, policy validation: what validation does not find).
+abbrev pub IsSafe : Outcome → Type 0
+IsSafe = IsSafeWith default_settings
+
+-- The policy's code runs to the end that the evaluation of its condition has, after so many steps, which are no more than
+-- it has instructions, and that end is safe (cedar-spec, Lean: Cedar.Thm.Validation; own: the code).
+abbrev pub RunsSafely : PolicyTree → Request → World → Type 0
+RunsSafely = RunsSafelyWith default_settings
+
+-- What is promised of a request: every policy's code runs safely, the response names no other error than overflow and
+-- missing entity, and it is Cedar's (Cedar language reference, authorization; cedar-spec, Lean: Cedar.Thm).
+abbrev pub IsAnsweredSoundly : List PolicyTree → Request → World → Type 0
+IsAnsweredSoundly = IsAnsweredSoundlyWith default_settings
+
+-- Where strict validation accepts the policies for the schema, and the world and the request conform to it, the request is
+-- answered soundly (Cedar documentation, policy validation; cedar-spec, Lean: Cedar.Thm).
+abbrev pub EngineIsSound : Type 0
+EngineIsSound = EngineIsSoundWith default_settings
+
+-- Some schema, policies, world and request meet all premises at once, with no setting on.
+abbrev pub PremisesAreMet : Type 0
+PremisesAreMet = PremisesAreMetWith default_settings

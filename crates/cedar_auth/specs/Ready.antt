@@ -2,10 +2,12 @@
 use Rattle.cedar_value.specs.World.{World}
 use Rattle.cedar_ast.specs.PolicySetTree.{PolicySetTree}
 use Rattle.cedar_schema.specs.SchemaTree.{SchemaTree}
+use Rattle.cedar_typing.specs.declared.settings.Settings.{Settings}
 
--- A schema, the policies that strict validation accepts for it, beside their templates, and the world that requests are
--- answered over (Cedar language reference, authorization).
+-- A schema, the policies that strict validation under these settings accepts for it, beside their templates, and the world
+-- that requests are answered over (Cedar language reference, authorization; own: the settings).
 pub record ReadyTree : Type 0 where
   pub schema : SchemaTree
   pub policies : PolicySetTree
+  pub settings : Settings
   pub world : World

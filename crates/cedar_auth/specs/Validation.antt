@@ -3,36 +3,52 @@ use Rattle.std.specs.Prelude.{◌≡◌, ◌≢◌, ℕ, List, [], map, Contains
 use Rattle.cedar_ast.specs.PolicyTree.{PolicyTree}
 use Rattle.cedar_ast.specs.PolicySetTree.{PolicySetTree}
 use Rattle.cedar_schema.specs.SchemaTree.{SchemaTree}
-use Rattle.cedar_typing.specs.Acceptance.{IsAccepted}
-use Rattle.cedar_typing.specs.Reports.{all_faults, warnings}
+use Rattle.cedar_typing.specs.Acceptance.{IsAcceptedWith}
+use Rattle.cedar_typing.specs.Reports.{all_faults_with, warnings_with}
+use Rattle.cedar_typing.specs.Settings.{default_settings}
+use Rattle.cedar_typing.specs.declared.settings.Settings.{Settings}
 use Rattle.cedar_check.specs.FaultView.{fault_view}
 use Rattle.cedar_check.specs.declared.report.Report.{Report}
 use Rattle.cedar_auth.specs.declared.validation_fault.ValidationFault.{ValidationFault}
 use Rattle.cedar_auth.specs.declared.validation_fault.ValidationFault.TheVariants.{OutOfMemory, Faults, TooLong}
 use Rattle.cedar_auth.specs.Codes.{HasLongCode}
 
--- Strict validation accepts the policies for the schema: each of them, in every environment (Cedar documentation, policy
--- validation).
-pub record IsValidated (s : SchemaTree) (ps : List PolicyTree) : Type 0 where
-  pub each : (p : PolicyTree) → Contains ps p → IsAccepted s p
+-- Strict validation under these settings accepts the policies for the schema: each of them, in every environment (Cedar
+-- documentation, policy validation).
+pub record IsValidatedWith (settings : Settings) (s : SchemaTree) (ps : List PolicyTree) : Type 0 where
+  pub each : (p : PolicyTree) → Contains ps p → IsAcceptedWith settings s p
 
--- A schema, and policies that strict validation accepts for it, beside their templates (Cedar documentation, policy
--- validation).
+-- A schema, and policies that strict validation under these settings accepts for it, beside their templates (Cedar
+-- documentation, policy validation; own: the settings).
 pub record ValidatedTree : Type 0 where
   pub schema : SchemaTree
   pub policies : PolicySetTree
+  pub settings : Settings
 
--- The report is that of strict validation, and it has faults (Cedar documentation, policy validation).
-pub record HasReport (s : SchemaTree) (ps : List PolicyTree) (report : Report) : Type 0 where
-  pub faults : map fault_view report.faults.items ≡ all_faults s ps
-  pub warnings : report.warnings.items ≡ warnings s ps
-  pub some : all_faults s ps ≢ []
+-- The report is that of strict validation under these settings, and it has faults (Cedar documentation, policy validation).
+pub record HasReportWith (settings : Settings) (s : SchemaTree) (ps : List PolicyTree) (report : Report) : Type 0 where
+  pub faults : map fault_view report.faults.items ≡ all_faults_with settings s ps
+  pub warnings : report.warnings.items ≡ warnings_with settings s ps
+  pub some : all_faults_with settings s ps ≢ []
 
--- The schema and the policies have the fault; want of memory is none of theirs (own).
+-- Under these settings the schema and the policies have the fault; want of memory is none of theirs (own).
+abbrev pub HasFaultWith : Settings → SchemaTree → List PolicyTree → ValidationFault → Type 0
+HasFaultWith settings s ps OutOfMemory = Unit {0}
+HasFaultWith settings s ps (Faults report) = HasReportWith settings s ps report
+HasFaultWith settings s ps TooLong = HasLongCode ps
+
+-- Strict validation accepts the policies for the schema, with no setting on: each of them, in every environment (Cedar
+-- documentation, policy validation).
+abbrev pub IsValidated : SchemaTree → List PolicyTree → Type 0
+IsValidated = IsValidatedWith default_settings
+
+-- The report is that of strict validation with no setting on, and it has faults (Cedar documentation, policy validation).
+abbrev pub HasReport : SchemaTree → List PolicyTree → Report → Type 0
+HasReport = HasReportWith default_settings
+
+-- The schema and the policies have the fault, with no setting on; want of memory is none of theirs (own).
 abbrev pub HasFault : SchemaTree → List PolicyTree → ValidationFault → Type 0
-HasFault s ps OutOfMemory = Unit {0}
-HasFault s ps (Faults report) = HasReport s ps report
-HasFault s ps TooLong = HasLongCode ps
+HasFault = HasFaultWith default_settings
 
 -- The number of a refusal; None of a report, whose faults have numbers of their own (own).
 abbrev pub number_of : ValidationFault → Option ℕ

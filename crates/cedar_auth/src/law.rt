@@ -1,5 +1,6 @@
 //! The law of the engine.
-ghost use Rattle.cedar_auth.specs.Headline.{EngineIsSound, PremisesAreMet};
+ghost use Rattle.cedar_typing.specs.declared.settings.Settings.{Settings};
+ghost use Rattle.cedar_auth.specs.Headline.{EngineIsSound, EngineIsSoundWith, PremisesAreMet, PremisesAreMetWith};
 
 use cedar_code::execution_is_evaluation;
 use cedar_typing::typing_is_sound;
@@ -8,11 +9,14 @@ use cedar_typing::typing_is_sound;
 /// policy's code runs without stack fault, type error, decimal error or missing attribute, in at most as many steps as
 /// it has instructions, and errs only by overflow or a missing entity; and the response is Cedar's: forbid overrides
 /// permit, policies that err are skipped and named, determining ones are named (Cedar language reference,
-/// authorization; cedar-spec, Lean: Cedar.Thm). Some schema, policies, world and request meet all premises. It is a law
-/// of the definitions, and runs nothing.
+/// authorization; cedar-spec, Lean: Cedar.Thm). Some schema, policies, world and request meet all premises. It is one
+/// statement for all settings, where a decimal error is left too under the setting `any_decimal`; the clauses without
+/// `with` are its reading with no setting on. It is a law of the definitions, and runs nothing.
 pub fn engine_is_sound()
     ensures sound { EngineIsSound }
     ensures premises { PremisesAreMet }
+    ensures sound_with { (settings : Settings) → EngineIsSoundWith settings }
+    ensures premises_with { (settings : Settings) → PremisesAreMetWith settings }
 {
     // The laws of the two halves: they run nothing.
     execution_is_evaluation();

@@ -13,7 +13,8 @@
 //! ```
 //!
 //! [`engine_is_sound`] says what all of it is for, over definitions alone: read `specs/Headline.antt` first. What answers a
-//! line stands in `specs/AnswerLine.antt`.
+//! line stands in `specs/AnswerLine.antt`. Policies are accepted by strict validation as it is documented, or under settings
+//! (`Validated::new_with`), which stay with them and say which errors their answers may name.
 #![tactic(auto)]
 
 mod answer;

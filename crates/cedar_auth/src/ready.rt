@@ -9,11 +9,11 @@ ghost use Rattle.cedar_schema.specs.Conformance.{Conforms, Fits, FitsIn};
 ghost use Rattle.cedar_schema.specs.declared.schema.environment.Environment.{Environment as EnvironmentTree};
 ghost use Rattle.cedar_value.specs.declared.request.Request.{Request as RequestTree};
 ghost use Rattle.cedar_typing.specs.Candidates.{IsCandidate};
-ghost use Rattle.cedar_typing.specs.Soundness.{IsAllowed};
+ghost use Rattle.cedar_typing.specs.Soundness.{IsAllowedWith};
 ghost use Rattle.cedar_auth.specs.AnswerLine.{AnswersLine};
 ghost use Rattle.cedar_auth.specs.Candidates.{AreCandidates, OthersAreFalse};
 ghost use Rattle.cedar_auth.specs.Codes.{IsPartAt};
-ghost use Rattle.cedar_auth.specs.Headline.{IsAnsweredSoundly};
+ghost use Rattle.cedar_auth.specs.Headline.{IsAnsweredSoundlyWith};
 ghost use Rattle.cedar_auth.specs.Private.Sifting.{SiftedBy};
 ghost use Rattle.cedar_auth.specs.Private.Tally.{tally_of};
 
@@ -31,13 +31,13 @@ use cedar_entities::read_entities;
 use cedar_schema::tests_of_schemas_decide;
 use cedar_store::Store;
 use cedar_tokens::uid_or_none;
-use cedar_typing::candidates_are_enough;
+use cedar_typing::{Settings, candidates_are_enough};
 use cedar_value::{Request, is_name_tells_names};
 use std::alloc::{AllocError, Global};
 use std::marker::Model;
 
-/// Validated policies with their schema, and entities that conform to it. Contracts see the schema, the policies and
-/// the world of the entities.
+/// Validated policies with their schema, and entities that conform to it. Contracts see the schema, the policies, the
+/// settings under which these were accepted, and the world of the entities.
 #[derive(Drop)]
 pub struct Ready {
     validated: Validated,
@@ -57,7 +57,7 @@ impl Model for Ready {
 
     ghost coded = { Prim.hlevel (codes, datum_code, type_code, expression_code) };
 
-    ghost view = { λ r. record { schema = r.validated.schema; policies = r.validated.policies; world = r.store } };
+    ghost view = { λ r. record { schema = r.validated.schema; policies = r.validated.policies; settings = r.validated.settings; world = r.store } };
 
     ghost invariant = { λ r. IsReady r.validated.schema r.validated.policies.policies r.store r.candidates.rows };
 }
@@ -68,6 +68,7 @@ impl Ready {
     /// 401, 402 or 501 to 509 only where that fault is in the bytes.
     pub fn new(alloc: Global, validated: Validated, entities: &[u8]) -> Result<Ready, NotReady>
         ensures holds { IfOk result (λ r. (r.schema ≡ validated.schema) × (r.policies ≡ validated.policies)) }
+        ensures settings { IfOk result (λ r. r.settings ≡ validated.settings) }
         ensures denotes { IfOk result (λ r. BytesDenote validated.schema entities.now r.world) }
         ensures conforms { IfOk result (λ r. Conforms r.schema r.world) }
         ensures refused { IfErr result (λ e. e.fault ≢ OutOfMemory → BytesHaveFault validated.schema entities.now e.fault) }
@@ -92,9 +93,16 @@ impl Ready {
 
     /// The policies with their schema.
     pub fn validated(&self) -> &Validated
-        ensures { result.now ≡ record { schema = self.now.schema; policies = self.now.policies } }
+        ensures { result.now ≡ record { schema = self.now.schema; policies = self.now.policies; settings = self.now.settings } }
     {
         &self.validated
+    }
+
+    /// The settings under which the policies were accepted.
+    pub fn settings(&self) -> Settings
+        ensures { result ≡ self.now.settings }
+    {
+        self.validated.settings()
     }
 
     /// The entities. Takes no memory.
@@ -136,12 +144,13 @@ impl Ready {
 
     /// The response to a request that fits, by the evaluation of every policy (Cedar language reference,
     /// authorization). Every policy's code runs safely, the errors that are named are overflow and missing entity
-    /// alone, and the response is Cedar's. 1: memory was refused, which is never a decision.
+    /// alone, or a decimal error where the settings have `any_decimal` on, and the response is Cedar's. 1: memory was
+    /// refused, which is never a decision.
     pub fn answer(&self, alloc: Global, request: &Request) -> Result<Response<'_>, AllocError>
         requires { Fits self.now.schema request.now }
         ensures ok { IfOk result (λ r. r ≡ response self.now.policies.policies request.now self.now.world) }
-        ensures errors { IfOk result (λ r. (x : ErringTree) → Contains r.erring x → IsAllowed x.error) }
-        ensures sound { IsAnsweredSoundly self.now.policies.policies request.now self.now.world }
+        ensures errors { IfOk result (λ r. (x : ErringTree) → Contains r.erring x → IsAllowedWith self.now.settings x.error) }
+        ensures sound { IsAnsweredSoundlyWith self.now.settings self.now.policies.policies request.now self.now.world }
     {
         // A law, which runs nothing.
         self.soundness();
@@ -194,10 +203,10 @@ impl Ready {
             .tally(alloc, request, &self.store, positions, tally)
     }
 
-    /// Every request that fits is answered soundly: what [`engine_is_sound`] says of these policies and this world. It is
-    /// a law, and runs nothing.
+    /// Every request that fits is answered soundly: what [`engine_is_sound`] says of these policies, under their settings,
+    /// and this world. It is a law, and runs nothing.
     pub fn soundness(&self)
-        ensures { (q : RequestTree) → Fits self.now.schema q → IsAnsweredSoundly self.now.policies.policies q self.now.world }
+        ensures { (q : RequestTree) → Fits self.now.schema q → IsAnsweredSoundlyWith self.now.settings self.now.policies.policies q self.now.world }
     {
         // Laws, which run nothing.
         engine_is_sound();

@@ -9,7 +9,7 @@ ghost use Rattle.cedar_data.specs.Numbers.{number_of};
 ghost use Rattle.cedar_schema.specs.Conformance.{Fits};
 ghost use Rattle.cedar_auth.specs.AnswerJson.{refused_data};
 ghost use Rattle.cedar_auth.specs.AnswerLine.{AnswersLine};
-ghost use Rattle.cedar_auth.specs.Headline.{IsAnsweredSoundly};
+ghost use Rattle.cedar_auth.specs.Headline.{IsAnsweredSoundlyWith};
 
 use crate::answer::{append_refusal, append_response};
 use crate::ready::Ready;
@@ -97,8 +97,9 @@ pub fn serve<S: Source, K: Sink>(
     ensures write_rose { IsErrOf result ServeFault.WriteFailed → K.failed sink.old < K.failed sink.new }
 
     // Each request that a line denotes fits, and is answered soundly: no other error is named than overflow and missing
-    // entity.
-    ensures sound { (q : RequestTree) → Fits ready.now.schema q → IsAnsweredSoundly ready.now.policies.policies q ready.now.world }
+    // entity, or a decimal error where the settings have `any_decimal` on.
+    ensures sound { (q : RequestTree) → Fits ready.now.schema q
+        → IsAnsweredSoundlyWith ready.now.settings ready.now.policies.policies q ready.now.world }
 {
     // Laws, which run nothing.
     ready.soundness();

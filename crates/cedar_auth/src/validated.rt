@@ -1,7 +1,8 @@
 //! Policies that strict validation accepted.
 ghost use Rattle.std.specs.Prelude.{◌≡◌, IfOk, IfErr, OnOk, option_copied, slice_get};
 ghost use Rattle.cedar_ast.specs.Response.{response};
-ghost use Rattle.cedar_auth.specs.Validation.{HasFault, IsValidated};
+ghost use Rattle.cedar_typing.specs.Settings.{default_settings};
+ghost use Rattle.cedar_auth.specs.Validation.{HasFault, HasFaultWith, IsValidated, IsValidatedWith};
 ghost use Rattle.cedar_auth.specs.Private.Kept.{AreCodes};
 ghost use Rattle.cedar_auth.specs.Private.Sifting.{policies_at};
 ghost use Rattle.cedar_auth.specs.Private.Tally.{tally_of};
@@ -14,21 +15,22 @@ use crate::response::Response;
 use crate::tally::Tally;
 use crate::validation_fault::ValidationFault;
 use cedar_ast::PolicySet;
-use cedar_check::check;
+use cedar_check::check_with;
 use cedar_code::{Code, CodeFault};
 use cedar_machine::Operands;
 use cedar_schema::Schema;
-use cedar_typing::typing_is_computed;
+use cedar_typing::{Settings, typing_is_computed};
 use cedar_value::{Hierarchy, Request};
 use std::alloc::{AllocError, Global};
 use std::marker::Model;
 
-/// A schema and policies that strict validation accepts for it, with the policies' codes, compiled once. Contracts see
-/// the schema beside the policies.
+/// A schema and policies that strict validation accepts for it, under settings that stay with them, with the policies'
+/// codes, compiled once. Contracts see the schema, the policies and the settings.
 #[derive(Drop)]
 pub struct Validated {
     schema: Schema,
     policies: PolicySet,
+    settings: Settings,
     compiled: Vec<Code>,
 }
 
@@ -43,20 +45,25 @@ impl Model for Validated {
 
     ghost coded = { Prim.hlevel (codes, type_code, expression_code) };
 
-    ghost view = { λ v. record { schema = v.schema; policies = v.policies } };
+    ghost view = { λ v. record { schema = v.schema; policies = v.policies; settings = v.settings } };
 
-    ghost invariant = { λ v. IsKept v.schema v.policies.policies v.compiled.items };
+    ghost invariant = { λ v. IsKept v.settings v.schema v.policies.policies v.compiled.items };
 }
 
-// The codes of policies that strict validation accepts for a schema.
-fn judge(alloc: Global, schema: &Schema, policies: &PolicySet) -> Result<Vec<Code>, ValidationFault>
-    ensures accepted { OnOk result (IsValidated schema.now policies.now.policies) }
+// The codes of policies that strict validation under these settings accepts for a schema.
+fn judge(
+    alloc: Global,
+    schema: &Schema,
+    policies: &PolicySet,
+    settings: Settings,
+) -> Result<Vec<Code>, ValidationFault>
+    ensures accepted { OnOk result (IsValidatedWith settings schema.now policies.now.policies) }
     ensures codes { IfOk result (λ codes. AreCodes codes.items policies.now.policies) }
-    ensures refused { IfErr result (HasFault schema.now policies.now.policies) }
+    ensures refused { IfErr result (HasFaultWith settings schema.now policies.now.policies) }
 {
     // A law of typing: it runs nothing.
     typing_is_computed();
-    let Ok(report) = check(alloc, schema, policies) else {
+    let Ok(report) = check_with(alloc, schema, policies, settings) else {
         return Err(ValidationFault::OutOfMemory);
     };
     if !report.faults.is_empty() {
@@ -70,23 +77,42 @@ fn judge(alloc: Global, schema: &Schema, policies: &PolicySet) -> Result<Vec<Cod
 }
 
 impl Validated {
-    /// The policies for the schema, where strict validation accepts each of them in every environment (Cedar
-    /// documentation, policy validation). A refusal hands both back: with the report where that has faults, 701 where
-    /// the code of some policy would have over 1,000,000 instructions, 1 where memory was refused.
+    /// The policies for the schema, where strict validation as it is documented accepts each of them in every environment
+    /// (Cedar documentation, policy validation): `new_with` with no setting on. A refusal hands both back: with the report
+    /// where that has faults, 701 where the code of some policy would have over 1,000,000 instructions, 1 where memory was
+    /// refused.
     pub fn new(
         alloc: Global,
         schema: Schema,
         policies: PolicySet,
     ) -> Result<Validated, NotValidated>
         ensures accepted { OnOk result (IsValidated schema policies.policies) }
-        ensures holds { IfOk result (λ v. v ≡ record { schema = schema; policies = policies }) }
+        ensures holds { IfOk result (λ v. v ≡ record { schema = schema; policies = policies; settings = default_settings }) }
         ensures refused { IfErr result (λ e. HasFault schema policies.policies e.fault) }
         ensures handed_back { IfErr result (λ e. (e.schema ≡ schema) × (e.policies ≡ policies)) }
     {
-        match judge(alloc, &schema, &policies) {
+        Validated::new_with(alloc, schema, policies, Settings::default())
+    }
+
+    /// The policies for the schema, where strict validation under these settings accepts each of them in every environment
+    /// (Cedar documentation, policy validation). A refusal hands schema and policies back: with the report where that has
+    /// faults, 701 where the code of some policy would have over 1,000,000 instructions, 1 where memory was refused.
+    pub fn new_with(
+        alloc: Global,
+        schema: Schema,
+        policies: PolicySet,
+        settings: Settings,
+    ) -> Result<Validated, NotValidated>
+        ensures accepted { OnOk result (IsValidatedWith settings schema policies.policies) }
+        ensures holds { IfOk result (λ v. v ≡ record { schema = schema; policies = policies; settings = settings }) }
+        ensures refused { IfErr result (λ e. HasFaultWith settings schema policies.policies e.fault) }
+        ensures handed_back { IfErr result (λ e. (e.schema ≡ schema) × (e.policies ≡ policies)) }
+    {
+        match judge(alloc, &schema, &policies, settings) {
             Ok(compiled) => Ok(Validated {
                 schema,
                 policies,
+                settings,
                 compiled,
             }),
             Err(fault) => Err(NotValidated {
@@ -97,10 +123,17 @@ impl Validated {
         }
     }
 
+    /// The settings under which the policies were accepted.
+    pub fn settings(&self) -> Settings
+        ensures { result ≡ self.now.settings }
+    {
+        self.settings
+    }
+
     /// The schema.
     pub fn schema(&self) -> &Schema
         ensures value { result.now ≡ self.now.schema }
-        ensures accepted { IsValidated self.now.schema self.now.policies.policies }
+        ensures accepted { IsValidatedWith self.now.settings self.now.schema self.now.policies.policies }
     {
         &self.schema
     }
@@ -108,7 +141,7 @@ impl Validated {
     /// The policies, and the templates beside them.
     pub fn policies(&self) -> &PolicySet
         ensures value { result.now ≡ self.now.policies }
-        ensures accepted { IsValidated self.now.schema self.now.policies.policies }
+        ensures accepted { IsValidatedWith self.now.settings self.now.schema self.now.policies.policies }
     {
         &self.policies
     }

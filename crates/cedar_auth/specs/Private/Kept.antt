@@ -8,16 +8,17 @@ use Rattle.cedar_ast.specs.PolicyTree.{PolicyTree}
 use Rattle.cedar_schema.specs.SchemaTree.{SchemaTree}
 use Rattle.cedar_schema.specs.Conformance.{Conforms}
 use Rattle.cedar_code.specs.CodeView.{CodeView}
+use Rattle.cedar_typing.specs.declared.settings.Settings.{Settings}
 use Rattle.cedar_auth.specs.Codes.{policy_code}
-use Rattle.cedar_auth.specs.Validation.{IsValidated}
+use Rattle.cedar_auth.specs.Validation.{IsValidatedWith}
 use Rattle.cedar_auth.specs.Private.Sifting.{ByAction}
 
 -- the codes are those of the policies, one by one
 abbrev pub AreCodes : List CodeView → List PolicyTree → Type 0
 AreCodes codes ps = map (λ c. c.instructions) codes ≡ map policy_code ps
 
-pub record IsKept (s : SchemaTree) (ps : List PolicyTree) (codes : List CodeView) : Type 0 where
-  pub accepted : IsValidated s ps
+pub record IsKept (settings : Settings) (s : SchemaTree) (ps : List PolicyTree) (codes : List CodeView) : Type 0 where
+  pub accepted : IsValidatedWith settings s ps
   pub compiled : AreCodes codes ps
 
 pub record IsReady (s : SchemaTree) (ps : List PolicyTree) (w : World) (rows : BTreeMap Uid (BTreeMap (List ℕ) (BTreeMap (List ℕ) (Vec ℕ)))) : Type 0 where

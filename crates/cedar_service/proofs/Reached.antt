@@ -15,9 +15,10 @@ use Rattle.cedar_code.specs.declared.outcome.Outcome.TheVariants.{Value, Error, 
 use Rattle.cedar_code.specs.Machine.{Configuration, going, ended, start, Step, Steps}
 use Rattle.cedar_machine.specs.RestingView.{RestingView, RestsAfter}
 use Rattle.cedar_machine.specs.Verdict.{Verdict}
-use Rattle.cedar_typing.specs.Soundness.{IsAllowed}
+use Rattle.cedar_typing.specs.Soundness.{IsAllowedWith}
+use Rattle.cedar_typing.specs.declared.settings.Settings.{Settings}
 use Rattle.cedar_auth.specs.Codes.{policy_code}
-use Rattle.cedar_auth.specs.Headline.{IsAnsweredSoundly, IsSafe}
+use Rattle.cedar_auth.specs.Headline.{IsAnsweredSoundlyWith, IsSafeWith}
 use Rattle.cedar_auth.specs.Ready.{ReadyTree}
 use Rattle.cedar_histories.specs.Results.{Results, no_results}
 use Rattle.cedar_histories.specs.Jobs.{RunsEndAsEvaluated}
@@ -57,45 +58,46 @@ module _ (v : ReadyTree) (q : Request) where
           subst (λ (n : ℕ). Steps (policy_code p) q v.world n start after.configuration) count
           (going place stack, subst (λ (x : Configuration). Steps (policy_code p) q v.world r.executed start x) (sym at) before, step)
 
--- one error more
-more_allowed : (r : Results) (id : List ℕ) (e : EvaluationError) → AreAllowed r.erring → IsAllowed e → AreAllowed (r.erring ++ (record { id = id; error = e }) ∷ [])
-more_allowed r id e old new x c = by (Contains-push_cases r.erring _ x c)
-  where
-    by : Contains r.erring x ⊎ ((record { id = id; error = e }) ≡ x) → IsAllowed x.error
-    by (inl before) = old x before
-    by (inr same) = subst (λ (y : ErringTree). IsAllowed y.error) same new
+module _ (settings : Settings) where
+  -- one error more
+  more_allowed : (r : Results) (id : List ℕ) (e : EvaluationError) → AreAllowed settings r.erring → IsAllowedWith settings e → AreAllowed settings (r.erring ++ (record { id = id; error = e }) ∷ [])
+  more_allowed r id e old new x c = by (Contains-push_cases r.erring _ x c)
+    where
+      by : Contains r.erring x ⊎ ((record { id = id; error = e }) ≡ x) → IsAllowedWith settings x.error
+      by (inl before) = old x before
+      by (inr same) = subst (λ (y : ErringTree). IsAllowedWith settings y.error) same new
 
--- the verdict of a safe end
-verdict_allows : Verdict → Type 0
-verdict_allows (Ok b) = Unit {0}
-verdict_allows (Err e) = IsAllowed e
+  -- the verdict of a safe end
+  verdict_allows : Verdict → Type 0
+  verdict_allows (Ok b) = Unit {0}
+  verdict_allows (Err e) = IsAllowedWith settings e
 
-safe_verdict : (o : Outcome) → IsSafe o → verdict_allows (verdict_of o)
-unfolding verdict_allows
-safe_verdict (Value v) s = tt
-safe_verdict (Error e) s = s
-safe_verdict StackFault s = tt
+  safe_verdict : (o : Outcome) → IsSafeWith settings o → verdict_allows (verdict_of o)
+  unfolding verdict_allows
+  safe_verdict (Value v) s = tt
+  safe_verdict (Error e) s = s
+  safe_verdict StackFault s = tt
 
-entered_allowed : (r : Results) (id : List ℕ) (effect : Effect) (verdict : Verdict) → AreAllowed r.erring → verdict_allows verdict → AreAllowed (with_verdict r id effect verdict).erring
-unfolding verdict_allows
-entered_allowed r id Permit (Ok true) old s = old
-entered_allowed r id Forbid (Ok true) old s = old
-entered_allowed r id effect (Ok false) old s = old
-entered_allowed r id effect (Err e) old s = more_allowed r id e old s
+  entered_allowed : (r : Results) (id : List ℕ) (effect : Effect) (verdict : Verdict) → AreAllowed settings r.erring → verdict_allows verdict → AreAllowed settings (with_verdict r id effect verdict).erring
+  unfolding verdict_allows
+  entered_allowed r id Permit (Ok true) old s = old
+  entered_allowed r id Forbid (Ok true) old s = old
+  entered_allowed r id effect (Ok false) old s = old
+  entered_allowed r id effect (Err e) old s = more_allowed r id e old s
+
+  -- where nothing is entered, no error is
+  pub none_allowed : (r : Results) → r ≡ no_results → AreAllowed settings r.erring
+  none_allowed r e = subst (λ (x : Results). AreAllowed settings x.erring) (sym e) (λ x c. absurd (nothing x c))
+    where
+      nothing : (x : ErringTree) → Contains [] x → ⊥
+      nothing x c = omega (arith, c.1)
 
 -- what is entered where the run has ended
 pub entered_so : RunsEndAsEvaluated → (v : ReadyTree) (q : Request) (p : PolicyTree) (n : ℕ) (c : Configuration) (r : Results) (id : List ℕ) (effect : Effect) (verdict : Verdict)
-    → IsAnsweredSoundly v.policies.policies q v.world → Contains v.policies.policies p → Steps (policy_code p) q v.world n start c → Some verdict ≡ verdict_at c
-    → AreAllowed r.erring → AreAllowed (with_verdict r id effect verdict).erring
+    → IsAnsweredSoundlyWith v.settings v.policies.policies q v.world → Contains v.policies.policies p → Steps (policy_code p) q v.world n start c → Some verdict ≡ verdict_at c
+    → AreAllowed v.settings r.erring → AreAllowed v.settings (with_verdict r id effect verdict).erring
 entered_so law v q p n (going place stack) r id effect verdict sound is came some old = absurd (cc some)
 entered_so law v q p n (ended o) r id effect verdict sound is came some old =
     let same : verdict ≡ verdict_of o = cc some in
-    let safe : IsSafe o = subst IsSafe (sym (law p q v.world n o came)) (sound.runs p is).safe in
-    entered_allowed r id effect verdict old (subst verdict_allows (sym same) (safe_verdict o safe))
-
--- where nothing is entered, no error is
-pub none_allowed : (r : Results) → r ≡ no_results → AreAllowed r.erring
-none_allowed r e = subst (λ (x : Results). AreAllowed x.erring) (sym e) (λ x c. absurd (nothing x c))
-  where
-    nothing : (x : ErringTree) → Contains [] x → ⊥
-    nothing x c = omega (arith, c.1)
+    let safe : IsSafeWith v.settings o = subst (IsSafeWith v.settings) (sym (law p q v.world n o came)) (sound.runs p is).safe in
+    entered_allowed v.settings r id effect verdict old (subst (verdict_allows v.settings) (sym same) (safe_verdict v.settings o safe))

@@ -3,7 +3,7 @@ ghost use Rattle.std.specs.Prelude.{◌≡◌, ◌<◌, nat_lt, length, All, Con
 ghost use Rattle.cedar_ast.specs.Response.{ErringTree};
 ghost use Rattle.cedar_code.specs.Machine.{start};
 ghost use Rattle.cedar_schema.specs.Conformance.{Fits};
-ghost use Rattle.cedar_typing.specs.Soundness.{IsAllowed};
+ghost use Rattle.cedar_typing.specs.Soundness.{IsAllowedWith};
 ghost use Rattle.cedar_histories.specs.Jobs.{IsFresh, is_finished};
 ghost use Rattle.cedar_histories.specs.Results.{decided_by};
 ghost use Rattle.cedar_service.specs.Private.Kept.{IsBegun};
@@ -181,10 +181,10 @@ impl Job {
     }
 
     /// The response of a finished job, which takes its lists, and no memory. The errors that it names are overflow and
-    /// missing entity alone.
+    /// missing entity alone, or a decimal error where the version's settings have `any_decimal` on.
     pub(crate) fn into_response(self) -> Response
         ensures decided { result ≡ decided_by self.results }
-        ensures errors { (x : ErringTree) → Contains result.erring x → IsAllowed x.error }
+        ensures errors { (x : ErringTree) → Contains result.erring x → IsAllowedWith self.version.settings x.error }
     {
         self.results.into_response()
     }

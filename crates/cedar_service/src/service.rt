@@ -1,10 +1,9 @@
 //! The service.
-ghost use Rattle.std.specs.Prelude.{◌≡◌, Contains, IfOk, IfErr, OnOk, OnErr, Some, nat_eq, option_copied};
+ghost use Rattle.std.specs.Prelude.{◌≡◌, IfOk, IfErr, OnOk, OnErr, Some, nat_eq, option_copied};
 ghost use Rattle.std.specs.HashMap.{Updates};
-ghost use Rattle.cedar_ast.specs.Response.{ErringTree};
-ghost use Rattle.cedar_typing.specs.Soundness.{IsAllowed};
 ghost use Rattle.cedar_histories.specs.Service.{first_state, publish, open_job, step, take_answer, published, opened, stepped, taken, refused, Happens};
 ghost use Rattle.cedar_histories.specs.Jobs.{job_at};
+ghost use Rattle.cedar_service.specs.Errors.{NamesAllowed};
 ghost use Rattle.cedar_service.specs.Numbers.{number_of};
 ghost use Rattle.cedar_service.specs.Runs.{IsRunAt};
 
@@ -161,11 +160,11 @@ impl Service {
     }
 
     /// The response to a finished job's request, by the version that was current at its opening; the job is gone then. The
-    /// errors that it names are overflow and missing entity alone. Takes no memory. 801 where there is no such job, 802
-    /// where it is not finished: nothing is changed.
+    /// errors that it names are overflow and missing entity alone, or a decimal error where that version's settings have
+    /// `any_decimal` on. Takes no memory. 801 where there is no such job, 802 where it is not finished: nothing is changed.
     pub fn take(&mut self, id: JobId) -> Result<Response, ServiceFault>
         ensures ok { IfOk result (λ response. Happens self.old (take_answer id) (taken response) self.new) }
-        ensures errors { IfOk result (λ response. (x : ErringTree) → Contains response.erring x → IsAllowed x.error) }
+        ensures errors { IfOk result (NamesAllowed (job_at self.old.jobs id)) }
         ensures refused { IfErr result (λ fault. Happens self.old (take_answer id) (refused (number_of fault)) self.new) }
     {
         match self.jobs.get(&id) {

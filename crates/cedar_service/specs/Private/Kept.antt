@@ -6,7 +6,8 @@ use Rattle.cedar_ast.specs.Response.{ErringTree}
 use Rattle.cedar_code.specs.Machine.{Configuration, start, Steps}
 use Rattle.cedar_machine.specs.RestingView.{RestingView}
 use Rattle.cedar_schema.specs.Conformance.{Fits}
-use Rattle.cedar_typing.specs.Soundness.{IsAllowed}
+use Rattle.cedar_typing.specs.Soundness.{IsAllowedWith}
+use Rattle.cedar_typing.specs.declared.settings.Settings.{Settings}
 use Rattle.cedar_auth.specs.Codes.{policy_code}
 use Rattle.cedar_auth.specs.Ready.{ReadyTree}
 use Rattle.cedar_histories.specs.Results.{Results}
@@ -27,9 +28,9 @@ abbrev pub IsReached : ReadyTree → Request → List PolicyTree → Option Rest
 IsReached v q (p ∷ rest) (Some r) = Steps (policy_code p) q v.world r.executed start r.configuration
 IsReached v q _ _ = Unit {0}
 
--- the errors are such as validation leaves
-abbrev pub AreAllowed : List ErringTree → Type 0
-AreAllowed xs = (x : ErringTree) → Contains xs x → IsAllowed x.error
+-- the errors are such as validation leaves under these settings
+abbrev pub AreAllowed : Settings → List ErringTree → Type 0
+AreAllowed settings xs = (x : ErringTree) → Contains xs x → IsAllowedWith settings x.error
 
 -- each position is one of the policies, a run is under way exactly where one is left, and the request fits
 pub record IsKept (v : ReadyTree) (q : Request) (positions : List ℕ) (done : ℕ) (results : Results) (run : Option RestingView) : Type 0 where
@@ -37,4 +38,4 @@ pub record IsKept (v : ReadyTree) (q : Request) (positions : List ℕ) (done : �
   pub within : All (λ k. k < length v.policies.policies) positions
   pub under_way : is_some run ≡ nat_lt done (length positions)
   pub reached : IsReached v q (policies_at v.policies.policies (drop done positions)) run
-  pub allowed : AreAllowed results.erring
+  pub allowed : AreAllowed v.settings results.erring

@@ -26,7 +26,7 @@ invariant_of-result c =
       within = candidates_within v.policies.policies c.args.request v.world ks are;
       under_way = c.in_ok-run.ensures.under_way ∙ ap (λ (xs : List ℕ). nat_lt 0 (length xs)) c.deref-3.ensures.value;
       reached = reached_first v c.args.request _ c.in_ok-run.run' c.in_ok-run.ensures.at_start;
-      allowed = none_allowed c.new.result c.new.ensures;
+      allowed = none_allowed v.settings c.new.result c.new.ensures;
     }
 
 pub returns-clause-fresh : goal.returns-clause-fresh

@@ -4,7 +4,7 @@ use Rattle.cedar_value.specs.World.{World}
 use Rattle.cedar_machine.specs.RestingView.{RestsAfter}
 use Rattle.cedar_ast.specs.PolicyTree.{PolicyTree}
 use Rattle.cedar_schema.specs.Conformance.{Fits}
-use Rattle.cedar_auth.specs.Headline.{IsAnsweredSoundly}
+use Rattle.cedar_auth.specs.Headline.{IsAnsweredSoundlyWith}
 use Rattle.cedar_auth.specs.Ready.{ReadyTree}
 use Rattle.cedar_histories.specs.Results.{Results}
 use Rattle.cedar_histories.specs.Jobs.{JobTree}
@@ -94,13 +94,13 @@ invariant_of-self-2 c =
     let p = left_some ps ks done k c.self.invariant.within low at in
     let came = subst (IsReached v q (policies_at ps (drop done ks))) c.in-Some.is c.self.invariant.reached in
     let steps = subst (λ (l : List PolicyTree). IsReached v q l (Some c.in-Some.run')) p.2 came in
-    let sound = subst (λ (x : ReadyTree). IsAnsweredSoundly x.policies.policies q x.world) c.deref-2.ensures (c.soundness.ensures q (subst (λ (x : ReadyTree). Fits x.schema q) (sym c.deref-2.ensures) c.self.invariant.fits)) in
+    let sound = subst (λ (x : ReadyTree). IsAnsweredSoundlyWith x.settings x.policies.policies q x.world) c.deref-2.ensures (c.soundness.ensures q (subst (λ (x : ReadyTree). Fits x.schema q) (sym c.deref-2.ensures) c.self.invariant.fits)) in
     record {
       fits = c.self.invariant.fits;
       within = c.self.invariant.within;
       under_way = ap is_some c.put_run.ensures ∙ c.in_ok-next.ensures.under_way ∙ ap (λ xs. nat_lt (done + 1) (length xs)) c.deref-4.ensures.value;
       reached = reached_first v q (policies_at ps (drop (done + 1) ks)) c.put_run.new.run (subst IsBegun (sym c.put_run.ensures) c.in_ok-next.ensures.at_start);
-      allowed = subst (λ (r : Results). AreAllowed r.erring) (sym c.in_ok-enter.ensures.ok)
+      allowed = subst (λ (r : Results). AreAllowed v.settings r.erring) (sym c.in_ok-enter.ensures.ok)
           (entered_so c.runs_end_as_evaluated.ensures v q p.0 c.in-Some.run'.executed c.in-Some.run'.configuration c.self.inside.results _ _ c.in-Some-2.verdict
           sound (one_of ps k p.0 p.1) steps (sym c.in-Some-2.is ∙ c.in_ok-verdict.ensures) c.self.invariant.allowed);
     }

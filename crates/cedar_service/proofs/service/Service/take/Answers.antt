@@ -1,6 +1,7 @@
-use Rattle.std.proofs.Common.{◌≡◌, Some, None, true, false, refl, sym, ap, subst, ◌∙◌}
-use Rattle.cedar_histories.specs.Jobs.{job_at, is_finished}
+use Rattle.std.proofs.Common.{◌≡◌, Option, Some, None, true, false, refl, sym, ap, subst, ◌∙◌}
+use Rattle.cedar_histories.specs.Jobs.{JobTree, job_at, is_finished}
 use Rattle.cedar_histories.specs.Service.{ServiceState, RefusesTake, TakesJob}
+use Rattle.cedar_service.specs.Errors.{NamesAllowed}
 use Rattle.cedar_service.proofs.Tables.{found_at, changed_at}
 use Rattle.cedar_service.proofs.Calls.{no_take, early_take, takes_job}
 use Rattle.cedar_service.proofs.service.Service.take.Goals as goal
@@ -30,3 +31,10 @@ returns-clause-ok c =
     subst (λ (x : ServiceState). TakesJob x c.args.id (job_at x.jobs c.args.id) c.into_response.result new) c.self.view_is
     (takes_job s c.args.id c.in-Some-remove.job c.into_response.result new gone done c.into_response.ensures.decided
     (record { changes = changed_at c.self.inside.jobs c.remove.new.self c.args.id None c.in-Some-remove.ensures.updates; number = refl; current = refl; next_job = refl }))
+
+pub returns-clause-errors : goal.returns-clause-errors
+returns-clause-errors c =
+    let s : ServiceState = record { number = c.self.inside.number; current = c.self.inside.current.value; next_job = c.self.inside.next_job; jobs = c.self.inside.jobs.entries } in
+    let gone : Some c.in-Some-remove.job ≡ job_at s.jobs c.args.id = c.in-Some-remove.ensures.value ∙ found_at s.jobs c.args.id in
+    subst (λ (x : ServiceState). NamesAllowed (job_at x.jobs c.args.id) c.into_response.result) c.self.view_is
+    (subst (λ (o : Option JobTree). NamesAllowed o c.into_response.result) gone c.into_response.ensures.errors)

@@ -33,13 +33,14 @@ fn run(rt: &HostRuntime) -> io::Result<End> {
         Err(error) => return tell(rt, &error),
     };
     let subcommand = words.subcommand;
+    let settings = words.settings;
     let files = NamedFiles::new(rt, words);
     let mut sink = StdSink::new(io::writer(rt));
     match subcommand {
-        Subcommand::Validate => Ok(validate(alloc, &files, &mut sink)),
+        Subcommand::Validate => Ok(validate(alloc, &files, &mut sink, settings)),
         Subcommand::Authorize => {
             let mut source = StdSource::new(rt.reader());
-            Ok(authorize(alloc, &files, &mut source, &mut sink))
+            Ok(authorize(alloc, &files, &mut source, &mut sink, settings))
         }
     }
 }

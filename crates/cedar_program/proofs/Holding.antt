@@ -4,7 +4,7 @@ use Rattle.std.specs.Prelude.{IfSome}
 use Rattle.cedar_ast.specs.PolicySetTree.{PolicySetTree}
 use Rattle.cedar_schema.specs.SchemaTree.{SchemaTree}
 use Rattle.cedar_auth.specs.Ready.{ReadyTree}
-use Rattle.cedar_auth.specs.Validation.{IsValidated, ValidatedTree}
+use Rattle.cedar_auth.specs.Validation.{IsValidatedWith, ValidatedTree}
 use Rattle.cedar_program.specs.Authorization.{HoldAll}
 use Rattle.cedar_program.specs.EntitiesFile.{HoldsWorld}
 use Rattle.cedar_program.specs.LinksFile.{HoldsLinked}
@@ -24,12 +24,13 @@ hold-back holds s back_s set back_set hold same =
     subst (λ (x : SchemaTree). Hold holds x back_set) (sym same.0) (subst (λ (x : PolicySetTree). Hold holds s x) (sym same.1) hold)
 
 -- the same of policies that are ready over the entities
-pub hold-all : (holds : Holdings) (v : ValidatedTree) (r : ReadyTree) → Hold holds v.schema v.policies → IsValidated v.schema v.policies.policies
-    → (r.schema ≡ v.schema) × (r.policies ≡ v.policies) → IfSome (holds Entities) (λ held. HoldsWorld v.schema held r.world) → HoldAll holds r
-hold-all holds v r hold validated same world = record {
+pub hold-all : (holds : Holdings) (v : ValidatedTree) (r : ReadyTree) → Hold holds v.schema v.policies → IsValidatedWith v.settings v.schema v.policies.policies
+    → (r.schema ≡ v.schema) × (r.policies ≡ v.policies) → r.settings ≡ v.settings → IfSome (holds Entities) (λ held. HoldsWorld v.schema held r.world) → HoldAll v.settings holds r
+hold-all holds v r hold validated same settings world = record {
   hold = hold-back holds v.schema r.schema v.policies r.policies hold same;
+  settings_are = settings;
   validated =
-      subst (λ (x : SchemaTree). IsValidated x r.policies.policies) (sym same.0)
-      (subst (λ (x : PolicySetTree). IsValidated v.schema x.policies) (sym same.1) validated);
+      subst (λ (x : SchemaTree). IsValidatedWith v.settings x r.policies.policies) (sym same.0)
+      (subst (λ (x : PolicySetTree). IsValidatedWith v.settings v.schema x.policies) (sym same.1) validated);
   is_world = subst (λ (x : SchemaTree). IfSome (holds Entities) (λ held. HoldsWorld x held r.world)) (sym same.0) world;
 }

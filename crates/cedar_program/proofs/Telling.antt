@@ -16,8 +16,9 @@ use Rattle.cedar_ast.specs.PolicySetTree.{ids_of}
 use Rattle.cedar_lines.specs.Lines.{line_feed}
 use Rattle.cedar_schema.specs.SchemaTree.{SchemaTree, environments_of}
 use Rattle.cedar_schema.specs.declared.schema.environment.Environment.{Environment}
-use Rattle.cedar_typing.specs.Checking.{form_in}
-use Rattle.cedar_typing.specs.Reports.{FaultTree, fault_at, faults_in, faults_of, all_faults, is_impossible, warnings}
+use Rattle.cedar_typing.specs.Checking.{form_in_with}
+use Rattle.cedar_typing.specs.Reports.{FaultTree, fault_at, faults_in_with, faults_of_with, all_faults_with, is_impossible_with, warnings_with}
+use Rattle.cedar_typing.specs.declared.settings.Settings.{Settings}
 use Rattle.cedar_program.specs.ReportText.{ReportLine, fault_line, warning_line, totals_line, policy_lines, Tells, TellsEach, IsReportText}
 use Rattle.cedar_program.specs.Private.Telling.{AppendsLines, faults_of_first, faults_after, begins_with}
 use Rattle.cedar_program.specs.Private.Tokens.{data_tokens}
@@ -174,25 +175,25 @@ none_step : (id : List ℕ) (b : Bool) (f : FaultTree) (fs more : List FaultTree
 none_step id true f fs more e h = h
 none_step id false f fs more e h = (e, h)
 
-module _ (s : SchemaTree) where
-  all_in : (p : PolicyTree) (envs : List Environment) → AllOf p.id (faults_in s p envs)
+module _ (settings : Settings) (s : SchemaTree) where
+  all_in : (p : PolicyTree) (envs : List Environment) → AllOf p.id (faults_in_with settings s p envs)
   all_in p [] = tt
-  all_in p (env ∷ envs) = all_step p.id (is_some (form_in s env p)) (fault_at p env) (faults_in s p envs) refl (all_in p envs)
+  all_in p (env ∷ envs) = all_step p.id (is_some (form_in_with settings s env p)) (fault_at p env) (faults_in_with settings s p envs) refl (all_in p envs)
 
   none_in : (id : List ℕ) (p : PolicyTree) (envs : List Environment) (more : List FaultTree) → (p.id ≡ id → ⊥) → NoneOf id more
-      → NoneOf id (faults_in s p envs ++ more)
+      → NoneOf id (faults_in_with settings s p envs ++ more)
   none_in id p [] more e h = h
   none_in id p (env ∷ envs) more e h =
-      none_step id (is_some (form_in s env p)) (fault_at p env) (faults_in s p envs) more e (none_in id p envs more e h)
+      none_step id (is_some (form_in_with settings s env p)) (fault_at p env) (faults_in_with settings s p envs) more e (none_in id p envs more e h)
 
-  none_left : (id : List ℕ) (ps : List PolicyTree) → IsFree id ps → NoneOf id (all_faults s ps)
+  none_left : (id : List ℕ) (ps : List PolicyTree) → IsFree id ps → NoneOf id (all_faults_with settings s ps)
   none_left id [] h = tt
-  none_left id (p ∷ ps) h = none_in id p (environments_of s.actions) (all_faults s ps) h.0 (none_left id ps h.1)
+  none_left id (p ∷ ps) h = none_in id p (environments_of s.actions) (all_faults_with settings s ps) h.0 (none_left id ps h.1)
 
   -- the faults of the first policy are the first that are its own
   pub split : (p : PolicyTree) (ps : List PolicyTree) → IsFree p.id ps
-      → (faults_of_first p.id (all_faults s (p ∷ ps)) ≡ faults_of s p) × (faults_after p.id (all_faults s (p ∷ ps)) ≡ all_faults s ps)
-  split p ps h = split_behind p.id (faults_of s p) (all_faults s ps) (all_in p (environments_of s.actions)) (none_left p.id ps h)
+      → (faults_of_first p.id (all_faults_with settings s (p ∷ ps)) ≡ faults_of_with settings s p) × (faults_after p.id (all_faults_with settings s (p ∷ ps)) ≡ all_faults_with settings s ps)
+  split p ps h = split_behind p.id (faults_of_with settings s p) (all_faults_with settings s ps) (all_in p (environments_of s.actions)) (none_left p.id ps h)
 
   -- ---- warnings
 
@@ -201,9 +202,9 @@ module _ (s : SchemaTree) where
   warned_step id true p ps e h = other p.id id e
   warned_step id false p ps e h = h
 
-  none_warned : (id : List ℕ) (ps : List PolicyTree) → IsFree id ps → begins_with id (warnings s ps) ≡ false
+  none_warned : (id : List ℕ) (ps : List PolicyTree) → IsFree id ps → begins_with id (warnings_with settings s ps) ≡ false
   none_warned id [] h = refl
-  none_warned id (p ∷ ps) h = warned_step id (is_impossible s p) p (filter (is_impossible s) ps) h.0 (none_warned id ps h.1)
+  none_warned id (p ∷ ps) h = warned_step id (is_impossible_with settings s p) p (filter (is_impossible_with settings s) ps) h.0 (none_warned id ps h.1)
 
   warned_first : (b : Bool) (p : PolicyTree) (ps : List PolicyTree) → begins_with p.id (map (λ (q : PolicyTree). q.id) ps) ≡ false
       → begins_with p.id (map (λ (q : PolicyTree). q.id) (cond b (p ∷ ps) ps)) ≡ b
@@ -216,33 +217,33 @@ module _ (s : SchemaTree) where
   after_first false p ps = refl
 
   -- the first policy is warned of where the warnings begin with its id
-  pub warned : (p : PolicyTree) (ps : List PolicyTree) → IsFree p.id ps → begins_with p.id (warnings s (p ∷ ps)) ≡ is_impossible s p
-  warned p ps h = warned_first (is_impossible s p) p (filter (is_impossible s) ps) (none_warned p.id ps h)
+  pub warned : (p : PolicyTree) (ps : List PolicyTree) → IsFree p.id ps → begins_with p.id (warnings_with settings s (p ∷ ps)) ≡ is_impossible_with settings s p
+  warned p ps h = warned_first (is_impossible_with settings s p) p (filter (is_impossible_with settings s) ps) (none_warned p.id ps h)
 
   pub left : (p : PolicyTree) (ps : List PolicyTree) → IsFree p.id ps
-      → cond (begins_with p.id (warnings s (p ∷ ps))) (drop 1 (warnings s (p ∷ ps))) (warnings s (p ∷ ps)) ≡ warnings s ps
+      → cond (begins_with p.id (warnings_with settings s (p ∷ ps))) (drop 1 (warnings_with settings s (p ∷ ps))) (warnings_with settings s (p ∷ ps)) ≡ warnings_with settings s ps
   left p ps h =
-      ap (λ b. cond b (drop 1 (warnings s (p ∷ ps))) (warnings s (p ∷ ps))) (warned p ps h)
-      ∙ after_first (is_impossible s p) p (filter (is_impossible s) ps)
+      ap (λ b. cond b (drop 1 (warnings_with settings s (p ∷ ps))) (warnings_with settings s (p ∷ ps))) (warned p ps h)
+      ∙ after_first (is_impossible_with settings s p) p (filter (is_impossible_with settings s) ps)
 
   -- ---- policies
 
   -- what was told before the policy at a place, and what is left
   pub record IsToldTo (ps : List PolicyTree) (i : ℕ) (fs : List FaultTree) (ids : List (List ℕ)) (text : List ℕ) : Type 0 where
-    pub faults : fs ≡ all_faults s (drop i ps)
-    pub warnings : ids ≡ warnings s (drop i ps)
-    pub told : TellsEach (flat_map (policy_lines s) (take i ps)) text
+    pub faults : fs ≡ all_faults_with settings s (drop i ps)
+    pub warnings : ids ≡ warnings_with settings s (drop i ps)
+    pub told : TellsEach (flat_map (policy_lines settings s) (take i ps)) text
 
   lines_more : (ps : List PolicyTree) (i : ℕ) (p : PolicyTree) → slice_get ps i ≡ Some p
-      → flat_map (policy_lines s) (take i ps) ++ policy_lines s p ≡ flat_map (policy_lines s) (take (i + 1) ps)
+      → flat_map (policy_lines settings s) (take i ps) ++ policy_lines settings s p ≡ flat_map (policy_lines settings s) (take (i + 1) ps)
   lines_more ps i p e =
-      flat_map_more (policy_lines s) [] (take i ps) p ∙ ap (flat_map (policy_lines s)) (sym (take-next ps i p e))
+      flat_map_more (policy_lines settings s) [] (take i ps) p ∙ ap (flat_map (policy_lines settings s)) (sym (take-next ps i p e))
 
   told_more : (xs ys : List ReportLine) (a b : List ℕ) → TellsEach xs a → AppendsLines ys a b → TellsEach (xs ++ ys) b
   told_more xs ys a b h k = subst (λ (t : List ℕ). TellsEach (xs ++ ys) t) (sym k.2) (tells-append xs ys a k.0 h k.1)
 
   next_lines : (p : PolicyTree) (ps : List PolicyTree) → IsFree p.id ps
-      → map fault_line (faults_of_first p.id (all_faults s (p ∷ ps))) ++ cond (begins_with p.id (warnings s (p ∷ ps))) (warning_line p.id ∷ []) [] ≡ policy_lines s p
+      → map fault_line (faults_of_first p.id (all_faults_with settings s (p ∷ ps))) ++ cond (begins_with p.id (warnings_with settings s (p ∷ ps))) (warning_line p.id ∷ []) [] ≡ policy_lines settings s p
   next_lines p ps h =
       ap₂ (λ (fs : List FaultTree) (b : Bool). map fault_line fs ++ cond b (warning_line p.id ∷ []) []) (split p ps h).0 (warned p ps h)
 
@@ -254,12 +255,12 @@ module _ (s : SchemaTree) where
   told-next ps i p fs ids old mid new e apart h k l =
       let at : drop i ps ≡ p ∷ drop (i + 1) ps = drop_got ps i p e in
       let free : IsFree p.id (drop (i + 1) ps) = (subst AreApart at apart).0 in
-      let faults : fs ≡ all_faults s (p ∷ drop (i + 1) ps) = h.faults ∙ ap (all_faults s) at in
-      let warned : ids ≡ warnings s (p ∷ drop (i + 1) ps) = h.warnings ∙ ap (warnings s) at in
-      let lines : map fault_line (faults_of_first p.id fs) ++ cond (begins_with p.id ids) (warning_line p.id ∷ []) [] ≡ policy_lines s p =
+      let faults : fs ≡ all_faults_with settings s (p ∷ drop (i + 1) ps) = h.faults ∙ ap (all_faults_with settings s) at in
+      let warned : ids ≡ warnings_with settings s (p ∷ drop (i + 1) ps) = h.warnings ∙ ap (warnings_with settings s) at in
+      let lines : map fault_line (faults_of_first p.id fs) ++ cond (begins_with p.id ids) (warning_line p.id ∷ []) [] ≡ policy_lines settings s p =
       ap₂ (λ (fs : List FaultTree) (ids : List (List ℕ)). map fault_line (faults_of_first p.id fs) ++ cond (begins_with p.id ids) (warning_line p.id ∷ []) []) faults warned
       ∙ next_lines p (drop (i + 1) ps) free in
-      let both : AppendsLines (policy_lines s p) old new = subst (λ (ls : List ReportLine). AppendsLines ls old new) lines (lines-behind _ _ old mid new k l) in
+      let both : AppendsLines (policy_lines settings s p) old new = subst (λ (ls : List ReportLine). AppendsLines ls old new) lines (lines-behind _ _ old mid new k l) in
       record {
         faults = ap (faults_after p.id) faults ∙ (split p (drop (i + 1) ps) free).1;
         warnings = ap (λ (ids : List (List ℕ)). cond (begins_with p.id ids) (drop 1 ids) ids) warned ∙ left p (drop (i + 1) ps) free;
@@ -284,8 +285,8 @@ module _ (s : SchemaTree) where
 
   -- all are told, and then the totals
   pub told-all : (ps : List PolicyTree) (i : ℕ) (fs : List FaultTree) (ids : List (List ℕ)) (old new : List ℕ) (m n : ℕ)
-      → length ps ≤ i → IsToldTo ps i fs ids old → m ≡ length (all_faults s ps) → n ≡ length (warnings s ps)
-      → AppendsLines (totals_line m n ∷ []) old new → IsReportText s ps new
+      → length ps ≤ i → IsToldTo ps i fs ids old → m ≡ length (all_faults_with settings s ps) → n ≡ length (warnings_with settings s ps)
+      → AppendsLines (totals_line m n ∷ []) old new → IsReportText settings s ps new
   told-all ps i fs ids old new m n whole h em en k =
-      let told : TellsEach (flat_map (policy_lines s) ps) old = subst (λ (qs : List PolicyTree). TellsEach (flat_map (policy_lines s) qs) old) (take_all i ps whole) h.told in
-      subst (λ (x : ReportLine). TellsEach (flat_map (policy_lines s) ps ++ x ∷ []) new) (ap₂ totals_line em en) (told_more _ _ old new told k)
+      let told : TellsEach (flat_map (policy_lines settings s) ps) old = subst (λ (qs : List PolicyTree). TellsEach (flat_map (policy_lines settings s) qs) old) (take_all i ps whole) h.told in
+      subst (λ (x : ReportLine). TellsEach (flat_map (policy_lines settings s) ps ++ x ∷ []) new) (ap₂ totals_line em en) (told_more _ _ old new told k)

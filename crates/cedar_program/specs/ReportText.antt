@@ -5,7 +5,8 @@ use Rattle.serde_json.specs.Written.{compact_text}
 use Rattle.cedar_lines.specs.Lines.{line_feed}
 use Rattle.cedar_ast.specs.PolicyTree.{PolicyTree}
 use Rattle.cedar_schema.specs.SchemaTree.{SchemaTree}
-use Rattle.cedar_typing.specs.Reports.{FaultTree, all_faults, faults_of, is_impossible, warnings}
+use Rattle.cedar_typing.specs.Reports.{FaultTree, all_faults_with, faults_of_with, is_impossible_with, warnings_with}
+use Rattle.cedar_typing.specs.declared.settings.Settings.{Settings}
 use Rattle.cedar_check.specs.FaultView.{fault_view}
 use Rattle.cedar_check.specs.Numbers.{number_of}
 use Rattle.cedar_check.specs.declared.report.Report.{Report}
@@ -18,20 +19,21 @@ pub data ReportLine : Type 0 where
   warning_line : List ℕ → ReportLine
   totals_line : ℕ → ℕ → ReportLine
 
--- What is told of a policy: its faults, in the order of the environments, and a warning where no request can satisfy it (Cedar
--- documentation, policy validation).
-abbrev pub policy_lines : SchemaTree → PolicyTree → List ReportLine
-policy_lines s p = map fault_line (faults_of s p) ++ cond (is_impossible s p) (warning_line p.id ∷ []) []
+-- What is told of a policy under these settings: its faults, in the order of the environments, and a warning where no request
+-- can satisfy it (Cedar documentation, policy validation).
+abbrev pub policy_lines : Settings → SchemaTree → PolicyTree → List ReportLine
+policy_lines settings s p = map fault_line (faults_of_with settings s p) ++ cond (is_impossible_with settings s p) (warning_line p.id ∷ []) []
 
 -- A whole report: what is told of each policy, in their order, and then how many faults and warnings there are (own).
-abbrev pub report_lines : SchemaTree → List PolicyTree → List ReportLine
-report_lines s ps = flat_map (policy_lines s) ps ++ totals_line (length (all_faults s ps)) (length (warnings s ps)) ∷ []
+abbrev pub report_lines : Settings → SchemaTree → List PolicyTree → List ReportLine
+report_lines settings s ps =
+    flat_map (policy_lines settings s) ps ++ totals_line (length (all_faults_with settings s ps)) (length (warnings_with settings s ps)) ∷ []
 
--- What strict validation finds in these policies by this schema: their faults and their warnings, in order (Cedar documentation,
--- policy validation).
-pub record Reports (s : SchemaTree) (ps : List PolicyTree) (report : Report) : Type 0 where
-  pub faults : map fault_view report.faults.items ≡ all_faults s ps
-  pub warnings : report.warnings.items ≡ warnings s ps
+-- What strict validation under these settings finds in these policies by this schema: their faults and their warnings, in order
+-- (Cedar documentation, policy validation).
+pub record Reports (settings : Settings) (s : SchemaTree) (ps : List PolicyTree) (report : Report) : Type 0 where
+  pub faults : map fault_view report.faults.items ≡ all_faults_with settings s ps
+  pub warnings : report.warnings.items ≡ warnings_with settings s ps
 
 -- The text is such a line, without its LF; of a fault it gives the number of some reason, and which one that is is tested (own).
 abbrev pub Tells : ReportLine → List ℕ → Type 0
@@ -44,6 +46,6 @@ abbrev pub TellsEach : List ReportLine → List ℕ → Type 0
 TellsEach [] text = text ≡ []
 TellsEach (line ∷ lines) text = (told more : List ℕ) × Tells line told × (text ≡ told ++ (line_feed ∷ more)) × TellsEach lines more
 
--- The text is a report on these policies by this schema (own).
-abbrev pub IsReportText : SchemaTree → List PolicyTree → List ℕ → Type 0
-IsReportText s ps text = TellsEach (report_lines s ps) text
+-- The text is a report on these policies by this schema under these settings (own).
+abbrev pub IsReportText : Settings → SchemaTree → List PolicyTree → List ℕ → Type 0
+IsReportText settings s ps text = TellsEach (report_lines settings s ps) text

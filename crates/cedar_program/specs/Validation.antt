@@ -4,6 +4,7 @@ use Rattle.std.specs.Io.KnownBytes.{Keeps}
 use Rattle.cedar_ast.specs.PolicyTree.{PolicyTree}
 use Rattle.cedar_ast.specs.PolicySetTree.{PolicySetTree}
 use Rattle.cedar_schema.specs.SchemaTree.{SchemaTree}
+use Rattle.cedar_typing.specs.declared.settings.Settings.{Settings}
 use Rattle.cedar_lines.specs.AnswerText.{Writes}
 use Rattle.cedar_program.specs.LinksFile.{HoldsLinked, HoldsNoLinks}
 use Rattle.cedar_program.specs.PolicyFile.{HoldsNoPolicies, HoldsPolicies}
@@ -37,13 +38,13 @@ IsRefused holds Links refusal =
     (s : SchemaTree) × (text : PolicySetTree) × HoldText holds s text × IfSome (holds Links) (λ held. HoldsNoLinks held text refusal)
 IsRefused holds _ refusal = ⊥
 
--- The text is a beginning of a report on these policies by this schema (own).
-abbrev pub BeginsReport : SchemaTree → List PolicyTree → List ℕ → Type 0
-BeginsReport s ps text = (more : List ℕ) × IsReportText s ps (text ++ more)
+-- The text is a beginning of a report on these policies by this schema under these settings (own).
+abbrev pub BeginsReport : Settings → SchemaTree → List PolicyTree → List ℕ → Type 0
+BeginsReport settings s ps text = (more : List ℕ) × IsReportText settings s ps (text ++ more)
 
--- Where a device failed: nothing was written, or a beginning of the report on what the files hold, or a beginning of the line
--- that refuses a file (own).
-abbrev pub ReportStands : Holdings → Option (List ℕ) → Option (List ℕ) → Type 0
-ReportStands holds old new = Keeps old new
-    ⊎ ((s : SchemaTree) × (set : PolicySetTree) × Hold holds s set × Writes old new (BeginsReport s set.policies))
+-- Where a device failed: nothing was written, or a beginning of the report under these settings on what the files hold, or a
+-- beginning of the line that refuses a file (own).
+abbrev pub ReportStands : Settings → Holdings → Option (List ℕ) → Option (List ℕ) → Type 0
+ReportStands settings holds old new = Keeps old new
+    ⊎ ((s : SchemaTree) × (set : PolicySetTree) × Hold holds s set × Writes old new (BeginsReport settings s set.policies))
     ⊎ ((role : Role) × (refusal : FileRefusal) × IsRefused holds role refusal × Writes old new (BeginsRefusal role refusal))

@@ -3,11 +3,11 @@ ghost use Rattle.std.specs.Prelude.{◌≡◌, ◌≢◌, ◌⊎◌, ◌-◌, �
 ghost use Rattle.std.specs.Io.KnownBytes.{Keeps};
 ghost use Rattle.cedar_ast.specs.PolicySetTree.{PolicySetTree};
 ghost use Rattle.cedar_schema.specs.SchemaTree.{SchemaTree};
-ghost use Rattle.cedar_typing.specs.Reports.{all_faults};
+ghost use Rattle.cedar_typing.specs.Reports.{all_faults_with};
 ghost use Rattle.cedar_auth.specs.AnswerLine.{AnswersLine};
 ghost use Rattle.cedar_auth.specs.Codes.{HasLongCode};
 ghost use Rattle.cedar_auth.specs.Ready.{ReadyTree};
-ghost use Rattle.cedar_auth.specs.Validation.{HasFault, IsValidated};
+ghost use Rattle.cedar_auth.specs.Validation.{HasFaultWith, IsValidatedWith};
 ghost use Rattle.cedar_lines.specs.AnswerText.{AnswersFirst, BeginsAnswers, IsAnswerText, Writes};
 ghost use Rattle.cedar_lines.specs.Lines.{lines_of};
 ghost use Rattle.cedar_program.specs.Authorization.{HoldAll, IsFirstRefused, Stands, StandsWhole};
@@ -25,22 +25,23 @@ use cedar_ast::PolicySet;
 use cedar_auth::{NotValidated, Ready, Validated, ValidationFault, serve};
 use cedar_lines::{ServeFault, Sink, Source};
 use cedar_schema::Schema;
+use cedar_typing::Settings;
 use std::alloc::Global;
 
 /// 701: the code of a policy is too long.
 const TOO_LONG: u16 = 701;
 
-// Tells why the policies are not accepted for the schema.
-fn tell<K: Sink>(alloc: Global, refused: &NotValidated, sink: &mut K) -> End
+// Tells why the policies are not accepted for the schema under these settings.
+fn tell<K: Sink>(alloc: Global, refused: &NotValidated, sink: &mut K, settings: Settings) -> End
     requires sink_count { K.failed sink.old < 2 ^ 64 - 1 }
-    requires refused { HasFault refused.now.schema refused.now.policies.policies refused.now.fault }
-    ensures faults { result ≡ End.Faults → (all_faults refused.now.schema refused.now.policies.policies ≢ [])
-        × Writes (K.written sink.old) (K.written sink.new) (IsReportText refused.now.schema refused.now.policies.policies) }
+    requires refused { HasFaultWith settings refused.now.schema refused.now.policies.policies refused.now.fault }
+    ensures faults { result ≡ End.Faults → (all_faults_with settings refused.now.schema refused.now.policies.policies ≢ [])
+        × Writes (K.written sink.old) (K.written sink.new) (IsReportText settings refused.now.schema refused.now.policies.policies) }
     ensures refused { result ≡ End.Refused → HasLongCode refused.now.policies.policies
         × Writes (K.written sink.old) (K.written sink.new) (IsRefusalLine Role.Policies (record { number = 701; offset = None })) }
     ensures device { result ≡ End.Device → K.failed sink.old < K.failed sink.new }
     ensures stands { result ≡ End.Device
-        → Writes (K.written sink.old) (K.written sink.new) (BeginsReport refused.now.schema refused.now.policies.policies)
+        → Writes (K.written sink.old) (K.written sink.new) (BeginsReport settings refused.now.schema refused.now.policies.policies)
         ⊎ (HasLongCode refused.now.policies.policies
         × Writes (K.written sink.old) (K.written sink.new) (BeginsRefusal Role.Policies (record { number = 701; offset = None }))) }
     ensures stands_whole { result ≡ End.Memory → Keeps (K.written sink.old) (K.written sink.new) }
@@ -87,21 +88,21 @@ fn over_entities<F: Files, S: Source, K: Sink>(
     requires source_count { S.failed source.old < 2 ^ 64 - 1 }
     requires sink_count { K.failed sink.old < 2 ^ 64 - 1 }
     requires held { Hold (F.holds files.now) validated.schema validated.policies }
-    requires accepted { IsValidated validated.schema validated.policies.policies }
+    requires accepted { IsValidatedWith validated.settings validated.schema validated.policies.policies }
     ensures done { result ≡ End.Done → (r : ReadyTree)
-        × HoldAll (F.holds files.now) r
+        × HoldAll validated.settings (F.holds files.now) r
         × IfSome (S.left source.old) (λ input. Writes (K.written sink.old) (K.written sink.new) (IsAnswerText (AnswersLine r) input)) }
     ensures faults { result ≡ End.Faults → ⊥ }
     ensures refused { result ≡ End.Refused → (role : Role) × (refusal : FileRefusal)
-        × IsFirstRefused (F.holds files.now) role refusal
+        × IsFirstRefused validated.settings (F.holds files.now) role refusal
         × Writes (K.written sink.old) (K.written sink.new) (IsRefusalLine role refusal) }
     ensures unread { result ≡ End.Refused → source.new ≡ source.old }
     ensures unnamed { result ≡ End.CommandLine → IfSome (F.holds files.now Role.Entities) (λ held. held ≡ None) }
     ensures untouched { result ≡ End.CommandLine → (source.new ≡ source.old) × (sink.new ≡ sink.old) }
     ensures device { result ≡ End.Device → (F.holds files.now Role.Entities ≡ None)
         ⊎ (S.failed source.old < S.failed source.new) ⊎ (K.failed sink.old < K.failed sink.new) }
-    ensures stands { result ≡ End.Device → Stands (F.holds files.now) (S.left source.old) (K.written sink.old) (K.written sink.new) }
-    ensures stands_whole { result ≡ End.Memory → StandsWhole (F.holds files.now) (S.left source.old) (K.written sink.old) (K.written sink.new) }
+    ensures stands { result ≡ End.Device → Stands validated.settings (F.holds files.now) (S.left source.old) (K.written sink.old) (K.written sink.new) }
+    ensures stands_whole { result ≡ End.Memory → StandsWhole validated.settings (F.holds files.now) (S.left source.old) (K.written sink.old) (K.written sink.new) }
 {
     let ready = match read_ready(alloc, files, validated) {
         Ok(ready) => ready,
@@ -110,7 +111,7 @@ fn over_entities<F: Files, S: Source, K: Sink>(
     answer(alloc, &ready, source, sink)
 }
 
-// Validates the policies by the schema, and answers each request line by them.
+// Validates the policies by the schema under these settings, and answers each request line by them.
 fn over_policies<F: Files, S: Source, K: Sink>(
     alloc: Global,
     files: &F,
@@ -118,30 +119,31 @@ fn over_policies<F: Files, S: Source, K: Sink>(
     policies: PolicySet,
     source: &mut S,
     sink: &mut K,
+    settings: Settings,
 ) -> End
     requires source_count { S.failed source.old < 2 ^ 64 - 1 }
     requires sink_count { K.failed sink.old < 2 ^ 64 - 1 }
     requires held { Hold (F.holds files.now) schema policies }
     ensures done { result ≡ End.Done → (r : ReadyTree)
-        × HoldAll (F.holds files.now) r
+        × HoldAll settings (F.holds files.now) r
         × IfSome (S.left source.old) (λ input. Writes (K.written sink.old) (K.written sink.new) (IsAnswerText (AnswersLine r) input)) }
     ensures faults { result ≡ End.Faults → (s : SchemaTree) × (set : PolicySetTree)
-        × Hold (F.holds files.now) s set × (all_faults s set.policies ≢ [])
-        × Writes (K.written sink.old) (K.written sink.new) (IsReportText s set.policies) }
+        × Hold (F.holds files.now) s set × (all_faults_with settings s set.policies ≢ [])
+        × Writes (K.written sink.old) (K.written sink.new) (IsReportText settings s set.policies) }
     ensures refused { result ≡ End.Refused → (role : Role) × (refusal : FileRefusal)
-        × IsFirstRefused (F.holds files.now) role refusal
+        × IsFirstRefused settings (F.holds files.now) role refusal
         × Writes (K.written sink.old) (K.written sink.new) (IsRefusalLine role refusal) }
     ensures unread { (result ≡ End.Refused) ⊎ (result ≡ End.Faults) → source.new ≡ source.old }
     ensures unnamed { result ≡ End.CommandLine → IfSome (F.holds files.now Role.Entities) (λ held. held ≡ None) }
     ensures untouched { result ≡ End.CommandLine → (source.new ≡ source.old) × (sink.new ≡ sink.old) }
     ensures device { result ≡ End.Device → (F.holds files.now Role.Entities ≡ None)
         ⊎ (S.failed source.old < S.failed source.new) ⊎ (K.failed sink.old < K.failed sink.new) }
-    ensures stands { result ≡ End.Device → Stands (F.holds files.now) (S.left source.old) (K.written sink.old) (K.written sink.new) }
-    ensures stands_whole { result ≡ End.Memory → StandsWhole (F.holds files.now) (S.left source.old) (K.written sink.old) (K.written sink.new) }
+    ensures stands { result ≡ End.Device → Stands settings (F.holds files.now) (S.left source.old) (K.written sink.old) (K.written sink.new) }
+    ensures stands_whole { result ≡ End.Memory → StandsWhole settings (F.holds files.now) (S.left source.old) (K.written sink.old) (K.written sink.new) }
 {
-    let validated = match Validated::new(alloc, schema, policies) {
+    let validated = match Validated::new_with(alloc, schema, policies, settings) {
         Ok(validated) => validated,
-        Err(refused) => return tell(alloc, &refused, sink),
+        Err(refused) => return tell(alloc, &refused, sink, settings),
     };
     over_entities(alloc, files, validated, source, sink)
 }
@@ -154,35 +156,36 @@ fn over_links<F: Files, S: Source, K: Sink>(
     mut policies: PolicySet,
     source: &mut S,
     sink: &mut K,
+    settings: Settings,
 ) -> End
     requires source_count { S.failed source.old < 2 ^ 64 - 1 }
     requires sink_count { K.failed sink.old < 2 ^ 64 - 1 }
     requires held { HoldText (F.holds files.now) schema policies }
     ensures done { result ≡ End.Done → (r : ReadyTree)
-        × HoldAll (F.holds files.now) r
+        × HoldAll settings (F.holds files.now) r
         × IfSome (S.left source.old) (λ input. Writes (K.written sink.old) (K.written sink.new) (IsAnswerText (AnswersLine r) input)) }
     ensures faults { result ≡ End.Faults → (s : SchemaTree) × (set : PolicySetTree)
-        × Hold (F.holds files.now) s set × (all_faults s set.policies ≢ [])
-        × Writes (K.written sink.old) (K.written sink.new) (IsReportText s set.policies) }
+        × Hold (F.holds files.now) s set × (all_faults_with settings s set.policies ≢ [])
+        × Writes (K.written sink.old) (K.written sink.new) (IsReportText settings s set.policies) }
     ensures refused { result ≡ End.Refused → (role : Role) × (refusal : FileRefusal)
-        × IsFirstRefused (F.holds files.now) role refusal
+        × IsFirstRefused settings (F.holds files.now) role refusal
         × Writes (K.written sink.old) (K.written sink.new) (IsRefusalLine role refusal) }
     ensures unread { (result ≡ End.Refused) ⊎ (result ≡ End.Faults) → source.new ≡ source.old }
     ensures unnamed { result ≡ End.CommandLine → IfSome (F.holds files.now Role.Entities) (λ held. held ≡ None) }
     ensures untouched { result ≡ End.CommandLine → (source.new ≡ source.old) × (sink.new ≡ sink.old) }
     ensures device { result ≡ End.Device → (F.holds files.now Role.Links ≡ None) ⊎ (F.holds files.now Role.Entities ≡ None)
         ⊎ (S.failed source.old < S.failed source.new) ⊎ (K.failed sink.old < K.failed sink.new) }
-    ensures stands { result ≡ End.Device → Stands (F.holds files.now) (S.left source.old) (K.written sink.old) (K.written sink.new) }
-    ensures stands_whole { result ≡ End.Memory → StandsWhole (F.holds files.now) (S.left source.old) (K.written sink.old) (K.written sink.new) }
+    ensures stands { result ≡ End.Device → Stands settings (F.holds files.now) (S.left source.old) (K.written sink.old) (K.written sink.new) }
+    ensures stands_whole { result ≡ End.Memory → StandsWhole settings (F.holds files.now) (S.left source.old) (K.written sink.old) (K.written sink.new) }
 {
     match enter_links(alloc, files, &mut policies) {
-        Ok(()) => over_policies(alloc, files, schema, policies, source, sink),
+        Ok(()) => over_policies(alloc, files, schema, policies, source, sink, settings),
         Err(unread) => stop(alloc, Role::Links, unread, sink),
     }
 }
 
 /// Reads the schema, the policies, the links and the entities, in this order, and answers each request line of the source by an
-/// answer line to the sink.
+/// answer line to the sink. The policies are validated under these settings.
 ///
 /// `Done` where all lines were answered. `Faults` where strict validation finds faults in the policies: the report on them was
 /// written, and the entities were not read. `Refused` where a file is refused: one line, as
@@ -195,18 +198,19 @@ pub fn authorize<F: Files, S: Source, K: Sink>(
     files: &F,
     source: &mut S,
     sink: &mut K,
+    settings: Settings,
 ) -> End
     requires source_count { S.failed source.old < 2 ^ 64 - 1 }
     requires sink_count { K.failed sink.old < 2 ^ 64 - 1 }
 
     ensures done { result ≡ End.Done → (r : ReadyTree)
-        × HoldAll (F.holds files.now) r
+        × HoldAll settings (F.holds files.now) r
         × IfSome (S.left source.old) (λ input. Writes (K.written sink.old) (K.written sink.new) (IsAnswerText (AnswersLine r) input)) }
     ensures faults { result ≡ End.Faults → (s : SchemaTree) × (set : PolicySetTree)
-        × Hold (F.holds files.now) s set × (all_faults s set.policies ≢ [])
-        × Writes (K.written sink.old) (K.written sink.new) (IsReportText s set.policies) }
+        × Hold (F.holds files.now) s set × (all_faults_with settings s set.policies ≢ [])
+        × Writes (K.written sink.old) (K.written sink.new) (IsReportText settings s set.policies) }
     ensures refused { result ≡ End.Refused → (role : Role) × (refusal : FileRefusal)
-        × IsFirstRefused (F.holds files.now) role refusal
+        × IsFirstRefused settings (F.holds files.now) role refusal
         × Writes (K.written sink.old) (K.written sink.new) (IsRefusalLine role refusal) }
     ensures unread { (result ≡ End.Refused) ⊎ (result ≡ End.Faults) → source.new ≡ source.old }
     ensures unnamed { result ≡ End.CommandLine → IfSome (F.holds files.now Role.Schema) (λ held. held ≡ None)
@@ -215,8 +219,8 @@ pub fn authorize<F: Files, S: Source, K: Sink>(
     ensures device { result ≡ End.Device → (F.holds files.now Role.Schema ≡ None) ⊎ (F.holds files.now Role.Policies ≡ None)
         ⊎ (F.holds files.now Role.Links ≡ None) ⊎ (F.holds files.now Role.Entities ≡ None)
         ⊎ (S.failed source.old < S.failed source.new) ⊎ (K.failed sink.old < K.failed sink.new) }
-    ensures stands { result ≡ End.Device → Stands (F.holds files.now) (S.left source.old) (K.written sink.old) (K.written sink.new) }
-    ensures stands_whole { result ≡ End.Memory → StandsWhole (F.holds files.now) (S.left source.old) (K.written sink.old) (K.written sink.new) }
+    ensures stands { result ≡ End.Device → Stands settings (F.holds files.now) (S.left source.old) (K.written sink.old) (K.written sink.new) }
+    ensures stands_whole { result ≡ End.Memory → StandsWhole settings (F.holds files.now) (S.left source.old) (K.written sink.old) (K.written sink.new) }
 {
     let schema = match read_schema(alloc, files) {
         Ok(schema) => schema,
@@ -226,5 +230,5 @@ pub fn authorize<F: Files, S: Source, K: Sink>(
         Ok(policies) => policies,
         Err(unread) => return stop(alloc, Role::Policies, unread, sink),
     };
-    over_links(alloc, files, schema, policies, source, sink)
+    over_links(alloc, files, schema, policies, source, sink, settings)
 }

@@ -2,9 +2,9 @@
 ghost use Rattle.std.specs.Prelude.{◌≡◌, false, IfOk};
 ghost use Rattle.clap.specs.Words.{app_of, rule_of};
 ghost use Rattle.clap.specs.declared.builder.Command.TheViews.{out-Command as fields_of};
-ghost use Rattle.cedar_program.specs.CommandLine.{over_policies, file_rule, validate_app, authorize_app, program};
+ghost use Rattle.cedar_program.specs.CommandLine.{over_policies, file_rule, flag_rule, validate_app, authorize_app, program};
 
-use clap::{Arg, Command};
+use clap::{Arg, ArgAction, Command};
 use std::alloc::{AllocError, Global};
 
 /// What `cedar --version` says.
@@ -92,6 +92,10 @@ const LINKS_HELP: &str =
 /// What the help says of `--entities`.
 const ENTITIES_HELP: &str = "The entities: JSON of the format that the Cedar language defines";
 
+/// What the help of `validate` and `authorize` says of `--any-decimal`.
+const ANY_DECIMAL_HELP: &str =
+    "Accept decimal(..) of any text, which may then err when a request is answered";
+
 /// `--name FILE`
 fn file<'a>(alloc: Global, name: &'a str, help: &'a str, required: bool) -> Arg<'a>
     ensures rule { rule_of result ≡ file_rule name.entry.now required }
@@ -102,6 +106,17 @@ fn file<'a>(alloc: Global, name: &'a str, help: &'a str, required: bool) -> Arg<
         .value_name("FILE")
         .help(help)
         .required(required)
+}
+
+/// `--name`
+fn flag<'a>(alloc: Global, name: &'a str, help: &'a str) -> Arg<'a>
+    ensures rule { rule_of result ≡ flag_rule name.entry.now }
+    ensures local { result.global ≡ false }
+{
+    Arg::new(alloc, name)
+        .long(name)
+        .action(ArgAction::SetTrue)
+        .help(help)
 }
 
 // A subcommand over a schema, policies and links.
@@ -122,7 +137,8 @@ fn validate<'a>(alloc: Global) -> Result<Command<'a>, AllocError>
 {
     let command = over_policies(alloc, "validate")?
         .about(VALIDATE_ABOUT)
-        .after_help(VALIDATE_EXAMPLE);
+        .after_help(VALIDATE_EXAMPLE)
+        .arg(flag(alloc, "any-decimal", ANY_DECIMAL_HELP))?;
     Ok(command)
 }
 
@@ -133,7 +149,8 @@ fn authorize<'a>(alloc: Global) -> Result<Command<'a>, AllocError>
     let command = over_policies(alloc, "authorize")?
         .about(AUTHORIZE_ABOUT)
         .after_help(AUTHORIZE_EXAMPLE)
-        .arg(file(alloc, "entities", ENTITIES_HELP, true))?;
+        .arg(file(alloc, "entities", ENTITIES_HELP, true))?
+        .arg(flag(alloc, "any-decimal", ANY_DECIMAL_HELP))?;
     Ok(command)
 }
 

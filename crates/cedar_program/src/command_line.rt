@@ -6,6 +6,7 @@ ghost use Rattle.cedar_program.specs.GivenWords.{AreGiven, subcommand_name};
 
 use crate::command::command;
 use crate::options::{Subcommand, Words};
+use cedar_typing::Settings;
 use clap::Error;
 use clap::error::ErrorKind;
 use std::alloc::{AllocError, Global};
@@ -43,5 +44,8 @@ pub fn words<'a>(alloc: Global, words: &'a [&'a str]) -> Result<Words<'a>, Error
         policies: found.get_str("policies"),
         links: found.get_str("links"),
         entities: found.get_str("entities"),
+        settings: Settings {
+            any_decimal: found.get_flag("any-decimal"),
+        },
     })
 }

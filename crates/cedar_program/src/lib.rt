@@ -4,8 +4,8 @@
 //! ```
 //! let words = words(alloc, &texts)?;
 //! let end = match words.subcommand {
-//!     Subcommand::Validate => validate(alloc, &files, &mut sink),
-//!     Subcommand::Authorize => authorize(alloc, &files, &mut source, &mut sink),
+//!     Subcommand::Validate => validate(alloc, &files, &mut sink, words.settings),
+//!     Subcommand::Authorize => authorize(alloc, &files, &mut source, &mut sink, words.settings),
 //! };
 //! assert_eq!(rt; end.status(), 0);
 //! ```

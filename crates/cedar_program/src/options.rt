@@ -1,4 +1,5 @@
 //! What a command line says.
+use cedar_typing::Settings;
 
 /// What the program is asked to do.
 #[derive(Clone, Copy, Debug, PartialEq, Eq)]
@@ -9,8 +10,8 @@ pub enum Subcommand {
     Authorize,
 }
 
-/// What a command line says: the subcommand, and the name of each file as the text given, or none where its option
-/// isn't used.
+/// What a command line says: the subcommand, the name of each file as the text given, or none where its option isn't
+/// used, and the settings.
 #[derive(Clone, Copy, Debug)]
 pub struct Words<'a> {
     /// What the program is asked to do.
@@ -23,4 +24,6 @@ pub struct Words<'a> {
     pub links: Option<&'a str>,
     /// The file of the entities, after `--entities`.
     pub entities: Option<&'a str>,
+    /// The choices beyond strict validation: `any_decimal` is on behind `--any-decimal`.
+    pub settings: Settings,
 }

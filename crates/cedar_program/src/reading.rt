@@ -106,6 +106,7 @@ pub(crate) fn refusal_of(fault: &ConformFault) -> Unread
 /// 401, 402, 501 to 509, with no place.
 pub fn read_ready<F: Files>(alloc: Global, files: &F, validated: Validated) -> Result<Ready, Unread>
     ensures holds { IfOk result (λ ready. (ready.schema ≡ validated.schema) × (ready.policies ≡ validated.policies)) }
+    ensures settings { IfOk result (λ ready. ready.settings ≡ validated.settings) }
     ensures found { IfOk result (λ ready. IfSome (F.holds files.now Role.Entities) (λ held. HoldsWorld validated.schema held ready.world)) }
     ensures refused { IfErr result (λ unread. IfRefused unread (λ refusal.
         IfSome (F.holds files.now Role.Entities) (λ held. HoldsNoWorld validated.schema held refusal))) }

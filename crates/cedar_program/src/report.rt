@@ -3,6 +3,7 @@ ghost use Rattle.std.specs.Prelude.{◌≡◌, ◌++◌, [], ◌∷◌, cond, dr
 ghost use Rattle.json.specs.Print.{print};
 ghost use Rattle.cedar_lines.specs.Lines.{line_feed};
 ghost use Rattle.cedar_schema.specs.SchemaTree.{SchemaTree};
+ghost use Rattle.cedar_typing.specs.declared.settings.Settings.{Settings};
 ghost use Rattle.cedar_check.specs.FaultView.{fault_view};
 ghost use Rattle.cedar_check.specs.Numbers.{number_of};
 ghost use Rattle.cedar_program.specs.ReportJson.{action_data, fault_data, totals_data, warning_data};
@@ -180,8 +181,8 @@ pub fn report_text(
     policies: &PolicySet,
     report: &Report,
 ) -> Result<Vec<u8>, AllocError>
-    ensures { IfOk result (λ text. (s : SchemaTree) → Reports s policies.now.policies report.now
-        → IsReportText s policies.now.policies text.items) }
+    ensures { IfOk result (λ text. (settings : Settings) (s : SchemaTree) → Reports settings s policies.now.policies report.now
+        → IsReportText settings s policies.now.policies text.items) }
 {
     let mut text = Vec::new(alloc);
     let mut faults = report.faults.as_slice();

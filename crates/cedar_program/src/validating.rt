@@ -3,7 +3,7 @@ ghost use Rattle.std.specs.Prelude.{◌≡◌, ◌≢◌, ◌⊎◌, ◌-◌, �
 ghost use Rattle.std.specs.Io.KnownBytes.{Keeps};
 ghost use Rattle.cedar_ast.specs.PolicySetTree.{PolicySetTree};
 ghost use Rattle.cedar_schema.specs.SchemaTree.{SchemaTree};
-ghost use Rattle.cedar_typing.specs.Reports.{all_faults};
+ghost use Rattle.cedar_typing.specs.Reports.{all_faults_with};
 ghost use Rattle.cedar_lines.specs.AnswerText.{Writes};
 ghost use Rattle.cedar_program.specs.ReportText.{IsReportText, Reports};
 ghost use Rattle.cedar_program.specs.Standing.{BeginsRefusal, IsRefusalLine};
@@ -16,9 +16,10 @@ use crate::reading::{Unread, read_policies, read_schema};
 use crate::refusal::{FileRefusal, refuse};
 use crate::report::report_text;
 use cedar_ast::PolicySet;
-use cedar_check::{Report, check};
+use cedar_check::{Report, check_with};
 use cedar_lines::{Sink, flush};
 use cedar_schema::Schema;
+use cedar_typing::Settings;
 use std::alloc::Global;
 
 /// Ends where a file gives nothing to go on with.
@@ -54,11 +55,11 @@ pub fn write_report<K: Sink>(
     requires { K.failed sink.old < 2 ^ 64 - 1 }
     ensures done { result ≡ End.Done → report.now.faults.items ≡ [] }
     ensures faults { result ≡ End.Faults → report.now.faults.items ≢ [] }
-    ensures whole { (result ≡ End.Done) ⊎ (result ≡ End.Faults) → (s : SchemaTree) → Reports s policies.now.policies report.now
-        → Writes (K.written sink.old) (K.written sink.new) (IsReportText s policies.now.policies) }
+    ensures whole { (result ≡ End.Done) ⊎ (result ≡ End.Faults) → (settings : Settings) (s : SchemaTree) → Reports settings s policies.now.policies report.now
+        → Writes (K.written sink.old) (K.written sink.new) (IsReportText settings s policies.now.policies) }
     ensures device { result ≡ End.Device → K.failed sink.old < K.failed sink.new }
-    ensures stands { result ≡ End.Device → (s : SchemaTree) → Reports s policies.now.policies report.now
-        → Writes (K.written sink.old) (K.written sink.new) (BeginsReport s policies.now.policies) }
+    ensures stands { result ≡ End.Device → (settings : Settings) (s : SchemaTree) → Reports settings s policies.now.policies report.now
+        → Writes (K.written sink.old) (K.written sink.new) (BeginsReport settings s policies.now.policies) }
     ensures stands_whole { result ≡ End.Memory → Keeps (K.written sink.old) (K.written sink.new) }
     ensures others { (result ≡ End.Refused → ⊥) × (result ≡ End.CommandLine → ⊥) }
 {
@@ -72,20 +73,26 @@ pub fn write_report<K: Sink>(
     }
 }
 
-// Checks the policies by the schema, and writes the report.
-fn report_on<K: Sink>(alloc: Global, schema: &Schema, policies: &PolicySet, sink: &mut K) -> End
+// Checks the policies by the schema under these settings, and writes the report.
+fn report_on<K: Sink>(
+    alloc: Global,
+    schema: &Schema,
+    policies: &PolicySet,
+    sink: &mut K,
+    settings: Settings,
+) -> End
     requires { K.failed sink.old < 2 ^ 64 - 1 }
-    ensures done { result ≡ End.Done → (all_faults schema.now policies.now.policies ≡ [])
-        × Writes (K.written sink.old) (K.written sink.new) (IsReportText schema.now policies.now.policies) }
-    ensures faults { result ≡ End.Faults → (all_faults schema.now policies.now.policies ≢ [])
-        × Writes (K.written sink.old) (K.written sink.new) (IsReportText schema.now policies.now.policies) }
+    ensures done { result ≡ End.Done → (all_faults_with settings schema.now policies.now.policies ≡ [])
+        × Writes (K.written sink.old) (K.written sink.new) (IsReportText settings schema.now policies.now.policies) }
+    ensures faults { result ≡ End.Faults → (all_faults_with settings schema.now policies.now.policies ≢ [])
+        × Writes (K.written sink.old) (K.written sink.new) (IsReportText settings schema.now policies.now.policies) }
     ensures device { result ≡ End.Device → K.failed sink.old < K.failed sink.new }
     ensures stands { result ≡ End.Device
-        → Writes (K.written sink.old) (K.written sink.new) (BeginsReport schema.now policies.now.policies) }
+        → Writes (K.written sink.old) (K.written sink.new) (BeginsReport settings schema.now policies.now.policies) }
     ensures stands_whole { result ≡ End.Memory → Keeps (K.written sink.old) (K.written sink.new) }
     ensures others { (result ≡ End.Refused → ⊥) × (result ≡ End.CommandLine → ⊥) }
 {
-    let Ok(report) = check(alloc, schema, policies) else {
+    let Ok(report) = check_with(alloc, schema, policies, settings) else {
         return End::Memory;
     };
     write_report(alloc, policies, &report, sink)
@@ -98,30 +105,31 @@ fn report_linked<F: Files, K: Sink>(
     schema: &Schema,
     policies: &mut PolicySet,
     sink: &mut K,
+    settings: Settings,
 ) -> End
     requires count { K.failed sink.old < 2 ^ 64 - 1 }
     requires held { HoldText (F.holds files.now) schema.now policies.old }
     ensures done { result ≡ End.Done → (s : SchemaTree) × (set : PolicySetTree)
-        × Hold (F.holds files.now) s set × (all_faults s set.policies ≡ [])
-        × Writes (K.written sink.old) (K.written sink.new) (IsReportText s set.policies) }
+        × Hold (F.holds files.now) s set × (all_faults_with settings s set.policies ≡ [])
+        × Writes (K.written sink.old) (K.written sink.new) (IsReportText settings s set.policies) }
     ensures faults { result ≡ End.Faults → (s : SchemaTree) × (set : PolicySetTree)
-        × Hold (F.holds files.now) s set × (all_faults s set.policies ≢ [])
-        × Writes (K.written sink.old) (K.written sink.new) (IsReportText s set.policies) }
+        × Hold (F.holds files.now) s set × (all_faults_with settings s set.policies ≢ [])
+        × Writes (K.written sink.old) (K.written sink.new) (IsReportText settings s set.policies) }
     ensures refused { result ≡ End.Refused → (role : Role) × (refusal : FileRefusal)
         × IsRefused (F.holds files.now) role refusal
         × Writes (K.written sink.old) (K.written sink.new) (IsRefusalLine role refusal) }
     ensures unnamed { result ≡ End.CommandLine → ⊥ }
     ensures device { result ≡ End.Device → (F.holds files.now Role.Links ≡ None) ⊎ (K.failed sink.old < K.failed sink.new) }
-    ensures stands { result ≡ End.Device → ReportStands (F.holds files.now) (K.written sink.old) (K.written sink.new) }
+    ensures stands { result ≡ End.Device → ReportStands settings (F.holds files.now) (K.written sink.old) (K.written sink.new) }
     ensures stands_whole { result ≡ End.Memory → Keeps (K.written sink.old) (K.written sink.new) }
 {
     match enter_links(alloc, files, policies) {
-        Ok(()) => report_on(alloc, schema, policies, sink),
+        Ok(()) => report_on(alloc, schema, policies, sink, settings),
         Err(unread) => stop(alloc, Role::Links, unread, sink),
     }
 }
 
-/// Reports on the policies, and on those that the links give, by the schema.
+/// Reports on the policies, and on those that the links give, by the schema and under these settings.
 ///
 /// `Done` where they have no fault, `Faults` where they have some: the report was written, a line for each fault and each
 /// warning and one with their numbers. `Refused` where a file is refused, the schema before the policies and these before the
@@ -129,14 +137,19 @@ fn report_linked<F: Files, K: Sink>(
 /// and where the fault is (that of a policy text has a place). `CommandLine` where no schema or no policies are named: nothing is
 /// written. `Device` where a file can't be read, or where the sink failed, which may leave a part of a line; `Memory` where memory
 /// ran out, which leaves nothing.
-pub fn validate<F: Files, K: Sink>(alloc: Global, files: &F, sink: &mut K) -> End
+pub fn validate<F: Files, K: Sink>(
+    alloc: Global,
+    files: &F,
+    sink: &mut K,
+    settings: Settings,
+) -> End
     requires { K.failed sink.old < 2 ^ 64 - 1 }
     ensures done { result ≡ End.Done → (s : SchemaTree) × (set : PolicySetTree)
-        × Hold (F.holds files.now) s set × (all_faults s set.policies ≡ [])
-        × Writes (K.written sink.old) (K.written sink.new) (IsReportText s set.policies) }
+        × Hold (F.holds files.now) s set × (all_faults_with settings s set.policies ≡ [])
+        × Writes (K.written sink.old) (K.written sink.new) (IsReportText settings s set.policies) }
     ensures faults { result ≡ End.Faults → (s : SchemaTree) × (set : PolicySetTree)
-        × Hold (F.holds files.now) s set × (all_faults s set.policies ≢ [])
-        × Writes (K.written sink.old) (K.written sink.new) (IsReportText s set.policies) }
+        × Hold (F.holds files.now) s set × (all_faults_with settings s set.policies ≢ [])
+        × Writes (K.written sink.old) (K.written sink.new) (IsReportText settings s set.policies) }
     ensures refused { result ≡ End.Refused → (role : Role) × (refusal : FileRefusal)
         × IsRefused (F.holds files.now) role refusal
         × Writes (K.written sink.old) (K.written sink.new) (IsRefusalLine role refusal) }
@@ -145,7 +158,7 @@ pub fn validate<F: Files, K: Sink>(alloc: Global, files: &F, sink: &mut K) -> En
     ensures untouched { result ≡ End.CommandLine → sink.new ≡ sink.old }
     ensures device { result ≡ End.Device → (F.holds files.now Role.Schema ≡ None) ⊎ (F.holds files.now Role.Policies ≡ None)
         ⊎ (F.holds files.now Role.Links ≡ None) ⊎ (K.failed sink.old < K.failed sink.new) }
-    ensures stands { result ≡ End.Device → ReportStands (F.holds files.now) (K.written sink.old) (K.written sink.new) }
+    ensures stands { result ≡ End.Device → ReportStands settings (F.holds files.now) (K.written sink.old) (K.written sink.new) }
     ensures stands_whole { result ≡ End.Memory → Keeps (K.written sink.old) (K.written sink.new) }
 {
     let schema = match read_schema(alloc, files) {
@@ -156,5 +169,5 @@ pub fn validate<F: Files, K: Sink>(alloc: Global, files: &F, sink: &mut K) -> En
         Ok(policies) => policies,
         Err(unread) => return stop(alloc, Role::Policies, unread, sink),
     };
-    report_linked(alloc, files, &schema, &mut policies, sink)
+    report_linked(alloc, files, &schema, &mut policies, sink, settings)
 }

@@ -1,4 +1,7 @@
-use Rattle.std.proofs.Common.{None, inl, inr, refl}
+use Rattle.std.proofs.Common.{None, inl, inr, refl, ap, subst}
+use Rattle.cedar_typing.specs.declared.settings.Settings.{Settings}
+use Rattle.cedar_auth.specs.Validation.{ValidatedTree}
+use Rattle.cedar_program.specs.Authorization.{Stands}
 use Rattle.cedar_program.specs.declared.files.Role.TheVariants.{Policies}
 use Rattle.cedar_program.proofs.Holding.{hold-back}
 use Rattle.cedar_program.proofs.authorizing.over_policies.Goals as goal
@@ -23,3 +26,8 @@ returns-in-Err-clause-stands g c = λ h.
       | inl told ↦ inr (inr (inl (r.schema, r.policies, hold, told)))
       | inr told ↦ inr (inl (Policies, record { number = 701; offset = None }, inr (r.schema, r.policies, hold, told.0, refl), told.1))
     ]
+
+pub returns-clause-stands : goal.returns-clause-stands
+returns-clause-stands g c = λ h.
+    let same = ap (λ (v : ValidatedTree). v.settings) c.in-Ok.ensures.holds in
+    subst (λ (x : Settings). Stands x (g.F.Files.holds c.args.files.now) (g.S.Source.left c.args.source.now) (g.K.Sink.written c.args.sink.now) (g.K.Sink.written c.over_entities.new.sink)) same (c.over_entities.ensures.stands h)

@@ -1,7 +1,7 @@
 use Rattle.std.proofs.Common.{◌∙◌, ap, sym, map, Some, List}
 use Rattle.std.proofs.lemmas.Result.{err_from_is_err_and}
 use Rattle.clap.specs.Words.{App, Text, Row, takes, is_simple, subcommand_of, rows_of, found_of}
-use Rattle.clap.proofs.WalkLemmas.{first_value-rows}
+use Rattle.clap.proofs.WalkLemmas.{first_value-rows, one_text-rows}
 use Rattle.cedar_program.proofs.Pairs.{pair_of}
 use Rattle.cedar_program.proofs.command_line.words.Goals as goal
 
@@ -23,4 +23,9 @@ returns-clause-ok c =
       policies = sym (c.get_str-2.ensures ∙ first_value-rows (found_of found) _);
       links = sym (c.get_str-3.ensures ∙ first_value-rows (found_of found) _);
       entities = sym (c.get_str-4.ensures ∙ first_value-rows (found_of found) _);
+      any_decimal = record {
+        none = λ e. c.get_flag.ensures.none (one_text-rows (found_of found) _ ∙ e);
+        used = λ e. c.get_flag.ensures.value (one_text-rows (found_of found) _ ∙ e);
+        unused = λ e. c.get_flag.ensures.other (one_text-rows (found_of found) _ ∙ e);
+      };
     }

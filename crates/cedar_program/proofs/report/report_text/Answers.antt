@@ -12,7 +12,7 @@ use Rattle.cedar_program.proofs.report.report_text.Goals as goal
 pub loop-position-init : goal.loop-position-init
 loop-position-init c = record {
   apart = apart_of c.args.policies.now.policies _ c.count-position-end.ensures.distinct;
-  told = λ s r. record {
+  told = λ settings s r. record {
     faults = ap (map fault_view) c.as_slice-faults.ensures.value ∙ r.faults;
     warnings = c.as_slice-warnings.ensures.value ∙ r.warnings;
     told = c.new-text.ensures.items;
@@ -28,9 +28,9 @@ loop-position-preserved c =
           let at = sym c.policy.ensures ∙ ap option_copied w.in-Some.is in
           record {
             apart = apart_next ps i w.in-Some.policy.now at c.loop-position.invariant.apart;
-            told = λ s r.
-                told-step s ps i w.in-Some.policy.now _ _ _ _ _ w.tell_faults.new.text.items _ w.id.result.now w.id-in-Some.result.now
-                at w.id.ensures w.id-in-Some.ensures c.loop-position.invariant.apart (c.loop-position.invariant.told s r)
+            told = λ settings s r.
+                told-step settings s ps i w.in-Some.policy.now _ _ _ _ _ w.tell_faults.new.text.items _ w.id.result.now w.id-in-Some.result.now
+                at w.id.ensures w.id-in-Some.ensures c.loop-position.invariant.apart (c.loop-position.invariant.told settings s r)
                 w.in_ok-faults.ensures.told
                 (subst (λ (v : Vec ℕ Global). AppendsLines (cond (begins_with w.id-in-Some.result.now c.loop-position.warnings.now) (warning_line w.id-in-Some.result.now ∷ []) []) w.tell_faults.new.text.items v.items) (sym w.text-is) w.in_ok-warnings.ensures.told)
                 (ap (λ (b : Bor (List Fault)). map fault_view b.now) w.faults-is ∙ w.in_ok-faults.ensures.others)
@@ -40,8 +40,8 @@ loop-position-preserved c =
     ]
 
 pub returns : goal.returns
-returns c = λ s r.
-    told-all s c.args.policies.now.policies c.loop-position.position _ _ _ _ _ _
-    (omega (arith, c.count-position-end.ensures.policies, c.loop-position-test.false)) (c.loop-position.invariant.told s r)
+returns c = λ settings s r.
+    told-all settings s c.args.policies.now.policies c.loop-position.position _ _ _ _ _ _
+    (omega (arith, c.count-position-end.ensures.policies, c.loop-position-test.false)) (c.loop-position.invariant.told settings s r)
     (omega (arith, c.len.ensures, c.args.report.now.faults.ok.0, length-map c.args.report.now.faults.items fault_view, ap length r.faults))
     (omega (arith, c.len-2.ensures, c.args.report.now.warnings.ok.0, ap length r.warnings)) c.in_ok-append_totals.ensures

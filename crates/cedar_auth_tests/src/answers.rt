@@ -9,7 +9,7 @@ use std::process::Abort;
 use std::test::Fail;
 
 /// Ann asks to delete her document.
-const DELETE: Asked = Asked {
+pub const DELETE: Asked = Asked {
     ty: "User",
     id: "ann",
     n: None,
@@ -53,7 +53,7 @@ const EVE_VIEWS: Asked = Asked {
 };
 
 /// Ann asks to delete a document that is not there.
-const GONE: Asked = Asked {
+pub const GONE: Asked = Asked {
     ty: "User",
     id: "ann",
     n: None,
@@ -154,7 +154,7 @@ fn told_by_all(alloc: Global, ready: &Ready, request: &Request) -> Result<String
 }
 
 /// The answer to what is asked, as a text.
-fn answer(alloc: Global, ready: &Ready, asked: &Asked) -> Result<String, Fail> {
+pub fn answer(alloc: Global, ready: &Ready, asked: &Asked) -> Result<String, Fail> {
     let request = request(alloc, asked)?;
     let told = told(alloc, ready, &request);
     drop(request);

@@ -41,7 +41,7 @@ fn refused(alloc: Global, set: PolicySet) -> Result<NotValidated, Fail> {
 }
 
 /// How many faults the report has, where each has this number.
-fn fault_count(refused: &NotValidated, number: u16) -> Option<usize> {
+pub fn fault_count(refused: &NotValidated, number: u16) -> Option<usize> {
     let ValidationFault::Faults(report) = &refused.fault else {
         return None;
     };

@@ -2,6 +2,7 @@
 use cedar_auth::{Ready, Validated};
 use cedar_parser::parse;
 use cedar_schema::Schema;
+use cedar_typing::Settings;
 use cedar_value::{Name, Record, Request, Text, Uid, Value};
 use std::alloc::{AllocError, Global};
 use std::test::Fail;
@@ -39,6 +40,35 @@ pub fn validated(alloc: Global, policies: &str) -> Result<Validated, Fail> {
         Err(refused) => {
             drop(refused);
             Err("the policies are refused".into())
+        }
+    }
+}
+
+/// The policies, which strict validation with `decimal` of any text is to accept.
+fn validated_with_any_decimal(alloc: Global, policies: &str) -> Result<Validated, Fail> {
+    let set = parse(alloc, policies)?;
+    let schema = schema(alloc)?;
+    match Validated::new_with(alloc, schema, set, Settings { any_decimal: true }) {
+        Ok(validated) => Ok(validated),
+        Err(refused) => {
+            drop(refused);
+            Err("the policies are refused".into())
+        }
+    }
+}
+
+/// The same policies, ready to answer over these entities.
+pub fn ready_with_any_decimal(
+    alloc: Global,
+    policies: &str,
+    entities: &[u8],
+) -> Result<Ready, Fail> {
+    let validated = validated_with_any_decimal(alloc, policies)?;
+    match Ready::new(alloc, validated, entities) {
+        Ok(ready) => Ok(ready),
+        Err(refused) => {
+            drop(refused);
+            Err("the entities are refused".into())
         }
     }
 }

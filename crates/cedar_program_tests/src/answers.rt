@@ -1,18 +1,15 @@
 //! Worked examples through `authorize` over memory: policies and links with their answers to request lines, each worked out from
 //! the rules of evaluation and authorization (Cedar language reference).
-use crate::documents::{ALL, ANN, DELETE, TEMPLATE, with_links};
+use crate::documents::{ALL, ANN, DELETE, DELETE_GONE, TEMPLATE, with_links};
 use cedar_lines::{Sink, SliceSource, VecSink};
 use cedar_program::{End, authorize};
+use cedar_typing::Settings;
 use std::alloc::Global;
 use std::process::Abort;
 
 /// Bob deletes it.
 const DELETE_BY_BOB: &[u8] =
     br#"{"principal":"User::\"bob\"","action":"Action::\"delete\"","resource":"Doc::\"d\""}"#;
-
-/// Ann deletes a document that has no entity.
-const DELETE_GONE: &[u8] =
-    br#"{"principal":"User::\"ann\"","action":"Action::\"delete\"","resource":"Doc::\"gone\""}"#;
 
 /// Ann views it, by a context with 0.
 const VIEW: &[u8] =
@@ -128,7 +125,13 @@ fn check_answers(rt: &impl Abort, alloc: Global, rows: &[(&[u8], Option<&[u8]>, 
     for (policies, links, lines, text) in rows {
         let mut source = SliceSource::new(lines);
         let mut sink = VecSink::new(alloc);
-        let end = authorize(alloc, &with_links(policies, *links), &mut source, &mut sink);
+        let end = authorize(
+            alloc,
+            &with_links(policies, *links),
+            &mut source,
+            &mut sink,
+            Settings::default(),
+        );
         assert_eq!(rt; end, End::Done);
         assert_eq!(rt; sink.bytes(), *text);
     }

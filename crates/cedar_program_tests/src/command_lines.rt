@@ -23,7 +23,15 @@ fn reads_the_words_of_each_subcommand(rt: HostRuntime) -> Result<(), Fail> {
     assert!(rt; read.policies == Some("policies.cedar"));
     assert!(rt; read.links == Some("links.json"));
     assert!(rt; read.entities == Some("entities.json"));
-    let given = ["cedar", "validate", "--policies", "p", "--schema=s"];
+    assert!(rt; !read.settings.any_decimal);
+    let given = [
+        "cedar",
+        "validate",
+        "--policies",
+        "p",
+        "--any-decimal",
+        "--schema=s",
+    ];
     let Ok(read) = words(rt.alloc(), &given) else {
         return Err("refused".into());
     };
@@ -32,5 +40,6 @@ fn reads_the_words_of_each_subcommand(rt: HostRuntime) -> Result<(), Fail> {
     assert!(rt; read.policies == Some("p"));
     assert!(rt; read.links.is_none());
     assert!(rt; read.entities.is_none());
+    assert!(rt; read.settings.any_decimal);
     Ok(())
 }

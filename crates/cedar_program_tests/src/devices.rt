@@ -3,6 +3,7 @@ use crate::documents::{ALL, DELETE, UNGUARDED, UNGUARDED_REPORT, with_links};
 use crate::peer::{PeerSink, PeerSource};
 use cedar_lines::{PiecewiseSink, PiecewiseSource, Sink};
 use cedar_program::{End, MemoryFiles, authorize, validate};
+use cedar_typing::Settings;
 use std::alloc::Global;
 use std::cell::Cell;
 use std::process::Abort;
@@ -26,7 +27,7 @@ const FOUR_ANSWERS: &[u8] = br#"{"refused":502}
 fn piecewise(alloc: Global, files: &MemoryFiles, read: u64, write: u64) -> (End, PiecewiseSink) {
     let mut source = PiecewiseSource::new(FOUR_LINES, 7, read);
     let mut sink = PiecewiseSink::new(alloc, 5, write);
-    let end = authorize(alloc, files, &mut source, &mut sink);
+    let end = authorize(alloc, files, &mut source, &mut sink, Settings::default());
     (end, sink)
 }
 
@@ -47,7 +48,7 @@ fn each_read_may_fail(rt: HostRuntime) {
 /// How `validate` ends over a sink that takes so many bytes a write and fails at a write (0: at none), and what it writes.
 fn reported(alloc: Global, files: &MemoryFiles, piece: usize, write: u64) -> (End, PiecewiseSink) {
     let mut sink = PiecewiseSink::new(alloc, piece, write);
-    let end = validate(alloc, files, &mut sink);
+    let end = validate(alloc, files, &mut sink, Settings::default());
     (end, sink)
 }
 
@@ -109,7 +110,13 @@ fn answers_each_line_before_it_reads_on(rt: HostRuntime) -> Result<(), Fail> {
     let answered = Cell::new(0);
     let mut source = PeerSource::new(&input, DELETE.len() + 1, &answered);
     let mut sink = PeerSink::new(&answered);
-    let end = authorize(alloc, &with_links(ALL, None), &mut source, &mut sink);
+    let end = authorize(
+        alloc,
+        &with_links(ALL, None),
+        &mut source,
+        &mut sink,
+        Settings::default(),
+    );
     assert_eq!(rt; end, End::Done);
     assert_eq!(rt; answered.get(), 3);
     assert!(rt; !source.has_waited());

@@ -19,6 +19,10 @@ pub const ENTITIES: &[u8] =
  {"uid":{"type":"Admin","id":"eve"},"attrs":{"level":5},"parents":[]},
  {"uid":{"type":"Doc","id":"d"},"attrs":{"owner":{"type":"User","id":"ann"},"name":"a*bxyz"},"parents":[]}]"#;
 
+/// Ann, and her document, whose name is a decimal.
+pub const NAMED: &[u8] = br#"[{"uid":{"type":"User","id":"ann"}},
+ {"uid":{"type":"Doc","id":"d"},"attrs":{"owner":{"type":"User","id":"ann"},"name":"1.5"}}]"#;
+
 /// A policy that permits all.
 pub const ALL: &[u8] = b"permit(principal, action, resource);";
 
@@ -43,6 +47,10 @@ pub const ANN: &[u8] =
 /// Ann deletes the document.
 pub const DELETE: &[u8] =
     br#"{"principal":"User::\"ann\"","action":"Action::\"delete\"","resource":"Doc::\"d\""}"#;
+
+/// Ann deletes a document that has no entity.
+pub const DELETE_GONE: &[u8] =
+    br#"{"principal":"User::\"ann\"","action":"Action::\"delete\"","resource":"Doc::\"gone\""}"#;
 
 /// These policies and links beside that schema and those entities.
 pub fn with_links<'a>(policies: &'a [u8], links: Option<&'a [u8]>) -> MemoryFiles<'a> {

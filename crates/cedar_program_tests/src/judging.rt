@@ -3,6 +3,7 @@ use crate::documents::{ALL, DELETE, DOCUMENTS, UNGUARDED, UNGUARDED_REPORT, with
 use crate::lacking_files::LackingFiles;
 use cedar_lines::{Sink, SliceSource, VecSink};
 use cedar_program::{End, FileFault, Files, MemoryFiles, Role, authorize, validate};
+use cedar_typing::Settings;
 use std::alloc::Global;
 use std::process::Abort;
 
@@ -36,7 +37,7 @@ fn assert_authorizes<F: Files>(
 ) {
     let mut source = SliceSource::new(DELETE);
     let mut sink = VecSink::new(alloc);
-    let end = authorize(alloc, files, &mut source, &mut sink);
+    let end = authorize(alloc, files, &mut source, &mut sink, Settings::default());
     assert_eq!(rt; end, wanted);
     assert_eq!(rt; sink.bytes(), text);
 }
@@ -44,7 +45,7 @@ fn assert_authorizes<F: Files>(
 /// `validate` gives this end and this text over these files.
 fn assert_validates<F: Files>(rt: &impl Abort, alloc: Global, files: &F, wanted: End, text: &[u8]) {
     let mut sink = VecSink::new(alloc);
-    let end = validate(alloc, files, &mut sink);
+    let end = validate(alloc, files, &mut sink, Settings::default());
     assert_eq!(rt; end, wanted);
     assert_eq!(rt; sink.bytes(), text);
 }

@@ -3,12 +3,15 @@
 //! tests of a crate are proved with the whole crate once more.
 //!
 //! The schema and the entities stand in `documents.rt`, answers in `answers.rt`, reports in `reports.rt`, the files in
-//! `judging.rt`, devices in `devices.rt`, command lines in `command_lines.rt`. What the program answers to each number's example,
-//! to input that is large or deep and to refused command lines is shown by `tools/cases`.
+//! `judging.rt`, devices in `devices.rt`, command lines in `command_lines.rt`, the setting any-decimal in `any_decimal.rt`. What
+//! the program answers to each number's example, to input that is large or deep and to refused command lines is shown by
+//! `tools/cases`.
 #![tactic(auto)]
 
 #[cfg(test)]
 mod answers;
+#[cfg(test)]
+mod any_decimal;
 #[cfg(test)]
 mod command_lines;
 #[cfg(test)]

@@ -3,6 +3,7 @@
 use crate::documents::{ANN, DOCUMENTS, TEMPLATE, UNGUARDED, UNGUARDED_REPORT};
 use cedar_lines::{Sink, VecSink};
 use cedar_program::{End, MemoryFiles, validate};
+use cedar_typing::Settings;
 use std::alloc::Global;
 use std::process::Abort;
 
@@ -95,7 +96,7 @@ fn check_reports(
             entities: None,
         };
         let mut sink = VecSink::new(alloc);
-        let end = validate(alloc, &files, &mut sink);
+        let end = validate(alloc, &files, &mut sink, Settings::default());
         assert_eq!(rt; end, *wanted);
         assert_eq!(rt; sink.bytes(), *text);
     }

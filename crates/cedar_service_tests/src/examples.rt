@@ -1,5 +1,5 @@
 //! Worked examples of events and replies, counted by hand from the codes of the policies.
-use crate::world::{DELETE, VIEW, publish, response_text, service};
+use crate::world::{DELETE, VIEW, publish, ready_with_any_decimal, response_text, service};
 use cedar_service::{JobId, Service, histories_are_fair};
 use std::alloc::Global;
 use std::process::Abort;
@@ -78,6 +78,30 @@ fn jobs_keep_the_version_of_their_opening(rt: HostRuntime) -> Result<(), Fail> {
     assert_eq!(rt; take(alloc, &mut service, 0)?.as_str(), "allow policy0");
     assert_eq!(rt; take(alloc, &mut service, 1)?.as_str(), "deny policy1");
     assert_eq!(rt; take(alloc, &mut service, 0)?.as_str(), "801");
+    Ok(())
+}
+
+/// Permits what has a name below 2, which is no decimal's here.
+const NAMED_BELOW: &str =
+    r#"permit(principal, action, resource) when { decimal(resource.name).lessThan(decimal("2.0")) };"#;
+
+#[test]
+fn versions_differ_in_their_settings(rt: HostRuntime) -> Result<(), Fail> {
+    let alloc = rt.alloc();
+    let mut service = service(alloc, ALL)?;
+    assert_eq!(rt; open(alloc, &mut service, DELETE)?.as_str(), "0");
+    let Ok(number) = service.publish(ready_with_any_decimal(alloc, NAMED_BELOW)?) else {
+        return Err("memory was refused".into());
+    };
+    assert_eq!(rt; number, 1);
+    assert_eq!(rt; open(alloc, &mut service, DELETE)?.as_str(), "1");
+    assert!(rt; first_finished(&mut service, 1, 100) != 0);
+    assert!(rt; first_finished(&mut service, 0, 100) != 0);
+    assert_eq!(rt;
+        take(alloc, &mut service, 1)?.as_str(),
+        "deny!decimal policy0"
+    );
+    assert_eq!(rt; take(alloc, &mut service, 0)?.as_str(), "allow policy0");
     Ok(())
 }
 

@@ -4,6 +4,7 @@ use cedar_auth::{Ready, Validated};
 use cedar_parser::parse;
 use cedar_schema::Schema;
 use cedar_service::{Response, Service};
+use cedar_typing::Settings;
 use std::alloc::{AllocError, Global};
 use std::test::Fail;
 
@@ -38,6 +39,20 @@ pub fn ready(alloc: Global, policies: &str) -> Result<Ready, Fail> {
     let set = parse(alloc, policies)?;
     let schema = Schema::read(alloc, DOCUMENTS.as_bytes())?;
     let Ok(validated) = Validated::new(alloc, schema, set) else {
+        return Err("the policies are refused".into());
+    };
+    match Ready::new(alloc, validated, ENTITIES) {
+        Ok(ready) => Ok(ready),
+        Err(_) => Err("the entities are refused".into()),
+    }
+}
+
+/// The policies, accepted with `decimal` of any text, ready to answer over the entities.
+pub fn ready_with_any_decimal(alloc: Global, policies: &str) -> Result<Ready, Fail> {
+    let set = parse(alloc, policies)?;
+    let schema = Schema::read(alloc, DOCUMENTS.as_bytes())?;
+    let settings = Settings { any_decimal: true };
+    let Ok(validated) = Validated::new_with(alloc, schema, set, settings) else {
         return Err("the policies are refused".into());
     };
     match Ready::new(alloc, validated, ENTITIES) {

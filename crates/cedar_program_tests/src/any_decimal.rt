@@ -1,0 +1,118 @@
+//! The setting any-decimal, on and off, by both subcommands: policies that ask for the decimal of a text, each end and each text
+//! worked out from the rules (Cedar language reference, decimal; Cedar documentation, policy validation).
+use crate::documents::{DELETE, DELETE_GONE, DOCUMENTS, ENTITIES, NAMED};
+use cedar_lines::{Sink, SliceSource, VecSink};
+use cedar_program::{End, MemoryFiles, authorize, validate};
+use cedar_typing::Settings;
+use std::alloc::Global;
+use std::process::Abort;
+
+/// Permits what has a name below 2.
+const NAMED_BELOW: &[u8] =
+    br#"permit(principal, action, resource) when { decimal(resource.name).lessThan(decimal("2.0")) };"#;
+
+const LITERAL: &[u8] =
+    br#"permit(principal, action, resource) when { decimal("1.") == decimal("1.0") };"#;
+
+const OWNER: &[u8] =
+    br#"permit(principal, action, resource) when { decimal(resource.owner) == decimal("1.0") };"#;
+
+/// The report on a policy that has no type in any environment: it asks for a decimal of what is no literal, or of one that is
+/// no decimal's.
+const NO_LITERAL: &[u8] =
+    br#"{"action":{"id":"delete","type":"Action"},"fault":607,"policy":"policy0","principal":"User","resource":"Doc"}
+{"action":{"id":"view","type":"Action"},"fault":607,"policy":"policy0","principal":"Admin","resource":"Doc"}
+{"action":{"id":"view","type":"Action"},"fault":607,"policy":"policy0","principal":"User","resource":"Doc"}
+{"faults":3,"warnings":0}
+"#;
+
+/// The same, where it asks for a decimal of what is no text.
+const NO_TEXT: &[u8] =
+    br#"{"action":{"id":"delete","type":"Action"},"fault":606,"policy":"policy0","principal":"User","resource":"Doc"}
+{"action":{"id":"view","type":"Action"},"fault":606,"policy":"policy0","principal":"Admin","resource":"Doc"}
+{"action":{"id":"view","type":"Action"},"fault":606,"policy":"policy0","principal":"User","resource":"Doc"}
+{"faults":3,"warnings":0}
+"#;
+
+const ACCEPTED: &[u8] = b"{\"faults\":0,\"warnings\":0}\n";
+
+const ALLOWED: &[u8] = b"{\"decision\":\"allow\",\"determining\":[\"policy0\"],\"erring\":[]}\n";
+
+const DENIED_DECIMAL: &[u8] =
+    b"{\"decision\":\"deny\",\"determining\":[],\"erring\":[{\"error\":\"decimal\",\"policy\":\"policy0\"}]}\n";
+
+const DENIED_MISSING: &[u8] =
+    b"{\"decision\":\"deny\",\"determining\":[],\"erring\":[{\"error\":\"missing_entity\",\"policy\":\"policy0\"}]}\n";
+
+/// A policy, whether the setting is on, how `validate` ends and what it writes.
+#[rattlefmt::skip]
+const REPORTS: [(&[u8], bool, End, &[u8]); 6] = [
+    (NAMED_BELOW, false, End::Faults, NO_LITERAL),
+    (NAMED_BELOW, true, End::Done, ACCEPTED),
+    (LITERAL, false, End::Faults, NO_LITERAL),
+    (LITERAL, true, End::Faults, NO_LITERAL),
+    (OWNER, false, End::Faults, NO_LITERAL),
+    (OWNER, true, End::Faults, NO_TEXT),
+];
+
+/// A policy, whether the setting is on, entities and a line, and how `authorize` ends and what it writes.
+#[rattlefmt::skip]
+const ANSWERS: [(&[u8], bool, &[u8], &[u8], End, &[u8]); 6] = [
+    (NAMED_BELOW, false, ENTITIES, DELETE, End::Faults, NO_LITERAL),
+    (NAMED_BELOW, true, ENTITIES, DELETE, End::Done, DENIED_DECIMAL),
+    (NAMED_BELOW, true, NAMED, DELETE, End::Done, ALLOWED),
+    (NAMED_BELOW, true, ENTITIES, DELETE_GONE, End::Done, DENIED_MISSING),
+    (LITERAL, true, ENTITIES, DELETE, End::Faults, NO_LITERAL),
+    (OWNER, true, ENTITIES, DELETE, End::Faults, NO_TEXT),
+];
+
+/// The files of policies and entities.
+fn files<'a>(policies: &'a [u8], entities: &'a [u8]) -> MemoryFiles<'a> {
+    MemoryFiles {
+        schema: Some(DOCUMENTS),
+        policies: Some(policies),
+        links: None,
+        entities: Some(entities),
+    }
+}
+
+fn check_reports(rt: &impl Abort, alloc: Global, rows: &[(&[u8], bool, End, &[u8])]) {
+    for (policies, any_decimal, wanted, text) in rows {
+        let settings = Settings {
+            any_decimal: *any_decimal,
+        };
+        let mut sink = VecSink::new(alloc);
+        let end = validate(alloc, &files(policies, ENTITIES), &mut sink, settings);
+        assert_eq!(rt; end, *wanted);
+        assert_eq!(rt; sink.bytes(), *text);
+    }
+}
+
+fn check_answers(rt: &impl Abort, alloc: Global, rows: &[(&[u8], bool, &[u8], &[u8], End, &[u8])]) {
+    for (policies, any_decimal, entities, line, wanted, text) in rows {
+        let settings = Settings {
+            any_decimal: *any_decimal,
+        };
+        let mut source = SliceSource::new(line);
+        let mut sink = VecSink::new(alloc);
+        let end = authorize(
+            alloc,
+            &files(policies, entities),
+            &mut source,
+            &mut sink,
+            settings,
+        );
+        assert_eq!(rt; end, *wanted);
+        assert_eq!(rt; sink.bytes(), *text);
+    }
+}
+
+#[test]
+fn reports_by_the_setting(rt: HostRuntime) {
+    check_reports(&rt, rt.alloc(), &REPORTS);
+}
+
+#[test]
+fn answers_by_the_setting(rt: HostRuntime) {
+    check_answers(&rt, rt.alloc(), &ANSWERS);
+}

@@ -1,8 +1,8 @@
 //! The setting any-decimal, on and off, by both subcommands: policies that ask for the decimal of a text, each end and each text
 //! worked out from the rules (Cedar language reference, decimal; Cedar documentation, policy validation).
-use crate::documents::{DELETE, DELETE_GONE, DOCUMENTS, ENTITIES, NAMED};
+use crate::documents::{DELETE, DELETE_GONE, DOCUMENTS, ENTITIES, NAMED, files};
 use cedar_lines::{Sink, SliceSource, VecSink};
-use cedar_program::{End, MemoryFiles, authorize, validate};
+use cedar_program::{End, authorize, validate};
 use cedar_typing::Settings;
 use std::alloc::Global;
 use std::process::Abort;
@@ -66,23 +66,14 @@ const ANSWERS: [(&[u8], bool, &[u8], &[u8], End, &[u8]); 6] = [
     (OWNER, true, ENTITIES, DELETE, End::Faults, NO_TEXT),
 ];
 
-/// The files of policies and entities.
-fn files<'a>(policies: &'a [u8], entities: &'a [u8]) -> MemoryFiles<'a> {
-    MemoryFiles {
-        schema: Some(DOCUMENTS),
-        policies: Some(policies),
-        links: None,
-        entities: Some(entities),
-    }
-}
-
 fn check_reports(rt: &impl Abort, alloc: Global, rows: &[(&[u8], bool, End, &[u8])]) {
     for (policies, any_decimal, wanted, text) in rows {
         let settings = Settings {
             any_decimal: *any_decimal,
         };
         let mut sink = VecSink::new(alloc);
-        let end = validate(alloc, &files(policies, ENTITIES), &mut sink, settings);
+        let files = files(DOCUMENTS, policies, None, None);
+        let end = validate(alloc, &files, &mut sink, settings);
         assert_eq!(rt; end, *wanted);
         assert_eq!(rt; sink.bytes(), *text);
     }
@@ -95,13 +86,8 @@ fn check_answers(rt: &impl Abort, alloc: Global, rows: &[(&[u8], bool, &[u8], &[
         };
         let mut source = SliceSource::new(line);
         let mut sink = VecSink::new(alloc);
-        let end = authorize(
-            alloc,
-            &files(policies, entities),
-            &mut source,
-            &mut sink,
-            settings,
-        );
+        let files = files(DOCUMENTS, policies, None, Some(entities));
+        let end = authorize(alloc, &files, &mut source, &mut sink, settings);
         assert_eq!(rt; end, *wanted);
         assert_eq!(rt; sink.bytes(), *text);
     }

@@ -52,6 +52,21 @@ pub const DELETE: &[u8] =
 pub const DELETE_GONE: &[u8] =
     br#"{"principal":"User::\"ann\"","action":"Action::\"delete\"","resource":"Doc::\"gone\""}"#;
 
+/// The files that hold these texts.
+pub fn files<'a>(
+    schema: &'a [u8],
+    policies: &'a [u8],
+    links: Option<&'a [u8]>,
+    entities: Option<&'a [u8]>,
+) -> MemoryFiles<'a> {
+    MemoryFiles {
+        schema: Some(schema),
+        policies: Some(policies),
+        links,
+        entities,
+    }
+}
+
 /// These policies and links beside that schema and those entities.
 pub fn with_links<'a>(policies: &'a [u8], links: Option<&'a [u8]>) -> MemoryFiles<'a> {
     MemoryFiles {

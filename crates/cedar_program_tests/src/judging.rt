@@ -1,8 +1,8 @@
 //! The order in which files are judged, and files that are not there or can't be read.
-use crate::documents::{ALL, DELETE, DOCUMENTS, UNGUARDED, UNGUARDED_REPORT, with_links};
+use crate::documents::{ALL, DELETE, DOCUMENTS, UNGUARDED, UNGUARDED_REPORT, files, with_links};
 use crate::lacking_files::LackingFiles;
 use cedar_lines::{Sink, SliceSource, VecSink};
-use cedar_program::{End, FileFault, Files, MemoryFiles, Role, authorize, validate};
+use cedar_program::{End, FileFault, Files, Role, authorize, validate};
 use cedar_typing::Settings;
 use std::alloc::Global;
 use std::process::Abort;
@@ -56,12 +56,7 @@ fn check_judged(
     rows: &[(&[u8], &[u8], Option<&[u8]>, End, &[u8])],
 ) {
     for (schema, policies, links, end, text) in rows {
-        let files = MemoryFiles {
-            schema: Some(schema),
-            policies: Some(policies),
-            links: *links,
-            entities: Some(b"{}"),
-        };
+        let files = files(schema, policies, *links, Some(b"{}"));
         assert_authorizes(rt, alloc, &files, *end, text);
         if links.is_some() {
             assert_validates(rt, alloc, &files, *end, text);

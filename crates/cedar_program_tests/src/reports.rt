@@ -1,8 +1,8 @@
 //! Worked examples through `validate` over memory: schemas, policies and links with the reports on them, each worked out from the
 //! rules of strict validation (Cedar documentation, policy validation).
-use crate::documents::{ANN, DOCUMENTS, TEMPLATE, UNGUARDED, UNGUARDED_REPORT};
+use crate::documents::{ANN, DOCUMENTS, TEMPLATE, UNGUARDED, UNGUARDED_REPORT, files};
 use cedar_lines::{Sink, VecSink};
-use cedar_program::{End, MemoryFiles, validate};
+use cedar_program::{End, validate};
 use cedar_typing::Settings;
 use std::alloc::Global;
 use std::process::Abort;
@@ -89,12 +89,7 @@ fn check_reports(
     rows: &[(&[u8], Option<&[u8]>, End, &[u8])],
 ) {
     for (policies, links, wanted, text) in rows {
-        let files = MemoryFiles {
-            schema: Some(schema),
-            policies: Some(policies),
-            links: *links,
-            entities: None,
-        };
+        let files = files(schema, policies, *links, None);
         let mut sink = VecSink::new(alloc);
         let end = validate(alloc, &files, &mut sink, Settings::default());
         assert_eq!(rt; end, *wanted);

@@ -128,23 +128,29 @@ fn a_set_has_the_values_of_its_members(rt: HostRuntime) -> Result<(), Fail> {
     Ok(())
 }
 
-fn is_empty(alloc: Global, of: Expr) -> Result<Expr, AllocError> {
-    Expr::unary(alloc, UnaryOperator::IsEmpty, of)
+/// How `isEmpty` of an expression runs.
+fn is_empty_ran(alloc: Global, of: Expr) -> Result<(&'static str, u32, usize, usize), CodeFault> {
+    let condition = Expr::unary(alloc, UnaryOperator::IsEmpty, of)?;
+    ran(alloc, &condition)
+}
+
+/// `permit(principal, action, resource) when { [1].isEmpty() };`
+fn policy_of_is_empty(alloc: Global) -> Result<Expr, AllocError> {
+    let asked = Expr::unary(alloc, UnaryOperator::IsEmpty, longs(alloc, &[1])?)?;
+    let behind_resource = Expr::and(alloc, truth(true), asked)?;
+    let behind_action = Expr::and(alloc, truth(true), behind_resource)?;
+    Expr::and(alloc, truth(true), behind_action)
 }
 
 #[test]
 fn a_set_is_empty_or_has_members(rt: HostRuntime) -> Result<(), Fail> {
     let alloc = rt.alloc();
-    // `permit(principal, action, resource) when { [1].isEmpty() };`
-    let mut condition = is_empty(alloc, longs(alloc, &[1])?)?;
-    for _scope in 0..3 {
-        condition = Expr::and(alloc, truth(true), condition)?;
-    }
-    assert_eq!(rt; ran(alloc, &condition)?, ("false", 12, 12, 1));
-    let of_none = is_empty(alloc, longs(alloc, &[])?)?;
-    assert_eq!(rt; ran(alloc, &of_none)?, ("true", 2, 2, 1));
-    let of_number = is_empty(alloc, long(0))?;
-    assert_eq!(rt; ran(alloc, &of_number)?, ("type", 2, 2, 1));
+    assert_eq!(rt;
+        ran(alloc, &policy_of_is_empty(alloc)?)?,
+        ("false", 12, 12, 1)
+    );
+    assert_eq!(rt; is_empty_ran(alloc, longs(alloc, &[])?)?, ("true", 2, 2, 1));
+    assert_eq!(rt; is_empty_ran(alloc, long(0))?, ("type", 2, 2, 1));
     Ok(())
 }
 

@@ -50,10 +50,10 @@ fn assert_validates<F: Files>(rt: &impl Abort, alloc: Global, files: &F, wanted:
     assert_eq!(rt; sink.bytes(), text);
 }
 
-fn check_judged(
+fn check_judged<'x>(
     rt: &impl Abort,
     alloc: Global,
-    rows: &[(&[u8], &[u8], Option<&[u8]>, End, &[u8])],
+    rows: &[(&'x [u8], &'x [u8], Option<&'x [u8]>, End, &'x [u8])],
 ) {
     for (schema, policies, links, end, text) in rows {
         let files = files(schema, policies, *links, Some(b"{}"));

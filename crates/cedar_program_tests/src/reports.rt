@@ -82,11 +82,11 @@ const GROUPED: [(&[u8], Option<&[u8]>, End, &[u8]); 1] = [
 ];
 
 /// Each row's policies and links give its end and its text by the schema.
-fn check_reports(
+fn check_reports<'x>(
     rt: &impl Abort,
     alloc: Global,
-    schema: &[u8],
-    rows: &[(&[u8], Option<&[u8]>, End, &[u8])],
+    schema: &'x [u8],
+    rows: &[(&'x [u8], Option<&'x [u8]>, End, &'x [u8])],
 ) {
     for (policies, links, wanted, text) in rows {
         let files = files(schema, policies, *links, None);

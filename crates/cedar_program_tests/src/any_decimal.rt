@@ -79,7 +79,11 @@ fn check_reports(rt: &impl Abort, alloc: Global, rows: &[(&[u8], bool, End, &[u8
     }
 }
 
-fn check_answers(rt: &impl Abort, alloc: Global, rows: &[(&[u8], bool, &[u8], &[u8], End, &[u8])]) {
+fn check_answers<'x>(
+    rt: &impl Abort,
+    alloc: Global,
+    rows: &[(&'x [u8], bool, &'x [u8], &'x [u8], End, &'x [u8])],
+) {
     for (policies, any_decimal, entities, line, wanted, text) in rows {
         let settings = Settings {
             any_decimal: *any_decimal,

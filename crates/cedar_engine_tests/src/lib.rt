@@ -2,8 +2,8 @@
 //! from its text, evaluated plainly, and compiled and run by the machine; both ends are to be the one that the table says.
 //! They stand apart from what they test, since the tests of a crate are proved with the whole crate once more.
 //!
-//! What a single crate answers is tested in `stores.rt`, `codes.rt`, `runs.rt`, `stepping.rt` and `resting.rt`. The table stands
-//! in `table/`, its tests in `evaluation.rt`, the world that it is evaluated over in `world.rt`.
+//! What a single crate answers is tested in `stores.rt`, `codes.rt`, `runs.rt` and `stepping.rt`. The table stands in `table/`,
+//! its tests in `evaluation.rt`, the world that it is evaluated over in `world.rt`.
 #![tactic(auto)]
 
 #[cfg(test)]
@@ -18,8 +18,6 @@ mod evaluation;
 mod plain;
 #[cfg(test)]
 mod plain_fault;
-#[cfg(test)]
-mod resting;
 #[cfg(test)]
 mod runs;
 #[cfg(test)]

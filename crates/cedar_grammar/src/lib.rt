@@ -1,8 +1,8 @@
 //! The grammar of Cedar policies: statements as they are written, read from tokens (Cedar language reference, grammar).
 //!
 //! ```
-//! let tokens = spell_all(alloc, tokens(alloc, source)?)?;
-//! let mut cursor = Cursor::new(tokens.as_slice(), source.len());
+//! let tokens = spelled_tokens(alloc, source)?;
+//! let mut cursor = tokens.cursor(source.len());
 //! let written = statement(alloc, &mut cursor)?;
 //! assert_eq!(written.effect, Effect::Permit);
 //! ```

@@ -1,5 +1,5 @@
 //! Tokens: expected values are those of the Cedar language reference and of Unicode's character database.
-use cedar_text::{Letter, TextFault, TokenKind, letters, tokens, unescape};
+use cedar_text::{Letter, TextFault, TokenKind, escaped_star, letters, plain_text, tokens};
 use std::alloc::Global;
 use std::test::Fail;
 
@@ -104,7 +104,7 @@ fn tells_where_tokens_lie(rt: HostRuntime) -> Result<(), Fail> {
         assert_eq!(rt; token.start, start);
         assert_eq!(rt; token.end(), end);
         assert!(rt; token.text == text, "at {start}");
-        assert_eq!(rt; token.number, number);
+        assert_eq!(rt; token.number(), number);
     }
     Ok(())
 }
@@ -159,7 +159,7 @@ fn reads_numbers(rt: HostRuntime) -> Result<(), Fail> {
     let long = format!(in rt.alloc(); "{zeros}9223372036854775808")?;
     let found = tokens(rt.alloc(), long.as_str())?;
     assert_eq!(rt; found.len(), 1);
-    assert_eq!(rt; found[0].number, 9223372036854775808);
+    assert_eq!(rt; found[0].number(), 9223372036854775808);
     let large = format!(in rt.alloc(); "a {zeros}9223372036854775809")?;
     assert_eq!(rt;
         fault(rt.alloc(), large.as_str()),
@@ -260,19 +260,18 @@ fn unescapes(rt: HostRuntime) -> Result<(), Fail> {
         (r#""\x2A\u{2a}""#, "**"),
     ];
     for (text, want) in rows {
-        let value = unescape(rt.alloc(), text)?;
+        let spelled = letters(rt.alloc(), text)?;
+        let value = plain_text(rt.alloc(), &spelled)?.ok_or("a string")?;
         assert!(rt; value.as_str() == want, "{text}");
     }
     let refused = [
-        (r#""a\*""#, TextFault::BadEscape(2)),
-        (r#""\\\*""#, TextFault::BadEscape(3)),
         (r#""a\q""#, TextFault::BadEscape(2)),
         (r#""a"b""#, TextFault::BadEscape(2)),
         (r#"abc"#, TextFault::UnclosedString(0)),
         (r#"""#, TextFault::UnclosedString(0)),
     ];
     for (text, want) in refused {
-        assert_eq!(rt; unescape(rt.alloc(), text).err(), Some(want), "{text}");
+        assert_eq!(rt; letters(rt.alloc(), text).err(), Some(want), "{text}");
     }
     Ok(())
 }
@@ -291,18 +290,30 @@ fn spells_patterns(rt: HostRuntime) -> Result<(), Fail> {
     Ok(())
 }
 
+/// Where in a string token of this text the first `\*` stands, in bytes from 0, as it has no plain text.
+fn star_in(alloc: Global, text: &str) -> Result<usize, Fail> {
+    let spelled = letters(alloc, text)?;
+    if plain_text(alloc, &spelled)?.is_some() {
+        return Err("a string without an escaped star".into());
+    }
+    Ok(escaped_star(text))
+}
+
+/// Where the first `\*` of the text's first string stands, in bytes from 0.
+fn star_of(alloc: Global, source: &str) -> Result<usize, Fail> {
+    let found = tokens(alloc, source)?;
+    for token in &found {
+        if token.kind == TokenKind::String {
+            return Ok(token.start.saturating_add(star_in(alloc, token.text)?));
+        }
+    }
+    Err("no string".into())
+}
+
 #[test]
 fn places_an_escaped_star(rt: HostRuntime) -> Result<(), Fail> {
     let source = r#"permit(principal, action, resource) when { "a\*" == "a" };"#;
-    let found = tokens(rt.alloc(), source)?;
-    let string = found
-        .iter()
-        .find(|token| token.kind == TokenKind::String)
-        .ok_or("a string")?;
-    let at = unescape(rt.alloc(), string.text)
-        .err()
-        .and_then(|refused| refused.offset())
-        .ok_or("a refusal with its place")?;
-    assert_eq!(rt; string.start.saturating_add(at), 45);
+    assert_eq!(rt; star_of(rt.alloc(), source)?, 45);
+    assert_eq!(rt; star_in(rt.alloc(), r#""\\\*""#)?, 3);
     Ok(())
 }

@@ -3,6 +3,7 @@ use Rattle.std.specs.Prelude.{◌≢◌, All, IsSome}
 use Rattle.std.proofs.lemmas.List.Elements.{All-cons, All-nil}
 use Rattle.std.proofs.lemmas.List.Kept.{AllPairs-cons}
 use Rattle.std.proofs.Common.{◌≡◌, refl, sym, ap, subst, ◌∙◌, false, ℕ, zero, suc, ◌+◌, ◌<◌, ◌≤◌, min, max, List, [], ◌∷◌, ◌++◌, length, get_or, take, drop, drop-cons, add-one, fold, map, Option, Some, None, arith}
+use Rattle.std.proofs.lemmas.List.{take_all}
 use Rattle.cedar_value.specs.Datum.{boolean}
 use Rattle.cedar_ast.specs.Keys.{AreDistinct, keys_of}
 use Rattle.cedar_ast.specs.declared.operator.UnaryOperator.{UnaryOperator}
@@ -23,7 +24,7 @@ use Rattle.cedar_grammar.specs.declared.written.Link.TheVariants.{Operand, Attri
 use Rattle.cedar_grammar.specs.Written.{Written, Fields, field, parts, link_parts, member_parts, field_parts, members_of}
 use Rattle.cedar_grammar.specs.WrittenKind.{links_of, fields_of}
 use Rattle.cedar_tokens.specs.Content.{Content, text_of}
-use Rattle.cedar_tokens.proofs.MarkLemmas.{take_next, take_whole}
+use Rattle.cedar_tokens.proofs.MarkLemmas.{take_next}
 use Rattle.cedar_tokens.specs.Names.{to_uid}
 use Rattle.cedar_parser.specs.Meaning.{to_expression, to_expressions, to_entries, grouped, applied, called}
 use Rattle.cedar_parser.specs.Limits.{KeepLinks, KeepMembers, KeepFields, Keeps, count_of, keys_in, nothing, both, leaf, size_of, size_of_all, size_of_entries}
@@ -138,7 +139,7 @@ pub behind_next : (a : Expression) (ls : List Link) (i : ℕ) (x : Link) → i <
 behind_next a ls i x lt e = ap (fold behind a) (take_next ls i x lt e) ∙ fold-one behind a (take i ls) x
 
 pub behind_all : (a : Expression) (ls : List Link) (i : ℕ) → length ls ≤ i → fold behind a (take i ls) ≡ grouped a (links_of ls)
-behind_all a ls i le = ap (fold behind a) (take_whole ls i le) ∙ sym (grouped-fold a ls)
+behind_all a ls i le = ap (fold behind a) (take_all i ls le) ∙ sym (grouped-fold a ls)
 
 -- ---- counts and keys
 

@@ -41,7 +41,7 @@ pub fn parse(alloc: Global, source: &str) -> Result<PolicySet, ParseFault>
     ensures fault { IfErr result (HasFault source.now) }
 {
     let spelled = spelled_tokens(alloc, source)?;
-    let mut cursor = Cursor::new(spelled.as_slice(), source.len());
+    let mut cursor = spelled.cursor(source.len());
     policies(alloc, &mut cursor)
 }
 

@@ -10,6 +10,9 @@ capped_is : (bs : List ℕ) (n m : ℕ) → n ≡ min m (max_number + 1) → cap
 capped_is [] n m e = e
 capped_is (b ∷ bs) n m e = capped_is bs _ _ (omega arith)
 
+pub capped_min : (bs : List ℕ) → capped_decimal_from 0 bs ≡ min (decimal_from 0 bs) (max_number + 1)
+capped_min bs = capped_is bs 0 0 (omega arith)
+
 pub capped_small : (bs : List ℕ) → ltb max_number (capped_decimal_from 0 bs) ≡ false → (capped_decimal_from 0 bs ≡ decimal_from 0 bs) × (decimal_from 0 bs ≤ max_number)
 capped_small bs e = let h = capped_is bs 0 0 (omega arith) in let le = ltb-false max_number (capped_decimal_from 0 bs) e in (omega arith, omega arith)
 

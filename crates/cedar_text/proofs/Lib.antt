@@ -9,6 +9,7 @@ pub mod Pieces
 pub mod Boundaries
 pub mod Whole
 pub mod Places
+pub mod TokenNumbers
 pub mod Spelled
 pub mod Firsts
 pub mod Unescaping

@@ -1,10 +1,9 @@
 -- What a string token stands for (Cedar language reference, "Grammar": STR; "Operators": like).
 -- Of the bytes, 34 is the quote, 92 the backslash, 42 the star.
-use Rattle.std.specs.Prelude.{◌≡◌, ◌≢◌, ℕ, Bool, true, false, List, [], ◌∷◌, ◌++◌, Result, Ok, Err, String, encode_utf8}
+use Rattle.std.specs.Prelude.{◌≡◌, ◌≢◌, ℕ, Bool, true, false, if◌then◌else◌, List, [], ◌∷◌, ◌++◌, Option, Some, None, Result, Ok, Err, encode_utf8}
 use Rattle.std.specs.Char.{IsScalar}
-use Rattle.std.specs.Global.{Vec, Global}
+use Rattle.std.specs.Global.{Vec}
 use Rattle.std.specs.List.{list_all}
-use Rattle.std.specs.String.{string_bytes}
 use Rattle.cedar_text.specs.declared.letter.Letter.{Letter}
 use Rattle.cedar_text.specs.declared.letter.Letter.TheVariants.{Character, Star, EscapedStar}
 use Rattle.cedar_text.specs.declared.text_fault.TextFault.{TextFault}
@@ -42,9 +41,9 @@ abbrev pub utf8_of : List Letter → List ℕ
 utf8_of [] = []
 utf8_of (letter ∷ letters) = encode_utf8 (character_of letter) ++ utf8_of letters
 
--- the string that the text stands for, in UTF-8
-abbrev pub StandsFor : List ℕ → List ℕ → Type 0
-StandsFor text bytes = (letters : List Letter) × IsSpelled text letters × (list_all is_plain letters ≡ true) × (bytes ≡ utf8_of letters)
+-- the string that letters stand for, in UTF-8: those with an escape `\*` stand for none
+abbrev pub plain_text_of : List Letter → Option (List ℕ)
+plain_text_of letters = if list_all is_plain letters then Some (utf8_of letters) else None
 
 -- the answer is these letters, or memory ran out
 abbrev pub HasLetters : List Letter → Result (Vec Letter) TextFault → Type 0
@@ -54,15 +53,6 @@ HasLetters letters (Err (f.BadCharacter at)) = ⊥
 HasLetters letters (Err (f.UnclosedString at)) = ⊥
 HasLetters letters (Err (f.BadEscape at)) = ⊥
 HasLetters letters (Err (f.NumberTooLarge at)) = ⊥
-
--- the answer is this string, or memory ran out
-abbrev pub HasString : List ℕ → Result (String Global) TextFault → Type 0
-HasString bytes (Ok s) = string_bytes s ≡ bytes
-HasString bytes (Err f.OutOfMemory) = Unit {0}
-HasString bytes (Err (f.BadCharacter at)) = ⊥
-HasString bytes (Err (f.UnclosedString at)) = ⊥
-HasString bytes (Err (f.BadEscape at)) = ⊥
-HasString bytes (Err (f.NumberTooLarge at)) = ⊥
 
 -- the text has quotes round this
 abbrev pub HasQuotes : List ℕ → List ℕ → Type 0
@@ -75,11 +65,3 @@ HasLettersFault text (f.UnclosedString at) = (inner : List ℕ) → HasQuotes te
 HasLettersFault text (f.BadEscape at) = (inner : List ℕ) × HasQuotes text inner × (IsString inner → ⊥)
 HasLettersFault text (f.BadCharacter at) = ⊥
 HasLettersFault text (f.NumberTooLarge at) = ⊥
-
--- Why a text stands for no string: it has no quotes round it, or what stands between them has no text. Want of memory says nothing of it.
-abbrev pub HasStringFault : List ℕ → TextFault → Type 0
-HasStringFault text f.OutOfMemory = Unit {0}
-HasStringFault text (f.UnclosedString at) = (inner : List ℕ) → HasQuotes text inner → ⊥
-HasStringFault text (f.BadEscape at) = ((inner : List ℕ) × HasQuotes text inner) × ((bytes : List ℕ) → StandsFor text bytes → ⊥)
-HasStringFault text (f.BadCharacter at) = ⊥
-HasStringFault text (f.NumberTooLarge at) = ⊥

@@ -2,6 +2,7 @@
 use Rattle.std.specs.Prelude.{ℕ, ◌+◌, List, map, length}
 use Rattle.cedar_text.specs.declared.token_kind.TokenKind.{TokenKind}
 use Rattle.cedar_text.specs.declared.token.Token.{Token}
+use Rattle.cedar_text.specs.Numbers.{number_in}
 
 pub record Lexeme : Type 0 where
   pub kind : TokenKind
@@ -13,7 +14,7 @@ abbrev pub Lexemes : Type 0
 Lexemes = List Lexeme
 
 abbrev pub lexeme : Token → Lexeme
-lexeme t = record { kind = t.kind; start = t.start; text = t.text.now; number = t.number }
+lexeme t = record { kind = t.kind; start = t.start; text = t.text.now; number = number_in t.text.now }
 
 abbrev pub lexemes : List Token → Lexemes
 lexemes ts = map lexeme ts

@@ -1,9 +1,10 @@
 //! All tokens of a text.
 
-ghost use Rattle.std.specs.Prelude.{◌≡◌, ◌<◌, ◌≤◌, length, take, drop, IfOk, IfErr, OnOk, All, List, ℕ, ◌⊎◌};
+ghost use Rattle.std.specs.Prelude.{◌≡◌, ◌<◌, ◌≤◌, length, take, drop, IfOk, IfErr, OnOk, IsSome, All, List, ℕ, ◌⊎◌};
 ghost use Rattle.std.specs.Str.{IsUtf8};
 ghost use Rattle.cedar_text.specs.Lexeme.{Lexemes, lexemes};
 ghost use Rattle.cedar_text.specs.Lexing as spec;
+ghost use Rattle.cedar_text.specs.Numbers.{number_in};
 ghost use Rattle.cedar_text.specs.Outcomes.{Gives};
 ghost use Rattle.cedar_text.specs.Faults.{HasTokens, HasFault};
 ghost use Rattle.cedar_text.specs.Spans.{AreInOrder, IsSliceOf};
@@ -20,6 +21,7 @@ fn cut(source: &str, at: usize) -> Result<(Piece, &str, &str), TextFault>
     ensures piece { Gives (λ x. x.0) (spec.piece source.now) result }
     ensures front { IfOk result (λ x. x.1.now ≡ take x.0.len source.now) }
     ensures rest { IfOk result (λ x. x.2.now ≡ drop x.0.len source.now) }
+    ensures number { IfOk result (λ x. IsSome x.0.kind → x.0.number ≡ number_in x.1.now) }
     ensures within { IfOk result (λ x. x.0.len ≤ length source.now) }
     ensures utf8 { IfOk result (λ x. IsUtf8 x.2.now) }
 {
@@ -35,24 +37,39 @@ fn push<'a>(
     start: usize,
     text: &'a str,
 ) -> Result<(), AllocError>
+    requires { IsSome piece.kind → piece.number ≡ number_in text.now }
     ensures { OnOk result (lexemes found.new.items ≡ spec.found_with piece.kind start text.now piece.len piece.number (lexemes found.old.items)) }
 {
     if let Some(kind) = piece.kind {
-        found.push(Token {
-            kind,
-            start,
-            text,
-            number: piece.number,
-        })?;
+        found.push(Token { kind, start, text })?;
     }
     Ok(())
 }
 
-/// The tokens from left to right.
+/// How many tokens there are, or, of a text that has none, before its first fault.
+fn count(source: &str) -> usize {
+    let mut found = 0usize;
+    let mut rest = source;
+    for _turn in 0..source.len() {
+        if rest.is_empty() {
+            return found;
+        }
+        let Ok((piece, _, after)) = cut(rest, 0) else {
+            return found;
+        };
+        if piece.kind.is_some() {
+            found = found.saturating_add(1);
+        }
+        rest = after;
+    }
+    found
+}
+
+/// The tokens from left to right, which are counted before the list of them is made.
 fn lex(alloc: Global, source: &str) -> Result<Vec<Token<'_>>, TextFault>
     ensures { Gives (λ v. lexemes v.items) (spec.lex (length source.now) 0 source.now) result }
 {
-    let mut found = Vec::new(alloc);
+    let mut found = Vec::with_capacity(alloc, count(source))?;
     let mut at = 0;
     let mut rest = source;
     for _turn in 0..source.len() {

@@ -17,7 +17,9 @@ mod word;
 
 pub use letter::Letter;
 pub use lexer::{one_list, tokens, tokens_or_none};
-pub use spelling::{every_string_is_spelled, letters, letters_or_none, one_spelling, unescape};
+pub use spelling::{
+    escaped_star, every_string_is_spelled, letters, letters_or_none, one_spelling, plain_text,
+};
 pub use text_fault::TextFault;
 pub use token::Token;
 pub use token_kind::TokenKind;

@@ -1,12 +1,12 @@
 //! What a string token stands for.
 
-ghost use Rattle.std.specs.Prelude.{◌≡◌, ◌<◌, ◌≤◌, [], ◌∷◌, ◌++◌, List, ℕ, length, IfOk, IfErr, IfSome, IfNone, IsSome, ◌⊎◌};
+ghost use Rattle.std.specs.Prelude.{◌≡◌, ◌<◌, ◌≤◌, [], ◌∷◌, ◌++◌, List, ℕ, length, IfOk, IfErr, IfSome, IfNone, IsSome, ◌⊎◌, option_map};
 ghost use Rattle.std.specs.String.{string_bytes};
 ghost use Rattle.std.specs.Char.{IsScalar};
 ghost use Rattle.std.specs.Str.{IsUtf8};
 ghost use Rattle.cedar_text.specs.declared.letter.Letter.{Letter as Letters};
 ghost use Rattle.cedar_text.specs.Strings.{IsString};
-ghost use Rattle.cedar_text.specs.Letters.{IsSpelled, StandsFor, HasLetters, HasString, HasLettersFault, HasStringFault};
+ghost use Rattle.cedar_text.specs.Letters.{IsSpelled, HasLetters, HasLettersFault, plain_text_of};
 ghost use Rattle.cedar_text.specs.FirstLetter.{BeginsWith, BeginsNone, StartsEscape, StartsNoEscape, IsFirst, IsQuoted};
 ghost use Rattle.cedar_text.specs.Lexing as spec;
 
@@ -15,7 +15,7 @@ use crate::escape::escape_len;
 use crate::letter::Letter;
 use crate::number::hexadecimal_value;
 use crate::text_fault::TextFault;
-use std::alloc::Global;
+use std::alloc::{AllocError, Global};
 
 fn first_char(text: &str) -> Option<char>
     ensures some { 0 < length text.now → IsSome result }
@@ -142,31 +142,24 @@ pub fn letters(alloc: Global, text: &str) -> Result<Vec<Letter>, TextFault>
     Ok(found)
 }
 
-/// The string that a string token stands for, of which this is the text with its quotes.
-///
-/// Refused are [`TextFault::BadEscape`] with the byte from 0 of the backslash of the first `\*`, which only a pattern
-/// may hold, and [`TextFault::OutOfMemory`]; of a text that is no string token also what [`letters`] refuses.
-pub fn unescape(alloc: Global, text: &str) -> Result<String, TextFault>
-    // What is answered is the string that the text stands for.
-    ensures found { IfOk result (λ s. StandsFor text.now (string_bytes s)) }
-    // The string that the text stands for is what is answered, unless memory runs out.
-    ensures only { (bytes : List ℕ) → StandsFor text.now bytes → HasString bytes result }
-    // Each fault comes only where it is.
-    ensures fault { IfErr result (HasStringFault text.now) }
+/// The string that the letters of a string token stand for, or none where one of them is the escape `\*`, which only a
+/// pattern may hold. 1: memory was refused.
+pub fn plain_text(alloc: Global, letters: &[Letter]) -> Result<Option<String>, AllocError>
+    ensures { IfOk result (λ text. option_map string_bytes text ≡ plain_text_of letters.now) }
 {
-    let spelled = letters(alloc, text)?;
-    let mut value = String::new(alloc);
-    for letter in &spelled {
-        let Some(c) = letter.plain() else {
-            return Err(TextFault::BadEscape(escaped_star(text)));
+    let mut text = String::new(alloc);
+    for letter in letters {
+        let Some(character) = letter.plain() else {
+            return Ok(None);
         };
-        value.push(c)?;
+        text.push(character)?;
     }
-    Ok(value)
+    Ok(Some(text))
 }
 
-/// Where the first `\*` of a string token begins, in bytes from 0.
-fn escaped_star(text: &str) -> usize {
+/// Where the first `\*` of a string token begins, of which this is the text with its quotes, in bytes from 0; 0 where it has
+/// none.
+pub fn escaped_star(text: &str) -> usize {
     let mut behind = false;
     for (i, &b) in text.as_bytes().iter().enumerate() {
         if behind && b == b'*' {

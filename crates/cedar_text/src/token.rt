@@ -1,5 +1,8 @@
 ghost use Rattle.std.specs.Prelude.{◌≡◌, ◌+◌, ◌<◌, ◌^◌, length};
+ghost use Rattle.cedar_text.specs.Numbers.{number_in};
 
+use crate::bytes::{byte_at, is_digit};
+use crate::number::decimal_value;
 use crate::token_kind::TokenKind;
 
 /// A token of a policy text.
@@ -11,8 +14,6 @@ pub struct Token<'a> {
     pub start: usize,
     /// The slice of the source that it is: of a string with its quotes and escapes, of a slot with its `?`.
     pub text: &'a str,
-    /// The value of a number's digits, 0 at every other kind.
-    pub number: u64,
 }
 
 impl Token<'_> {
@@ -21,5 +22,17 @@ impl Token<'_> {
         ensures { self.now.start + length self.now.text.now < 2 ^ 64 → result ≡ self.now.start + length self.now.text.now }
     {
         self.start.saturating_add(self.text.len())
+    }
+
+    /// The value of a number's digits, 0 at every other kind. It is read from the text.
+    pub fn number(&self) -> u64
+        ensures { result ≡ number_in self.now.text.now }
+    {
+        let bytes = self.text.as_bytes();
+        if is_digit(byte_at(bytes, 0)) {
+            decimal_value(bytes)
+        } else {
+            0
+        }
     }
 }

@@ -3,6 +3,7 @@ pub mod Outcomes
 pub mod NamesSound
 pub mod NamesComplete
 pub mod MarkLemmas
+pub mod SpellsLemmas
 pub mod UidLemmas
 pub mod UidOrNone
 pub mod OneUid

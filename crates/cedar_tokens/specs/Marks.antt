@@ -1,16 +1,16 @@
 -- Tokens, each string with the letters that it writes (Cedar language reference, grammar: STR).
-use Rattle.std.specs.Prelude.{◌≡◌, ℕ, List, [], ◌∷◌, Some, None, map, if◌then◌else◌}
-use Rattle.std.specs.List.{list_all}
+use Rattle.std.specs.Prelude.{◌≡◌, ℕ, List, [], ◌∷◌, map}
 use Rattle.cedar_ext.specs.declared.pattern.Element.{Element}
 use Rattle.cedar_ext.specs.declared.pattern.Element.TheVariants as element
 use Rattle.cedar_text.specs.declared.letter.Letter.{Letter}
 use Rattle.cedar_text.specs.declared.letter.Letter.TheVariants as letter
 use Rattle.cedar_text.specs.declared.token_kind.TokenKind.{TokenKind}
 use Rattle.cedar_text.specs.declared.token_kind.TokenKind.TheVariants as k
-use Rattle.cedar_text.specs.Letters.{IsSpelled, is_plain, utf8_of}
-use Rattle.cedar_text.specs.Lexeme.{Lexeme, Lexemes}
+use Rattle.cedar_text.specs.Letters.{IsSpelled, plain_text_of}
+use Rattle.cedar_text.specs.Lexeme.{Lexeme, Lexemes, lexeme}
 use Rattle.cedar_text.specs.Tokens.{AreTokens}
 use Rattle.cedar_tokens.specs.Content.{Content}
+use Rattle.cedar_tokens.specs.declared.spelled.Spelled.{Spelled}
 
 -- a token, and the letters of a string
 pub record Mark : Type 0 where
@@ -25,6 +25,10 @@ Marks = List Mark
 
 abbrev pub mark_of : Lexeme → List Letter → Mark
 mark_of t ls = record { kind = t.kind; start = t.start; text = t.text; number = t.number; letters = ls }
+
+-- what is seen of a token with its letters
+abbrev pub mark : Spelled → Mark
+mark s = mark_of (lexeme s.token.now) s.letters.now
 
 -- A string writes these letters; other tokens have none.
 abbrev pub HasLetters : TokenKind → List ℕ → List Letter → Type 0
@@ -54,7 +58,7 @@ start_of (t ∷ ts) = t.start
 
 -- the text of a string: one with the escape `\*` stands for none
 abbrev pub content_of : List Letter → Content
-content_of ls = if list_all is_plain ls then Some (utf8_of ls) else None
+content_of ls = plain_text_of ls
 
 -- In a pattern a bare `*` is a star (Cedar language reference, operators: like).
 abbrev pub element_of : Letter → Element

@@ -2,3 +2,4 @@
 pub mod Reading
 pub mod Contract
 pub mod PlainUid
+pub mod Spells

@@ -1,14 +1,13 @@
 -- The tokens of a text with their letters, and why a text has none (Cedar language reference, grammar).
 use Rattle.std.specs.Prelude.{◌≡◌, ℕ, List, Result, Ok, Err}
-use Rattle.std.specs.Global.{Vec}
 use Rattle.cedar_tokens.specs.Faults.{LacksTokens}
-use Rattle.cedar_tokens.specs.Marks.{Mark, Marks}
+use Rattle.cedar_tokens.specs.Marks.{Marks}
 use Rattle.cedar_tokens.specs.declared.parse_fault.ParseFault.{ParseFault}
 use Rattle.cedar_tokens.specs.declared.parse_fault.ParseFault.TheVariants as f
 
 -- the answer is these tokens, or memory ran out
-abbrev pub HasMarks : Marks → Result (Vec Mark) ParseFault → Type 0
-HasMarks ms (Ok v) = v.items ≡ ms
+abbrev pub HasMarks : Marks → Result Marks ParseFault → Type 0
+HasMarks ms (Ok found) = found ≡ ms
 HasMarks ms (Err f.OutOfMemory) = Unit {0}
 HasMarks ms (Err _) = ⊥
 

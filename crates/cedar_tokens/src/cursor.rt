@@ -1,20 +1,24 @@
 //! The tokens that are left.
-ghost use Rattle.std.specs.Prelude.{◌≡◌, length, option_map};
+ghost use Rattle.std.specs.Prelude.{◌≡◌, length, map, option_map};
+ghost use Rattle.cedar_tokens.specs.Private.Spells as spells;
 ghost use Rattle.cedar_tokens.specs.Private.Reading as spec;
 ghost use Rattle.cedar_tokens.specs.Private.Contract.{TakesToken};
 ghost use Rattle.cedar_tokens.specs.Private.Reading.{any_word};
 ghost use Rattle.cedar_tokens.specs.Names.{is_word_kind};
-ghost use Rattle.cedar_tokens.specs.Marks.{start_of};
+ghost use Rattle.cedar_text.specs.Lexeme.{lexeme, lexemes};
+ghost use Rattle.cedar_tokens.specs.Marks.{start_of, mark};
 
 use crate::parse_fault::ParseFault;
 use crate::spelled::Spelled;
-use cedar_text::TokenKind;
+use cedar_text::{Letter, Token, TokenKind};
 use std::marker::Model;
 
 /// A place in a list of tokens. Contracts see the tokens that are left.
 #[derive(Drop)]
 pub struct Cursor<'t> {
-    rest: &'t [Spelled<'t>],
+    rest: &'t [Token<'t>],
+    /// The letters of the strings among them, in order.
+    strings: &'t [Vec<Letter>],
     /// Where the token that was taken last begins, in bytes from 0.
     taken: usize,
     /// Where a token begins up to which some reading goes on although none was taken, in bytes from 0.
@@ -24,21 +28,24 @@ pub struct Cursor<'t> {
 }
 
 impl<'t> Model for Cursor<'t> {
-    ghost use Rattle.std.specs.Prelude.{List};
+    ghost use Rattle.std.specs.Prelude.{List, map};
+    ghost use Rattle.cedar_text.specs.Lexeme.{lexemes};
     ghost use Rattle.cedar_tokens.specs.Marks.{Mark};
+    ghost use Rattle.cedar_tokens.specs.Private.Spells.{marks_with};
 
     ghost Value = { List Mark };
 
-    ghost view = { λ c. c.rest.now };
+    ghost view = { λ c. marks_with (lexemes c.rest.now) (map (λ v. v.items) c.strings.now) };
 }
 
 impl<'t> Cursor<'t> {
-    /// The beginning of the tokens of a text that ends at the byte `end`.
-    pub fn new(tokens: &'t [Spelled<'t>], end: usize) -> Cursor<'t>
-        ensures { result ≡ tokens.now }
+    /// The beginning of tokens, with the letters of the strings among them, of a text that ends at the byte `end`.
+    pub(crate) fn new(tokens: &'t [Token<'t>], strings: &'t [Vec<Letter>], end: usize) -> Cursor<'t>
+        ensures { result ≡ spells.marks_with (lexemes tokens.now) (map (λ v. v.items) strings.now) }
     {
         Cursor {
             rest: tokens,
+            strings,
             taken: 0,
             reached: 0,
             end,
@@ -59,18 +66,18 @@ impl<'t> Cursor<'t> {
     {
         match self.rest {
             [] => None,
-            [token, ..] => Some(token.kind()),
+            [token, ..] => Some(token.kind),
         }
     }
 
     /// The next token.
     #[tactic(auto, unfolding(crate::specs::Private::Reading::first))]
-    pub fn peek(&self) -> Option<&'t Spelled<'t>>
-        ensures { option_map (λ t. t.now) result ≡ spec.first self.now }
+    pub fn peek(&self) -> Option<Spelled<'t>>
+        ensures { option_map mark result ≡ spec.first self.now }
     {
         match self.rest {
             [] => None,
-            [token, ..] => Some(token),
+            [token, ..] => Some(spelled(token, self.strings)),
         }
     }
 
@@ -81,7 +88,7 @@ impl<'t> Cursor<'t> {
     {
         match self.rest {
             [] => false,
-            [token, ..] => token.kind() == kind,
+            [token, ..] => token.kind == kind,
         }
     }
 
@@ -91,7 +98,7 @@ impl<'t> Cursor<'t> {
         ensures { result ≡ spec.sees kind (spec.next self.now) }
     {
         match self.rest {
-            [_, token, ..] => token.kind() == kind,
+            [_, token, ..] => token.kind == kind,
             _ => false,
         }
     }
@@ -102,21 +109,24 @@ impl<'t> Cursor<'t> {
         ensures { self.new ≡ spec.next self.old }
     {
         if let [token, rest @ ..] = self.rest {
-            self.taken = token.start();
+            self.taken = token.start;
             self.rest = rest;
+            self.strings = strings_behind(token.kind, self.strings);
         }
     }
 
     /// Goes past the next token, which is to be of this kind; another is no syntax.
     #[tactic(auto, unfolding(crate::specs::Private::Reading::expect))]
-    pub fn expect(&mut self, kind: TokenKind) -> Result<&'t Spelled<'t>, ParseFault>
+    pub fn expect(&mut self, kind: TokenKind) -> Result<Spelled<'t>, ParseFault>
         ensures { TakesToken (spec.expect kind self.old) result self.new }
     {
         match self.rest {
-            [token, rest @ ..] if token.kind() == kind => {
-                self.taken = token.start();
+            [token, rest @ ..] if token.kind == kind => {
+                let taken = spelled(token, self.strings);
+                self.taken = token.start;
                 self.rest = rest;
-                Ok(token)
+                self.strings = strings_behind(token.kind, self.strings);
+                Ok(taken)
             }
             _ => Err(ParseFault::Syntax(self.offset())),
         }
@@ -124,14 +134,16 @@ impl<'t> Cursor<'t> {
 
     /// Goes past the next token, which is to be a word, reserved or not; another is no syntax.
     #[tactic(auto, unfolding(crate::specs::Private::Reading::any_word))]
-    pub fn any_word(&mut self) -> Result<&'t Spelled<'t>, ParseFault>
+    pub fn any_word(&mut self) -> Result<Spelled<'t>, ParseFault>
         ensures { TakesToken (any_word self.old) result self.new }
     {
         match self.rest {
-            [token, rest @ ..] if is_word_kind(token.kind()) => {
-                self.taken = token.start();
+            [token, rest @ ..] if is_word_kind(token.kind) => {
+                let taken = spelled(token, self.strings);
+                self.taken = token.start;
                 self.rest = rest;
-                Ok(token)
+                self.strings = strings_behind(token.kind, self.strings);
+                Ok(taken)
             }
             _ => Err(ParseFault::Syntax(self.offset())),
         }
@@ -143,7 +155,7 @@ impl<'t> Cursor<'t> {
     {
         match self.rest {
             [] => 0,
-            [token, ..] => token.start(),
+            [token, ..] => token.start,
         }
     }
 
@@ -152,9 +164,9 @@ impl<'t> Cursor<'t> {
         ensures { self.new ≡ self.old }
     {
         match self.rest {
-            [colons] if colons.kind() == TokenKind::DoubleColon => self.reached = self.end,
-            [colons, behind, ..] if colons.kind() == TokenKind::DoubleColon => {
-                self.reached = behind.start();
+            [colons] if colons.kind == TokenKind::DoubleColon => self.reached = self.end,
+            [colons, behind, ..] if colons.kind == TokenKind::DoubleColon => {
+                self.reached = behind.start;
             }
             _ => {}
         }
@@ -164,7 +176,7 @@ impl<'t> Cursor<'t> {
     pub fn offset(&self) -> usize {
         let next = match self.rest {
             [] => self.end,
-            [token, ..] => token.start(),
+            [token, ..] => token.start,
         };
         next.max(self.reached)
     }
@@ -172,6 +184,42 @@ impl<'t> Cursor<'t> {
     /// Where the token that was taken last begins.
     pub fn taken(&self) -> usize {
         self.taken
+    }
+}
+
+// A token, where these are the letters of the strings from it on.
+fn spelled<'t>(token: &'t Token<'t>, strings: &'t [Vec<Letter>]) -> Spelled<'t>
+    ensures { mark result ≡ spells.first_mark (lexeme token.now) (map (λ v. v.items) strings.now) }
+{
+    Spelled {
+        token,
+        letters: letters_at(token.kind, strings),
+    }
+}
+
+// The letters of a token of this kind, where these are those of the strings from it on.
+fn letters_at<'t>(kind: TokenKind, strings: &'t [Vec<Letter>]) -> &'t [Letter]
+    ensures { result.now ≡ spells.letters_at kind (map (λ v. v.items) strings.now) }
+{
+    if kind != TokenKind::String {
+        return &[];
+    }
+    match strings {
+        [] => &[],
+        [letters, ..] => letters,
+    }
+}
+
+// The letters of the strings behind a token of this kind, where these are those from it on.
+fn strings_behind<'t>(kind: TokenKind, strings: &'t [Vec<Letter>]) -> &'t [Vec<Letter>]
+    ensures { map (λ v. v.items) result.now ≡ spells.strings_behind kind (map (λ v. v.items) strings.now) }
+{
+    if kind != TokenKind::String {
+        return strings;
+    }
+    match strings {
+        [] => &[],
+        [_, rest @ ..] => rest,
     }
 }
 

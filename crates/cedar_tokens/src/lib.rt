@@ -15,11 +15,13 @@ mod names;
 mod parse_fault;
 mod plain_uid;
 mod spelled;
+mod spelling;
 mod uid;
 
 pub use content::{Content, Word, WrittenUid};
 pub use cursor::Cursor;
 pub use names::{entity, key, one_identifier, path, text, uid_of};
 pub use parse_fault::ParseFault;
-pub use spelled::{Spelled, spelled_tokens};
+pub use spelled::Spelled;
+pub use spelling::{SpelledTokens, spelled_tokens};
 pub use uid::{one_uid, read_uid, uid_or_none};

@@ -19,7 +19,7 @@ pub fn text(alloc: Global, tokens: &mut Cursor<'_>) -> Result<Content, ParseFaul
     ensures { Reads (spec.text tokens.old) result tokens.new }
 {
     let token = tokens.expect(TokenKind::String)?;
-    Ok(token.content().try_clone(alloc)?)
+    Ok(token.content(alloc)?)
 }
 
 /// A word, or what a string stands for (Cedar language reference, grammar: `RecInit`).

@@ -4,11 +4,10 @@ ghost use Rattle.cedar_value.specs.declared.uid.Uid.{Uid as Uids};
 ghost use Rattle.cedar_tokens.specs.UidText.{IsUidText, HasUidFault, AnswersUid};
 
 use crate::content::Content;
-use crate::cursor::Cursor;
 use crate::names::entity;
 use crate::parse_fault::ParseFault;
 use crate::plain_uid::plain_uid;
-use crate::spelled::spelled_tokens;
+use crate::spelling::spelled_tokens;
 use cedar_text::{letters_or_none, one_list, one_spelling, tokens_or_none};
 use cedar_value::Uid;
 use std::alloc::Global;
@@ -31,7 +30,7 @@ pub fn read_uid(alloc: Global, source: &str) -> Result<Uid, ParseFault>
         return Ok(plain);
     }
     let spelled = spelled_tokens(alloc, source)?;
-    let mut cursor = Cursor::new(spelled.as_slice(), source.len());
+    let mut cursor = spelled.cursor(source.len());
     let written = entity(alloc, &mut cursor)?;
     if cursor.left() > 0 {
         return Err(ParseFault::Syntax(cursor.offset()));

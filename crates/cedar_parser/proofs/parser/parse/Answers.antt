@@ -1,4 +1,4 @@
-use Rattle.std.proofs.Common.{◌∙◌, ◌≡◌}
+use Rattle.std.proofs.Common.{◌≡◌}
 use Rattle.std.proofs.lemmas.Result.{err_from_is_err_and}
 use Rattle.cedar_tokens.proofs.UidLemmas.{IsText}
 use Rattle.cedar_parser.proofs.ParseLemmas.{parsed, parsed_only, parsed_fault, unread_answers, unread_text}
@@ -6,9 +6,9 @@ use Rattle.cedar_parser.proofs.parser.parse.Goals as goal
 
 pub returns : goal.returns
 returns c =
-    let ms = c.in_ok-spelled.spelled.items in
+    let ms = c.in_ok-spelled.spelled in
     let text : IsText c.args.source.now ms = record { are = c.in_ok-spelled.ensures.found; only = c.in_ok-spelled.ensures.only } in
-    let begins : c.new-cursor.result ≡ ms = c.new-cursor.ensures ∙ c.as_slice.ensures.value in
+    let begins : c.cursor-cursor.result ≡ ms = c.cursor-cursor.ensures in
     record {
       found = parsed c.args.source.now ms c.policies.result text (rw (← begins) c.policies.ensures.found);
       only = parsed_only c.args.source.now ms c.policies.result text (rw (← begins) c.policies.ensures.only);

@@ -4,6 +4,7 @@ pub mod Bits
 pub mod Joins
 pub mod Masks
 pub mod Meets
+pub mod Members
 pub mod Numbered
 pub mod Places
 pub mod PlainRows

@@ -1,3 +1,4 @@
+pub mod Ancestors
 pub mod Entities
 pub mod Faults
 pub mod Private

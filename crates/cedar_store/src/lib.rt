@@ -14,6 +14,7 @@
 //! the same is said of both.
 #![tactic(auto)]
 
+mod ancestors;
 mod entity;
 mod entity_table;
 mod mask;
@@ -25,6 +26,7 @@ mod row;
 mod rows;
 mod store;
 mod store_fault;
+mod uid_hasher;
 mod uid_hashing;
 
 pub use cedar_value::{Hierarchy, NoEntities, below_is_a_chain_of_links};

@@ -1,8 +1,10 @@
 //! The entity store.
 ghost use Rattle.std.specs.Prelude.{◌≡◌, IfOk, IfErr, OnOk};
+ghost use Rattle.cedar_store.specs.Ancestors.{AddsAncestors};
 ghost use Rattle.cedar_store.specs.Entities.{AreUidsDistinct, IsAcyclic};
 ghost use Rattle.cedar_store.specs.Faults.{IsThere};
 
+use crate::ancestors::push_members;
 use crate::entity::Entity;
 use crate::entity_table::EntityTable;
 use crate::mask::meets;
@@ -11,7 +13,7 @@ use crate::row::Row;
 use crate::rows::{all_rows, known_row};
 use crate::store_fault::StoreFault;
 use cedar_value::{Hierarchy, Record, Uid, ValueSet};
-use std::alloc::Global;
+use std::alloc::{AllocError, Global};
 use std::marker::Model;
 
 /// Entities with what lies above each of them, which contracts see as their world: the list of the
@@ -65,6 +67,20 @@ impl Store {
             numbers,
             rows,
         })
+    }
+
+    /// Appends every uid that `low` is below (Cedar language reference, hierarchy), in the order in which
+    /// they are first named as a parent. What the store lacks is below nothing. Refused for want of memory
+    /// alone, which it takes only where the list has to grow; what it appended before then stays.
+    ///
+    /// Time goes by the words of the row of `low` and by the number of uids that are appended.
+    pub fn ancestors<'s>(&'s self, low: &Uid, found: &mut Vec<&'s Uid>) -> Result<(), AllocError>
+        ensures { OnOk result (AddsAncestors self.now low.now found.old.items found.new.items) }
+    {
+        match known_row(&self.table, &self.rows, low) {
+            Some(row) => push_members(&self.numbers, row, found),
+            None => Ok(()),
+        }
     }
 }
 

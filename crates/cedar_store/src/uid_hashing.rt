@@ -1,15 +1,16 @@
 //! How uids are hashed.
 use crate::entity::Entity;
+use crate::uid_hasher::UidHasher;
 use cedar_value::Uid;
 use std::hash::{BuildHasher, DefaultHasher, Hash, Hasher};
 
-/// Makes the hashers of a store's tables. Each begins as one that was fed a digest of all uids of the
-/// store, so that whoever picks uids that are to collide would have to know the digest of a list that
-/// has them all before he has picked them. The order of a table goes by its insertions alone, and the
-/// same list has the same digest, so that no answer and no order depends on it.
+/// Makes the hashers of a store's tables. Their keys are a SipHash digest of all uids of the store, so that
+/// whoever picks uids that are to collide would have to know the digest of a list that has them all before
+/// he has picked them. The order of a table goes by its insertions alone, and the same list has the same
+/// digest, so that no answer and no order depends on it.
 #[derive(Clone, Copy)]
 pub(crate) struct UidHashing {
-    begun: DefaultHasher,
+    begun: UidHasher,
 }
 
 impl UidHashing {
@@ -20,9 +21,11 @@ impl UidHashing {
             entity.uid.hash(&mut digest);
             feed(&mut digest, &entity.parents);
         }
-        let mut begun = DefaultHasher::new();
-        begun.write_u64(digest.finish());
-        UidHashing { begun }
+        let key = digest.finish();
+        digest.write_u64(key);
+        UidHashing {
+            begun: UidHasher::new(key, digest.finish()),
+        }
     }
 }
 
@@ -33,11 +36,11 @@ fn feed(digest: &mut DefaultHasher, uids: &[Uid]) {
 }
 
 impl BuildHasher for UidHashing {
-    type Hasher = DefaultHasher;
+    type Hasher = UidHasher;
 
     ghost build_hasher = { λ h. h.begun };
 
-    fn build_hasher(&self) -> DefaultHasher {
+    fn build_hasher(&self) -> UidHasher {
         self.begun
     }
 }

@@ -1,13 +1,11 @@
 -- What is kept for the environment of a request has just its candidates.
-use Rattle.std.proofs.Common.{◌≡◌, ℕ, Bool, true, false, cond, List, [], ◌∷◌, length, Contains, Option, Some, Ok, refl, sym, ap, subst, ◌∙◌}
+use Rattle.std.proofs.Common.{◌≡◌, ℕ, Bool, true, false, cond, List, [], ◌∷◌, length, Contains, Option, Some, None, refl, sym, ap, subst, ◌∙◌}
 use Rattle.std.proofs.lemmas.Map.Views.{tells_apart}
-use Rattle.std.specs.Global.{Vec}
-use Rattle.std.specs.BTreeMap.{BTreeMap, get, is_at}
-use Rattle.std.specs.List.{slice_get, range_with_len}
+use Rattle.std.specs.BTreeMap.{get, is_at}
+use Rattle.std.specs.List.{range_with_len}
 use Rattle.std.specs.List.Sorted.{IsStrictlySortedBy}
 use Rattle.std.specs.Map.{keys_of, lookup}
-use Rattle.std.specs.Option.{option_map, option_and_then, unwrap_or}
-use Rattle.cedar_value.specs.Datum.{boolean}
+use Rattle.std.specs.Option.{option_and_then}
 use Rattle.cedar_value.specs.Order.{text_cmp, uid_cmp}
 use Rattle.cedar_value.specs.Private.Laws.{uid_total}
 use Rattle.cedar_value.specs.Private.Same.{uid_same}
@@ -15,32 +13,28 @@ use Rattle.cedar_value.specs.World.{World}
 use Rattle.cedar_value.specs.declared.request.Request.{Request}
 use Rattle.cedar_value.specs.declared.uid.Uid.{Uid}
 use Rattle.cedar_ast.specs.PolicyTree.{PolicyTree}
-use Rattle.cedar_ast.specs.Response.{meaning}
 use Rattle.cedar_schema.specs.declared.schema.environment.Environment.{Environment}
 use Rattle.cedar_schema.specs.SchemaTree.{SchemaTree, ActionTree, action_at}
 use Rattle.cedar_schema.specs.WellFormed.{AreTypesApart}
 use Rattle.cedar_schema.specs.Conformance.{Conforms, Fits, FitsIn}
 use Rattle.cedar_typing.specs.Candidates.{MayMeet, Meets, IsCandidate, CandidatesAreEnough}
 use Rattle.cedar_auth.specs.Candidates.{AreCandidates, OthersAreFalse}
-use Rattle.cedar_auth.specs.Private.Sifting.{SiftedBy, OfAction, ByAction, positions_at}
+use Rattle.cedar_index.specs.Index.{IsIndexOf, HasReached}
+use Rattle.cedar_auth.specs.declared.cell.Cell.{Cell}
+use Rattle.cedar_auth.specs.Private.Sifting.{Cells, Row, Rows, SiftedBy, LeavesFalse, OfAction, ByAction, cell_at, positions_in}
 use Rattle.cedar_auth.proofs.Environments.{found_at, looked_up}
 use Rattle.cedar_auth.proofs.Listed.{here, there}
 use Rattle.cedar_auth.proofs.Makings.{IsMaking, making_end}
+use Rattle.cedar_auth.proofs.Reached.{unreached_is_false}
 use Rattle.cedar_auth.proofs.Sifts.{both_sifted, alike_sifted, sifted_exactly, sifted_ascends}
 
-abbrev Cells : Type 0
-Cells = BTreeMap (List ℕ) (Vec ℕ)
-
-abbrev Row : Type 0
-Row = BTreeMap (List ℕ) Cells
-
 -- three look-ups, one after the other
-three : (rows : BTreeMap Uid Row) (u : Uid) (n m : List ℕ) (row : Row) (cells : Cells) (v : Vec ℕ)
-    → get uid_cmp rows u ≡ Some row → get text_cmp row n ≡ Some cells → get text_cmp cells m ≡ Some v → positions_at rows u n m ≡ v.items
-three rows u n m row cells v a b c =
-    ap (λ (o : Option Row). unwrap_or (option_map (λ (v : Vec ℕ). v.items) (option_and_then (λ (cells : Cells). get text_cmp cells m) (option_and_then (λ (row : Row). get text_cmp row n) o))) []) a
-    ∙ ap (λ (o : Option Cells). unwrap_or (option_map (λ (v : Vec ℕ). v.items) (option_and_then (λ (cells : Cells). get text_cmp cells m) o)) []) b
-    ∙ ap (λ (o : Option (Vec ℕ)). unwrap_or (option_map (λ (v : Vec ℕ). v.items) o) []) c
+three : (rows : Rows) (u : Uid) (n m : List ℕ) (row : Row) (cells : Cells) (cell : Cell)
+    → get uid_cmp rows u ≡ Some row → get text_cmp row n ≡ Some cells → get text_cmp cells m ≡ Some cell → cell_at rows u n m ≡ Some cell
+three rows u n m row cells cell a b c =
+    ap (λ (o : Option Row). option_and_then (λ (cells : Cells). get text_cmp cells m) (option_and_then (λ (row : Row). get text_cmp row n) o)) a
+    ∙ ap (λ (o : Option Cells). option_and_then (λ (cells : Cells). get text_cmp cells m) o) b
+    ∙ c
 
 candidate_from : (s : SchemaTree) (env : Environment) (p : PolicyTree) → (Meets s env.action p.scope.action × MayMeet s env.principal p.scope.principal) × MayMeet s env.resource p.scope.resource → IsCandidate s env p
 candidate_from s env p h = record { principal = h.0.1; action = h.0.0; resource = h.1 }
@@ -49,34 +43,71 @@ of_candidate : (s : SchemaTree) (env : Environment) (p : PolicyTree) → IsCandi
 of_candidate s env p c = ((c.action, c.principal), c.resource)
 
 -- what is kept for an environment
-kept_for : (s : SchemaTree) (ps : List PolicyTree) (rows : BTreeMap Uid Row) → ByAction s ps rows → IsStrictlySortedBy uid_cmp (keys_of s.actions)
-    → (q : Request) (env : Environment) → FitsIn s env q
-    → SiftedBy ps (IsCandidate s env) (range_with_len 0 (length ps)) (positions_at rows env.action env.principal env.resource)
+record IsKeptFor (s : SchemaTree) (ps : List PolicyTree) (env : Environment) (found : Option Cell) : Type 0 where
+  cell : Cell
+  is : found ≡ Some cell
+  sifted : SiftedBy ps (IsCandidate s env) (range_with_len 0 (length ps)) cell.positions.items
+  indexed : IsIndexOf ps cell.positions.items cell.index
+
+kept_for : (s : SchemaTree) (ps : List PolicyTree) (rows : Rows) → ByAction s ps rows → IsStrictlySortedBy uid_cmp (keys_of s.actions)
+    → (q : Request) (env : Environment) → FitsIn s env q → IsKeptFor s ps env (cell_at rows env.action env.principal env.resource)
 kept_for s ps rows by up q env fits =
     let (a, declared, principal, resource) = found_at s.actions up env fits.listed in
     let (row, row_at, of_action) = by env.action a declared in
     let (by_action, first, principals) = of_action in
     let (cells, cells_at, of_principal) = principals env.principal principal in
     let (by_principal, second, resources) = of_principal in
-    let (v, v_at, third) = resources env.resource resource in
+    let (cell, is_at, of_cell) = resources env.resource resource in
+    let (third, indexed) = of_cell in
     let all = range_with_len 0 (length ps) in
-    subst (λ (ks : List ℕ). SiftedBy ps (IsCandidate s env) all ks) (sym (three rows env.action env.principal env.resource row cells v row_at cells_at v_at))
-    (alike_sifted ps (λ p. (Meets s env.action p.scope.action × MayMeet s env.principal p.scope.principal) × MayMeet s env.resource p.scope.resource) (IsCandidate s env) all v.items
-    (candidate_from s env) (of_candidate s env)
-    (both_sifted ps (λ p. Meets s env.action p.scope.action × MayMeet s env.principal p.scope.principal) (λ p. MayMeet s env.resource p.scope.resource) all by_principal v.items
-    (both_sifted ps (λ p. Meets s env.action p.scope.action) (λ p. MayMeet s env.principal p.scope.principal) all by_action by_principal first second) third))
+    record {
+      cell = cell;
+      is = three rows env.action env.principal env.resource row cells cell row_at cells_at is_at;
+      sifted = alike_sifted ps (λ p. (Meets s env.action p.scope.action × MayMeet s env.principal p.scope.principal) × MayMeet s env.resource p.scope.resource) (IsCandidate s env) all cell.positions.items
+          (candidate_from s env) (of_candidate s env)
+          (both_sifted ps (λ p. Meets s env.action p.scope.action × MayMeet s env.principal p.scope.principal) (λ p. MayMeet s env.resource p.scope.resource) all by_principal cell.positions.items
+          (both_sifted ps (λ p. Meets s env.action p.scope.action) (λ p. MayMeet s env.principal p.scope.principal) all by_action by_principal first second) third);
+      indexed = indexed;
+    }
 
 -- what is looked up for a request that is one of the environment
-pub positions_for : (s : SchemaTree) (ps : List PolicyTree) (rows : BTreeMap Uid Row) → ByAction s ps rows → IsStrictlySortedBy uid_cmp (keys_of s.actions)
-    → (q : Request) (ks : List ℕ) → ks ≡ positions_at rows q.action q.principal.ty q.resource.ty → (env : Environment) → FitsIn s env q
-    → SiftedBy ps (IsCandidate s env) (range_with_len 0 (length ps)) ks
-positions_for s ps rows by up q ks is env fits =
-    let same : positions_at rows env.action env.principal env.resource ≡ ks =
-    ap (λ (u : Uid). positions_at rows u env.principal env.resource) (sym fits.action)
-    ∙ ap (λ (n : List ℕ). positions_at rows q.action n env.resource) (sym fits.principal)
-    ∙ ap (λ (m : List ℕ). positions_at rows q.action q.principal.ty m) (sym fits.resource)
+found_for : (s : SchemaTree) (ps : List PolicyTree) (rows : Rows) → ByAction s ps rows → IsStrictlySortedBy uid_cmp (keys_of s.actions)
+    → (q : Request) (found : Option Cell) → found ≡ cell_at rows q.action q.principal.ty q.resource.ty → (env : Environment) → FitsIn s env q
+    → IsKeptFor s ps env found
+found_for s ps rows by up q found is env fits =
+    let same : cell_at rows env.action env.principal env.resource ≡ found =
+    ap (λ (u : Uid). cell_at rows u env.principal env.resource) (sym fits.action)
+    ∙ ap (λ (n : List ℕ). cell_at rows q.action n env.resource) (sym fits.principal)
+    ∙ ap (λ (m : List ℕ). cell_at rows q.action q.principal.ty m) (sym fits.resource)
     ∙ sym is in
-    subst (λ (js : List ℕ). SiftedBy ps (IsCandidate s env) (range_with_len 0 (length ps)) js) same (kept_for s ps rows by up q env fits)
+    subst (λ (o : Option Cell). IsKeptFor s ps env o) same (kept_for s ps rows by up q env fits)
+
+-- its positions are those of the candidates
+pub positions_for : (s : SchemaTree) (ps : List PolicyTree) (rows : Rows) → ByAction s ps rows → IsStrictlySortedBy uid_cmp (keys_of s.actions)
+    → (q : Request) (found : Option Cell) → found ≡ cell_at rows q.action q.principal.ty q.resource.ty → (env : Environment) → FitsIn s env q
+    → SiftedBy ps (IsCandidate s env) (range_with_len 0 (length ps)) (positions_in found)
+positions_for s ps rows by up q found is env fits =
+    let kept = found_for s ps rows by up q found is env fits in
+    subst (λ (o : Option Cell). SiftedBy ps (IsCandidate s env) (range_with_len 0 (length ps)) (positions_in o)) (sym kept.is) kept.sifted
+
+-- what is selected from it leaves policies alone that are false
+pub selected_for : (s : SchemaTree) (ps : List PolicyTree) (w : World) (rows : Rows) → ByAction s ps rows → IsStrictlySortedBy uid_cmp (keys_of s.actions) → AreTypesApart s → Conforms s w
+    → (q : Request) (cell : Cell) (ks : List ℕ) → Some cell ≡ cell_at rows q.action q.principal.ty q.resource.ty → Fits s q → HasReached cell.index q w ks → LeavesFalse ps q w ks
+selected_for s ps w rows by up apart conforms q cell ks is fits reached i p at out =
+    let env = fits.0 in
+    let kept = found_for s ps rows by up q (Some cell) is env fits.1 in
+    let same : cell ≡ kept.cell = cc kept.is in
+    let sifted = subst (λ (c : Cell). SiftedBy ps (IsCandidate s env) (range_with_len 0 (length ps)) c.positions.items) (sym same) kept.sifted in
+    let indexed = subst (λ (c : Cell). IsIndexOf ps c.positions.items c.index) (sym same) kept.indexed in
+    unreached_is_false s env q w p apart conforms fits.1
+    (λ h. out (reached ps cell.positions.items indexed i p ((sifted_exactly ps (IsCandidate s env) cell.positions.items sifted i).1 (p, at, h.0)) at h.1))
+
+-- there is a cell for each request that fits
+pub found_always : (s : SchemaTree) (ps : List PolicyTree) (rows : Rows) → ByAction s ps rows → IsStrictlySortedBy uid_cmp (keys_of s.actions)
+    → (q : Request) → None ≡ cell_at rows q.action q.principal.ty q.resource.ty → Fits s q → ⊥
+found_always s ps rows by up q is fits =
+    let kept = found_for s ps rows by up q None is fits.0 fits.1 in
+    cc kept.is
 
 -- ---- how the rows are made
 
@@ -97,7 +128,7 @@ listed_key (x ∷ xs) u a h = at (is_at (uid_cmp u) x.0) refl (listed_key xs u a
     at false e rest g = there x.0 (keys_of xs) u (rest g)
 
 -- all rows are there
-pub rows_made : (s : SchemaTree) (ps : List PolicyTree) (rows : BTreeMap Uid Row) (left : List (Uid × ActionTree)) → left ≡ []
+pub rows_made : (s : SchemaTree) (ps : List PolicyTree) (rows : Rows) (left : List (Uid × ActionTree)) → left ≡ []
     → IsMaking uid_cmp (λ (u : Uid) (row : Row). (action : ActionTree) → action_at s u ≡ Some action → OfAction s ps (range_with_len 0 (length ps)) u action row) rows (keys_of left) (keys_of s.actions)
     → ByAction s ps rows
 rows_made s ps rows left none m u action found =

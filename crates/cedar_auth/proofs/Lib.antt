@@ -6,6 +6,7 @@ pub mod Headlines
 pub mod Listed
 pub mod Makings
 pub mod PoliciesAt
+pub mod Reached
 pub mod Responses
 pub mod Sifts
 pub mod Taken

@@ -1,29 +1,46 @@
 //! Which policies a request can satisfy, by the types of its entities and by its action.
-ghost use Rattle.std.specs.Prelude.{◌≡◌, IfOk, length};
+ghost use Rattle.std.specs.Prelude.{◌≡◌, IfOk, length, option_copied};
 ghost use Rattle.std.specs.List.{range_with_len};
-ghost use Rattle.cedar_auth.specs.Private.Sifting.{ByAction, ByPrincipal, ByResource, OfAction, OfPrincipal, positions_at};
+ghost use Rattle.cedar_auth.specs.Private.Sifting.{ByAction, ByPrincipal, ByResource, OfAction, OfPrincipal, OfResource, cell_at};
 
+use crate::cell::Cell;
 use crate::question::Question;
 use crate::sifting::sifted;
 use cedar_ast::PolicySet;
+use cedar_index::Index;
 use cedar_schema::{Action, Schema};
 use cedar_value::{Name, Uid};
 use std::alloc::{AllocError, Global};
 use std::collections::{BTreeMap, BTreeSet};
 
-// For each type of resources the positions of the candidates.
-type ByResource = BTreeMap<Name, Vec<usize>>;
+// For each type of resources the candidates.
+type ByResource = BTreeMap<Name, Cell>;
 
 // The same for each type of principals.
 type ByPrincipal = BTreeMap<Name, ByResource>;
 
-/// For each environment of a schema the positions of the policies whose scopes may be met in it, ascending.
+/// For each environment of a schema the policies whose scopes may be met in it.
 #[derive(Drop)]
 pub(crate) struct Candidates {
     rows: BTreeMap<Uid, ByPrincipal>,
 }
 
-// For each of these types of resources the positions that it leaves.
+// What is kept for a type of resources: the positions that it leaves.
+fn of_resource(
+    alloc: Global,
+    schema: &Schema,
+    policies: &PolicySet,
+    ty: &Name,
+    positions: &[usize],
+) -> Result<Cell, AllocError>
+    ensures { IfOk result (OfResource schema.now policies.now.policies positions.now ty.now) }
+{
+    let positions = sifted(alloc, schema, policies, Question::Resource(ty), positions)?;
+    let index = Index::new(alloc, policies, &positions)?;
+    Ok(Cell { positions, index })
+}
+
+// For each of these types of resources what is kept for it.
 fn by_resource(
     alloc: Global,
     schema: &Schema,
@@ -35,8 +52,8 @@ fn by_resource(
 {
     let mut cells = BTreeMap::new(alloc);
     for ty in resources.iter() {
-        let left = sifted(alloc, schema, policies, Question::Resource(ty), positions)?;
-        cells.insert(ty.try_clone(alloc)?, left)?;
+        let cell = of_resource(alloc, schema, policies, ty, positions)?;
+        cells.insert(ty.try_clone(alloc)?, cell)?;
     }
     Ok(cells)
 }
@@ -122,20 +139,13 @@ impl Candidates {
         Ok(Candidates { rows })
     }
 
-    /// The positions that are kept for an action, a type of principals and a type of resources, ascending. Takes no
-    /// memory, and comparisons by the logarithm of the number of actions and of types.
-    pub(crate) fn positions(&self, action: &Uid, principal: &Name, resource: &Name) -> &[usize]
-        ensures { result.now ≡ positions_at self.now.rows action.now principal.now resource.now }
+    /// What is kept for an action, a type of principals and a type of resources. Takes no memory, and comparisons by the
+    /// logarithm of the number of actions and of types.
+    pub(crate) fn cell(&self, action: &Uid, principal: &Name, resource: &Name) -> Option<&Cell>
+        ensures { option_copied result ≡ cell_at self.now.rows action.now principal.now resource.now }
     {
-        let Some(row) = self.rows.get(action) else {
-            return &[];
-        };
-        let Some(cells) = row.get(principal) else {
-            return &[];
-        };
-        match cells.get(resource) {
-            Some(positions) => positions,
-            None => &[],
-        }
+        let row = self.rows.get(action)?;
+        let cells = row.get(principal)?;
+        cells.get(resource)
     }
 }

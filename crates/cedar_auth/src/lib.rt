@@ -19,6 +19,7 @@
 
 mod answer;
 mod candidates;
+mod cell;
 mod codes;
 mod law;
 mod not_ready;
@@ -27,6 +28,7 @@ mod part;
 mod question;
 mod ready;
 mod response;
+mod room;
 mod scope_tests;
 mod serving;
 mod sifting;

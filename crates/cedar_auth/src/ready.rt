@@ -1,6 +1,7 @@
 //! Policies that are ready to answer.
 ghost use Rattle.std.specs.Prelude.{ℕ, List, ◌≡◌, ◌≢◌, ◌↔◌, ◌<◌, length, Contains, IfErr, IfOk, IsTrue, OnOk};
 ghost use Rattle.std.specs.List.{range_with_len};
+ghost use Rattle.std.specs.List.Sorted.{IsStrictlyIncreasing};
 ghost use Rattle.cedar_ast.specs.Response.{ErringTree, response};
 ghost use Rattle.cedar_data.specs.declared.conform_fault.ConformFault.TheVariants.{OutOfMemory};
 ghost use Rattle.cedar_entities.specs.Bytes.{BytesDenote, BytesHaveFault};
@@ -14,7 +15,7 @@ ghost use Rattle.cedar_auth.specs.AnswerLine.{AnswersLine};
 ghost use Rattle.cedar_auth.specs.Candidates.{AreCandidates, OthersAreFalse};
 ghost use Rattle.cedar_auth.specs.Codes.{IsPartAt};
 ghost use Rattle.cedar_auth.specs.Headline.{IsAnsweredSoundlyWith};
-ghost use Rattle.cedar_auth.specs.Private.Sifting.{SiftedBy};
+ghost use Rattle.cedar_auth.specs.Private.Sifting.{LeavesFalse, SiftedBy};
 ghost use Rattle.cedar_auth.specs.Private.Tally.{tally_of};
 
 use crate::candidates::Candidates;
@@ -28,6 +29,7 @@ use cedar_code::Code;
 use cedar_conform::read_request;
 use cedar_data::{ConformFault, read_values_belong};
 use cedar_entities::read_entities;
+use cedar_index::Selection;
 use cedar_schema::tests_of_schemas_decide;
 use cedar_store::Store;
 use cedar_tokens::uid_or_none;
@@ -154,8 +156,9 @@ impl Ready {
     {
         // A law, which runs nothing.
         self.soundness();
+        let mut selection = Selection::new(alloc);
         let mut tally = Tally::new(alloc);
-        self.tally(alloc, request, &mut tally)?;
+        self.tally(alloc, request, &mut selection, &mut tally)?;
         Ok(tally.into_response())
     }
 
@@ -167,7 +170,10 @@ impl Ready {
     {
         // A law of schemas, which does nothing.
         self.validated.schema().well_formedness();
-        self.candidates.positions(&request.action, &request.principal.ty, &request.resource.ty)
+        match self.candidates.cell(&request.action, &request.principal.ty, &request.resource.ty) {
+            Some(cell) => &cell.positions,
+            None => &[],
+        }
     }
 
     /// The positions of the candidates for a request that fits, ascending: of the policies whose scopes may be met by its
@@ -185,22 +191,41 @@ impl Ready {
         self.positions(request)
     }
 
-    // Runs the code of the candidates for the request, in order, and gathers how they ended.
+    // Selects the candidates that the request's own entities reach. Each other policy is false.
+    fn select<'r>(
+        &'r self,
+        request: &Request,
+        selection: &mut Selection<'r>,
+    ) -> Result<(), AllocError>
+        requires { Fits self.now.schema request.now }
+        ensures ascend { OnOk result (IsStrictlyIncreasing selection.new) }
+        ensures others { OnOk result (LeavesFalse self.now.policies.policies request.now self.now.world selection.new) }
+    {
+        // A law of schemas, which does nothing.
+        self.validated.schema().well_formedness();
+        match self.candidates.cell(&request.action, &request.principal.ty, &request.resource.ty) {
+            Some(cell) => cell.index.select(request, &self.store, selection),
+            None => {
+                selection.clear();
+                Ok(())
+            }
+        }
+    }
+
+    // Runs the code of the policies that are selected for the request, in order, and gathers how they ended.
     pub(crate) fn tally<'r>(
         &'r self,
         alloc: Global,
         request: &Request,
+        selection: &mut Selection<'r>,
         tally: &mut Tally<'r>,
     ) -> Result<(), AllocError>
         requires { Fits self.now.schema request.now }
         ensures { OnOk result (tally.new ≡ tally_of request.now self.now.world self.now.policies.policies) }
     {
-        // Laws, which run nothing.
-        candidates_are_enough();
-        self.validated.schema().well_formedness();
-        let positions = self.positions(request);
+        self.select(request, selection)?;
         self.validated
-            .tally(alloc, request, &self.store, positions, tally)
+            .tally(alloc, request, &self.store, selection.positions(), tally)
     }
 
     /// Every request that fits is answered soundly: what [`engine_is_sound`] says of these policies, under their settings,

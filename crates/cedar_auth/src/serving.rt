@@ -13,7 +13,7 @@ ghost use Rattle.cedar_auth.specs.Headline.{IsAnsweredSoundlyWith};
 
 use crate::answer::{append_refusal, append_response};
 use crate::ready::Ready;
-use crate::tally::Tally;
+use crate::room::Room;
 use cedar_data::ConformFault;
 use cedar_lines::{Engine, ServeFault, Sink, Source};
 use std::alloc::{AllocError, Global};
@@ -39,22 +39,22 @@ fn append_fault(alloc: Global, fault: &ConformFault, out: &mut Vec<u8>) -> Resul
 }
 
 impl<'r> Engine for Answering<'r> {
-    type Buffers = Tally<'r>;
+    type Buffers = Room<'r>;
 
     ghost answers = { λ answering line text. AnswersLine answering.ready.now line text };
 
     fn answer_line(
         &self,
         alloc: Global,
-        buffers: &mut Tally<'r>,
+        buffers: &mut Room<'r>,
         line: &[u8],
         out: &mut Vec<u8>,
     ) -> Result<(), AllocError> {
         let ready = self.ready;
         match ready.read(alloc, line) {
             Ok(request) => {
-                ready.tally(alloc, &request, buffers)?;
-                append_response(alloc, &buffers.told(), out)?;
+                ready.tally(alloc, &request, &mut buffers.selection, &mut buffers.tally)?;
+                append_response(alloc, &buffers.tally.told(), out)?;
                 Ok(())
             }
             Err(fault) => {
@@ -104,6 +104,6 @@ pub fn serve<S: Source, K: Sink>(
     // Laws, which run nothing.
     ready.soundness();
     ready.lines_have_answers();
-    let mut buffers = Tally::new(alloc);
+    let mut buffers = Room::new(alloc);
     cedar_lines::serve(alloc, &Answering { ready }, &mut buffers, source, sink)
 }

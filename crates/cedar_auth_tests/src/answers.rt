@@ -1,5 +1,6 @@
 //! Policies that strict validation accepts, with their answers, each worked out from the rules of evaluation and
 //! authorization (Cedar language reference).
+use crate::candidates::SCOPES;
 use crate::world::{Asked, ready, request, validated};
 use cedar_ast::{Decision, EvaluationError};
 use cedar_auth::{Ready, Response, Validated, engine_is_sound};
@@ -103,6 +104,24 @@ const ROWS: [(&str, Asked, &str); 27] = [
     ("permit(principal, action, resource) when { -(-9223372036854775808) < 0 };", DELETE, "deny!overflow policy0"),
 ];
 
+const BOB_VIEWS_NOTHING: Asked = Asked {
+    ty: "User",
+    id: "bob",
+    n: Some(0),
+    doc: "gone",
+};
+
+/// What is asked of policies whose scopes name entities, and of others: those run whose entity is the one that asks or is
+/// asked for, or one above it, and they are told in the order of the set.
+#[rattlefmt::skip]
+const SCOPE_ROWS: [(&str, Asked, &str); 5] = [
+    (SCOPES, VIEW, "allow policy0 policy1 policy2 policy3 policy4 policy6 policy8 policy9"),
+    (SCOPES, DELETE, "allow policy0 policy1 policy2 policy3 policy4 policy6 policy8"),
+    (SCOPES, BOB_DELETES, "allow policy0 policy3 policy6 policy8"),
+    (SCOPES, BOB_VIEWS_NOTHING, "allow policy0 policy3 policy8 policy9"),
+    (SCOPES, EVE_VIEWS, "allow policy0 policy6 policy8 policy9"),
+];
+
 fn decision_name(decision: Decision) -> &'static str {
     match decision {
         Decision::Allow => "allow",
@@ -181,6 +200,11 @@ fn check_answers(rt: &impl Abort, alloc: Global, rows: &[(&str, Asked, &str)]) -
 #[test]
 fn answers_worked_examples(rt: HostRuntime) -> Result<(), Fail> {
     check_answers(&rt, rt.alloc(), &ROWS)
+}
+
+#[test]
+fn answers_by_each_form_of_a_scope(rt: HostRuntime) -> Result<(), Fail> {
+    check_answers(&rt, rt.alloc(), &SCOPE_ROWS)
 }
 
 #[test]

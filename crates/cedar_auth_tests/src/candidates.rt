@@ -30,7 +30,7 @@ const EVE_VIEWS: Asked = Asked {
 };
 
 /// A policy for each form of a scope.
-const SCOPES: &str = r#"permit(principal, action, resource);
+pub const SCOPES: &str = r#"permit(principal, action, resource);
 permit(principal == User::"ann", action, resource);
 permit(principal in Team::"t", action, resource);
 permit(principal is User, action, resource);

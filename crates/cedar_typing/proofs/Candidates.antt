@@ -56,15 +56,15 @@ environment_action (x ∷ xs) env m =
     (λ h. there x.0 (keys_of xs) env.action (environment_action xs env h))
     (in_either (with_principals x.0 x.1 x.1.principals) (environments_of xs) env m)
 
-abbrev says : Bool → Answer Datum
+abbrev pub says : Bool → Answer Datum
 says b = Ok (boolean b)
 
 module _ (s : SchemaTree) (env : Environment) (q : Request) (w : World) (apart : AreTypesApart s) (conforms : Conforms s w) (fits : FitsIn s env q) where
   -- what an expression gives, and what follows where it is true
-  record Tested (e : Expression) (P : Type 0) : Type 0 where
-    truth : Bool
-    gives : eval e q w ≡ says truth
-    meets : truth ≡ true → P
+  pub record Tested (e : Expression) (P : Type 0) : Type 0 where
+    pub truth : Bool
+    pub gives : eval e q w ≡ says truth
+    pub meets : truth ≡ true → P
 
   related : (v u : Uid) (n : List ℕ) → v.ty ≡ n → (same_uid v u || below w v u) ≡ true → IsOrDescends s n u.ty
   related v u n k e =
@@ -91,7 +91,7 @@ module _ (s : SchemaTree) (env : Environment) (q : Request) (w : World) (apart :
     meets = λ e. sym k ∙ (bytes_eq-Decides v.ty m).0 e;
   }
 
-  entity_tested : (x : Variable) (v : Uid) (n : List ℕ) (sc : EntityScope) → variable_of x q ≡ uid v → v.ty ≡ n → Tested (entity_scope_of x sc) (MayMeet s n sc)
+  pub entity_tested : (x : Variable) (v : Uid) (n : List ℕ) (sc : EntityScope) → variable_of x q ≡ uid v → v.ty ≡ n → Tested (entity_scope_of x sc) (MayMeet s n sc)
   entity_tested x v n entity.Any is k = record { truth = true; gives = refl; meets = λ e. tt }
   entity_tested x v n (entity.Equal u) is k = record {
     truth = same_uid v u;
@@ -117,7 +117,7 @@ module _ (s : SchemaTree) (env : Environment) (q : Request) (w : World) (apart :
   is_in_one : (us : List Uid) → list_any (is_or_below s w apart conforms q.action) us ≡ true → IsInOne s q.action us
   is_in_one us e = (any_decides (is_or_below s w apart conforms q.action) (λ v. (q.action ≡ v) ⊎ ActionDescends s q.action v) us (λ v. is_or_below-Decides s w apart conforms q.action v declared)).0 e
 
-  action_tested : (sc : ActionScope) → Tested (action_scope_of sc) (Meets s q.action sc)
+  pub action_tested : (sc : ActionScope) → Tested (action_scope_of sc) (Meets s q.action sc)
   action_tested action.Any = record { truth = true; gives = refl; meets = λ e. tt }
   action_tested (action.Equal u) = record { truth = same_uid q.action u; gives = refl; meets = λ e. (same_uid-Decides q.action u).0 e }
   action_tested (action.In u) = record { truth = is_or_below s w apart conforms q.action u; gives = refl; meets = λ e. (is_or_below-Decides s w apart conforms q.action u declared).0 e }
@@ -128,7 +128,7 @@ module _ (s : SchemaTree) (env : Environment) (q : Request) (w : World) (apart :
   }
 
   -- one false scope makes the whole false
-  whole : (a b c : Bool) (x y z rest : Answer Datum) → x ≡ says a → y ≡ says b → z ≡ says c → ((a ≡ true) × (b ≡ true) × (c ≡ true) → ⊥)
+  pub whole : (a b c : Bool) (x y z rest : Answer Datum) → x ≡ says a → y ≡ says b → z ≡ says c → ((a ≡ true) × (b ≡ true) × (c ≡ true) → ⊥)
       → with_answer x (λ v. and_of v (with_answer y (λ v. and_of v (with_answer z (λ v. and_of v rest))))) ≡ says false
   whole false b c x y z rest d e f n = ap (λ i. with_answer i (λ v. and_of v (with_answer y (λ v. and_of v (with_answer z (λ v. and_of v rest)))))) d
   whole true false c x y z rest d e f n = ap₂ (λ i j. with_answer i (λ v. and_of v (with_answer j (λ v. and_of v (with_answer z (λ v. and_of v rest)))))) d e

@@ -1,9 +1,6 @@
 -- What a `Validated` and a `Ready` keep.
-use Rattle.std.specs.Prelude.{◌≡◌, ℕ, List, map}
-use Rattle.std.specs.Global.{Vec}
-use Rattle.std.specs.BTreeMap.{BTreeMap}
+use Rattle.std.specs.Prelude.{◌≡◌, List, map}
 use Rattle.cedar_value.specs.World.{World}
-use Rattle.cedar_value.specs.declared.uid.Uid.{Uid}
 use Rattle.cedar_ast.specs.PolicyTree.{PolicyTree}
 use Rattle.cedar_schema.specs.SchemaTree.{SchemaTree}
 use Rattle.cedar_schema.specs.Conformance.{Conforms}
@@ -11,7 +8,7 @@ use Rattle.cedar_code.specs.CodeView.{CodeView}
 use Rattle.cedar_typing.specs.declared.settings.Settings.{Settings}
 use Rattle.cedar_auth.specs.Codes.{policy_code}
 use Rattle.cedar_auth.specs.Validation.{IsValidatedWith}
-use Rattle.cedar_auth.specs.Private.Sifting.{ByAction}
+use Rattle.cedar_auth.specs.Private.Sifting.{ByAction, Rows}
 
 -- the codes are those of the policies, one by one
 abbrev pub AreCodes : List CodeView → List PolicyTree → Type 0
@@ -21,6 +18,6 @@ pub record IsKept (settings : Settings) (s : SchemaTree) (ps : List PolicyTree) 
   pub accepted : IsValidatedWith settings s ps
   pub compiled : AreCodes codes ps
 
-pub record IsReady (s : SchemaTree) (ps : List PolicyTree) (w : World) (rows : BTreeMap Uid (BTreeMap (List ℕ) (BTreeMap (List ℕ) (Vec ℕ)))) : Type 0 where
+pub record IsReady (s : SchemaTree) (ps : List PolicyTree) (w : World) (rows : Rows) : Type 0 where
   pub conforms : Conforms s w
   pub candidates : ByAction s ps rows

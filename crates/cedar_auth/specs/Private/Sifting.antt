@@ -1,13 +1,18 @@
 -- How positions are sifted, question by question.
-use Rattle.std.specs.Prelude.{◌≡◌, ℕ, List, [], ◌∷◌, Contains, Option, Some, None, option_map, option_and_then, unwrap_or, length}
-use Rattle.std.specs.Global.{Vec}
+use Rattle.std.specs.Prelude.{◌≡◌, ℕ, List, [], ◌∷◌, Contains, Option, Some, None, Ok, false, option_and_then, length}
 use Rattle.std.specs.List.{slice_get, filter_map, range_with_len}
 use Rattle.std.specs.BTreeMap.{BTreeMap, get}
+use Rattle.cedar_value.specs.Datum.{boolean}
 use Rattle.cedar_value.specs.Order.{text_cmp, uid_cmp}
+use Rattle.cedar_value.specs.World.{World}
+use Rattle.cedar_value.specs.declared.request.Request.{Request}
 use Rattle.cedar_value.specs.declared.uid.Uid.{Uid}
 use Rattle.cedar_ast.specs.PolicyTree.{PolicyTree}
+use Rattle.cedar_ast.specs.Response.{meaning}
 use Rattle.cedar_schema.specs.SchemaTree.{SchemaTree, ActionTree, action_at}
 use Rattle.cedar_typing.specs.Candidates.{MayMeet, Meets}
+use Rattle.cedar_index.specs.Index.{IsIndexOf}
+use Rattle.cedar_auth.specs.declared.cell.Cell.{Cell}
 use Rattle.cedar_auth.specs.declared.question.Question.{Question}
 use Rattle.cedar_auth.specs.declared.question.Question.TheVariants.{Action, Principal, Resource}
 
@@ -36,37 +41,54 @@ SiftedBy ps P ks js = Sifted (λ k. OfPolicy P (slice_get ps k)) ks js
 abbrev pub policies_at : List PolicyTree → List ℕ → List PolicyTree
 policies_at ps ks = filter_map (slice_get ps) ks
 
+-- a policy at another position than these is false
+abbrev pub LeavesFalse : List PolicyTree → Request → World → List ℕ → Type 0
+LeavesFalse ps q w ks = (i : ℕ) (p : PolicyTree) → slice_get ps i ≡ Some p → ¬ Contains ks i → meaning q w p ≡ Ok (boolean false)
+
 -- ---- what is kept for each environment
 
--- the positions that a type of resources leaves
-abbrev pub OfResource : SchemaTree → List PolicyTree → List ℕ → List ℕ → Vec ℕ → Type 0
-OfResource s ps ks m v = SiftedBy ps (λ p. MayMeet s m p.scope.resource) ks v.items
+abbrev pub Cells : Type 0
+Cells = BTreeMap (List ℕ) Cell
+
+abbrev pub Row : Type 0
+Row = BTreeMap (List ℕ) Cells
+
+abbrev pub Rows : Type 0
+Rows = BTreeMap Uid Row
+
+-- the positions that a type of resources leaves, and their index
+abbrev pub OfResource : SchemaTree → List PolicyTree → List ℕ → List ℕ → Cell → Type 0
+OfResource s ps ks m cell = SiftedBy ps (λ p. MayMeet s m p.scope.resource) ks cell.positions.items × IsIndexOf ps cell.positions.items cell.index
 
 -- the same for each type of resources
-abbrev pub ByResource : SchemaTree → List PolicyTree → List ℕ → List (List ℕ) → BTreeMap (List ℕ) (Vec ℕ) → Type 0
+abbrev pub ByResource : SchemaTree → List PolicyTree → List ℕ → List (List ℕ) → Cells → Type 0
 ByResource s ps ks resources cells =
-    (m : List ℕ) → Contains resources m → (v : Vec ℕ) × (get text_cmp cells m ≡ Some v) × OfResource s ps ks m v
+    (m : List ℕ) → Contains resources m → (cell : Cell) × (get text_cmp cells m ≡ Some cell) × OfResource s ps ks m cell
 
 -- for a type of principals, what is kept of the positions that it leaves
-abbrev pub OfPrincipal : SchemaTree → List PolicyTree → List ℕ → ActionTree → List ℕ → BTreeMap (List ℕ) (Vec ℕ) → Type 0
+abbrev pub OfPrincipal : SchemaTree → List PolicyTree → List ℕ → ActionTree → List ℕ → Cells → Type 0
 OfPrincipal s ps ks action n cells =
     (js : List ℕ) × SiftedBy ps (λ p. MayMeet s n p.scope.principal) ks js × ByResource s ps js action.resources cells
 
 -- the same for each type of principals
-abbrev pub ByPrincipal : SchemaTree → List PolicyTree → List ℕ → ActionTree → BTreeMap (List ℕ) (BTreeMap (List ℕ) (Vec ℕ)) → Type 0
+abbrev pub ByPrincipal : SchemaTree → List PolicyTree → List ℕ → ActionTree → Row → Type 0
 ByPrincipal s ps ks action row =
-    (n : List ℕ) → Contains action.principals n → (cells : BTreeMap (List ℕ) (Vec ℕ)) × (get text_cmp row n ≡ Some cells) × OfPrincipal s ps ks action n cells
+    (n : List ℕ) → Contains action.principals n → (cells : Cells) × (get text_cmp row n ≡ Some cells) × OfPrincipal s ps ks action n cells
 
 -- for an action, what is kept of the positions that it leaves
-abbrev pub OfAction : SchemaTree → List PolicyTree → List ℕ → Uid → ActionTree → BTreeMap (List ℕ) (BTreeMap (List ℕ) (Vec ℕ)) → Type 0
+abbrev pub OfAction : SchemaTree → List PolicyTree → List ℕ → Uid → ActionTree → Row → Type 0
 OfAction s ps ks u action row = (js : List ℕ) × SiftedBy ps (λ p. Meets s u p.scope.action) ks js × ByPrincipal s ps js action row
 
 -- the same for each action, of all positions
-abbrev pub ByAction : SchemaTree → List PolicyTree → BTreeMap Uid (BTreeMap (List ℕ) (BTreeMap (List ℕ) (Vec ℕ))) → Type 0
+abbrev pub ByAction : SchemaTree → List PolicyTree → Rows → Type 0
 ByAction s ps rows =
-    (u : Uid) (action : ActionTree) → action_at s u ≡ Some action → (row : BTreeMap (List ℕ) (BTreeMap (List ℕ) (Vec ℕ))) × (get uid_cmp rows u ≡ Some row) × OfAction s ps (range_with_len 0 (length ps)) u action row
+    (u : Uid) (action : ActionTree) → action_at s u ≡ Some action → (row : Row) × (get uid_cmp rows u ≡ Some row) × OfAction s ps (range_with_len 0 (length ps)) u action row
 
 -- what is kept for an action and two types
-abbrev pub positions_at : BTreeMap Uid (BTreeMap (List ℕ) (BTreeMap (List ℕ) (Vec ℕ))) → Uid → List ℕ → List ℕ → List ℕ
-positions_at rows u n m =
-    unwrap_or (option_map (λ v. v.items) (option_and_then (λ cells. get text_cmp cells m) (option_and_then (λ row. get text_cmp row n) (get uid_cmp rows u)))) []
+abbrev pub cell_at : Rows → Uid → List ℕ → List ℕ → Option Cell
+cell_at rows u n m = option_and_then (λ cells. get text_cmp cells m) (option_and_then (λ row. get text_cmp row n) (get uid_cmp rows u))
+
+-- the positions of a cell, and none where there is no cell
+abbrev pub positions_in : Option Cell → List ℕ
+positions_in None = []
+positions_in (Some cell) = cell.positions.items

@@ -1,4 +1,4 @@
-use Rattle.std.proofs.Common.{rules, Some, subst}
+use Rattle.std.proofs.Common.{Some, subst}
 use Rattle.std.specs.BTreeMap.{Updates}
 use Rattle.std.proofs.lemmas.Cmp.{nat_list_cmp_total}
 use Rattle.cedar_value.specs.Order.{text_cmp}

@@ -1,4 +1,4 @@
-use Rattle.std.proofs.Common.{rules, Some, subst}
+use Rattle.std.proofs.Common.{Some, subst}
 use Rattle.std.specs.BTreeMap.{Updates}
 use Rattle.std.proofs.lemmas.Cmp.{nat_list_cmp_total}
 use Rattle.cedar_value.specs.Order.{text_cmp}
@@ -9,13 +9,13 @@ use Rattle.cedar_auth.proofs.candidates.by_resource.Goals as goal
 
 pub loop-ty-preserved : goal.loop-ty-preserved
 loop-ty-preserved c =
-    making_more nat_list_cmp_total text_same (OfResource c.args.schema.now c.args.policies.now.policies c.args.positions.now) c.loop-ty.cells c.insert.new.self c.loop-ty.ty-iterator c.next.new.self c.args.resources.now.keys c.in-Some.ty.now c.in_ok-left.left c.in-Some.ensures.steps
-    (subst (λ k. Updates text_cmp c.loop-ty.cells c.insert.new.self k (Some c.in_ok-left.left)) c.in_ok-try_clone.ensures c.in_ok-insert.ensures.updates) c.in_ok-left.ensures c.loop-ty.invariant
+    making_more nat_list_cmp_total text_same (OfResource c.args.schema.now c.args.policies.now.policies c.args.positions.now) c.loop-ty.cells c.insert.new.self c.loop-ty.ty-iterator c.next.new.self c.args.resources.now.keys c.in-Some.ty.now c.in_ok-cell.cell c.in-Some.ensures.steps
+    (subst (λ k. Updates text_cmp c.loop-ty.cells c.insert.new.self k (Some c.in_ok-cell.cell)) c.in_ok-try_clone.ensures c.in_ok-insert.ensures.updates) c.in_ok-cell.ensures c.loop-ty.invariant
 
 pub loop-ty-preserved-in_ok-insert : goal.loop-ty-preserved-in_ok-insert
 loop-ty-preserved-in_ok-insert c =
-    making_more nat_list_cmp_total text_same (OfResource c.args.schema.now c.args.policies.now.policies c.args.positions.now) c.loop-ty.cells c.insert.new.self c.loop-ty.ty-iterator c.next.new.self c.args.resources.now.keys c.in-Some.ty.now c.in_ok-left.left c.in-Some.ensures.steps
-    (subst (λ k. Updates text_cmp c.loop-ty.cells c.insert.new.self k (Some c.in_ok-left.left)) c.in_ok-try_clone.ensures c.in_ok-insert.ensures.updates) c.in_ok-left.ensures c.loop-ty.invariant
+    making_more nat_list_cmp_total text_same (OfResource c.args.schema.now c.args.policies.now.policies c.args.positions.now) c.loop-ty.cells c.insert.new.self c.loop-ty.ty-iterator c.next.new.self c.args.resources.now.keys c.in-Some.ty.now c.in_ok-cell.cell c.in-Some.ensures.steps
+    (subst (λ k. Updates text_cmp c.loop-ty.cells c.insert.new.self k (Some c.in_ok-cell.cell)) c.in_ok-try_clone.ensures c.in_ok-insert.ensures.updates) c.in_ok-cell.ensures c.loop-ty.invariant
 
 pub returns : goal.returns
 returns c =

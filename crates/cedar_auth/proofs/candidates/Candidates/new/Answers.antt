@@ -1,6 +1,5 @@
-use Rattle.std.proofs.Common.{◌≡◌, ℕ, List, ◌∷◌, length, Contains, Some, sym, ap, subst, ◌∙◌}
-use Rattle.std.specs.BTreeMap.{BTreeMap, Updates}
-use Rattle.std.specs.Global.{Vec}
+use Rattle.std.proofs.Common.{◌≡◌, List, length, Contains, Some, sym, ap, subst, ◌∙◌}
+use Rattle.std.specs.BTreeMap.{Updates}
 use Rattle.std.specs.List.{range_with_len}
 use Rattle.std.specs.Map.{keys_of}
 use Rattle.cedar_value.specs.Order.{uid_cmp}
@@ -8,7 +7,7 @@ use Rattle.cedar_value.specs.Private.Laws.{uid_total}
 use Rattle.cedar_value.specs.Private.Same.{uid_same}
 use Rattle.cedar_value.specs.declared.uid.Uid.{Uid}
 use Rattle.cedar_schema.specs.SchemaTree.{ActionTree, action_at}
-use Rattle.cedar_auth.specs.Private.Sifting.{OfAction}
+use Rattle.cedar_auth.specs.Private.Sifting.{Row, OfAction}
 use Rattle.cedar_auth.proofs.CandidateRows.{row_right, rows_made}
 use Rattle.cedar_auth.proofs.Listed.{here, there}
 use Rattle.cedar_auth.proofs.Makings.{making_more}
@@ -21,7 +20,7 @@ loop-uid-preserved c =
     let u = c.in-Some.uid.now in
     let a = c.in-Some.action.now in
     let row = c.in_ok-row.row in
-    let Right = λ (u : Uid) (row : BTreeMap (List ℕ) (BTreeMap (List ℕ) (Vec ℕ))). (action : ActionTree) → action_at s u ≡ Some action → OfAction s ps (range_with_len 0 (length ps)) u action row in
+    let Right = λ (u : Uid) (row : Row). (action : ActionTree) → action_at s u ≡ Some action → OfAction s ps (range_with_len 0 (length ps)) u action row in
     record {
       making = making_more uid_total uid_same Right c.loop-uid.rows c.insert.new.self (keys_of c.loop-uid.uid-iterator) (keys_of c.next.new.self) (keys_of s.actions) u row (ap (λ (es : List (Uid × ActionTree)). keys_of es) c.in-Some.ensures.steps)
           (subst (λ k. Updates uid_cmp c.loop-uid.rows c.insert.new.self k (Some row)) c.in_ok-try_clone.ensures c.in_ok-insert.ensures.updates)
@@ -39,7 +38,7 @@ loop-uid-preserved-in_ok-insert c =
     let u = c.in-Some.uid.now in
     let a = c.in-Some.action.now in
     let row = c.in_ok-row.row in
-    let Right = λ (u : Uid) (row : BTreeMap (List ℕ) (BTreeMap (List ℕ) (Vec ℕ))). (action : ActionTree) → action_at s u ≡ Some action → OfAction s ps (range_with_len 0 (length ps)) u action row in
+    let Right = λ (u : Uid) (row : Row). (action : ActionTree) → action_at s u ≡ Some action → OfAction s ps (range_with_len 0 (length ps)) u action row in
     record {
       making = making_more uid_total uid_same Right c.loop-uid.rows c.insert.new.self (keys_of c.loop-uid.uid-iterator) (keys_of c.next.new.self) (keys_of s.actions) u row (ap (λ (es : List (Uid × ActionTree)). keys_of es) c.in-Some.ensures.steps)
           (subst (λ k. Updates uid_cmp c.loop-uid.rows c.insert.new.self k (Some row)) c.in_ok-try_clone.ensures c.in_ok-insert.ensures.updates)

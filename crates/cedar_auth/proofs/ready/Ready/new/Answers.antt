@@ -1,5 +1,7 @@
-use Rattle.std.proofs.Common.{subst}
+use Rattle.std.proofs.Common.{◌≢◌, subst}
 use Rattle.cedar_ast.specs.PolicySetTree.{PolicySetTree}
+use Rattle.cedar_data.specs.declared.conform_fault.ConformFault.TheVariants.{OutOfMemory}
+use Rattle.cedar_entities.specs.Bytes.{BytesHaveFault}
 use Rattle.cedar_schema.specs.Conformance.{Conforms}
 use Rattle.cedar_schema.specs.SchemaTree.{SchemaTree}
 use Rattle.cedar_auth.specs.Private.Sifting.{ByAction}
@@ -12,3 +14,7 @@ invariant_of-result c =
       candidates = subst (λ (s : SchemaTree). ByAction s c.args.validated.policies.policies rows) c.schema-2.ensures.value
           (subst (λ (set : PolicySetTree). ByAction c.schema-2.result.now set.policies rows) c.policies.ensures.value c.in-Ok-new.ensures);
     }
+
+pub returns-in-Err-clause-refused : goal.returns-in-Err-clause-refused
+returns-in-Err-clause-refused c =
+    subst (λ (s : SchemaTree). c.in-Err.fault ≢ OutOfMemory → BytesHaveFault s c.args.entities.now c.in-Err.fault) c.schema.ensures.value c.in-Err.ensures.refused

@@ -1,4 +1,4 @@
-use Rattle.std.proofs.Common.{◌++◌, inl, inr, refl, ap, subst, ◌∙◌}
+use Rattle.std.proofs.Common.{◌++◌, inl, inr, refl, ap, ◌∙◌}
 use Rattle.serde_json.specs.Written.{compact_text}
 use Rattle.cedar_ast.specs.Response.{ResponseTree, response}
 use Rattle.cedar_data.specs.Numbers.{number_of}

@@ -1,0 +1,34 @@
+use Rattle.std.proofs.Common.{subst, sym}
+use Rattle.std.proofs.lemmas.Result.{on_ok_weaker}
+use Rattle.std.specs.List.Sorted.{IsStrictlySortedBy}
+use Rattle.std.specs.Map.{keys_of}
+use Rattle.cedar_value.specs.Order.{uid_cmp}
+use Rattle.cedar_schema.specs.SchemaTree.{SchemaTree}
+use Rattle.cedar_schema.specs.WellFormed.{AreTypesApart}
+use Rattle.cedar_schema.specs.Conformance.{Fits}
+use Rattle.cedar_auth.specs.Private.Sifting.{LeavesFalse}
+use Rattle.cedar_auth.specs.Ready.{ReadyTree}
+use Rattle.cedar_auth.proofs.CandidateRows.{selected_for, found_always}
+use Rattle.cedar_auth.proofs.ready.Ready.select.Goals as goal
+
+pub returns-in-Some-clause-others : goal.returns-in-Some-clause-others
+returns-in-Some-clause-others c =
+    let inside = c.self.inside in
+    let q = c.args.request.now in
+    let schema = inside.validated.schema in
+    let ks = c.select.new.selection in
+    on_ok_weaker c.select.result
+    (λ reached. subst (λ (r : ReadyTree). LeavesFalse r.policies.policies q r.world ks) c.self.view_is
+    (selected_for schema inside.validated.policies.policies inside.store inside.candidates.rows c.self.invariant.candidates
+    (subst (λ (s : SchemaTree). IsStrictlySortedBy uid_cmp (keys_of s.actions)) c.schema.ensures.value c.well_formedness.ensures.in_order.1)
+    (subst (λ (s : SchemaTree). AreTypesApart s) c.schema.ensures.value c.well_formedness.ensures.apart)
+    c.self.invariant.conforms q c.in-Some.cell.now ks c.in-Some.ensures (subst (λ (r : ReadyTree). Fits r.schema q) (sym c.self.view_is) c.requires) reached))
+    c.select.ensures.reached
+
+pub returns-in-None-clause-others : goal.returns-in-None-clause-others
+returns-in-None-clause-others c =
+    let inside = c.self.inside in
+    let q = c.args.request.now in
+    absurd (found_always inside.validated.schema inside.validated.policies.policies inside.candidates.rows c.self.invariant.candidates
+    (subst (λ (s : SchemaTree). IsStrictlySortedBy uid_cmp (keys_of s.actions)) c.schema.ensures.value c.well_formedness.ensures.in_order.1)
+    q c.in-None.ensures (subst (λ (r : ReadyTree). Fits r.schema q) (sym c.self.view_is) c.requires))

@@ -1,0 +1,21 @@
+//! The room that answers take.
+use crate::tally::Tally;
+use cedar_index::Selection;
+use std::alloc::Global;
+
+/// The room for the policies that are selected for a request and for how they end, which is used again from request to request.
+#[derive(Drop)]
+pub struct Room<'r> {
+    pub(crate) selection: Selection<'r>,
+    pub(crate) tally: Tally<'r>,
+}
+
+impl<'r> Room<'r> {
+    /// Room for nothing yet. It takes no memory.
+    pub(crate) fn new(alloc: Global) -> Room<'r> {
+        Room {
+            selection: Selection::new(alloc),
+            tally: Tally::new(alloc),
+        }
+    }
+}

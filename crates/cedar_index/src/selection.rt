@@ -1,0 +1,91 @@
+//! The policies that are selected for a request.
+ghost use Rattle.std.specs.Prelude.{◌≡◌, ◌⊎◌, [], OnOk};
+ghost use Rattle.std.specs.List.Sorted.{IsStrictlyIncreasing};
+ghost use Rattle.cedar_value.specs.World.{Below};
+ghost use Rattle.cedar_value.specs.declared.uid.Uid.{Uid as UidTree};
+ghost use Rattle.cedar_index.specs.Private.Kept.{Holds, list_at};
+
+use crate::uid_lists::{UidLists, push_list, push_lists};
+use cedar_store::Store;
+use cedar_value::Uid;
+use std::alloc::{AllocError, Global};
+use std::marker::Model;
+
+/// Positions of policies, ascending, and the room for finding them, which is kept from request to request. Contracts see the
+/// list of the positions.
+#[derive(Drop)]
+pub struct Selection<'s> {
+    positions: Vec<usize>,
+    above: Vec<&'s Uid>,
+}
+
+impl<'s> Model for Selection<'s> {
+    ghost use Rattle.std.specs.Prelude.{ℕ, List};
+
+    ghost Value = { List ℕ };
+
+    ghost view = { λ s. s.positions.items };
+}
+
+impl<'s> Selection<'s> {
+    /// A selection of nothing. It takes no memory yet.
+    pub fn new(alloc: Global) -> Self
+        ensures { result ≡ [] }
+    {
+        Selection {
+            positions: Vec::new(alloc),
+            above: Vec::new(alloc),
+        }
+    }
+
+    /// The positions, lent.
+    pub fn positions(&self) -> &[usize]
+        ensures { result.now ≡ self.now }
+    {
+        &self.positions
+    }
+
+    /// Has the selection be of nothing, and keeps its room.
+    pub fn clear(&mut self)
+        ensures { self.new ≡ [] }
+    {
+        self.positions.clear();
+    }
+
+    // Begins anew with these positions.
+    pub(crate) fn begin(&mut self, positions: &[usize]) -> Result<(), AllocError>
+        ensures { OnOk result (Holds positions.now self.new) }
+    {
+        self.positions.clear();
+        self.positions.extend_from_slice(positions)
+    }
+
+    // Adds what is kept under the entity and under all that it lies below.
+    pub(crate) fn push_reached(
+        &mut self,
+        lists: &UidLists,
+        entity: &Uid,
+        store: &'s Store,
+    ) -> Result<(), AllocError>
+        ensures kept { OnOk result (Holds self.old self.new) }
+        ensures reached { OnOk result ((u : UidTree) → (entity.now ≡ u) ⊎ Below store.now entity.now u → Holds (list_at lists.now u) self.new) }
+    {
+        if lists.is_empty() {
+            return Ok(());
+        }
+        push_list(lists, entity, &mut self.positions)?;
+        self.above.clear();
+        store.ancestors(entity, &mut self.above)?;
+        push_lists(lists, &self.above, &mut self.positions)?;
+        Ok(())
+    }
+
+    // Puts the positions in order, each once.
+    pub(crate) fn sort(&mut self)
+        ensures kept { Holds self.old self.new }
+        ensures ascend { IsStrictlyIncreasing self.new }
+    {
+        self.positions.sort_unstable();
+        self.positions.dedup();
+    }
+}

@@ -9,11 +9,12 @@ pub mod ExpandLemmas
 pub mod ExpandedOrder
 pub mod FormLemmas
 pub mod InsertedKeys
+pub mod Joins
 pub mod ListLemmas
 pub mod Lookups
 pub mod NameEnds
 pub mod PlaceLemmas
-pub mod RowLemmas
+pub mod Numbered
 pub mod ShapeLemmas
 pub mod TypeLemmas
 pub mod Words

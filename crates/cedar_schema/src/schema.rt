@@ -11,15 +11,22 @@ ghost use Rattle.cedar_schema.specs.WellFormed.{AreActionContextsOrdered, AreCon
 mod action;
 mod ancestors;
 pub(crate) mod declarations;
+mod descents;
 mod entity_type;
 mod environment;
 pub(crate) mod members;
+mod numbers;
+mod order;
 pub(crate) mod reading;
+mod row;
 mod rows;
 
+use crate::schema::ancestors::types_above;
+use crate::schema::descents::Descents;
 use crate::schema::entity_type::EntityType;
 use crate::schema::environment::environments_of;
 use crate::schema::reading::read_schema;
+use crate::schema::row::Row;
 use crate::schema::rows::{action_rows, action_types, some_descends, type_rows};
 use crate::schema_fault::SchemaFault;
 pub use action::Action;
@@ -39,9 +46,10 @@ pub struct Schema {
     entities: BTreeMap<Name, EntityType>,
     actions: BTreeMap<Uid, Action>,
     environments: Vec<Environment>,
-    types_above: BTreeMap<Name, BTreeSet<Name>>,
-    actions_above: BTreeMap<Uid, BTreeSet<Uid>>,
+    types_above: Descents<Name>,
+    actions_above: Descents<Uid>,
     action_types: BTreeSet<Name>,
+    type_rows: BTreeMap<Name, Row>,
 }
 
 impl Model for Schema {
@@ -56,7 +64,7 @@ impl Model for Schema {
 
     ghost view = { λ s. record { entities = s.entities.entries; actions = s.actions.entries } };
 
-    ghost invariant = { λ s. IsKept (record { entities = s.entities.entries; actions = s.actions.entries }) s.environments.items s.types_above s.actions_above s.action_types };
+    ghost invariant = { λ s. IsKept (record { entities = s.entities.entries; actions = s.actions.entries }) s.environments.items s.types_above s.actions_above s.action_types s.type_rows };
 }
 
 impl Schema {
@@ -81,8 +89,9 @@ impl Schema {
         requires { IsWellFormed (record { entities = entities.entries; actions = actions.entries }) }
         ensures { Answers result [] (record { entities = entities.entries; actions = actions.entries }) }
     {
-        let types_above = type_rows(alloc, &entities)?;
+        let types_above = types_above(alloc, &entities)?;
         let actions_above = action_rows(alloc, &actions)?;
+        let type_rows = type_rows(alloc, &actions_above.rows)?;
         let environments = environments_of(alloc, &actions)?;
         let action_types = action_types(alloc, &actions)?;
         Ok(Schema {
@@ -92,6 +101,7 @@ impl Schema {
             types_above,
             actions_above,
             action_types,
+            type_rows,
         })
     }
 
@@ -186,16 +196,13 @@ impl Schema {
     fn entity_type_descends(&self, low: &Name, high: &Name) -> bool
         ensures { IsTrue result ↔ EntityTypeDescends self.now low.now high.now }
     {
-        match self.types_above.get(low) {
-            Some(row) => row.contains(high),
-            None => false,
-        }
+        self.types_above.descends(low, high)
     }
 
     /// Whether the one type descends from the other: an entity type by one or more links of
     /// `memberOfTypes`, an action's type where some action of it descends from some action of the
-    /// other. Takes no memory, and for types of actions time by the number of actions and of what
-    /// they descend from.
+    /// other. Takes no memory, and for types of actions time by the number of actions that others are
+    /// members of.
     pub fn type_descends(&self, low: &Name, high: &Name) -> bool
         ensures { IsTrue result ↔ TypeDescends self.now low.now high.now }
     {
@@ -206,7 +213,7 @@ impl Schema {
     fn action_type_descends(&self, low: &Name, high: &Name) -> bool
         ensures { IsTrue result ↔ ActionTypeDescends self.now low.now high.now }
     {
-        some_descends(&self.actions_above, low, high)
+        some_descends(&self.type_rows, &self.actions_above.numbers, low, high)
     }
 
     /// Whether the one action descends from the other by one or more links of `memberOf`. Takes no
@@ -214,9 +221,6 @@ impl Schema {
     pub fn action_descends(&self, low: &Uid, high: &Uid) -> bool
         ensures { IsTrue result ↔ ActionDescends self.now low.now high.now }
     {
-        match self.actions_above.get(low) {
-            Some(row) => row.contains(high),
-            None => false,
-        }
+        self.actions_above.descends(low, high)
     }
 }

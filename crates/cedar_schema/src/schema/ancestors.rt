@@ -2,14 +2,15 @@
 ghost use Rattle.std.specs.Prelude.{◌≡◌, IfOk};
 ghost use Rattle.cedar_value.specs.Order.{text_cmp, uid_cmp};
 ghost use Rattle.cedar_schema.specs.SchemaTree.{parents_of_type, parents_of_action};
-ghost use Rattle.cedar_schema.specs.Private.Kept.{AreAbove};
+ghost use Rattle.cedar_schema.specs.Private.Kept.{AreRows};
 
 use crate::schema::action::Action;
+use crate::schema::descents::{Descents, descents_of};
 use crate::schema::entity_type::EntityType;
-use cedar_closure::{Links, closure_from};
+use cedar_closure::Links;
 use cedar_value::{Name, Uid};
 use std::alloc::{AllocError, Global};
-use std::collections::{BTreeMap, BTreeSet};
+use std::collections::BTreeMap;
 
 // The links of `memberOfTypes`.
 #[derive(Clone, Copy)]
@@ -61,24 +62,22 @@ impl Links<Uid> for ActionLinks<'_> {
     ghost listed = { λ graph. actions_listed graph.declared.now.entries };
 }
 
-/// What an entity type descends from.
+/// What the entity types descend from.
 pub(crate) fn types_above(
     alloc: Global,
     declared: &BTreeMap<Name, EntityType>,
-    low: &Name,
-) -> Result<BTreeSet<Name>, AllocError>
-    ensures { IfOk result (AreAbove (parents_of_type declared.now.entries) text_cmp low.now) }
+) -> Result<Descents<Name>, AllocError>
+    ensures { IfOk result (AreRows text_cmp (parents_of_type declared.now.entries)) }
 {
-    closure_from(alloc, &TypeLinks { declared }, low)
+    descents_of(alloc, declared, &TypeLinks { declared })
 }
 
-/// What an action descends from.
+/// What the actions descend from.
 pub(crate) fn actions_above(
     alloc: Global,
     declared: &BTreeMap<Uid, Action>,
-    low: &Uid,
-) -> Result<BTreeSet<Uid>, AllocError>
-    ensures { IfOk result (AreAbove (parents_of_action declared.now.entries) uid_cmp low.now) }
+) -> Result<Descents<Uid>, AllocError>
+    ensures { IfOk result (AreRows uid_cmp (parents_of_action declared.now.entries)) }
 {
-    closure_from(alloc, &ActionLinks { declared }, low)
+    descents_of(alloc, declared, &ActionLinks { declared })
 }

@@ -1,56 +1,41 @@
-//! For each entity type and each action a row of what it descends from.
-ghost use Rattle.std.specs.Prelude.{◌≡◌, ◌≢◌, IfOk, IfErr, OnOk, All, Some, bytes_eq};
+//! What actions descend from, and their types.
+ghost use Rattle.std.specs.Prelude.{◌≡◌, ◌≢◌, ◌||◌, ◌&&◌, ℕ, List, IfOk, IfErr, OnOk, All, Some, bytes_eq};
 ghost use Rattle.std.specs.List.{list_any};
 ghost use Rattle.std.specs.BTreeMap.{get};
 ghost use Rattle.std.specs.Map.{keys_of};
-ghost use Rattle.cedar_value.specs.Order.{text_cmp, uid_cmp};
+ghost use Rattle.cedar_bits.specs.Bits.{has_bit};
+ghost use Rattle.cedar_value.specs.Order.{uid_cmp};
 ghost use Rattle.cedar_value.specs.declared.uid.Uid.{Uid as UidTree};
-ghost use Rattle.cedar_schema.specs.SchemaTree.{parents_of_type, parents_of_action};
+ghost use Rattle.cedar_schema.specs.SchemaTree.{parents_of_action};
 ghost use Rattle.cedar_closure.specs.Closure.{LeadsTo};
-ghost use Rattle.cedar_schema.specs.Private.Kept.{AreRows, HasTypes, links_types};
+ghost use Rattle.cedar_schema.specs.Private.Kept.{AreRows, AreTypeRows, HasTypes, has_number, type_bit};
 ghost use Rattle.cedar_schema.specs.declared.schema_fault.SchemaFault.TheVariants.{OutOfMemory, ActionCycle};
 
 use crate::schema::action::Action;
-use crate::schema::ancestors::{actions_above, types_above};
-use crate::schema::entity_type::EntityType;
+use crate::schema::ancestors::actions_above;
+use crate::schema::descents::Descents;
+use crate::schema::row::Row;
 use crate::schema_fault::SchemaFault;
 use cedar_value::{Name, Uid};
 use std::alloc::{AllocError, Global};
 use std::collections::{BTreeMap, BTreeSet};
 
-/// The rows of the entity types.
-pub(crate) fn type_rows(
-    alloc: Global,
-    entities: &BTreeMap<Name, EntityType>,
-) -> Result<BTreeMap<Name, BTreeSet<Name>>, AllocError>
-    ensures { IfOk result (AreRows text_cmp (parents_of_type entities.now.entries)) }
-{
-    let mut rows = BTreeMap::new(alloc);
-    for (name, _) in entities.iter() {
-        let above = types_above(alloc, entities, name)?;
-        rows.insert(name.try_clone(alloc)?, above)?;
-    }
-    Ok(rows)
-}
-
-/// The rows of the actions, none of which may be above itself.
+/// What the actions descend from, where none may descend from itself.
 pub(crate) fn action_rows(
     alloc: Global,
     actions: &BTreeMap<Uid, Action>,
-) -> Result<BTreeMap<Uid, BTreeSet<Uid>>, SchemaFault>
+) -> Result<Descents<Uid>, SchemaFault>
     ensures rows { IfOk result (AreRows uid_cmp (parents_of_action actions.now.entries)) }
     ensures acyclic { OnOk result ((u : UidTree) → ¬ LeadsTo (parents_of_action actions.now.entries) u u) }
     ensures refused { IfErr result (λ e. e ≢ OutOfMemory → (e ≡ ActionCycle) × ((u : UidTree) × LeadsTo (parents_of_action actions.now.entries) u u)) }
 {
-    let mut rows = BTreeMap::new(alloc);
+    let above = actions_above(alloc, actions)?;
     for (uid, _) in actions.iter() {
-        let above = actions_above(alloc, actions, uid)?;
-        if above.contains(uid) {
+        if above.descends(uid, uid) {
             return Err(SchemaFault::ActionCycle);
         }
-        rows.insert(uid.try_clone(alloc)?, above)?;
     }
-    Ok(rows)
+    Ok(above)
 }
 
 /// The types of the actions.
@@ -67,26 +52,58 @@ pub(crate) fn action_types(
     Ok(types)
 }
 
-/// Whether some action of the one type has an action of the other in its row. Takes no memory.
-pub(crate) fn some_descends(rows: &BTreeMap<Uid, BTreeSet<Uid>>, low: &Name, high: &Name) -> bool
-    ensures value { result ≡ list_any (links_types low.now high.now) rows.now.entries }
-    ensures found { All (λ e. get uid_cmp rows.now e.0 ≡ Some e.1) rows.now.entries }
+/// For each type of actions a row of what some action of it descends from.
+pub(crate) fn type_rows(
+    alloc: Global,
+    rows: &BTreeMap<Uid, Row>,
+) -> Result<BTreeMap<Name, Row>, AllocError>
+    ensures { IfOk result (AreTypeRows rows.now) }
 {
+    let mut types = BTreeMap::new(alloc);
     for (uid, row) in rows.iter() {
-        if uid.ty == *low && has_type(row, high) {
+        join_type(alloc, &mut types, &uid.ty, row)?;
+    }
+    Ok(types)
+}
+
+// Joins a row to that of the type.
+fn join_type(
+    alloc: Global,
+    types: &mut BTreeMap<Name, Row>,
+    ty: &Name,
+    row: &Row,
+) -> Result<(), AllocError>
+    ensures { OnOk result ((name : List ℕ) (n : ℕ) → type_bit types.new name n ≡ (type_bit types.old name n || (bytes_eq ty.now name && has_bit row.now n))) }
+{
+    let mut joined = types.remove(ty).unwrap_or(Row::new(alloc));
+    joined.join(row)?;
+    types.insert(ty.try_clone(alloc)?, joined)?;
+    Ok(())
+}
+
+/// Whether the row of the one type has the number of an action of the other. Takes no memory.
+pub(crate) fn some_descends(
+    types: &BTreeMap<Name, Row>,
+    numbers: &BTreeMap<Uid, usize>,
+    low: &Name,
+    high: &Name,
+) -> bool
+    ensures value { result ≡ list_any (has_number types.now low.now high.now) numbers.now.entries }
+    ensures found { All (λ e. get uid_cmp numbers.now e.0 ≡ Some e.1) numbers.now.entries }
+{
+    for (uid, number) in numbers.iter() {
+        if uid.ty == *high && has_type_bit(types, low, *number) {
             return true;
         }
     }
     false
 }
 
-fn has_type(row: &BTreeSet<Uid>, ty: &Name) -> bool
-    ensures { result ≡ list_any (λ u. bytes_eq u.ty ty.now) row.now.keys }
+fn has_type_bit(types: &BTreeMap<Name, Row>, ty: &Name, number: usize) -> bool
+    ensures { result ≡ type_bit types.now ty.now number }
 {
-    for uid in row.iter() {
-        if uid.ty == *ty {
-            return true;
-        }
+    match types.get(ty) {
+        Some(row) => row.has(number),
+        None => false,
     }
-    false
 }

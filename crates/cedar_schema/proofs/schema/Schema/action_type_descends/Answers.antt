@@ -8,4 +8,4 @@ use Rattle.cedar_schema.proofs.schema.Schema.action_type_descends.Goals as goal
 pub returns : goal.returns
 returns c =
     let rows = subst (λ (s : SchemaTree). AreRows uid_cmp (parents_of_action s.actions) c.self.inside.actions_above) c.self.view_is c.self.invariant.2 in
-    types_rows c.self.inside.actions_above (parents_of_action c.args.self.now.actions) c.args.low.now c.args.high.now c.some_descends.result rows c.some_descends.ensures.found c.some_descends.ensures.value
+    types_rows c.self.inside.type_rows c.self.inside.actions_above (parents_of_action c.args.self.now.actions) c.args.low.now c.args.high.now c.some_descends.result rows c.self.invariant.6 c.some_descends.ensures.found c.some_descends.ensures.value

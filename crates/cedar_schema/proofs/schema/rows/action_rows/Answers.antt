@@ -1,34 +1,23 @@
-use Rattle.std.proofs.Common.{rules, Some, sym, subst, ◌∙◌}
-use Rattle.std.specs.BTreeMap.{Updates}
-use Rattle.cedar_value.specs.Private.Laws.{uid_total}
-use Rattle.cedar_value.specs.Order.{uid_cmp}
-use Rattle.cedar_value.specs.Private.Same.{uid_same}
-use Rattle.cedar_schema.specs.SchemaTree.{ActionTree, parents_of_action}
-use Rattle.cedar_schema.proofs.RowLemmas.{rows_start, rows_more, rows_end, none_own_start, none_own_more, acyclic}
+use Rattle.std.proofs.Common.{◌≡◌, true, false, ap, sym, ◌∙◌}
+use Rattle.std.specs.Map.{keys_of}
+use Rattle.cedar_closure.specs.Closure.{LeadsTo}
+use Rattle.cedar_value.specs.declared.uid.Uid.{Uid}
+use Rattle.cedar_schema.specs.Private.Linked.{actions_listed}
+use Rattle.cedar_schema.specs.SchemaTree.{parents_of_action}
+use Rattle.cedar_schema.proofs.Numbered.{acyclic, done_more, done_all}
 use Rattle.cedar_schema.proofs.schema.rows.action_rows.Goals as goal
 
-pub loop-uid-init : goal.loop-uid-init
-loop-uid-init c = record { rows = rows_start uid_total uid_same (parents_of_action c.args.actions.now.entries) c.new-rows.result c.into_iter-uid-iterator.result c.args.actions.now.entries (search rules) c.new-rows.ensures.empty; own = none_own_start uid_cmp c.new-rows.result c.new-rows.ensures.empty }
-
 pub loop-uid-preserved : goal.loop-uid-preserved
-loop-uid-preserved c = record {
-  rows = rows_more uid_total uid_same (parents_of_action c.args.actions.now.entries) c.loop-uid.rows c.insert.new.self _ c.next.new.self c.args.actions.now.entries c.in-Some.uid.now _ c.in_ok-above.above c.in-Some.ensures.steps
-      (subst (λ k. Updates uid_cmp c.loop-uid.rows c.insert.new.self k (Some c.in_ok-above.above)) c.in_ok-try_clone.ensures c.in_ok-insert.ensures.updates) c.in_ok-above.ensures c.loop-uid.invariant.rows;
-  own = none_own_more uid_cmp uid_same c.loop-uid.rows c.insert.new.self c.in-Some.uid.now c.in_ok-above.above
-      (subst (λ k. Updates uid_cmp c.loop-uid.rows c.insert.new.self k (Some c.in_ok-above.above)) c.in_ok-try_clone.ensures c.in_ok-insert.ensures.updates)
-      (sym c.contains.ensures ∙ c.if-contains.false) c.loop-uid.invariant.own;
-}
+loop-uid-preserved c =
+    let up = parents_of_action c.args.actions.now.entries in
+    let P : Uid → Type 0 = λ u. LeadsTo up u u → ⊥ in
+    let u = c.in-Some.uid.now in
+    let none : LeadsTo up u u → ⊥ = λ a. (let no : true ≡ false = sym ((c.in_ok-above.ensures u u).1 a) ∙ sym c.descends.ensures ∙ c.if-descends.false in cc) in
+    done_more P P _ (keys_of c.next.new.self) (keys_of c.args.actions.now.entries) u (ap keys_of c.in-Some.ensures.steps) (λ v h. h) none c.loop-uid.invariant
 
-pub loop-uid-preserved-in_ok-insert : goal.loop-uid-preserved-in_ok-insert
-loop-uid-preserved-in_ok-insert c = record {
-  rows = rows_more uid_total uid_same (parents_of_action c.args.actions.now.entries) c.loop-uid.rows c.insert.new.self _ c.next.new.self c.args.actions.now.entries c.in-Some.uid.now _ c.in_ok-above.above c.in-Some.ensures.steps
-      (subst (λ k. Updates uid_cmp c.loop-uid.rows c.insert.new.self k (Some c.in_ok-above.above)) c.in_ok-try_clone.ensures c.in_ok-insert.ensures.updates) c.in_ok-above.ensures c.loop-uid.invariant.rows;
-  own = none_own_more uid_cmp uid_same c.loop-uid.rows c.insert.new.self c.in-Some.uid.now c.in_ok-above.above
-      (subst (λ k. Updates uid_cmp c.loop-uid.rows c.insert.new.self k (Some c.in_ok-above.above)) c.in_ok-try_clone.ensures c.in_ok-insert.ensures.updates)
-      (sym c.contains.ensures ∙ c.if-contains.false) c.loop-uid.invariant.own;
-}
-
-pub returns : goal.returns
-returns c =
-    let rows = rows_end uid_cmp (λ (x : ActionTree). x.parents) c.args.actions.now.entries c.loop-uid.rows _ c.in-None.ensures.steps.0 c.loop-uid.invariant.rows in
-    record { rows = rows; acyclic = acyclic uid_cmp (parents_of_action c.args.actions.now.entries) c.loop-uid.rows rows c.loop-uid.invariant.own; refused = tt }
+pub returns-clause-acyclic : goal.returns-clause-acyclic
+returns-clause-acyclic c =
+    let actions = c.args.actions.now.entries in
+    let up = parents_of_action actions in
+    let P : Uid → Type 0 = λ u. LeadsTo up u u → ⊥ in
+    acyclic up (keys_of actions) (actions_listed actions) (done_all P (keys_of _) (keys_of actions) (ap keys_of c.in-None.ensures.steps.0) c.loop-uid.invariant)

@@ -1,7 +1,8 @@
-use Rattle.cedar_value.specs.Order.{uid_cmp}
+use Rattle.std.specs.Map.{keys_of}
+use Rattle.cedar_closure.specs.Closure.{LeadsTo}
 use Rattle.cedar_schema.specs.SchemaTree.{parents_of_action}
-use Rattle.cedar_schema.proofs.RowLemmas.{IsRowing, NoneOwn}
+use Rattle.cedar_schema.proofs.Numbered.{AreDone}
 use Rattle.cedar_schema.proofs.schema.rows.action_rows.Given as goal
 
 abbrev pub invariant-loop-uid : goal.invariant-loop-uid
-invariant-loop-uid l = record { rows : IsRowing uid_cmp (parents_of_action l.actions.entries) l.rows l.uid-iterator l.actions.entries; own : NoneOwn uid_cmp l.rows }
+invariant-loop-uid l = AreDone (λ u. LeadsTo (parents_of_action l.actions.entries) u u → ⊥) (keys_of l.uid-iterator) (keys_of l.actions.entries)

@@ -1,29 +1,15 @@
 //! Codes: instructions, jumps, lengths and heights.
+use crate::expressions::{long, record, set_of_first, truth};
+use crate::held::made;
 use cedar_ast::{
     ActionScope, BinaryOperator, Condition, ConditionKind, Effect, EntityScope, Expr, Policy,
     Scope, UnaryOperator, Variable,
 };
-use cedar_code::{CodeFault, Instruction, compile};
-use cedar_value::{Text, Value};
+use cedar_code::{Code, CodeFault, Instruction, compile};
+use cedar_value::Text;
 use std::alloc::{AllocError, Global};
 use std::process::Abort;
 use std::test::Fail;
-
-fn truth(truth: bool) -> Expr {
-    Expr::literal(Value::boolean(truth))
-}
-
-fn long(number: i64) -> Expr {
-    Expr::literal(Value::long(number))
-}
-
-fn longs(alloc: Global, count: i64) -> Result<Expr, AllocError> {
-    let mut members = Vec::new(alloc);
-    for number in 0..count {
-        members.push(long(number))?;
-    }
-    Ok(Expr::set(members))
-}
 
 /// An instruction's name, with the place that it jumps to or the number of its operands.
 fn shown(instruction: &Instruction) -> (&'static str, usize) {
@@ -42,64 +28,94 @@ fn shown(instruction: &Instruction) -> (&'static str, usize) {
     }
 }
 
-/// The code of the expression has this height and these instructions.
-fn assert_compiles(
+/// The place of the first instruction that is shown otherwise; none where all are shown so.
+fn first_other(instructions: &[Instruction], wanted: &[(&str, usize)]) -> Option<usize> {
+    for (place, (instruction, wanted)) in instructions.iter().zip(wanted).enumerate() {
+        if shown(instruction) != *wanted {
+            return Some(place);
+        }
+    }
+    None
+}
+
+/// The code has this height and these instructions.
+fn assert_code(rt: &impl Abort, code: &Code, height: usize, wanted: &[(&str, usize)]) {
+    let instructions = code.instructions();
+    let found = (code.height(), instructions.len());
+    assert_eq!(rt; found, (height, wanted.len()));
+    assert_eq!(rt; first_other(instructions, wanted), None);
+}
+
+fn assert_compiles_to(
     rt: &impl Abort,
     alloc: Global,
     expression: &Expr,
     height: usize,
-    wanted: &[(&'static str, usize)],
+    wanted: &[(&str, usize)],
 ) -> Result<(), CodeFault> {
     let code = compile(alloc, expression)?;
-    let instructions = code.instructions();
-    assert_eq!(rt; code.height(), height);
-    assert_eq!(rt; instructions.len(), wanted.len());
-    for (instruction, wanted) in instructions.iter().zip(wanted) {
-        assert_eq!(rt; shown(instruction), *wanted);
-    }
+    assert_code(rt, &code, height, wanted);
+    drop(code);
     Ok(())
+}
+
+/// The code of the expression has this height and these instructions.
+fn assert_compiles(
+    rt: &impl Abort,
+    alloc: Global,
+    expression: Expr,
+    height: usize,
+    wanted: &[(&str, usize)],
+) -> Result<(), CodeFault> {
+    let compiled = assert_compiles_to(rt, alloc, &expression, height, wanted);
+    drop(expression);
+    compiled
 }
 
 fn conditions(alloc: Global) -> Result<Vec<Condition>, AllocError> {
     let kind = ConditionKind::When;
     let body = Expr::binary(alloc, BinaryOperator::Less, long(1), long(2))?;
-    let mut conditions = Vec::new(alloc);
-    conditions.push(Condition { kind, body })?;
-    Ok(conditions)
+    Ok(vec![in alloc; Condition { kind, body }]?)
 }
 
 /// `permit(principal, action, resource) when { 1 < 2 };`
 fn policy(alloc: Global) -> Result<Policy, AllocError> {
+    let conditions = conditions(alloc)?;
     let scope = Scope {
         principal: EntityScope::Any,
         action: ActionScope::Any,
         resource: EntityScope::Any,
     };
     let id = Text::new(String::new(alloc));
-    let conditions = conditions(alloc)?;
     Ok(Policy::new(id, Vec::new(alloc), Effect::Permit, scope, conditions))
 }
+
+fn condition(alloc: Global) -> Result<Expr, AllocError> {
+    let policy = policy(alloc)?;
+    let condition = policy.condition(alloc);
+    drop(policy);
+    condition
+}
+
+const CONDITION_CODE: &[(&str, usize)] = &[
+    ("Push", 0),
+    ("And", 12),
+    ("Push", 0),
+    ("And", 11),
+    ("Push", 0),
+    ("And", 10),
+    ("Push", 0),
+    ("Push", 0),
+    ("Binary", 2),
+    ("Test", 1),
+    ("Test", 1),
+    ("Test", 1),
+];
 
 #[test]
 fn the_condition_of_a_policy_tests_the_scope_first(rt: HostRuntime) -> Result<(), Fail> {
     let alloc = rt.alloc();
-    let wanted = [
-        ("Push", 0),
-        ("And", 12),
-        ("Push", 0),
-        ("And", 11),
-        ("Push", 0),
-        ("And", 10),
-        ("Push", 0),
-        ("Push", 0),
-        ("Binary", 2),
-        ("Test", 1),
-        ("Test", 1),
-        ("Test", 1),
-    ];
-    let condition = policy(alloc)?.condition(alloc)?;
-    assert_compiles(&rt, alloc, &condition, 2, &wanted)?;
-    Ok(())
+    made(assert_compiles(&rt, alloc, condition(alloc)?, 2, CONDITION_CODE))
 }
 
 /// `if true then 1 + 2 else 3`
@@ -108,20 +124,20 @@ fn choice(alloc: Global) -> Result<Expr, AllocError> {
     Expr::if_else(alloc, truth(true), sum, long(3))
 }
 
+const CHOICE_CODE: &[(&str, usize)] = &[
+    ("Push", 0),
+    ("Branch", 6),
+    ("Push", 0),
+    ("Push", 0),
+    ("Binary", 2),
+    ("Jump", 7),
+    ("Push", 0),
+];
+
 #[test]
 fn an_if_branches_to_its_second_part_and_jumps_behind_it(rt: HostRuntime) -> Result<(), Fail> {
     let alloc = rt.alloc();
-    let wanted = [
-        ("Push", 0),
-        ("Branch", 6),
-        ("Push", 0),
-        ("Push", 0),
-        ("Binary", 2),
-        ("Jump", 7),
-        ("Push", 0),
-    ];
-    assert_compiles(&rt, alloc, &choice(alloc)?, 2, &wanted)?;
-    Ok(())
+    made(assert_compiles(&rt, alloc, choice(alloc)?, 2, CHOICE_CODE))
 }
 
 /// `!(false || context)`
@@ -130,59 +146,62 @@ fn not_or(alloc: Global) -> Result<Expr, AllocError> {
     Expr::unary(alloc, UnaryOperator::Not, or)
 }
 
+const NOT_OR_CODE: &[(&str, usize)] = &[
+    ("Push", 0),
+    ("Or", 4),
+    ("Var", 0),
+    ("Test", 1),
+    ("Unary", 1),
+];
+
 #[test]
 fn an_or_jumps_behind_its_test(rt: HostRuntime) -> Result<(), Fail> {
     let alloc = rt.alloc();
-    let wanted = [
-        ("Push", 0),
-        ("Or", 4),
-        ("Var", 0),
-        ("Test", 1),
-        ("Unary", 1),
-    ];
-    assert_compiles(&rt, alloc, &not_or(alloc)?, 1, &wanted)?;
-    Ok(())
+    made(assert_compiles(&rt, alloc, not_or(alloc)?, 1, NOT_OR_CODE))
 }
+
+const SET_CODE: &[(&str, usize)] = &[("Push", 0), ("Push", 0), ("Push", 0), ("Set", 3)];
 
 #[test]
 fn the_members_of_a_set_stand_on_one_another(rt: HostRuntime) -> Result<(), Fail> {
     let alloc = rt.alloc();
-    let wanted = [("Push", 0), ("Push", 0), ("Push", 0), ("Set", 3)];
-    assert_compiles(&rt, alloc, &longs(alloc, 3)?, 3, &wanted)?;
-    assert_compiles(&rt, alloc, &longs(alloc, 0)?, 1, &[("Set", 0)])?;
-    Ok(())
+    assert_compiles(&rt, alloc, set_of_first(alloc, 3)?, 3, SET_CODE)?;
+    let empty = set_of_first(alloc, 0)?;
+    made(assert_compiles(&rt, alloc, empty, 1, &[("Set", 0)]))
 }
 
-/// `{a: 1, b: 2}`
-fn record(alloc: Global) -> Result<Expr, Fail> {
-    let mut pairs = Vec::new(alloc);
-    for (key, number) in [("a", 1), ("b", 2)] {
-        pairs.push((Text::read(alloc, key)?, long(number)))?;
-    }
-    Ok(Expr::record(alloc, pairs)?)
-}
+const RECORD_CODE: &[(&str, usize)] = &[("Push", 0), ("Push", 0), ("Record", 2)];
 
 #[test]
 fn the_values_of_a_record_stand_on_one_another(rt: HostRuntime) -> Result<(), Fail> {
     let alloc = rt.alloc();
-    let wanted = [("Push", 0), ("Push", 0), ("Record", 2)];
-    assert_compiles(&rt, alloc, &record(alloc)?, 2, &wanted)?;
-    Ok(())
+    let record = record(alloc, &[("a", 1), ("b", 2)])?;
+    made(assert_compiles(&rt, alloc, record, 2, RECORD_CODE))
+}
+
+fn size_of(alloc: Global, expression: &Expr) -> Result<(usize, usize), CodeFault> {
+    let code = compile(alloc, expression)?;
+    let size = (code.instructions().len(), code.height());
+    drop(code);
+    Ok(size)
+}
+
+/// The length and the height of the code of a set of so many numbers.
+fn size(alloc: Global, members: i64) -> Result<(usize, usize), CodeFault> {
+    let set = set_of_first(alloc, members)?;
+    let size = size_of(alloc, &set);
+    drop(set);
+    size
 }
 
 #[test]
 fn a_code_has_at_most_a_million_instructions(rt: HostRuntime) -> Result<(), Fail> {
-    let alloc = rt.alloc();
-    let code = compile(alloc, &longs(alloc, 999_999)?)?;
-    assert_eq!(rt; code.instructions().len(), 1_000_000);
-    assert_eq!(rt; code.height(), 999_999);
+    assert_eq!(rt; size(rt.alloc(), 999_999)?, (1_000_000, 999_999));
     Ok(())
 }
 
 #[test]
-fn a_code_of_more_is_refused(rt: HostRuntime) -> Result<(), Fail> {
-    let alloc = rt.alloc();
-    let refusal = compile(alloc, &longs(alloc, 1_000_000)?);
+fn a_code_of_more_is_refused(rt: HostRuntime) {
+    let refusal = size(rt.alloc(), 1_000_000);
     assert!(rt; matches!(&refusal, Err(CodeFault::TooLong)));
-    Ok(())
 }

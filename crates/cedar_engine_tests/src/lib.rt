@@ -3,7 +3,8 @@
 //! They stand apart from what they test, since the tests of a crate are proved with the whole crate once more.
 //!
 //! What a single crate answers is tested in `stores.rt`, `codes.rt`, `runs.rt` and `stepping.rt`. The table stands in `table/`,
-//! its tests in `evaluation.rt`, the world that it is evaluated over in `world.rt`.
+//! its tests in `evaluation.rt`, the world that it is evaluated over in `world.rt`. `held.rt` keeps what is owned from being
+//! dropped at an exit, which is slow to prove.
 #![tactic(auto)]
 
 #[cfg(test)]
@@ -14,6 +15,10 @@ mod codes;
 mod ending;
 #[cfg(test)]
 mod evaluation;
+#[cfg(test)]
+mod expressions;
+#[cfg(test)]
+mod held;
 #[cfg(test)]
 mod plain;
 #[cfg(test)]

@@ -2,6 +2,7 @@
 //!
 //! Ancestors, decimal texts and the equality of values are asked of the same crates that the machine asks, so that only
 //! the ends that stand in the tables by hand judge these.
+use crate::held::both;
 use crate::plain_fault::PlainFault;
 use cedar_ast::{BinaryOperator, EvaluationError, Expr, ExprKind, UnaryOperator, Variable};
 use cedar_ext::{Decimal, Element, Pattern};
@@ -38,12 +39,12 @@ pub fn evaluate<H: Hierarchy>(
         }
         ExprKind::Unary(operator, operand) => {
             let operand = evaluate(alloc, operand, request, world)?;
-            unary(alloc, operator, &operand, world)
+            unary_of(alloc, operator, operand, world)
         }
         ExprKind::Binary(operator, left, right) => {
             let left = evaluate(alloc, left, request, world)?;
-            let right = evaluate(alloc, right, request, world)?;
-            binary_of(*operator, &left, &right, world)
+            let (left, right) = both(left, evaluate(alloc, right, request, world))?;
+            binary_of(*operator, left, right, world)
         }
         ExprKind::Set(members) => set_of(evaluate_all(alloc, members, request, world)),
         ExprKind::Record(entries) => {
@@ -164,6 +165,18 @@ fn units(value: &Value) -> Result<i64, EvaluationError> {
     }
 }
 
+// An operator on one value, which is dropped.
+fn unary_of<H: Hierarchy>(
+    alloc: Global,
+    operator: &UnaryOperator,
+    operand: Value,
+    world: &H,
+) -> Result<Value, PlainFault> {
+    let answer = unary(alloc, operator, &operand, world);
+    drop(operand);
+    answer
+}
+
 // An operator on one value.
 fn unary<H: Hierarchy>(
     alloc: Global,
@@ -252,13 +265,17 @@ fn decimal(operand: &Value) -> Result<Value, EvaluationError> {
     }
 }
 
+// An operator on two values, which are dropped.
 fn binary_of<H: Hierarchy>(
     operator: BinaryOperator,
-    left: &Value,
-    right: &Value,
+    left: Value,
+    right: Value,
     world: &H,
 ) -> Result<Value, PlainFault> {
-    Ok(binary(operator, left, right, world)?)
+    let answer = binary(operator, &left, &right, world);
+    drop(left);
+    drop(right);
+    Ok(answer?)
 }
 
 // An operator on two values.
@@ -270,20 +287,82 @@ fn binary<H: Hierarchy>(
 ) -> Result<Value, EvaluationError> {
     match operator {
         BinaryOperator::Equal => Ok(Value::boolean(left == right)),
-        BinaryOperator::Less => Ok(Value::boolean(long(left)? < long(right)?)),
-        BinaryOperator::LessEqual => Ok(Value::boolean(long(left)? <= long(right)?)),
-        BinaryOperator::Add => number_or_overflow(long(left)?.checked_add(long(right)?)),
-        BinaryOperator::Subtract => number_or_overflow(long(left)?.checked_sub(long(right)?)),
-        BinaryOperator::Multiply => number_or_overflow(long(left)?.checked_mul(long(right)?)),
-        BinaryOperator::In => Ok(Value::boolean(is_in(left, right, world)?)),
-        BinaryOperator::Contains => Ok(Value::boolean(contains(set(left)?, right))),
-        BinaryOperator::ContainsAll => Ok(Value::boolean(contains_all(set(left)?, set(right)?))),
-        BinaryOperator::ContainsAny => Ok(Value::boolean(contains_any(set(left)?, set(right)?))),
-        BinaryOperator::DecimalLess => Ok(Value::boolean(units(left)? < units(right)?)),
-        BinaryOperator::DecimalLessEqual => Ok(Value::boolean(units(left)? <= units(right)?)),
-        BinaryOperator::DecimalGreater => Ok(Value::boolean(units(left)? > units(right)?)),
-        BinaryOperator::DecimalGreaterEqual => Ok(Value::boolean(units(left)? >= units(right)?)),
+        BinaryOperator::In => boolean(is_in(left, right, world)),
+        BinaryOperator::Add | BinaryOperator::Subtract | BinaryOperator::Multiply => {
+            number_or_overflow(computed(operator, left, right)?)
+        }
+        BinaryOperator::Less | BinaryOperator::LessEqual => {
+            boolean(is_less(operator, left, right))
+        }
+        BinaryOperator::Contains => boolean(is_member(left, right)),
+        BinaryOperator::ContainsAll | BinaryOperator::ContainsAny => {
+            boolean(are_members(operator, left, right))
+        }
+        _ => boolean(is_less_decimal(operator, left, right)),
     }
+}
+
+fn boolean(truth: Result<bool, EvaluationError>) -> Result<Value, EvaluationError> {
+    Ok(Value::boolean(truth?))
+}
+
+// A sum, a difference or else a product; none outside of 64 bits.
+fn computed(
+    operator: BinaryOperator,
+    left: &Value,
+    right: &Value,
+) -> Result<Option<i64>, EvaluationError> {
+    let left = long(left)?;
+    let right = long(right)?;
+    Ok(match operator {
+        BinaryOperator::Add => left.checked_add(right),
+        BinaryOperator::Subtract => left.checked_sub(right),
+        _ => left.checked_mul(right),
+    })
+}
+
+// `<`, or else `<=`.
+fn is_less(operator: BinaryOperator, left: &Value, right: &Value) -> Result<bool, EvaluationError> {
+    let left = long(left)?;
+    let right = long(right)?;
+    Ok(match operator {
+        BinaryOperator::Less => left < right,
+        _ => left <= right,
+    })
+}
+
+fn is_member(left: &Value, right: &Value) -> Result<bool, EvaluationError> {
+    Ok(contains(set(left)?, right))
+}
+
+// `containsAll`, or else `containsAny`.
+fn are_members(
+    operator: BinaryOperator,
+    left: &Value,
+    right: &Value,
+) -> Result<bool, EvaluationError> {
+    let left = set(left)?;
+    let right = set(right)?;
+    Ok(match operator {
+        BinaryOperator::ContainsAll => contains_all(left, right),
+        _ => contains_any(left, right),
+    })
+}
+
+// `lessThan`, `lessThanOrEqual`, `greaterThan`, or else `greaterThanOrEqual`.
+fn is_less_decimal(
+    operator: BinaryOperator,
+    left: &Value,
+    right: &Value,
+) -> Result<bool, EvaluationError> {
+    let left = units(left)?;
+    let right = units(right)?;
+    Ok(match operator {
+        BinaryOperator::DecimalLess => left < right,
+        BinaryOperator::DecimalLessEqual => left <= right,
+        BinaryOperator::DecimalGreater => left > right,
+        _ => left >= right,
+    })
 }
 
 // `in`: itself, or below it; of a set each member has to be an entity.

@@ -1,4 +1,5 @@
 //! The request and the entities that the table is evaluated over. A mistake in them fails each test of the table.
+use crate::held::{both, made, once};
 use cedar_ext::Decimal;
 use cedar_store::{Entity, Store};
 use cedar_value::{Name, Record, Request, Text, Uid, Value, ValueSet};
@@ -6,25 +7,36 @@ use std::alloc::{AllocError, Global};
 use std::test::Fail;
 
 /// An attribute's value, as the tables below write it.
-enum Written {
+pub enum Written {
+    /// A Boolean.
     Truth(bool),
+    /// A number.
     Long(i64),
+    /// A text.
     Text(&'static str),
+    /// The uid of this type and id.
     Entity(&'static str, &'static str),
+    /// A decimal.
     Units(&'static str),
+    /// A set of numbers.
     Longs(&'static [i64]),
+    /// A record of numbers.
     Fields(&'static [(&'static str, i64)]),
 }
 
 /// An entity's type and id, its attributes, and its direct parents.
-struct Row {
-    ty: &'static str,
-    id: &'static str,
-    attributes: &'static [(&'static str, Written)],
-    parents: &'static [(&'static str, &'static str)],
+pub struct Row {
+    /// The type.
+    pub ty: &'static str,
+    /// The id.
+    pub id: &'static str,
+    /// The attributes.
+    pub attributes: &'static [(&'static str, Written)],
+    /// The types and ids of the parents.
+    pub parents: &'static [(&'static str, &'static str)],
 }
 
-const CONTEXT: [(&str, Written); 6] = [
+const CONTEXT: &[(&str, Written)] = &[
     ("n", Written::Long(1)),
     ("flag", Written::Truth(true)),
     ("word", Written::Text("hello")),
@@ -33,7 +45,7 @@ const CONTEXT: [(&str, Written); 6] = [
     ("price", Written::Units("2.5")),
 ];
 
-const ANN: [(&str, Written); 8] = [
+const ANN: &[(&str, Written)] = &[
     ("age", Written::Long(30)),
     ("name", Written::Text("Ann Lee")),
     ("active", Written::Truth(true)),
@@ -44,25 +56,25 @@ const ANN: [(&str, Written); 8] = [
     ("limits", Written::Fields(&[("low", 1), ("high", 9)])),
 ];
 
-const BOB: [(&str, Written); 1] = [("age", Written::Long(41))];
+const BOB: &[(&str, Written)] = &[("age", Written::Long(41))];
 
-const DOC: [(&str, Written); 2] = [
+const DOC: &[(&str, Written)] = &[
     ("owner", Written::Entity("User", "ann")),
     ("size", Written::Long(100)),
 ];
 
 /// `User::"gone"` and `Group::"all"` are absent.
-const ROWS: [Row; 8] = [
+const ROWS: &[Row] = &[
     Row {
         ty: "User",
         id: "ann",
-        attributes: &ANN,
+        attributes: ANN,
         parents: &[("Group", "staff")],
     },
     Row {
         ty: "User",
         id: "bob",
-        attributes: &BOB,
+        attributes: BOB,
         parents: &[("Group", "staff"), ("Group", "admins")],
     },
     Row {
@@ -80,7 +92,7 @@ const ROWS: [Row; 8] = [
     Row {
         ty: "Doc",
         id: "d",
-        attributes: &DOC,
+        attributes: DOC,
         parents: &[("Folder", "f")],
     },
     Row {
@@ -105,26 +117,51 @@ const ROWS: [Row; 8] = [
 
 /// The entity of a type and an id.
 pub fn uid(alloc: Global, ty: &str, id: &str) -> Result<Uid, AllocError> {
+    let ty = Text::read(alloc, ty)?;
+    let (ty, id) = both(ty, Text::read(alloc, id))?;
     Ok(Uid {
-        ty: Name::new(Text::read(alloc, ty)?),
-        id: Text::read(alloc, id)?,
+        ty: Name::new(ty),
+        id,
     })
+}
+
+fn push_uids(
+    alloc: Global,
+    list: &mut Vec<Uid>,
+    written: &[(&str, &str)],
+) -> Result<(), AllocError> {
+    for (ty, id) in written {
+        list.push(uid(alloc, ty, id)?)?;
+    }
+    Ok(())
 }
 
 fn uids(alloc: Global, written: &[(&str, &str)]) -> Result<Vec<Uid>, AllocError> {
     let mut list = Vec::new(alloc);
-    for (ty, id) in written {
-        list.push(uid(alloc, ty, id)?)?;
+    let pushed = push_uids(alloc, &mut list, written);
+    once(list, pushed)
+}
+
+fn push_longs(members: &mut Vec<Value>, numbers: &[i64]) -> Result<(), AllocError> {
+    for number in numbers {
+        members.push(Value::long(*number))?;
     }
-    Ok(list)
+    Ok(())
 }
 
 fn longs(alloc: Global, numbers: &[i64]) -> Result<Value, AllocError> {
     let mut members = Vec::new(alloc);
-    for number in numbers {
-        members.push(Value::long(*number))?;
-    }
+    let pushed = push_longs(&mut members, numbers);
+    let members = once(members, pushed)?;
     Ok(Value::set(ValueSet::from_list(members)?))
+}
+
+fn text(alloc: Global, content: &str) -> Result<Value, AllocError> {
+    Ok(Value::string(Text::read(alloc, content)?))
+}
+
+fn reference(alloc: Global, ty: &str, id: &str) -> Result<Value, AllocError> {
+    Ok(Value::uid(uid(alloc, ty, id)?))
 }
 
 fn decimal(written: &str) -> Result<Value, Fail> {
@@ -139,58 +176,112 @@ fn record_of(pairs: Vec<(Text, Value)>) -> Result<Record, Fail> {
     }
 }
 
-fn fields(alloc: Global, written: &[(&str, i64)]) -> Result<Record, Fail> {
-    let mut pairs = Vec::new(alloc);
+fn push_fields(
+    alloc: Global,
+    pairs: &mut Vec<(Text, Value)>,
+    written: &[(&str, i64)],
+) -> Result<(), AllocError> {
     for (key, number) in written {
         pairs.push((Text::read(alloc, key)?, Value::long(*number)))?;
     }
-    record_of(pairs)
+    Ok(())
+}
+
+fn fields(alloc: Global, written: &[(&str, i64)]) -> Result<Value, Fail> {
+    let mut pairs = Vec::new(alloc);
+    let pushed = push_fields(alloc, &mut pairs, written);
+    let pairs = once(pairs, pushed)?;
+    Ok(Value::record(record_of(pairs)?))
 }
 
 fn value(alloc: Global, written: &Written) -> Result<Value, Fail> {
     match written {
         Written::Truth(truth) => Ok(Value::boolean(*truth)),
         Written::Long(number) => Ok(Value::long(*number)),
-        Written::Text(content) => Ok(Value::string(Text::read(alloc, content)?)),
-        Written::Entity(ty, id) => Ok(Value::uid(uid(alloc, ty, id)?)),
+        Written::Text(content) => made(text(alloc, content)),
+        Written::Entity(ty, id) => made(reference(alloc, ty, id)),
         Written::Units(text) => decimal(text),
-        Written::Longs(numbers) => Ok(longs(alloc, numbers)?),
-        Written::Fields(pairs) => Ok(Value::record(fields(alloc, pairs)?)),
+        Written::Longs(numbers) => made(longs(alloc, numbers)),
+        Written::Fields(pairs) => fields(alloc, pairs),
     }
+}
+
+fn push_attributes(
+    alloc: Global,
+    pairs: &mut Vec<(Text, Value)>,
+    written: &[(&str, Written)],
+) -> Result<(), Fail> {
+    for (key, attribute) in written {
+        let key = Text::read(alloc, key)?;
+        pairs.push(both(key, value(alloc, attribute))?)?;
+    }
+    Ok(())
 }
 
 fn record(alloc: Global, written: &[(&str, Written)]) -> Result<Record, Fail> {
     let mut pairs = Vec::new(alloc);
-    for (key, attribute) in written {
-        pairs.push((Text::read(alloc, key)?, value(alloc, attribute)?))?;
-    }
-    record_of(pairs)
+    let pushed = push_attributes(alloc, &mut pairs, written);
+    record_of(once(pairs, pushed)?)
 }
 
 fn entity(alloc: Global, row: &Row) -> Result<Entity, Fail> {
+    let uid = uid(alloc, row.ty, row.id)?;
+    let (uid, parents) = both(uid, uids(alloc, row.parents))?;
+    let ((uid, parents), attrs) = both((uid, parents), record(alloc, row.attributes))?;
     Ok(Entity {
-        uid: uid(alloc, row.ty, row.id)?,
-        attrs: record(alloc, row.attributes)?,
-        parents: uids(alloc, row.parents)?,
+        uid,
+        attrs,
+        parents,
     })
 }
 
-/// The entities.
-pub fn store(alloc: Global) -> Result<Store, Fail> {
-    let mut entities = Vec::new(alloc);
-    for row in &ROWS {
+fn push_entities(alloc: Global, entities: &mut Vec<Entity>, rows: &[Row]) -> Result<(), Fail> {
+    for row in rows {
         entities.push(entity(alloc, row)?)?;
     }
-    let store = Store::build(alloc, entities)?;
-    Ok(store)
+    Ok(())
+}
+
+/// The store of these entities.
+pub fn store_of(alloc: Global, rows: &[Row]) -> Result<Store, Fail> {
+    let mut entities = Vec::new(alloc);
+    let pushed = push_entities(alloc, &mut entities, rows);
+    made(Store::build(alloc, once(entities, pushed)?))
+}
+
+/// Ann asks to view the document, in a context.
+pub fn request_in(alloc: Global, context: Record) -> Result<Request, AllocError> {
+    let (context, principal) = both(context, uid(alloc, "User", "ann"))?;
+    let (parts, action) = both((context, principal), uid(alloc, "Action", "view"))?;
+    let (parts, resource) = both((parts, action), uid(alloc, "Doc", "d"))?;
+    let ((context, principal), action) = parts;
+    Ok(Request {
+        principal,
+        action,
+        resource,
+        context,
+    })
 }
 
 /// Ann asks to view the document.
 pub fn request(alloc: Global) -> Result<Request, Fail> {
-    Ok(Request {
-        principal: uid(alloc, "User", "ann")?,
-        action: uid(alloc, "Action", "view")?,
-        resource: uid(alloc, "Doc", "d")?,
-        context: record(alloc, &CONTEXT)?,
-    })
+    made(request_in(alloc, record(alloc, CONTEXT)?))
+}
+
+/// The request and the entities that the table is evaluated over.
+#[derive(Drop)]
+pub struct World {
+    /// The request.
+    pub request: Request,
+    /// The entities.
+    pub store: Store,
+}
+
+impl World {
+    /// Ann's request, and the entities.
+    pub fn new(alloc: Global) -> Result<World, Fail> {
+        let request = request(alloc)?;
+        let (request, store) = both(request, store_of(alloc, ROWS))?;
+        Ok(World { request, store })
+    }
 }

@@ -2,11 +2,13 @@
 //! tests of a crate are proved with the whole crate once more.
 //!
 //! The schema, the entities and the texts of answers stand in `world.rt`, worked examples in `examples.rt`, and lists of
-//! events from a seed in `random.rt`.
+//! events from a seed in `random.rt`. `held.rt` keeps what is owned from being dropped at an exit, which is slow to prove.
 #![tactic(auto)]
 
 #[cfg(test)]
 mod examples;
+#[cfg(test)]
+mod held;
 #[cfg(test)]
 mod random;
 #[cfg(test)]

@@ -1,9 +1,10 @@
 //! A schema of documents, entities that conform to it, and what is asked. A mistake in them fails each test.
-use cedar_ast::{Decision, EvaluationError};
+use crate::held::{both, made, made_or, once};
+use cedar_ast::{Decision, EvaluationError, PolicySet};
 use cedar_auth::{Ready, Validated};
 use cedar_parser::parse;
 use cedar_schema::Schema;
-use cedar_service::{Response, Service};
+use cedar_service::{JobId, Response, Service};
 use cedar_typing::Settings;
 use std::alloc::{AllocError, Global};
 use std::test::Fail;
@@ -34,46 +35,78 @@ pub const DELETE: &[u8] =
 pub const VIEW: &[u8] =
     br#"{"principal":"User::\"ann\"","action":"Action::\"view\"","resource":"Doc::\"d\"","context":{"n":0}}"#;
 
+/// The policies and the schema.
+fn read(alloc: Global, policies: &str) -> Result<(PolicySet, Schema), Fail> {
+    let set = parse(alloc, policies)?;
+    made(both(set, Schema::read(alloc, DOCUMENTS.as_bytes())))
+}
+
+fn validated(alloc: Global, policies: &str) -> Result<Validated, Fail> {
+    let (set, schema) = read(alloc, policies)?;
+    made_or(
+        Validated::new(alloc, schema, set),
+        "the policies are refused",
+    )
+}
+
 /// The policies, ready to answer over the entities.
 pub fn ready(alloc: Global, policies: &str) -> Result<Ready, Fail> {
-    let set = parse(alloc, policies)?;
-    let schema = Schema::read(alloc, DOCUMENTS.as_bytes())?;
-    let Ok(validated) = Validated::new(alloc, schema, set) else {
-        return Err("the policies are refused".into());
-    };
-    match Ready::new(alloc, validated, ENTITIES) {
-        Ok(ready) => Ok(ready),
-        Err(_) => Err("the entities are refused".into()),
-    }
+    let validated = validated(alloc, policies)?;
+    made_or(
+        Ready::new(alloc, validated, ENTITIES),
+        "the entities are refused",
+    )
+}
+
+fn validated_with_any_decimal(alloc: Global, policies: &str) -> Result<Validated, Fail> {
+    let (set, schema) = read(alloc, policies)?;
+    let settings = Settings { any_decimal: true };
+    made_or(
+        Validated::new_with(alloc, schema, set, settings),
+        "the policies are refused",
+    )
 }
 
 /// The policies, accepted with `decimal` of any text, ready to answer over the entities.
-pub fn ready_with_any_decimal(alloc: Global, policies: &str) -> Result<Ready, Fail> {
-    let set = parse(alloc, policies)?;
-    let schema = Schema::read(alloc, DOCUMENTS.as_bytes())?;
-    let settings = Settings { any_decimal: true };
-    let Ok(validated) = Validated::new_with(alloc, schema, set, settings) else {
-        return Err("the policies are refused".into());
-    };
-    match Ready::new(alloc, validated, ENTITIES) {
-        Ok(ready) => Ok(ready),
-        Err(_) => Err("the entities are refused".into()),
-    }
+fn ready_with_any_decimal(alloc: Global, policies: &str) -> Result<Ready, Fail> {
+    let validated = validated_with_any_decimal(alloc, policies)?;
+    made_or(
+        Ready::new(alloc, validated, ENTITIES),
+        "the entities are refused",
+    )
 }
 
 /// A service whose current version has the policies.
 pub fn service(alloc: Global, policies: &str) -> Result<Service, Fail> {
-    match Service::new(alloc, ready(alloc, policies)?) {
-        Ok(service) => Ok(service),
-        Err(_) => Err("memory was refused".into()),
-    }
+    let ready = ready(alloc, policies)?;
+    made_or(Service::new(alloc, ready), "memory was refused")
 }
 
 /// Makes the policies the current version, and gives its number.
 pub fn publish(alloc: Global, service: &mut Service, policies: &str) -> Result<u64, Fail> {
-    match service.publish(ready(alloc, policies)?) {
-        Ok(number) => Ok(number),
-        Err(_) => Err("memory was refused".into()),
+    let ready = ready(alloc, policies)?;
+    made_or(service.publish(ready), "memory was refused")
+}
+
+/// The same, where they are accepted with `decimal` of any text.
+pub fn publish_with_any_decimal(
+    alloc: Global,
+    service: &mut Service,
+    policies: &str,
+) -> Result<u64, Fail> {
+    let ready = ready_with_any_decimal(alloc, policies)?;
+    made_or(service.publish(ready), "memory was refused")
+}
+
+/// The number of the job that a line opens, or that of the refusal.
+pub fn open(service: &mut Service, line: &[u8]) -> Result<JobId, u16> {
+    match service.open(line) {
+        Ok(job) => Ok(job),
+        Err(fault) => {
+            let number = fault.number();
+            drop(fault);
+            Err(number)
+        }
     }
 }
 
@@ -94,36 +127,52 @@ fn error_name(error: EvaluationError) -> &'static str {
     }
 }
 
-fn write_erring(told: &mut String, policy: &str, error: EvaluationError) -> Result<(), AllocError> {
+fn push_determining(told: &mut String, policy: &str) -> Result<(), AllocError> {
+    told.push_str(" ")?;
+    told.push_str(policy)
+}
+
+fn push_erring(told: &mut String, policy: &str, error: EvaluationError) -> Result<(), AllocError> {
     told.push_str("!")?;
     told.push_str(error_name(error))?;
     told.push_str(" ")?;
-    told.push_str(policy)?;
+    told.push_str(policy)
+}
+
+fn push_response(told: &mut String, response: &Response) -> Result<(), AllocError> {
+    told.push_str(decision_name(response.decision))?;
+    for id in response.determining.iter() {
+        push_determining(told, id.as_str())?;
+    }
+    for erring in response.erring.iter() {
+        push_erring(told, erring.policy.as_str(), erring.error)?;
+    }
     Ok(())
 }
 
 /// A response as a text: the decision, the determining policies, and behind `!` each error with its policy.
-pub fn response_text(alloc: Global, response: &Response) -> Result<String, AllocError> {
-    let mut told = String::from_str(alloc, decision_name(response.decision))?;
+pub fn response_text(alloc: Global, response: Response) -> Result<String, AllocError> {
+    let mut told = String::new(alloc);
+    let pushed = push_response(&mut told, &response);
+    drop(response);
+    once(told, pushed)
+}
+
+fn push_lent(told: &mut String, response: &cedar_auth::Response<'_>) -> Result<(), AllocError> {
+    told.push_str(decision_name(response.decision))?;
     for id in response.determining.iter() {
-        told.push_str(" ")?;
-        told.push_str(id.as_str())?;
+        push_determining(told, id)?;
     }
     for erring in response.erring.iter() {
-        write_erring(&mut told, erring.policy.as_str(), erring.error)?;
+        push_erring(told, erring.policy, erring.error)?;
     }
-    Ok(told)
+    Ok(())
 }
 
 /// The same of a response whose ids are lent.
-pub fn lent_text(alloc: Global, response: &cedar_auth::Response<'_>) -> Result<String, AllocError> {
-    let mut told = String::from_str(alloc, decision_name(response.decision))?;
-    for id in response.determining.iter() {
-        told.push_str(" ")?;
-        told.push_str(id)?;
-    }
-    for erring in response.erring.iter() {
-        write_erring(&mut told, erring.policy, erring.error)?;
-    }
-    Ok(told)
+pub fn lent_text(alloc: Global, response: cedar_auth::Response<'_>) -> Result<String, AllocError> {
+    let mut told = String::new(alloc);
+    let pushed = push_lent(&mut told, &response);
+    drop(response);
+    once(told, pushed)
 }

@@ -1,0 +1,46 @@
+//! Reads event lines.
+use cedar_service::JobId;
+
+/// What an event line asks for.
+#[derive(Drop)]
+pub enum Event<'l> {
+    /// `open REQUEST`: a request line.
+    Open(&'l [u8]),
+    /// `step JOB`
+    Step(JobId),
+    /// `running JOB`: this one changes nothing.
+    Running(JobId),
+    /// `take JOB`
+    Take(JobId),
+    /// `publish POLICIES ENTITIES`: the names of two files.
+    Publish(&'l str, &'l str),
+}
+
+// The event of a word about a job.
+fn of_job<'l>(word: &str, job: JobId) -> Option<Event<'l>> {
+    match word {
+        "step" => Some(Event::Step(job)),
+        "running" => Some(Event::Running(job)),
+        "take" => Some(Event::Take(job)),
+        _ => None,
+    }
+}
+
+// The event of a word and what stands behind it.
+fn of_words<'l>(word: &str, rest: &'l str) -> Option<Event<'l>> {
+    if word == "publish" {
+        let (policies, entities) = rest.split_once(' ')?;
+        return Some(Event::Publish(policies, entities));
+    }
+    of_job(word, rest.parse::<JobId>().ok()?)
+}
+
+/// The event that a line, without its LF, asks for; none where it is no event line.
+pub fn read_event(line: &[u8]) -> Option<Event<'_>> {
+    if let Some(request) = line.strip_prefix(b"open ") {
+        return Some(Event::Open(request));
+    }
+    let text = str::from_utf8(line).ok()?;
+    let (word, rest) = text.split_once(' ')?;
+    of_words(word, rest)
+}

@@ -1,0 +1,2 @@
+// By the schema a notebook has no pages.
+permit(principal, action, resource) when { resource.pages < 100 };

@@ -26,10 +26,11 @@ use crate::tally::Tally;
 use crate::validated::Validated;
 use cedar_ast::Effect;
 use cedar_code::Code;
-use cedar_conform::read_request;
+use cedar_conform::{read_request, read_request_with};
 use cedar_data::{ConformFault, read_values_belong};
 use cedar_entities::read_entities;
 use cedar_index::Selection;
+use cedar_reader::JsonReader;
 use cedar_schema::tests_of_schemas_decide;
 use cedar_store::Store;
 use cedar_tokens::uid_or_none;
@@ -134,6 +135,20 @@ impl Ready {
         ensures refused { IfErr result (λ e. e ≢ OutOfMemory → LineHasFault self.now.schema line.now e) }
     {
         read_request(alloc, self.validated.schema(), line)
+    }
+
+    // As `read`, by a reader of JSON whose room is kept from line to line.
+    pub(crate) fn read_with(
+        &self,
+        alloc: Global,
+        line: &[u8],
+        reader: &mut JsonReader,
+    ) -> Result<Request, ConformFault>
+        ensures denotes { IfOk result (LineDenotes self.now.schema line.now) }
+        ensures fits { IfOk result (Fits self.now.schema) }
+        ensures refused { IfErr result (λ e. e ≢ OutOfMemory → LineHasFault self.now.schema line.now e) }
+    {
+        read_request_with(alloc, self.validated.schema(), line, reader)
     }
 
     /// Whether a request fits the schema: its action applies to its principal and its resource, and its context belongs

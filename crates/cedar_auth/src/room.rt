@@ -1,11 +1,14 @@
 //! The room that answers take.
 use crate::tally::Tally;
 use cedar_index::Selection;
+use cedar_reader::JsonReader;
 use std::alloc::Global;
 
-/// The room for the policies that are selected for a request and for how they end, which is used again from request to request.
+/// The room for a line's JSON, for the policies that are selected for a request, and for how they end, which is used again
+/// from line to line.
 #[derive(Drop)]
 pub struct Room<'r> {
+    pub(crate) reader: JsonReader,
     pub(crate) selection: Selection<'r>,
     pub(crate) tally: Tally<'r>,
 }
@@ -14,6 +17,7 @@ impl<'r> Room<'r> {
     /// Room for nothing yet. It takes no memory.
     pub(crate) fn new(alloc: Global) -> Room<'r> {
         Room {
+            reader: JsonReader::new(alloc),
             selection: Selection::new(alloc),
             tally: Tally::new(alloc),
         }

@@ -51,7 +51,7 @@ impl<'r> Engine for Answering<'r> {
         out: &mut Vec<u8>,
     ) -> Result<(), AllocError> {
         let ready = self.ready;
-        match ready.read(alloc, line) {
+        match ready.read_with(alloc, line, &mut buffers.reader) {
             Ok(request) => {
                 ready.tally(alloc, &request, &mut buffers.selection, &mut buffers.tally)?;
                 append_response(alloc, &buffers.tally.told(), out)?;

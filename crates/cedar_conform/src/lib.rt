@@ -7,7 +7,8 @@
 //! assert!(rt; fits(&schema, &request));
 //! ```
 //!
-//! Values and uids come from cedar_data.
+//! Lines one after another are read with [`read_request_with`], whose reader of JSON is kept from line to line. Values and
+//! uids come from cedar_data.
 #![tactic(auto)]
 
 mod context;
@@ -21,4 +22,4 @@ pub use cedar_data::{
 };
 pub use fitting::fits;
 pub use links::read_links;
-pub use request::read_request;
+pub use request::{read_request, read_request_with};

@@ -14,7 +14,7 @@ ghost use Rattle.cedar_conform.specs.Private.Answers.{IsAnswer};
 
 use crate::context::record_type;
 use cedar_data::{ConformFault, one_written_uid, read_record, read_values_belong, written_uid};
-use cedar_json::read_json;
+use cedar_reader::JsonReader;
 use cedar_schema::Schema;
 use cedar_types::Type;
 use cedar_value::{Record, Request, Uid};
@@ -39,11 +39,26 @@ pub fn read_request(alloc: Global, schema: &Schema, line: &[u8]) -> Result<Reque
     ensures only { (q : RequestTree) → LineDenotes schema.now line.now q → AnswersRequest q result }
     ensures refused { IfErr result (λ e. e ≢ OutOfMemory → LineHasFault schema.now line.now e) }
 {
+    read_request_with(alloc, schema, line, &mut JsonReader::new(alloc))
+}
+
+/// As `read_request`, by a reader of JSON whose room is kept from line to line.
+pub fn read_request_with(
+    alloc: Global,
+    schema: &Schema,
+    line: &[u8],
+    reader: &mut JsonReader,
+) -> Result<Request, ConformFault>
+    ensures denotes { IfOk result (LineDenotes schema.now line.now) }
+    ensures fits { IfOk result (Fits schema.now) }
+    ensures only { (q : RequestTree) → LineDenotes schema.now line.now q → AnswersRequest q result }
+    ensures refused { IfErr result (λ e. e ≢ OutOfMemory → LineHasFault schema.now line.now e) }
+{
     // Laws, which do nothing.
     schema.well_formedness();
     read_values_belong();
     one_written_uid();
-    match read_json(alloc, line)? {
+    match reader.read(alloc, line)? {
         Some(json) => request_of(alloc, schema, &json),
         None => Err(ConformFault::Json),
     }

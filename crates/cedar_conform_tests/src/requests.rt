@@ -1,7 +1,8 @@
 //! Request lines, each worked out from the rules (Cedar documentation, validation; entities and context in JSON).
 use crate::schemas::{DOCUMENTS, NAMESPACE};
 use crate::value_text::{record_text, uid_text};
-use cedar_conform::{ConformFault, fits, read_request};
+use cedar_conform::{ConformFault, fits, read_request, read_request_with};
+use cedar_reader::JsonReader;
 use cedar_schema::Schema;
 use cedar_value::Request;
 use std::alloc::{AllocError, Global};
@@ -206,23 +207,25 @@ fn check_line(
     rt: &impl Abort,
     alloc: Global,
     schema: &Schema,
+    reader: &mut JsonReader,
     row: (&str, &str),
 ) -> Result<(), Fail> {
-    let answer = read_request(alloc, schema, row.0.as_bytes());
+    let answer = read_request_with(alloc, schema, row.0.as_bytes(), reader);
     let checked = check_answer(rt, alloc, schema, &answer, row);
     drop(answer);
     checked
 }
 
-// Each line has the answer beside it.
+// Each line has the answer beside it, whatever lines its reader read before.
 fn check_each(
     rt: &impl Abort,
     alloc: Global,
     schema: &Schema,
     rows: &[(&str, &str)],
 ) -> Result<(), Fail> {
+    let mut reader = JsonReader::new(alloc);
     for row in rows {
-        check_line(rt, alloc, schema, *row)?;
+        check_line(rt, alloc, schema, &mut reader, *row)?;
     }
     Ok(())
 }

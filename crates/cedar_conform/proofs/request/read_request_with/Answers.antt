@@ -2,7 +2,7 @@ use Rattle.std.proofs.Common.{◌≡◌, Some, sym, ap, ◌∙◌}
 use Rattle.serde_json.specs.View.{view}
 use Rattle.cedar_json.specs.JsonTree.{json_of}
 use Rattle.cedar_conform.proofs.RequestLemmas.{answer_fits, answer_tells, only_of}
-use Rattle.cedar_conform.proofs.request.read_request.Goals as goal
+use Rattle.cedar_conform.proofs.request.read_request_with.Goals as goal
 
 pub returns-in-Some-clause-fits : goal.returns-in-Some-clause-fits
 returns-in-Some-clause-fits c = answer_fits c.read_values_belong.ensures c.args.schema.now (view c.in-Some.json) c.request_of.result c.request_of.ensures

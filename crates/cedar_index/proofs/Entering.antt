@@ -1,53 +1,45 @@
 -- What is kept stays kept, and what is entered is kept.
-use Rattle.std.proofs.Common.{◌≡◌, ℕ, ◌+◌, ◌<◌, ◌≤◌, ◌⊎◌, ⊎_elim, Bool, true, false, cond, get_or, List, [], ◌∷◌, length, take, Contains, Option, Some, None, arith, refl, sym, ap, subst, ◌∙◌}
-use Rattle.std.specs.BTreeMap.{BTreeMap, UpdatesBy, get, is_at}
+use Rattle.std.proofs.Common.{◌≡◌, ℕ, ◌+◌, ◌<◌, ◌≤◌, ◌⊎◌, ⊎_elim, Bool, true, false, cond, get_or, List, [], length, take, Contains, Option, Some, None, arith, refl, sym, ap, subst, ◌∙◌}
+use Rattle.indexmap.specs.IndexMap.{UpdatesBy, get}
 use Rattle.std.specs.Global.{Vec}
 use Rattle.std.specs.List.{slice_get}
 use Rattle.std.specs.Option.{option_map, unwrap_or}
-use Rattle.std.specs.Ordering.{is_eq}
-use Rattle.std.specs.declared.cmp.Ordering.{Ordering}
-use Rattle.std.specs.declared.cmp.Ordering.TheVariants.{Less, Equal, Greater}
 use Rattle.std.proofs.lemmas.List.{take_all, take_more}
 use Rattle.std.proofs.lemmas.List.Elements.{Contains-push_cases}
-use Rattle.cedar_value.specs.Order.{uid_cmp}
-use Rattle.cedar_value.specs.Private.Same.{uid_same}
+use Rattle.cedar_value.specs.Datum.{same_uid}
+use Rattle.cedar_value.specs.Private.Equality.{same_uid-Decides}
 use Rattle.cedar_value.specs.declared.uid.Uid.{Uid}
 use Rattle.cedar_ast.specs.PolicyTree.{PolicyTree}
 use Rattle.cedar_index.specs.Index.{IsIndexOf}
-use Rattle.cedar_index.specs.Private.Kept.{Holds, KeepsAll, KeepsIndex, IsKept, list_at, list_for}
+use Rattle.cedar_index.specs.Private.Kept.{Holds, KeepsAll, KeepsIndex, IsKept, Lists, list_at, list_for}
 use Rattle.cedar_index.specs.Reached.{uid_in}
 use Rattle.cedar_index.specs.declared.index.Index.{Index}
 
 abbrev items_in : Option (Vec ℕ) → List ℕ
 items_in found = unwrap_or (option_map (λ v. v.items) found) []
 
-equal_from : (x : Ordering) → is_eq x ≡ true → x ≡ Equal
-equal_from Less h = cc
-equal_from Equal h = refl
-equal_from Greater h = cc
-
 -- one list takes the place of that under a uid, and has all that this had
-pub kept_by : (old new : BTreeMap Uid (Vec ℕ)) (n : Uid) (v : Vec ℕ) → UpdatesBy uid_cmp (uid_cmp n) old new (Some v) → Holds (list_at old n) v.items → KeepsAll old new
-kept_by old new n v updates holds u k m = at (is_at (uid_cmp n) u) refl
+pub kept_by : (old new : Lists) (n : Uid) (v : Vec ℕ) → UpdatesBy same_uid (same_uid n) old new (Some v) → Holds (list_at old n) v.items → KeepsAll old new
+kept_by old new n v updates holds u k m = at (same_uid n u) refl
   where
-    at : (b : Bool) → is_at (uid_cmp n) u ≡ b → Contains (list_at new u) k
+    at : (b : Bool) → same_uid n u ≡ b → Contains (list_at new u) k
     at true e =
-        let same : n ≡ u = uid_same n u (equal_from (uid_cmp n u) e) in
-        let found : get uid_cmp new u ≡ Some v = updates.0 u ∙ ap (λ (b : Bool). cond b (Some v) (get uid_cmp old u)) e in
+        let same : n ≡ u = (same_uid-Decides n u).0 e in
+        let found : get same_uid new u ≡ Some v = updates.0 u ∙ ap (λ (b : Bool). cond b (Some v) (get same_uid old u)) e in
         subst (λ (o : Option (Vec ℕ)). Contains (items_in o) k) (sym found) (holds k (subst (λ (x : Uid). Contains (list_at old x) k) (sym same) m))
     at false e =
-        let found : get uid_cmp new u ≡ get uid_cmp old u = updates.0 u ∙ ap (λ (b : Bool). cond b (Some v) (get uid_cmp old u)) e in
+        let found : get same_uid new u ≡ get same_uid old u = updates.0 u ∙ ap (λ (b : Bool). cond b (Some v) (get same_uid old u)) e in
         subst (λ (o : Option (Vec ℕ)). Contains (items_in o) k) (sym found) m
 
 -- a uid that has no list has no position
-pub holds_none : (old : BTreeMap Uid (Vec ℕ)) (n : Uid) (ks : List ℕ) → get uid_cmp old n ≡ None → Holds (list_at old n) ks
+pub holds_none : (old : Lists) (n : Uid) (ks : List ℕ) → get same_uid old n ≡ None → Holds (list_at old n) ks
 holds_none old n ks none k m = nothing (subst (λ (o : Option (Vec ℕ)). Contains (items_in o) k) none m)
   where
     nothing : Contains [] k → Contains ks k
     nothing (i, low, e) = absurd (omega arith)
 
 -- a list that is found is that of its uid
-pub holds_found : (old : BTreeMap Uid (Vec ℕ)) (n : Uid) (v : Vec ℕ) (ks : List ℕ) → Some v ≡ get uid_cmp old n → Holds v.items ks → Holds (list_at old n) ks
+pub holds_found : (old : Lists) (n : Uid) (v : Vec ℕ) (ks : List ℕ) → Some v ≡ get same_uid old n → Holds v.items ks → Holds (list_at old n) ks
 holds_found old n v ks found holds k m = holds k (subst (λ (o : Option (Vec ℕ)). Contains (items_in o) k) (sym found) m)
 
 -- ---- the index

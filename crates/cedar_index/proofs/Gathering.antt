@@ -1,13 +1,11 @@
 -- Positions that are gathered from lists.
 use Rattle.std.proofs.Common.{◌≡◌, ℕ, zero, suc, ◌+◌, ◌<◌, ◌≤◌, ◌⊎◌, inl, inr, ⊎_elim, get_or, List, [], ◌∷◌, map, length, Contains, Option, Some, None, arith, refl, sym, ap, subst, ◌∙◌}
-use Rattle.std.specs.BTreeMap.{BTreeMap}
 use Rattle.std.specs.Borrow.{Bor}
-use Rattle.std.specs.Global.{Vec}
 use Rattle.cedar_value.specs.declared.uid.Uid.{Uid}
 use Rattle.cedar_value.specs.World.{World, Below}
 use Rattle.cedar_value.specs.declared.request.Request.{Request}
 use Rattle.cedar_ast.specs.PolicyTree.{PolicyTree}
-use Rattle.cedar_index.specs.Private.Kept.{Holds, IsKept, list_at, list_for}
+use Rattle.cedar_index.specs.Private.Kept.{Holds, IsKept, Lists, list_at, list_for}
 use Rattle.cedar_index.specs.Reached.{IsReached, uid_in}
 use Rattle.cedar_index.specs.declared.index.Index.{Index}
 
@@ -24,10 +22,10 @@ same_at (u ∷ us) zero a b low = refl
 same_at (u ∷ us) (suc i) a b low = same_at us i a b (omega arith)
 
 -- the lists of the first uids are held
-abbrev pub HoldsFirst : BTreeMap Uid (Vec ℕ) → List (Bor Uid) → ℕ → List ℕ → Type 0
+abbrev pub HoldsFirst : Lists → List (Bor Uid) → ℕ → List ℕ → Type 0
 HoldsFirst lists us i ks = (j : ℕ) (u : Bor Uid) → j < i → get_or us j u ≡ u → Holds (list_at lists u.now) ks
 
-pub first_more : (lists : BTreeMap Uid (Vec ℕ)) (us : List (Bor Uid)) (i : ℕ) (x : Bor Uid) (old new : List ℕ) → i < length us → x ≡ get_or us i x → Holds old new → Holds (list_at lists x.now) new
+pub first_more : (lists : Lists) (us : List (Bor Uid)) (i : ℕ) (x : Bor Uid) (old new : List ℕ) → i < length us → x ≡ get_or us i x → Holds old new → Holds (list_at lists x.now) new
     → HoldsFirst lists us i old → HoldsFirst lists us (i + 1) new
 first_more lists us i x old new within is kept added before j u low e = ⊎_elim
     (λ h. λ k m. kept k (before j u h e k m))
@@ -36,7 +34,7 @@ first_more lists us i x old new within is kept added before j u low e = ⊎_elim
     subst (λ (v : Bor Uid). Holds (list_at lists v.now) new) same added)
     (less_or_same j i low)
 
-pub first_all : (lists : BTreeMap Uid (Vec ℕ)) (us : List (Bor Uid)) (i : ℕ) (ks : List ℕ) → length us ≤ i → HoldsFirst lists us i ks → (u : Bor Uid) → Contains us u → Holds (list_at lists u.now) ks
+pub first_all : (lists : Lists) (us : List (Bor Uid)) (i : ℕ) (ks : List ℕ) → length us ≤ i → HoldsFirst lists us i ks → (u : Bor Uid) → Contains us u → Holds (list_at lists u.now) ks
 first_all lists us i ks past by u (j, low, e) = by j u (omega arith) e
 
 -- what stands in a list of references

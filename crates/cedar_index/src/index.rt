@@ -8,10 +8,11 @@ ghost use Rattle.std.specs.List.Sorted.{IsStrictlyIncreasing};
 use crate::selection::Selection;
 use crate::uid_lists::{UidLists, insert};
 use cedar_ast::{EntityScope, PolicySet, Scope};
-use cedar_store::Store;
+use cedar_store::{Store, UidHashing};
 use cedar_value::{Request, Uid};
+use indexmap::IndexMap;
 use std::alloc::{AllocError, Global};
-use std::collections::BTreeMap;
+use std::hash::{DefaultHasher, Hash};
 
 /// Positions of policies by the one entity that each policy's scope names: under its principal, else under its resource, and
 /// apart where it names neither.
@@ -32,15 +33,34 @@ fn uid_in(scope: &EntityScope) -> Option<&Uid>
     }
 }
 
+// How the uids that the scopes of the policies at these positions name are hashed.
+fn hashing_of(policies: &PolicySet, positions: &[usize]) -> UidHashing {
+    let mut digest = DefaultHasher::new();
+    for position in positions {
+        if let Some(policy) = policies.policy(*position) {
+            feed(&mut digest, &policy.scope().principal);
+            feed(&mut digest, &policy.scope().resource);
+        }
+    }
+    UidHashing::by_digest(digest)
+}
+
+fn feed(digest: &mut DefaultHasher, scope: &EntityScope) {
+    if let Some(uid) = uid_in(scope) {
+        uid.hash(digest);
+    }
+}
+
 impl Index {
     /// The index of the policies at these positions, by what their scopes name. 1: memory was refused.
     pub fn new(alloc: Global, policies: &PolicySet, positions: &[usize]) -> Result<Self, AllocError>
         ensures { IfOk result (IsIndexOf policies.now.policies positions.now) }
     {
+        let hashing = hashing_of(policies, positions);
         let mut index = Index {
             unnamed: Vec::new(alloc),
-            principals: BTreeMap::new(alloc),
-            resources: BTreeMap::new(alloc),
+            principals: IndexMap::with_hasher(alloc, hashing),
+            resources: IndexMap::with_hasher(alloc, hashing),
         };
         for position in positions {
             match policies.policy(*position) {

@@ -1,17 +1,18 @@
 //! Lists of positions, each under a uid.
 ghost use Rattle.std.specs.Prelude.{◌≡◌, Contains, None, OnOk};
 ghost use Rattle.std.specs.Borrow.{Bor};
-ghost use Rattle.std.specs.BTreeMap.{get};
-ghost use Rattle.cedar_value.specs.Order.{uid_cmp};
+ghost use Rattle.indexmap.specs.IndexMap.{get};
+ghost use Rattle.cedar_value.specs.Datum.{same_uid};
 ghost use Rattle.cedar_index.specs.Private.Kept.{Holds, KeepsAll, list_at};
 ghost use Rattle.cedar_value.specs.declared.uid.Uid.{Uid as UidTree};
 
+use cedar_store::UidHashing;
 use cedar_value::Uid;
+use indexmap::IndexMap;
 use std::alloc::{AllocError, Global};
-use std::collections::BTreeMap;
 
 /// For each uid the positions that are kept under it.
-pub(crate) type UidLists = BTreeMap<Uid, Vec<usize>>;
+pub(crate) type UidLists = IndexMap<Uid, Vec<usize>, UidHashing>;
 
 /// Keeps the position under the uid too.
 pub(crate) fn insert(
@@ -37,7 +38,7 @@ fn insert_first(
     uid: &Uid,
     position: usize,
 ) -> Result<(), AllocError>
-    requires { get uid_cmp lists.old uid.now ≡ None }
+    requires { get same_uid lists.old uid.now ≡ None }
     ensures kept { OnOk result (KeepsAll lists.old lists.new) }
     ensures entered { OnOk result (Contains (list_at lists.new uid.now) position) }
 {

@@ -34,3 +34,5 @@ pub use entity::Entity;
 pub use plain_store::PlainStore;
 pub use store::Store;
 pub use store_fault::StoreFault;
+pub use uid_hasher::UidHasher;
+pub use uid_hashing::UidHashing;

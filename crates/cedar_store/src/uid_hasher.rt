@@ -17,7 +17,7 @@ const KEY: u64 = 0x0FFF_FFFF_FFFF_FFFF;
 /// over the bits that a table looks at. That much is argued here and proved nowhere: what is proved holds
 /// whatever the hash.
 #[derive(Clone, Copy)]
-pub(crate) struct UidHasher {
+pub struct UidHasher {
     state: u64,
     key: u64,
     spread: u64,

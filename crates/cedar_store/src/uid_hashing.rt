@@ -4,12 +4,12 @@ use crate::uid_hasher::UidHasher;
 use cedar_value::Uid;
 use std::hash::{BuildHasher, DefaultHasher, Hash, Hasher};
 
-/// Makes the hashers of a store's tables. Their keys are a SipHash digest of all uids of the store, so that
+/// Makes the hashers of tables of uids. Their keys are a SipHash digest of all uids of the table, so that
 /// whoever picks uids that are to collide would have to know the digest of a list that has them all before
 /// he has picked them. The order of a table goes by its insertions alone, and the same list has the same
 /// digest, so that no answer and no order depends on it.
 #[derive(Clone, Copy)]
-pub(crate) struct UidHashing {
+pub struct UidHashing {
     begun: UidHasher,
 }
 
@@ -21,6 +21,11 @@ impl UidHashing {
             entity.uid.hash(&mut digest);
             feed(&mut digest, &entity.parents);
         }
+        UidHashing::by_digest(digest)
+    }
+
+    /// The hashing for uids that were all fed to the digest. Takes no memory.
+    pub fn by_digest(mut digest: DefaultHasher) -> Self {
         let key = digest.finish();
         digest.write_u64(key);
         UidHashing {

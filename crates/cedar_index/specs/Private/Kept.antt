@@ -1,10 +1,11 @@
 -- What an index keeps.
 use Rattle.std.specs.Prelude.{ℕ, List, [], Contains, Option, None, Some, option_map, unwrap_or}
 use Rattle.std.specs.Global.{Vec}
-use Rattle.std.specs.BTreeMap.{BTreeMap, get}
-use Rattle.cedar_value.specs.Order.{uid_cmp}
+use Rattle.indexmap.specs.IndexMap.{IndexMap, get}
+use Rattle.cedar_value.specs.Datum.{same_uid}
 use Rattle.cedar_value.specs.declared.uid.Uid.{Uid}
 use Rattle.cedar_ast.specs.declared.scope.Scope.{Scope}
+use Rattle.cedar_store.specs.declared.uid_hashing.UidHashing.{UidHashing}
 use Rattle.cedar_index.specs.Reached.{uid_in}
 use Rattle.cedar_index.specs.declared.index.Index.{Index}
 
@@ -12,12 +13,16 @@ use Rattle.cedar_index.specs.declared.index.Index.{Index}
 abbrev pub Holds : List ℕ → List ℕ → Type 0
 Holds ks js = (k : ℕ) → Contains ks k → Contains js k
 
+-- for each uid a list of positions
+abbrev pub Lists : Type 0
+Lists = IndexMap Uid (Vec ℕ) UidHashing
+
 -- the positions that are kept under a uid
-abbrev pub list_at : BTreeMap Uid (Vec ℕ) → Uid → List ℕ
-list_at lists u = unwrap_or (option_map (λ v. v.items) (get uid_cmp lists u)) []
+abbrev pub list_at : Lists → Uid → List ℕ
+list_at lists u = unwrap_or (option_map (λ v. v.items) (get same_uid lists u)) []
 
 -- what was kept under a uid is kept there still
-abbrev pub KeepsAll : BTreeMap Uid (Vec ℕ) → BTreeMap Uid (Vec ℕ) → Type 0
+abbrev pub KeepsAll : Lists → Lists → Type 0
 KeepsAll old new = (u : Uid) → Holds (list_at old u) (list_at new u)
 
 -- what the index kept it keeps still

@@ -1,9 +1,6 @@
 use Rattle.std.proofs.Common.{rules, ℕ, List, [], ◌∷◌, Contains, sym, subst}
-use Rattle.std.specs.BTreeMap.{BTreeMap}
-use Rattle.std.specs.Global.{Vec}
 use Rattle.std.proofs.lemmas.List.Elements.{Contains-append_left}
-use Rattle.cedar_value.specs.declared.uid.Uid.{Uid}
-use Rattle.cedar_index.specs.Private.Kept.{KeepsAll}
+use Rattle.cedar_index.specs.Private.Kept.{KeepsAll, Lists}
 use Rattle.cedar_index.proofs.Entering.{kept_by, holds_found}
 use Rattle.cedar_index.proofs.uid_lists.insert.Goals as goal
 
@@ -18,4 +15,4 @@ returns-in_ok-push-in-Some-clause-kept c =
 
 pub returns-in_ok-insert_first-in-None-clause-kept : goal.returns-in_ok-insert_first-in-None-clause-kept
 returns-in_ok-insert_first-in-None-clause-kept c =
-    subst (λ (old : BTreeMap Uid (Vec ℕ)). KeepsAll old c.insert_first.new.lists) c.get_mut.follows.holds-at-none c.in_ok-insert_first-in-None.ensures.kept
+    subst (λ (old : Lists). KeepsAll old c.insert_first.new.lists) c.get_mut.follows.holds-at-none c.in_ok-insert_first-in-None.ensures.kept

@@ -5,7 +5,7 @@ ghost use Rattle.cedar_value.specs.World.{Below};
 ghost use Rattle.cedar_value.specs.declared.uid.Uid.{Uid as UidTree};
 ghost use Rattle.cedar_index.specs.Private.Kept.{Holds, list_at};
 
-use crate::uid_lists::{UidLists, push_list, push_lists};
+use crate::uid_lists::{UidLists, push_below, push_list, push_lists};
 use cedar_store::Store;
 use cedar_value::Uid;
 use std::alloc::{AllocError, Global};
@@ -60,7 +60,8 @@ impl<'s> Selection<'s> {
         self.positions.extend_from_slice(positions)
     }
 
-    // Adds what is kept under the entity and under all that it lies below.
+    // Adds what is kept under the entity and under all that it lies below: what it lies below is looked up, or, where fewer
+    // uids have lists, of each of these it is asked whether the entity lies below it.
     pub(crate) fn push_reached(
         &mut self,
         lists: &UidLists,
@@ -76,7 +77,11 @@ impl<'s> Selection<'s> {
         push_list(lists, entity, &mut self.positions)?;
         self.above.clear();
         store.ancestors(entity, &mut self.above)?;
-        push_lists(lists, &self.above, &mut self.positions)?;
+        if lists.len() < self.above.len() {
+            push_below(lists, entity, store, &mut self.positions)?;
+        } else {
+            push_lists(lists, &self.above, &mut self.positions)?;
+        }
         Ok(())
     }
 

@@ -3,11 +3,12 @@ ghost use Rattle.std.specs.Prelude.{◌≡◌, Contains, None, OnOk};
 ghost use Rattle.std.specs.Borrow.{Bor};
 ghost use Rattle.indexmap.specs.IndexMap.{get};
 ghost use Rattle.cedar_value.specs.Datum.{same_uid};
+ghost use Rattle.cedar_value.specs.World.{Below};
 ghost use Rattle.cedar_index.specs.Private.Kept.{Holds, KeepsAll, list_at};
 ghost use Rattle.cedar_value.specs.declared.uid.Uid.{Uid as UidTree};
 
-use cedar_store::UidHashing;
-use cedar_value::Uid;
+use cedar_store::{Store, UidHashing};
+use cedar_value::{Hierarchy, Uid};
 use indexmap::IndexMap;
 use std::alloc::{AllocError, Global};
 
@@ -74,6 +75,24 @@ pub(crate) fn push_lists(
 {
     for uid in uids {
         push_list(lists, uid, positions)?;
+    }
+    Ok(())
+}
+
+/// Appends the positions that are kept under each uid that the entity lies below, by asking that of each uid.
+pub(crate) fn push_below(
+    lists: &UidLists,
+    entity: &Uid,
+    store: &Store,
+    positions: &mut Vec<usize>,
+) -> Result<(), AllocError>
+    ensures kept { OnOk result (Holds positions.old.items positions.new.items) }
+    ensures added { OnOk result ((u : UidTree) → Below store.now entity.now u → Holds (list_at lists.now u) positions.new.items) }
+{
+    for (uid, list) in lists.iter() {
+        if store.is_below(entity, uid) {
+            positions.extend_from_slice(list)?;
+        }
     }
     Ok(())
 }

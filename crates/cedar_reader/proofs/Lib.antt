@@ -1,1 +1,2 @@
+mod Coming
 mod Reading

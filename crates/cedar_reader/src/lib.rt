@@ -13,9 +13,12 @@
 //! room in which its tokens are found; a reader makes that once.
 #![tactic(auto)]
 
+mod items;
 mod number;
 mod reader;
 mod tree;
 mod tree_fault;
 
+pub use items::ItemReader;
 pub use reader::JsonReader;
+pub use tree_fault::TreeFault;

@@ -1,10 +1,14 @@
 //! JSON texts one after another.
-ghost use Rattle.std.specs.Prelude.{◌≡◌, ◌≢◌, Some, None, IfOk, IfErr, MatchResult, option_map};
+ghost use Rattle.std.specs.Prelude.{◌≡◌, ◌≢◌, Some, None, IfOk, MatchOption, MatchResult, option_and_then, option_map};
+ghost use Rattle.serde_json.specs.Data.{array};
+ghost use Rattle.serde_json.specs.Find.{as_array};
 ghost use Rattle.serde_json.specs.Read.{read as tree_of_text};
 ghost use Rattle.serde_json.specs.View.{view};
 ghost use Rattle.cedar_json.specs.JsonTree.{json_of};
+ghost use Rattle.cedar_reader.specs.Items.{to_come};
 ghost use Rattle.cedar_reader.specs.declared.tree_fault.TreeFault.TheVariants.{OutOfMemory};
 
+use crate::items::ItemReader;
 use crate::tree::read_tree;
 use crate::tree_fault::TreeFault;
 use json::{Reader, Scratch};
@@ -44,6 +48,18 @@ impl JsonReader {
                 TreeFault::Invalid => Ok(None),
             },
         }
+    }
+
+    /// The items of the bytes, to be read one after another, where they begin as a list does; and None where they do not, or
+    /// are no UTF-8: so they are no JSON that is a list (RFC 8259, section 5). Refused only for want of memory.
+    pub fn items<'r>(&'r mut self, bytes: &'r [u8]) -> Result<Option<ItemReader<'r>>, AllocError>
+        ensures { IfOk result (λ found. MatchOption found (option_and_then as_array (json_of bytes.now) ≡ None)
+            (λ items. json_of bytes.now ≡ option_map array (to_come items))) }
+    {
+        let Ok(text) = std::str::from_utf8(bytes) else {
+            return Ok(None);
+        };
+        ItemReader::open(text, &mut self.scratch)
     }
 }
 

@@ -3,7 +3,7 @@ use std::alloc::{AllocError, AllocFailed};
 
 /// Why tokens make no tree.
 #[derive(Clone, Copy, Debug, Drop, PartialEq, Eq)]
-pub(crate) enum TreeFault {
+pub enum TreeFault {
     /// Memory was refused.
     OutOfMemory,
     /// They are no JSON, or nest deeper than 127, or a number is beyond a float's range.

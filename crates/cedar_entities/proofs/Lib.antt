@@ -1,3 +1,4 @@
+mod ComingLemmas
 mod Conforming
 mod Denoted
 mod EntryLemmas

@@ -1,16 +1,15 @@
 -- How the reading of a list goes on.
-use Rattle.std.proofs.Common.{◌≡◌, ◌↔◌, suc, IsTrue, Bool, true, false, cond, inl, inr, ⊎_elim, List, [], ◌∷◌, ◌++◌, length, map, Contains, refl, sym, ap, subst, ◌∙◌, arith, append_assoc, append-nil}
+use Rattle.std.proofs.Common.{◌≡◌, ◌↔◌, suc, IsTrue, Bool, true, false, cond, inl, inr, ⊎_elim, List, [], ◌∷◌, ◌++◌, Contains, refl, sym, ap, subst, ◌∙◌, append_assoc, append-nil}
 use Rattle.std.specs.BTreeMap.{is_at}
 use Rattle.std.specs.BTreeSet.{BTreeSet, contains, IsEmpty, Updates}
 use Rattle.std.specs.List.{list_any}
 use Rattle.serde_json.specs.Data.{Data, Items, no_items, item}
-use Rattle.serde_json.specs.View.{items_of}
 use Rattle.cedar_closure.proofs.Listed.{here, nowhere}
 use Rattle.cedar_data.specs.declared.conform_fault.ConformFault.{ConformFault}
 use Rattle.cedar_entities.specs.Denotes.{DenotesEntity, RepeatsAction}
 use Rattle.cedar_entities.specs.Entries.{IsUidOf, SomeWrites, TwoWrite}
-use Rattle.cedar_entities.specs.Private.Parts.{IsEntry, RefusesEntry}
-use Rattle.cedar_entities.specs.Private.Progress.{DenoteAll, nothing, entity_first, action_first, Twice, IsItem, Progress, IsRead, HasListFault, of_entry, written_twice, RefusesList, Entered, IsToldTwice, RefusesTwice}
+use Rattle.cedar_entities.specs.Private.Parts.{IsEntry}
+use Rattle.cedar_entities.specs.Private.Progress.{DenoteAll, nothing, entity_first, action_first, Twice, IsItem, Progress, IsRead, HasListFault, written_twice, RefusesList, Entered, IsToldTwice, RefusesTwice}
 use Rattle.cedar_entities.specs.declared.entry.Entry.{Entry}
 use Rattle.cedar_entities.specs.declared.entry.Entry.TheVariants.{Entity, Action}
 use Rattle.cedar_entities.proofs.TwiceLemmas.{either_of, left_of, right_of, only, twice_split, uid_tie}
@@ -102,22 +101,9 @@ module _ (s : SchemaTree) (first : World) (all : Items) where
     entered (Action u) one h = action_more u one.0 one.1 h.1 h.0 h.2
 
   module _ (d : Data) (rest : Items) (w : World) (told : BTreeSet Uid) (p : Progress s first all (item d rest) w told) where
-    pub entry_refused : (f : ConformFault) → RefusesEntry s d f → RefusesList s all f
-    entry_refused f h other = of_entry (p.among d (0, refl)) (h other)
-
     twice_fault : (f : ConformFault) (entry : Entry) → IsEntry s d entry → IsToldTwice entry told f → HasListFault s all f
     twice_fault f (Entity e) one h = absurd h
     twice_fault f (Action u) one h = subst (HasListFault s all) (sym h.0) (written_twice (told_twice d rest w w told told p u one.0 one.1 h.1))
 
     pub twice_refused : (f : ConformFault) (entry : Entry) → IsEntry s d entry → RefusesTwice entry told f → RefusesList s all f
     twice_refused f entry one h other = twice_fault f entry one (h other)
-
--- ---- the list of the code
-
-module _ {X : Type 0} (f : X → Data) (s : SchemaTree) (first : World) (all : Items) (rest others : List X) (x : X) (is : rest ≡ x ∷ others) where
-  pub at_first : (w : World) (told : BTreeSet Uid) → Progress s first all (items_of (map f rest)) w told → Progress s first all (item (f x) (items_of (map f others))) w told
-  at_first w told p = subst (λ (xs : List X). Progress s first all (items_of (map f xs)) w told) is p
-
-pub at_end : {X : Type 0} (f : X → Data) (s : SchemaTree) (first : World) (all : Items) (rest : List X) (w : World) (told : BTreeSet Uid) → length rest ≡ 0 → Progress s first all (items_of (map f rest)) w told → IsRead s first all w
-at_end f s first all [] w told e p = end s first all w told p
-at_end f s first all (x ∷ xs) w told e p = absurd (omega (arith, e))

@@ -1,8 +1,8 @@
 -- From what has been read to the world of the bytes.
-use Rattle.std.proofs.Common.{◌≡◌, inr, List, ℕ, Some, None, Result, Ok, Err, MatchResult, IfOk, IfErr, OnOk, refl, sym, subst}
+use Rattle.std.proofs.Common.{◌≡◌, inl, inr, ⊎_elim, List, ℕ, Option, Some, None, option_map, option_and_then, Result, Ok, Err, MatchResult, IfOk, IfErr, OnOk, refl, sym, ap, subst, ◌∙◌}
 use Rattle.std.specs.List.Sorted.{IsStrictlySortedBy}
 use Rattle.std.specs.Map.{keys_of}
-use Rattle.serde_json.specs.Data.{Data, Items}
+use Rattle.serde_json.specs.Data.{Data, Items, array}
 use Rattle.serde_json.specs.Find.{as_array}
 use Rattle.cedar_data.specs.declared.conform_fault.ConformFault.{ConformFault}
 use Rattle.cedar_data.specs.declared.conform_fault.ConformFault.TheVariants.{OutOfMemory, DuplicateEntity, Cycle, Shape}
@@ -10,8 +10,9 @@ use Rattle.cedar_entities.specs.Bytes.{BytesDenote, BytesHaveFault}
 use Rattle.cedar_entities.specs.Denotes.{DenotedWorldsConform}
 use Rattle.cedar_entities.specs.Faults.{HasFault}
 use Rattle.cedar_entities.specs.Faults as fault
+use Rattle.cedar_entities.specs.Private.Coming.{IsComingRead, RefusesComing}
 use Rattle.cedar_entities.specs.Private.Parts.{HasStoreFault}
-use Rattle.cedar_entities.specs.Private.Progress.{AreRead, IsRead, HasListFault, RefusesList, of_entry, written_twice}
+use Rattle.cedar_entities.specs.Private.Progress.{AreRead, IsRead, HasListFault, of_entry, written_twice}
 use Rattle.cedar_entities.proofs.Repeats.{plain, distinct_entries, repeated_entries}
 use Rattle.cedar_json.specs.JsonTree.{json_of}
 use Rattle.cedar_schema.specs.Conformance.{Conforms}
@@ -26,8 +27,19 @@ list_fault : (s : SchemaTree) (d : Data) (ds : Items) (f : ConformFault) → as_
 list_fault s d ds f list (of_entry m h) = fault.of_entry list m h
 list_fault s d ds f list (written_twice h) = fault.written_twice list h
 
-pub list_refused : (s : SchemaTree) (bytes : List ℕ) (d : Data) (ds : Items) (f : ConformFault) → json_of bytes ≡ Some d → as_array d ≡ Some ds → RefusesList s ds f → (f ≡ OutOfMemory → ⊥) → BytesHaveFault s bytes f
-list_refused s bytes d ds f is list h other = inr (d, is, list_fault s d ds f list (h other))
+module _ (s : SchemaTree) (bytes : List ℕ) (all : Option Items) (is : json_of bytes ≡ option_map array all) where
+  pub coming_fault : (f : ConformFault) → RefusesComing s all f → (f ≡ OutOfMemory → ⊥) → BytesHaveFault s bytes f
+  coming_fault f h other =
+      ⊎_elim (λ a. inl (a.0, is ∙ ap (option_map array) a.1)) (λ b. inr (array b.0, is ∙ ap (option_map array) b.1, list_fault s (array b.0) b.0 f refl b.2)) (h other)
+
+  pub coming_read : (first w : World) → first ≡ action_entities s → IsComingRead s first all w → AreRead s bytes w
+  coming_read first w actions h = record {
+    json = array h.0;
+    is_json = is ∙ ap (option_map array) h.1;
+    entries = h.0;
+    list = refl;
+    read = subst (λ (v : World). IsRead s v h.0 w) actions h.2;
+  }
 
 module _ (s : SchemaTree) (bytes : List ℕ) (w : World) (apart : AreTypesApart s) (read : AreRead s bytes w) where
   pub bytes_denote : AreUidsDistinct w → IsAcyclic w → BytesDenote s bytes w
@@ -57,14 +69,17 @@ bytes_conform s bytes w law apart hierarchy h = law s h.0 w apart hierarchy h.2
 
 -- ---- the answers of the code
 
-pub no_list_refused : (s : SchemaTree) (bytes : List ℕ) (d : Data) → Some d ≡ json_of bytes → None ≡ as_array d → BytesHaveFault s bytes Shape
-no_list_refused s bytes d is h = inr (d, sym is, fault.no_list (sym h))
+none_of : (o : Option Data) (d : Data) → option_and_then as_array o ≡ None → o ≡ Some d → as_array d ≡ None
+none_of o d h e = sym (ap (option_and_then as_array) e) ∙ h
+
+pub no_list_refused : (s : SchemaTree) (bytes : List ℕ) (d : Data) → Some d ≡ json_of bytes → option_and_then as_array (json_of bytes) ≡ None → BytesHaveFault s bytes Shape
+no_list_refused s bytes d is h = inr (d, sym is, fault.no_list (none_of (json_of bytes) d h (sym is)))
 
 module _ (s : SchemaTree) (bytes : List ℕ) where
-  pub list_answers : {V : Type 0} (items : V → World) (first : World) (d : Data) (ds : Items) (result : Result V ConformFault) → Some d ≡ json_of bytes → Some ds ≡ as_array d → first ≡ action_entities s
-      → MatchResult result (λ v. IsRead s first ds (items v)) (RefusesList s ds) → MatchResult result (λ v. AreRead s bytes (items v)) (λ f. (f ≡ OutOfMemory → ⊥) → BytesHaveFault s bytes f)
-  list_answers items first d ds (Ok v) is list actions h = record { json = d; is_json = sym is; entries = ds; list = sym list; read = subst (λ (w : World). IsRead s w ds (items v)) actions h }
-  list_answers items first d ds (Err f) is list actions h = list_refused s bytes d ds f (sym is) (sym list) h
+  pub list_answers : {V : Type 0} (items : V → World) (first : World) (all : Option Items) (result : Result V ConformFault) → json_of bytes ≡ option_map array all → first ≡ action_entities s
+      → MatchResult result (λ v. IsComingRead s first all (items v)) (RefusesComing s all) → MatchResult result (λ v. AreRead s bytes (items v)) (λ f. (f ≡ OutOfMemory → ⊥) → BytesHaveFault s bytes f)
+  list_answers items first all (Ok v) is actions h = coming_read s bytes all is first (items v) actions h
+  list_answers items first all (Err f) is actions h = coming_fault s bytes all is f h
 
   module _ (w : World) (apart : AreTypesApart s) (read : AreRead s bytes w) where
     pub store_denoted : (result : Result World ConformFault) → IfOk result (λ v. v ≡ w) → OnOk result (AreUidsDistinct w) → OnOk result (IsAcyclic w) → IfOk result (BytesDenote s bytes)

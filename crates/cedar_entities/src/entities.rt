@@ -1,9 +1,11 @@
 //! Entities from their JSON.
-ghost use Rattle.std.specs.Prelude.{◌≡◌, ◌≢◌, IfErr, IfOk, MatchResult, OnOk};
+ghost use Rattle.std.specs.Prelude.{◌≡◌, ◌≢◌, IfErr, IfOk, MatchResult, None, OnOk, option_and_then};
+ghost use Rattle.serde_json.specs.Find.{as_array};
 ghost use Rattle.cedar_data.specs.declared.conform_fault.ConformFault.TheVariants.{OutOfMemory};
 ghost use Rattle.cedar_entities.specs.Bytes.{BytesDenote, BytesHaveFault};
 ghost use Rattle.cedar_entities.specs.Private.Parts.{HasStoreFault};
 ghost use Rattle.cedar_entities.specs.Private.Progress.{AreRead};
+ghost use Rattle.cedar_json.specs.JsonTree.{json_of};
 ghost use Rattle.cedar_schema.specs.Conformance.{Conforms};
 ghost use Rattle.cedar_store.specs.Entities.{AreUidsDistinct, IsAcyclic};
 
@@ -12,6 +14,7 @@ use crate::laws::denoted_worlds_conform;
 use crate::list::read_list;
 use cedar_data::ConformFault;
 use cedar_json::read_json;
+use cedar_reader::JsonReader;
 use cedar_schema::Schema;
 use cedar_store::{Entity, Store, StoreFault};
 use std::alloc::Global;
@@ -32,20 +35,33 @@ pub fn read_entities(alloc: Global, schema: &Schema, bytes: &[u8]) -> Result<Sto
     build_store(alloc, entities)
 }
 
-// The schema's actions and the entities of the bytes. The JSON is let go before the store is built.
+// The schema's actions and the entities of the bytes. What the JSON was read with is let go before the store is built.
 fn entities_of(alloc: Global, schema: &Schema, bytes: &[u8]) -> Result<Vec<Entity>, ConformFault>
     ensures { MatchResult result
         (λ v. AreRead schema.now bytes.now v.items)
         (λ f. f ≢ OutOfMemory → BytesHaveFault schema.now bytes.now f) }
 {
-    let Some(json) = read_json(alloc, bytes)? else {
-        return Err(ConformFault::Json);
-    };
-    let Some(items) = json.as_array() else {
-        return Err(ConformFault::Shape);
-    };
     let actions = action_entities(alloc, schema)?;
-    read_list(alloc, schema, items, actions)
+    let mut reader = JsonReader::new(alloc);
+    match reader.items(bytes)? {
+        Some(mut items) => read_list(alloc, schema, &mut items, actions),
+        None => Err(no_list_fault(alloc, schema, bytes)),
+    }
+}
+
+// What is told of bytes that are no JSON list: 501, or 502 where they are JSON.
+fn no_list_fault(alloc: Global, schema: &Schema, bytes: &[u8]) -> ConformFault
+    requires { option_and_then as_array (json_of bytes.now) ≡ None }
+    ensures { result ≢ OutOfMemory → BytesHaveFault schema.now bytes.now result }
+{
+    match read_json(alloc, bytes) {
+        Ok(Some(json)) => {
+            drop(json);
+            ConformFault::Shape
+        }
+        Ok(None) => ConformFault::Json,
+        Err(refused) => ConformFault::from(refused),
+    }
 }
 
 fn build_store(alloc: Global, entities: Vec<Entity>) -> Result<Store, ConformFault>

@@ -14,6 +14,7 @@
 
 mod actions;
 mod entities;
+mod entries;
 mod entry;
 mod judging;
 mod keys;

@@ -1,34 +1,37 @@
 //! A list of entries.
 ghost use Rattle.std.specs.Prelude.{MatchResult};
-ghost use Rattle.serde_json.specs.View.{items_view};
-ghost use Rattle.cedar_entities.specs.Private.Progress.{Entered, IsRead, RefusesList, RefusesTwice};
+ghost use Rattle.cedar_entities.specs.Private.Coming.{IsComingRead, RefusesComing};
+ghost use Rattle.cedar_entities.specs.Private.Progress.{Entered, RefusesTwice};
+ghost use Rattle.cedar_reader.specs.Items.{to_come};
 
-use crate::entry::{Entry, read_entry};
+use crate::entries::{after_fault, next_entry};
+use crate::entry::Entry;
 use cedar_data::ConformFault;
+use cedar_reader::ItemReader;
 use cedar_schema::Schema;
 use cedar_store::Entity;
 use cedar_value::Uid;
-use serde_json::Value as Json;
 use std::alloc::Global;
 use std::collections::BTreeSet;
 
 /// The entities of the entries behind the first ones, or a fault of an entry, or 401 where an action is
-/// repeated twice.
+/// repeated twice, or 501 where what is to come is no JSON.
 pub(crate) fn read_list(
     alloc: Global,
     schema: &Schema,
-    items: &[Json],
+    items: &mut ItemReader<'_>,
     first: Vec<Entity>,
 ) -> Result<Vec<Entity>, ConformFault>
-    ensures { MatchResult result (λ v. IsRead schema.now first.items (items_view items.now) v.items) (RefusesList schema.now (items_view items.now)) }
+    ensures { MatchResult result
+        (λ v. IsComingRead schema.now first.items (to_come items.old) v.items)
+        (RefusesComing schema.now (to_come items.old)) }
 {
     let mut entities = first;
     let mut repeated = BTreeSet::new(alloc);
-    let mut rest = items;
-    'walk: while let Some((item, others)) = rest.split_first() {
-        let entry = read_entry(alloc, schema, item)?;
-        enter(&mut entities, &mut repeated, entry)?;
-        rest = others;
+    'walk: while let Some(entry) = next_entry(alloc, schema, items)? {
+        if let Err(fault) = enter(&mut entities, &mut repeated, entry) {
+            return Err(after_fault(alloc, items, fault));
+        }
     }
     Ok(entities)
 }

@@ -20,7 +20,7 @@ fn check(rt: &impl Abort, alloc: Global, schema: &str, rows: &[(u16, &str)]) -> 
 
 /// By the schema of documents: attributes, and what an entry is.
 #[rattlefmt::skip]
-const ENTRIES: [(u16, &str); 60] = [
+const ENTRIES: [(u16, &str); 67] = [
     // The list.
     (0, "[]"),
     (0, " [ ] "),
@@ -33,6 +33,14 @@ const ENTRIES: [(u16, &str); 60] = [
     (502, "[[]]"),
     (502, "[null]"),
     (502, "[1]"),
+    // A fault is told where the whole text is JSON.
+    (502, "[{},1]"),
+    (501, "[{},"),
+    (501, "[{},]"),
+    (501, "[{}}"),
+    (501, "[{}]]"),
+    (501, "[{},1e999]"),
+    (501, "{},"),
     // The keys of an entry.
     (502, "[{}]"),
     (0, r#"[{"uid":{"type":"Team","id":"t"}}]"#),

@@ -4,5 +4,6 @@ mod Forward
 mod Members
 pub mod OneEnd
 mod Runs
-mod Sizes
+pub mod Sizes
 mod Taken
+mod TrueSides

@@ -3,3 +3,4 @@ pub mod CodeFault
 pub mod CodeView
 pub mod Jumps
 pub mod Machine
+pub mod TrueSides

@@ -1,10 +1,12 @@
 //! The laws of the compiler.
+ghost use Rattle.std.specs.Prelude.{List};
 ghost use Rattle.cedar_value.specs.World.{World};
 ghost use Rattle.cedar_value.specs.declared.request.Request.{Request};
 ghost use Rattle.cedar_ast.specs.Expression.{Expression};
 ghost use Rattle.cedar_code.specs.Code.{code_of};
 ghost use Rattle.cedar_code.specs.Jumps.{JumpsForward};
 ghost use Rattle.cedar_code.specs.Machine.{RunsAsEvaluated};
+ghost use Rattle.cedar_code.specs.TrueSides.{chain_of, size_before, AreTrue, ComesTo};
 
 /// The execution of an expression's code meets no stack fault and ends as the expression evaluates, in no more steps
 /// than it has instructions, and never stands higher than stated, whatever the expression, the request and the world.
@@ -15,4 +17,11 @@ pub fn execution_is_evaluation()
 /// Each jump of an expression's code is to a later place. So each step comes to a later place, whatever code it is of.
 pub fn jumps_go_forward()
     ensures { (e : Expression) → JumpsForward (code_of e) }
+{}
+
+/// The execution of a chain of `&&` comes, where its first sides are true, to the code of what follows them, with an empty
+/// stack. So it may begin there where they are known to be true.
+pub fn true_sides_are_passed()
+    ensures { (sides : List Expression) (last : Expression) (q : Request) (w : World) → AreTrue sides q w
+        → ComesTo (code_of (chain_of sides last)) q w (size_before sides) }
 {}

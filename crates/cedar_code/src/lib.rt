@@ -23,6 +23,6 @@ pub use code::Code;
 pub use compiler::{MOST_INSTRUCTIONS, compile};
 pub use fault::CodeFault;
 pub use instruction::Instruction;
-pub use law::{execution_is_evaluation, jumps_go_forward};
+pub use law::{execution_is_evaluation, jumps_go_forward, true_sides_are_passed};
 pub use literal_set::LiteralSet;
 pub use outcome::Outcome;

@@ -172,7 +172,7 @@ pub fn run<H: Hierarchy>(
 {
     execution_is_evaluation();
     let mut stack = Stack::with_room(alloc, code.height())?;
-    let end = drive(alloc, code, request, hierarchy, &mut stack)?;
+    let end = drive(alloc, code, 0, request, hierarchy, &mut stack)?;
     let outcome = outcome_at(alloc, end.state, &stack)?;
     Ok(Run {
         outcome,

@@ -1,6 +1,14 @@
 //! A policy beside its code.
-use cedar_ast::Policy;
-use cedar_code::Code;
+ghost use Rattle.std.specs.Prelude.{◌≡◌, IfOk};
+ghost use Rattle.cedar_ast.specs.Response.{meaning};
+ghost use Rattle.cedar_machine.specs.Verdict.{verdict_of};
+
+use cedar_ast::{EvaluationError, Policy};
+use cedar_code::{Code, true_sides_are_passed};
+use cedar_machine::Operands;
+use cedar_scope::{is_met, place_behind};
+use cedar_value::{Hierarchy, Request};
+use std::alloc::{AllocError, Global};
 use std::marker::Model;
 
 /// A policy and the code of its condition, both lent. Contracts see the policy.
@@ -24,4 +32,28 @@ impl<'v> Model for Part<'v> {
     ghost view = { λ p. p.policy.now };
 
     ghost invariant = { λ p. p.code.now.instructions ≡ policy_code p.policy.now };
+}
+
+impl<'v> Part<'v> {
+    // Whether the policy's condition is true for the request, or its error. Its scope is asked first, and where that is met,
+    // the code of its conditions is executed.
+    pub(crate) fn verdict<H: Hierarchy>(
+        &self,
+        alloc: Global,
+        operands: &mut Operands<'v>,
+        request: &'v Request,
+        hierarchy: &'v H,
+    ) -> Result<Result<bool, EvaluationError>, AllocError>
+        ensures { IfOk result (λ v. v ≡ verdict_of (meaning request.now (H.world hierarchy.now) self.now)) }
+    {
+        // Laws of codes: they run nothing.
+        true_sides_are_passed();
+        self.code.well_formedness();
+        let scope = self.policy.scope();
+        if !is_met(scope, request, hierarchy) {
+            return Ok(Ok(false));
+        }
+        let first = place_behind(scope);
+        operands.decide_from(alloc, self.code, first, request, hierarchy)
+    }
 }

@@ -170,7 +170,7 @@ impl Validated {
         tally.clear();
         for position in positions {
             if let Some(part) = self.part(*position) {
-                let verdict = operands.decide(alloc, part.code, request, hierarchy)?;
+                let verdict = part.verdict(alloc, &mut operands, request, hierarchy)?;
                 tally.enter(part.policy.id().as_str(), part.policy.effect(), verdict)?;
             }
         }

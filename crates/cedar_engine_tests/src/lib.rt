@@ -20,6 +20,8 @@ mod expressions;
 #[cfg(test)]
 mod held;
 #[cfg(test)]
+mod met;
+#[cfg(test)]
 mod plain;
 #[cfg(test)]
 mod plain_fault;

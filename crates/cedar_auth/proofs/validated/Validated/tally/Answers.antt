@@ -1,6 +1,7 @@
-use Rattle.std.proofs.Common.{Some, ap, ◌∙◌}
-use Rattle.cedar_ast.specs.Condition.{condition_of}
+use Rattle.std.proofs.Common.{Some, sym, ap, ◌∙◌}
 use Rattle.cedar_ast.specs.PolicyTree.{PolicyTree}
+use Rattle.cedar_ast.specs.Response.{meaning}
+use Rattle.cedar_machine.specs.Verdict.{verdict_of}
 use Rattle.cedar_auth.proofs.Tallies.{tally_of-next, tally_of-none}
 use Rattle.cedar_auth.proofs.validated.Validated.tally.Goals.{in-Some+in_ok-verdict+in_ok-enter, in_default}
 use Rattle.cedar_auth.proofs.validated.Validated.tally.Goals as goal
@@ -21,7 +22,7 @@ loop-position-preserved g c =
           (w.tally-is ∙ w.in_ok-enter.ensures)
           (w.as_str.ensures ∙ w.id.ensures)
           w.effect.ensures
-          (w.in_ok-verdict.ensures.decides (condition_of p) part.invariant)
+          (w.in_ok-verdict.ensures ∙ ap (λ (x : PolicyTree). verdict_of (meaning c.args.request.now (g.H.Hierarchy.world c.args.hierarchy.now) x)) (sym part.view_is))
       | in_default w ↦
           tally_of-none c.args.request.now (g.H.Hierarchy.world c.args.hierarchy.now) ps ks i c.loop-position.tally c.match-part.tally
           c.loop-position-test.true w.in_default.ensures c.loop-position.invariant w.tally-is

@@ -2,9 +2,9 @@
 use Rattle.std.specs.Prelude.{◌≡◌, ◌≢◌, ℕ, List, Option, Some, None}
 use Rattle.cedar_schema.specs.SchemaTree.{SchemaTree}
 use Rattle.cedar_schema.specs.Denotes.{BytesAreRefusedWith, BytesDenote}
-use Rattle.cedar_schema.specs.Numbers.{number_of}
-use Rattle.cedar_schema.specs.declared.schema_fault.SchemaFault.{SchemaFault}
-use Rattle.cedar_schema.specs.declared.schema_fault.SchemaFault.TheVariants.{OutOfMemory}
+use Rattle.cedar_form.specs.Numbers.{number_of}
+use Rattle.cedar_form.specs.declared.schema_fault.SchemaFault.{SchemaFault}
+use Rattle.cedar_form.specs.declared.schema_fault.SchemaFault.TheVariants.{OutOfMemory}
 use Rattle.cedar_program.specs.declared.refusal.FileRefusal.{FileRefusal}
 
 -- The command line names a schema file, and its bytes denote the schema (Cedar documentation, JSON schema format).

@@ -7,14 +7,16 @@ use Rattle.cedar_value.specs.declared.uid.Uid.{Uid}
 use Rattle.cedar_types.specs.Types.{TypeTree, Attributes, no_attributes, set, record_of}
 use Rattle.cedar_types.specs.Ordered.{Ascends}
 use Rattle.cedar_types.proofs.Inserted.{one_more, none_yet}
-use Rattle.cedar_schema.specs.declared.json.part.Part.TheVariants.{EntityType, Action, AppliesTo}
-use Rattle.cedar_schema.specs.declared.schema_fault.SchemaFault.TheVariants.{Shape}
-use Rattle.cedar_schema.specs.Naming.{fault_if}
-use Rattle.cedar_schema.specs.Forms.{FormTree, no_form, boolean_form, long_form, string_form, decimal_form, entity_form, set_form, record_form, common_form, FormRows, no_form_rows, form_row}
-use Rattle.cedar_schema.specs.Reading.{Scope, type_read}
-use Rattle.cedar_schema.specs.Expansion.{Table, form_type, rows_type, with_row, common_type, typed}
-use Rattle.cedar_schema.specs.Declaring.{record_type, is_record, is_no_record, record_or_empty, unspecified, unless_null, names_at, list_at, member_read, applies_read, entity_type_of, entity_type_faults, action_of, action_faults}
-use Rattle.cedar_schema.specs.Entries.{EntryTree, part_faults, entity_key_faults}
+use Rattle.cedar_form.specs.declared.json.part.Part.TheVariants.{EntityType, Action, AppliesTo}
+use Rattle.cedar_form.specs.declared.schema_fault.SchemaFault.TheVariants.{Shape}
+use Rattle.cedar_form.specs.Naming.{fault_if}
+use Rattle.cedar_form.specs.Forms.{FormTree, no_form, boolean_form, long_form, string_form, decimal_form, entity_form, set_form, record_form, common_form, FormRows, no_form_rows, form_row}
+use Rattle.cedar_form.specs.Reading.{Scope, type_read}
+use Rattle.cedar_form.specs.Expansion.{Table, form_type, rows_type, with_row, common_type, typed}
+use Rattle.cedar_form.specs.Entries.{unless_null, EntryTree, part_faults, entity_key_faults}
+use Rattle.cedar_form.specs.Lists.{names_at, list_at}
+use Rattle.cedar_form.specs.Shapes.{record_type, is_record, is_no_record, record_or_empty}
+use Rattle.cedar_schema.specs.Declaring.{unspecified, member_read, applies_read, entity_type_of, entity_type_faults, action_of, action_faults}
 use Rattle.cedar_schema.specs.WellFormed.{IsOrderedRecord}
 use Rattle.cedar_schema.proofs.NameEnds.{no_first, no_second}
 

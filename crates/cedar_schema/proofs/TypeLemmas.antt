@@ -19,7 +19,18 @@ use Rattle.cedar_value.specs.declared.uid.Uid.{Uid}
 use Rattle.cedar_schema.specs.declared.schema.descents.Descents.{Descents}
 use Rattle.cedar_schema.specs.Private.Kept.{AreRows, AreTypeRows, HasTypeBit, bit_told, has_number, has_row, in_row, type_bit}
 use Rattle.cedar_schema.proofs.Numbered.{equal_from, no_bit}
-use Rattle.cedar_schema.proofs.Words.{and_first, and_second, and_both}
+
+pub and_first : (b c : Bool) → (b && c) ≡ true → b ≡ true
+and_first true c h = refl
+and_first false c h = cc
+
+pub and_second : (b c : Bool) → (b && c) ≡ true → c ≡ true
+and_second true c h = h
+and_second false c h = cc
+
+pub and_both : (b c : Bool) → b ≡ true → c ≡ true → (b && c) ≡ true
+and_both true c h g = g
+and_both false c h g = cc
 
 or_left : (a b : Bool) → a ≡ true → (a || b) ≡ true
 or_left true b h = refl

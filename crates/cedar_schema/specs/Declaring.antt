@@ -1,100 +1,25 @@
 -- What the JSON of entity types and actions says (Cedar documentation, JSON schema format).
-use Rattle.std.specs.Prelude.{ℕ, nat_eq, not, Bool, true, false, codes, List, [], ◌∷◌, ◌++◌, Option, Some, None, option_map, unwrap_or, is_some, if◌then◌else◌}
+use Rattle.std.specs.Prelude.{ℕ, nat_eq, codes, List, [], ◌∷◌, ◌++◌, Option, Some, None, is_some, if◌then◌else◌}
 use Rattle.std.specs.List.{list_any}
-use Rattle.std.specs.BTreeSet.{insert_key}
-use Rattle.serde_json.specs.Data.{Data, null, Items, no_items, item, Members, no_members, member}
-use Rattle.serde_json.specs.Find.{get, as_object, as_array, as_str}
+use Rattle.serde_json.specs.Data.{Data}
+use Rattle.serde_json.specs.Find.{get, as_object, as_str}
 use Rattle.std.specs.BTreeMap.{is_at}
-use Rattle.cedar_value.specs.Order.{text_cmp, uid_cmp}
+use Rattle.cedar_value.specs.Order.{uid_cmp}
 use Rattle.cedar_value.specs.declared.uid.Uid.{Uid}
-use Rattle.cedar_schema.specs.declared.schema_fault.SchemaFault.{SchemaFault}
-use Rattle.cedar_schema.specs.declared.schema_fault.SchemaFault.TheVariants.{Shape, UnknownType, Unspecified}
-use Rattle.cedar_schema.specs.declared.json.part.Part.TheVariants.{EntityType, Action, AppliesTo, Member}
+use Rattle.cedar_form.specs.declared.schema_fault.SchemaFault.{SchemaFault}
+use Rattle.cedar_form.specs.declared.schema_fault.SchemaFault.TheVariants.{Shape, UnknownType, Unspecified}
+use Rattle.cedar_form.specs.declared.json.part.Part.TheVariants.{EntityType, Action, AppliesTo, Member}
 use Rattle.cedar_types.specs.Types.{TypeTree, record_of, no_attributes}
-use Rattle.cedar_schema.specs.Naming.{resolved, name_faults, text_faults, qualified, fault_if, or_else}
-use Rattle.cedar_schema.specs.Reading.{Scope, type_read, text_at}
-use Rattle.cedar_schema.specs.Expansion.{Table, Expanded, typed}
-use Rattle.cedar_schema.specs.Entries.{EntryTree, part_faults, entity_key_faults}
+use Rattle.cedar_form.specs.Naming.{text_faults, qualified, fault_if, or_else}
+use Rattle.cedar_form.specs.Reading.{Scope, text_at}
+use Rattle.cedar_form.specs.Expansion.{Table}
+use Rattle.cedar_form.specs.Entries.{EntryTree, unless_null, part_faults, entity_key_faults}
+use Rattle.cedar_form.specs.Lists.{ListRead, list_at, names_at, set_onto}
+use Rattle.cedar_form.specs.Shapes.{record_type, record_or_empty, empty_faults}
+pub use Rattle.cedar_form.specs.Shapes.{is_record}
 use Rattle.cedar_schema.specs.SchemaTree.{EntityTypeTree, ActionTree}
 
--- What stands at a key, where null counts as absent (own).
-abbrev pub unless_null : Option Data → Option Data
-unless_null (Some null) = None
-unless_null o = o
-
--- ---- shapes and contexts
-
--- Whether the type is one of records (Cedar documentation, JSON schema format: attribute types).
-abbrev pub is_record : TypeTree → Bool
-is_record (record_of a) = true
-is_record _ = false
-
--- Whether it is a type, and no record.
-abbrev pub is_no_record : Option TypeTree → Bool
-is_no_record None = false
-is_no_record (Some t) = not (is_record t)
-
--- The type that is there; where there is none, a fault is, and nothing rests on what stands here.
-abbrev pub record_or_empty : Option TypeTree → TypeTree
-record_or_empty None = record_of no_attributes
-record_or_empty (Some t) = t
-
--- A type that has to expand to a record, the empty one where none is written (Cedar documentation, JSON schema format:
--- shape, context).
-unfoldable pub record_type : Scope → Table → Option Data → Expanded
-record_type sc t None = record { ty = Some (record_of no_attributes); faults = [] }
-record_type sc t (Some d) = record {
-  ty = (typed t (type_read sc false d).form).ty;
-  faults = (type_read sc false d).faults ++ ((typed t (type_read sc false d).form).faults ++ fault_if (is_no_record (typed t (type_read sc false d).form).ty) Shape);
-}
-
--- ---- lists of entity types
-
--- What a list says, item by item, and the faults that are there.
-pub record ListRead (A : Type 0) : Type 0 where
-  pub items : List A
-  pub faults : List SchemaFault
-
--- What the items of a list say, one after the other.
-unfoldable pub each_read : {A : Type 0} → (Data → ListRead A) → Items → ListRead A
-each_read f no_items = record { items = []; faults = [] }
-each_read f (item d ds) = record { items = (f d).items ++ (each_read f ds).items; faults = (f d).faults ++ (each_read f ds).faults }
-
--- What a JSON says that has to be a list.
-abbrev pub list_in : {A : Type 0} → (Data → ListRead A) → Option Items → ListRead A
-list_in f None = record { items = []; faults = Shape ∷ [] }
-list_in f (Some ds) = each_read f ds
-
--- The list at a key; `missing` is the fault of one that is not there.
-abbrev pub list_at : {A : Type 0} → (Data → ListRead A) → List SchemaFault → Option Data → ListRead A
-list_at f missing None = record { items = []; faults = missing }
-list_at f missing (Some d) = list_in f (as_array d)
-
--- The declared name that a text stands for; what is no text is 302, an undeclared name 303 (Cedar documentation, JSON schema format: namespaces).
-abbrev pub some_name : List (List ℕ) → List ℕ → Option (List ℕ) → ListRead (List ℕ)
-some_name declared namespace None = record { items = []; faults = Shape ∷ [] }
-some_name declared namespace (Some s) = record { items = unwrap_or (option_map (λ n. n.0 ∷ []) (resolved declared namespace s)) []; faults = name_faults declared namespace s }
-
--- The declared name that an item of a list stands for.
-abbrev pub name_read : List (List ℕ) → List ℕ → Data → ListRead (List ℕ)
-name_read declared namespace d = some_name declared namespace (as_str d)
-
--- The declared entity types of a list (Cedar documentation, JSON schema format: memberOfTypes, principalTypes, resourceTypes).
-abbrev pub names_at : Scope → List SchemaFault → Option Data → ListRead (List ℕ)
-names_at sc = list_at (name_read sc.entities sc.namespace)
-
 -- ---- entity types
-
--- Whether it is no object, or one with members.
-abbrev pub holds_members : Option Members → Bool
-holds_members None = true
-holds_members (Some no_members) = false
-holds_members (Some (member k d ms)) = true
-
--- Where it is there, it has to be an object without members (Cedar documentation, JSON schema format: attributes of actions, tags).
-abbrev pub empty_faults : Option Data → List SchemaFault
-empty_faults None = []
-empty_faults (Some d) = fault_if (holds_members (as_object d)) Shape
 
 -- The entity type that an entry declares: its parents, and its shape (Cedar documentation, JSON schema format: entityTypes).
 unfoldable pub entity_type_of : Scope → Table → EntryTree → EntityTypeTree
@@ -156,11 +81,6 @@ member_read uids namespace d = record {
   items = (by_member uids namespace d (text_at (codes "id") d)).items;
   faults = part_faults Member d ++ (by_member uids namespace d (text_at (codes "id") d)).faults;
 }
-
--- The names in ascending order, each once.
-abbrev pub set_onto : List (List ℕ) → List (List ℕ) → List (List ℕ)
-set_onto done [] = done
-set_onto done (n ∷ names) = set_onto (insert_key text_cmp done n) names
 
 -- What an action applies to.
 pub record Applies : Type 0 where

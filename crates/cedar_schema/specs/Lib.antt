@@ -4,13 +4,7 @@ pub mod Declaring
 pub mod Denotes
 pub mod Descents
 pub mod Each
-pub mod Entries
-pub mod Expansion
-pub mod Forms
-pub mod Naming
-pub mod Numbers
 pub mod Private
-pub mod Reading
 pub mod SchemaTree
 pub mod Schemas
 pub mod WellFormed

@@ -5,13 +5,13 @@ use Rattle.std.specs.BTreeSet.{insert_key}
 use Rattle.serde_json.specs.Data.{Members}
 use Rattle.cedar_value.specs.Order.{text_cmp, uid_cmp}
 use Rattle.cedar_value.specs.declared.uid.Uid.{Uid}
-use Rattle.cedar_schema.specs.declared.schema_fault.SchemaFault.{SchemaFault}
-use Rattle.cedar_schema.specs.Reading.{Scope, type_read}
-use Rattle.cedar_schema.specs.Expansion.{Table, typed}
-use Rattle.cedar_schema.specs.Forms.{FormTree}
+use Rattle.cedar_form.specs.declared.schema_fault.SchemaFault.{SchemaFault}
+use Rattle.cedar_form.specs.Reading.{Scope, type_read}
+use Rattle.cedar_form.specs.Expansion.{Table, typed}
+use Rattle.cedar_form.specs.Forms.{FormTree}
 use Rattle.cedar_schema.specs.Each.{each_faults, each_onto}
-use Rattle.cedar_schema.specs.Naming.{qualified}
-use Rattle.cedar_schema.specs.Entries.{EntryTree, entries, whole_names, root_faults, common_key_faults}
+use Rattle.cedar_form.specs.Naming.{qualified}
+use Rattle.cedar_form.specs.Entries.{EntryTree, entries, whole_names, root_faults, common_key_faults}
 use Rattle.cedar_schema.specs.Declaring.{uid_of, entity_type_of, entity_type_faults, action_of, action_faults}
 use Rattle.cedar_schema.specs.SchemaTree.{EntityTypeTree, ActionTree, SchemaTree}
 

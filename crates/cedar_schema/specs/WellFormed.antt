@@ -6,7 +6,7 @@ use Rattle.cedar_value.specs.Order.{text_cmp, uid_cmp}
 use Rattle.cedar_value.specs.declared.uid.Uid.{Uid}
 use Rattle.cedar_types.specs.Ordered.{Ascends}
 use Rattle.cedar_types.specs.Types.{TypeTree}
-use Rattle.cedar_schema.specs.Declaring.{is_record}
+use Rattle.cedar_form.specs.Shapes.{is_record}
 use Rattle.cedar_schema.specs.SchemaTree.{SchemaTree, environments_of}
 use Rattle.cedar_schema.specs.Descents.{ActionDescends}
 

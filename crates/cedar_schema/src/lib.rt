@@ -9,19 +9,16 @@
 //! }
 //! ```
 //!
-//! A contract sees a schema as a `SchemaTree`. Types come from cedar_types.
+//! A contract sees a schema as a `SchemaTree`. Types come from cedar_types, names and types as they are written from cedar_form.
 #![tactic(auto)]
 
-mod form;
-mod json;
 mod laws;
 mod schema;
-mod schema_fault;
 
+pub use cedar_form::SchemaFault;
 pub use cedar_types::{
     Attribute, RecordType, Truth, Type, TypeKind, join, join_is_the_relation,
     members_of_joined_types,
 };
 pub use laws::{actions_conform, tests_of_schemas_decide};
 pub use schema::{Action, Environment, Schema};
-pub use schema_fault::SchemaFault;

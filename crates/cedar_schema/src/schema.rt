@@ -1,6 +1,6 @@
 //! Schemas.
 ghost use Rattle.std.specs.Prelude.{◌≡◌, ◌≢◌, ◌↔◌, IfOk, IfErr, IsTrue, MatchOption, option_copied, []};
-ghost use Rattle.cedar_schema.specs.declared.schema_fault.SchemaFault.TheVariants.{OutOfMemory};
+ghost use Rattle.cedar_form.specs.declared.schema_fault.SchemaFault.TheVariants.{OutOfMemory};
 ghost use Rattle.cedar_schema.specs.Declarations.{IsAction, IsActionType};
 ghost use Rattle.cedar_schema.specs.Denotes.{BytesAreRefusedWith, BytesDenote};
 ghost use Rattle.cedar_schema.specs.Private.Answers.{Answers};
@@ -28,8 +28,8 @@ use crate::schema::environment::environments_of;
 use crate::schema::reading::read_schema;
 use crate::schema::row::Row;
 use crate::schema::rows::{action_rows, action_types, some_descends, type_rows};
-use crate::schema_fault::SchemaFault;
 pub use action::Action;
+use cedar_form::SchemaFault;
 use cedar_json::read_json;
 use cedar_types::Type;
 use cedar_value::{Name, Uid};

@@ -1,7 +1,7 @@
 -- What a call that makes a schema answers.
 use Rattle.std.specs.Prelude.{◌≢◌, List, Result, MatchResult}
-use Rattle.cedar_schema.specs.declared.schema_fault.SchemaFault.{SchemaFault}
-use Rattle.cedar_schema.specs.declared.schema_fault.SchemaFault.TheVariants.{OutOfMemory}
+use Rattle.cedar_form.specs.declared.schema_fault.SchemaFault.{SchemaFault}
+use Rattle.cedar_form.specs.declared.schema_fault.SchemaFault.TheVariants.{OutOfMemory}
 use Rattle.cedar_schema.specs.Denotes.{IsFine, IsThere}
 use Rattle.cedar_schema.specs.SchemaTree.{SchemaTree}
 

@@ -1,11 +1,11 @@
 -- What settings and sections of the code stand for.
 use Rattle.std.specs.Prelude.{◌≡◌, List, []}
-use Rattle.cedar_schema.specs.Entries.{EntryTree, whole_names}
-use Rattle.cedar_schema.specs.declared.json.entry.Entry.{Entry}
-use Rattle.cedar_schema.specs.Private.EntryView.{entries_view}
+use Rattle.cedar_form.specs.Entries.{EntryTree, whole_names}
+use Rattle.cedar_form.specs.declared.json.entry.Entry.{Entry}
+use Rattle.cedar_form.specs.Private.EntryView.{entries_view}
 use Rattle.cedar_schema.specs.declared.schema.declarations.Setting.{Setting as CodeSetting}
 use Rattle.cedar_schema.specs.Schemas.{Setting, Sections, uids_onto}
-use Rattle.cedar_schema.specs.Private.TableView.{table_of}
+use Rattle.cedar_form.specs.Private.TableView.{table_of}
 
 abbrev pub setting_view : CodeSetting → Setting
 setting_view s = record { entities = s.entities.now; commons = s.commons.now; table = table_of s.table.forms.now; uids = s.uids.now.keys }

@@ -1,22 +1,19 @@
 //! Actions.
 ghost use Rattle.std.specs.Prelude.{◌≡◌, ◌↔◌, Contains, IsTrue, [], map, codes, IfOk, MatchResult, Some, None, option_map};
 ghost use Rattle.serde_json.specs.View.{view};
-ghost use Rattle.cedar_schema.specs.Private.Faults.{Told};
-ghost use Rattle.cedar_schema.specs.Private.Reads.{scope_of};
-ghost use Rattle.cedar_schema.specs.Private.Measures.{AreEnds};
-ghost use Rattle.cedar_schema.specs.Private.TableView.{table_of};
-ghost use Rattle.cedar_schema.specs.Private.EntryView.{entry_of};
+ghost use Rattle.cedar_form.specs.Private.Faults.{Told};
+ghost use Rattle.cedar_form.specs.Private.Reads.{scope_of};
+ghost use Rattle.cedar_form.specs.Private.Measures.{AreEnds};
+ghost use Rattle.cedar_form.specs.Private.TableView.{table_of};
+ghost use Rattle.cedar_form.specs.Private.EntryView.{entry_of};
 ghost use Rattle.cedar_schema.specs.Declaring.{applies_read, action_of, action_faults};
 ghost use Rattle.cedar_schema.specs.Private.ReadsApplies.{ReadsApplies};
 
-use crate::form::shape::{check_empty, read_record_type};
-use crate::form::table::Table;
-use crate::json::entry::Entry;
-use crate::json::names_list::{read_names_at, set_of};
-use crate::json::part::{Part, check_part, present};
-use crate::json::scope::Scope;
 use crate::schema::members::read_members_at;
-use crate::schema_fault::SchemaFault;
+use cedar_form::{
+    Entry, Part, SchemaFault, Scope, Table, check_empty, check_part, present, read_names_at,
+    read_record_type, set_of,
+};
 use cedar_types::{RecordType, Type, TypeKind};
 use cedar_value::{Name, Uid};
 use serde_json::Value;

@@ -1,28 +1,23 @@
 //! What a schema's entries declare, entry by entry.
 ghost use Rattle.std.specs.Prelude.{◌≡◌, [], false, MatchResult};
-ghost use Rattle.cedar_schema.specs.Private.Faults.{Told};
-ghost use Rattle.cedar_schema.specs.Reading.{type_read};
-ghost use Rattle.cedar_schema.specs.Private.FormView.{form_of};
-ghost use Rattle.cedar_schema.specs.Private.Measures.{AreEnds};
-ghost use Rattle.cedar_schema.specs.Private.TableView.{table_of};
+ghost use Rattle.cedar_form.specs.Private.Faults.{Told};
+ghost use Rattle.cedar_form.specs.Reading.{type_read};
+ghost use Rattle.cedar_form.specs.Private.FormView.{form_of};
+ghost use Rattle.cedar_form.specs.Private.Measures.{AreEnds};
+ghost use Rattle.cedar_form.specs.Private.TableView.{table_of};
 ghost use Rattle.cedar_schema.specs.Each.{each_faults, each_onto};
-ghost use Rattle.cedar_schema.specs.Private.EntryView.{entries_view, entry_of};
+ghost use Rattle.cedar_form.specs.Private.EntryView.{entries_view, entry_of};
 ghost use Rattle.cedar_schema.specs.Schemas.{add_action, add_entity, common_faults, entity_faults, expansion_faults, forms_of, one_action_faults, scope_at, scope_in};
 ghost use Rattle.cedar_schema.specs.Declaring.{action_of, entity_type_of};
 ghost use Rattle.cedar_schema.specs.Private.SettingView.{setting_view};
 
-use crate::form::Form;
-use crate::form::expansion::judge;
-use crate::form::reading::read_type;
-use crate::form::table::Table;
-use crate::json::entry::{Entry, check_common_key};
-use crate::json::name_table::NameTable;
-use crate::json::naming::qualified;
-use crate::json::scope::Scope;
 use crate::schema::action::{Action, read_action};
 use crate::schema::entity_type::{EntityType, read_entity_type};
 use crate::schema::members::uid_of;
-use crate::schema_fault::SchemaFault;
+use cedar_form::{
+    Entry, Form, NameTable, SchemaFault, Scope, Table, check_common_key, judge, qualified,
+    read_type,
+};
 use cedar_value::{Name, Uid};
 use std::alloc::Global;
 use std::collections::{BTreeMap, BTreeSet};

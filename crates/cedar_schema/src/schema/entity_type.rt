@@ -1,19 +1,16 @@
 //! Entity types.
 ghost use Rattle.std.specs.Prelude.{◌≡◌, [], MatchResult};
-ghost use Rattle.cedar_schema.specs.Private.Faults.{Told};
-ghost use Rattle.cedar_schema.specs.Private.Reads.{scope_of};
-ghost use Rattle.cedar_schema.specs.Private.Measures.{AreEnds};
-ghost use Rattle.cedar_schema.specs.Private.TableView.{table_of};
-ghost use Rattle.cedar_schema.specs.Private.EntryView.{entry_of};
+ghost use Rattle.cedar_form.specs.Private.Faults.{Told};
+ghost use Rattle.cedar_form.specs.Private.Reads.{scope_of};
+ghost use Rattle.cedar_form.specs.Private.Measures.{AreEnds};
+ghost use Rattle.cedar_form.specs.Private.TableView.{table_of};
+ghost use Rattle.cedar_form.specs.Private.EntryView.{entry_of};
 ghost use Rattle.cedar_schema.specs.Declaring.{entity_type_of, entity_type_faults};
 
-use crate::form::shape::{check_empty, read_record_type};
-use crate::form::table::Table;
-use crate::json::entry::{Entry, check_entity_key};
-use crate::json::names_list::read_names_at;
-use crate::json::part::{Part, check_part};
-use crate::json::scope::Scope;
-use crate::schema_fault::SchemaFault;
+use cedar_form::{
+    Entry, Part, SchemaFault, Scope, Table, check_empty, check_entity_key, check_part,
+    read_names_at, read_record_type,
+};
 use cedar_types::Type;
 use cedar_value::Name;
 use std::alloc::Global;

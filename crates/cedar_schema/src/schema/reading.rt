@@ -1,24 +1,22 @@
 //! From the JSON of a schema to the schema.
 ghost use Rattle.std.specs.Prelude.{◌≡◌, ◌≢◌, [], IfOk, MatchResult};
 ghost use Rattle.serde_json.specs.View.{view, members_view};
-ghost use Rattle.cedar_schema.specs.declared.schema_fault.SchemaFault.TheVariants.{OutOfMemory};
+ghost use Rattle.cedar_form.specs.declared.schema_fault.SchemaFault.TheVariants.{OutOfMemory};
 ghost use Rattle.cedar_schema.specs.Denotes.{Denotes, IsRefusedWith};
 ghost use Rattle.cedar_schema.specs.Private.Answers.{Answers};
-ghost use Rattle.cedar_schema.specs.Entries.{whole_names};
-ghost use Rattle.cedar_schema.specs.Private.EntryView.{entries_view};
-ghost use Rattle.cedar_schema.specs.Private.Measures.{AreEnds};
+ghost use Rattle.cedar_form.specs.Entries.{whole_names};
+ghost use Rattle.cedar_form.specs.Private.EntryView.{entries_view};
+ghost use Rattle.cedar_form.specs.Private.Measures.{AreEnds};
 ghost use Rattle.cedar_schema.specs.Private.SettingView.{IsSettingOf, setting_view, sections_view};
-ghost use Rattle.cedar_schema.specs.Private.TableView.{table_of};
+ghost use Rattle.cedar_form.specs.Private.TableView.{table_of};
 ghost use Rattle.cedar_schema.specs.Schemas.{schema_in, schema_of, sections_faults, setting_faults, setting_of, written_faults};
 
-use crate::form::chains::ends_of;
-use crate::form::table::Table;
-use crate::json::entry::{Entry, check_spaces, entries_of, names_of};
-use crate::json::name_table::NameTable;
 use crate::schema::Schema;
 use crate::schema::declarations::{Setting, judge_forms, read_actions, read_entities, read_forms};
 use crate::schema::members::uids_of;
-use crate::schema_fault::SchemaFault;
+use cedar_form::{
+    Entry, NameTable, SchemaFault, Table, check_spaces, ends_of, entries_of, names_of,
+};
 use serde_json::{Map, Value};
 use std::alloc::{AllocError, Global};
 

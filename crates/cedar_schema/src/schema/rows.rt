@@ -9,13 +9,13 @@ ghost use Rattle.cedar_value.specs.declared.uid.Uid.{Uid as UidTree};
 ghost use Rattle.cedar_schema.specs.SchemaTree.{parents_of_action};
 ghost use Rattle.cedar_closure.specs.Closure.{LeadsTo};
 ghost use Rattle.cedar_schema.specs.Private.Kept.{AreRows, AreTypeRows, HasTypes, has_number, type_bit};
-ghost use Rattle.cedar_schema.specs.declared.schema_fault.SchemaFault.TheVariants.{OutOfMemory, ActionCycle};
+ghost use Rattle.cedar_form.specs.declared.schema_fault.SchemaFault.TheVariants.{OutOfMemory, ActionCycle};
 
 use crate::schema::action::Action;
 use crate::schema::ancestors::actions_above;
 use crate::schema::descents::Descents;
 use crate::schema::row::Row;
-use crate::schema_fault::SchemaFault;
+use cedar_form::SchemaFault;
 use cedar_value::{Name, Uid};
 use std::alloc::{AllocError, Global};
 use std::collections::{BTreeMap, BTreeSet};

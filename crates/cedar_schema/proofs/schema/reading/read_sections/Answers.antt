@@ -1,7 +1,7 @@
 use Rattle.std.proofs.lemmas.Result.{err_from_is_err_and}
 use Rattle.std.proofs.Common.{ap, ◌∙◌}
 use Rattle.cedar_schema.specs.Private.SettingView.{sections_view}
-use Rattle.cedar_schema.specs.Private.TableView.{table_of}
+use Rattle.cedar_form.specs.Private.TableView.{table_of}
 use Rattle.cedar_schema.proofs.AnswerLemmas.{sections_forms, sections_all}
 use Rattle.cedar_schema.proofs.schema.reading.read_sections.Goals as goal
 

@@ -1,0 +1,10 @@
+use Rattle.std.proofs.Common.{length}
+use Rattle.std.proofs.lemmas.List.{length-map}
+use Rattle.cedar_form.specs.Private.FormView.{form_of}
+use Rattle.cedar_form.specs.Private.TableView.{table_of}
+use Rattle.cedar_form.proofs.ExpandLemmas.{built}
+use Rattle.cedar_form.proofs.form.expansion.build.Goals as goal
+
+pub returns : goal.returns
+returns c =
+    built (table_of c.args.table.forms.now) (form_of c.args.form.now) (length c.args.table.forms.now) _ (length-map c.args.table.forms.now form_of) c.in_ok-judge.ensures c.expand.ensures

@@ -1,0 +1,27 @@
+use Rattle.std.proofs.Common.{◌≡◌, ◌+◌, ◌*◌, ◌≤◌, max, drop}
+use Rattle.cedar_form.specs.Private.FormView.{form_of, fields_view}
+use Rattle.cedar_form.specs.Private.TableView.{table_of}
+use Rattle.cedar_form.specs.Expansion.{rows_nodes, rows_height, rows_faults, common_nodes, common_height, cycle_faults}
+use Rattle.cedar_form.proofs.ExpandLemmas.{own, own_rows, most}
+use Rattle.cedar_form.proofs.form.measure.+measure.Given as goal
+
+abbrev pub decreases-measure : goal.decreases-measure
+decreases-measure l = 2 * (l.names * (most (table_of l.table.forms.now) + 1) + own (form_of l.form.now))
+
+abbrev pub decreases-measure_common : goal.decreases-measure_common
+decreases-measure_common l = 2 * (l.names * (most (table_of l.table.forms.now) + 1)) + 1
+
+abbrev pub decreases-measure_fields : goal.decreases-measure_fields
+decreases-measure_fields l = 2 * (l.names * (most (table_of l.table.forms.now) + 1) + own_rows (fields_view l.fields.now.items)) + 1
+
+abbrev pub invariant-measure_fields-loop-i : goal.invariant-measure_fields-loop-i
+invariant-measure_fields-loop-i l =
+    let t = table_of l.table.forms.now in
+    let all = fields_view l.fields.items in
+    let rest = fields_view (drop l.i l.fields.items) in
+    record {
+      counted : l.left + rows_nodes (common_nodes t l.names) all ≡ l.fn.room + rows_nodes (common_nodes t l.names) rest;
+      low : rows_height (common_height t l.names) all ≤ max l.levels (rows_height (common_height t l.names) rest);
+      part : rows_height (common_height t l.names) rest ≤ rows_height (common_height t l.names) all;
+      clean : rows_faults (cycle_faults t l.names) all ≡ rows_faults (cycle_faults t l.names) rest;
+    }

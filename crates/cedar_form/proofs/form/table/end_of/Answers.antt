@@ -1,0 +1,5 @@
+use Rattle.cedar_form.specs.Private.Measures.{stays}
+use Rattle.cedar_form.proofs.form.table.end_of.Goals as goal
+
+pub returns-in-None : goal.returns-in-None
+returns-in-None c t ends = stays

@@ -1,0 +1,9 @@
+pub mod Entries
+pub mod Expansion
+pub mod Forms
+pub mod Lists
+pub mod Naming
+pub mod Numbers
+pub mod Private
+pub mod Reading
+pub mod Shapes

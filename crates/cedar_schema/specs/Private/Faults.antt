@@ -1,8 +1,0 @@
--- What a refusal says.
-use Rattle.std.specs.Prelude.{◌≢◌, List, Contains}
-use Rattle.cedar_schema.specs.declared.schema_fault.SchemaFault.{SchemaFault}
-use Rattle.cedar_schema.specs.declared.schema_fault.SchemaFault.TheVariants.{OutOfMemory}
-
--- a refusal other than want of memory is one of the faults that are there
-abbrev pub Told : List SchemaFault → SchemaFault → Type 0
-Told fs e = e ≢ OutOfMemory → Contains fs e

@@ -15,6 +15,7 @@ use std::alloc::Global;
 /// The tree of the next value, whose arrays and objects may nest `depth` deep; of a repeated key the last value counts
 /// (RFC 8259).
 #[cycle(read_tree)]
+#[inline(always)]
 pub(crate) fn read_tree(
     alloc: Global,
     reader: &mut Reader<'_>,
@@ -51,6 +52,7 @@ pub(crate) fn read_tree(
 
 // The items of an array that was opened, up to its bracket.
 #[cycle(read_tree)]
+#[inline(never)]
 fn read_items(alloc: Global, reader: &mut Reader<'_>, depth: usize) -> Result<Vec<Value>, TreeFault>
     ensures ok { IfOk result (λ v. converted of_items (items (value depth) (length reader.old) reader.old)
         ≡ Some (items_view v.items, reader.new)) }
@@ -67,6 +69,7 @@ fn read_items(alloc: Global, reader: &mut Reader<'_>, depth: usize) -> Result<Ve
 
 // The members of an object that was opened, up to its brace.
 #[cycle(read_tree)]
+#[inline(never)]
 fn read_members(
     alloc: Global,
     reader: &mut Reader<'_>,

@@ -9,6 +9,7 @@ ghost use Rattle.cedar_data.specs.Reads.{Adds, Reads, ReadsRecord};
 ghost use Rattle.cedar_data.specs.Values.{all_read, is_declared, extra_faults, field_read, fields_read, set_read, value_read};
 
 use crate::conform_fault::ConformFault;
+use crate::object::size_of;
 use crate::scalar::{read_decimal, read_entity, read_long, read_text, read_truth};
 use cedar_types::{Attribute, RecordType, Type, TypeKind};
 use cedar_value::{Record, Text, Value, ValueSet};
@@ -51,7 +52,7 @@ fn read_members(alloc: Global, member: &Type, items: &[Json]) -> Result<Vec<Valu
         (λ v. ((all_read (value_read member.now) (items_view items.now)).faults ≡ []) × (v.items ≡ (all_read (value_read member.now) (items_view items.now)).values))
         (λ e. Told (all_read (value_read member.now) (items_view items.now)).faults e) }
 {
-    let mut members = Vec::new(alloc);
+    let mut members = Vec::with_capacity(alloc, items.len())?;
     let mut rest = items;
     'walk: while let Some((item, others)) = rest.split_first() {
         let value = read_value(alloc, item, member)?;
@@ -111,7 +112,8 @@ fn read_fields(
         (λ v. ((fields_read (attributes_of attributes.now) (view json.now)).faults ≡ []) × (v.items ≡ (fields_read (attributes_of attributes.now) (view json.now)).pairs))
         (λ e. Told (fields_read (attributes_of attributes.now) (view json.now)).faults e) }
 {
-    let mut pairs = Vec::new(alloc);
+    // Each key is declared, so that there are as many pairs as keys.
+    let mut pairs = Vec::with_capacity(alloc, size_of(json))?;
     let mut rest = attributes;
     'walk: while let Some((attribute, others)) = rest.split_first() {
         add_field(alloc, &mut pairs, attribute, json)?;

@@ -64,7 +64,7 @@ fn read_parents(alloc: Global, json: &Json) -> Result<Vec<Uid>, ConformFault>
 fn read_uids(alloc: Global, items: &[Json]) -> Result<Vec<Uid>, ConformFault>
     ensures { MatchResult result (λ v. AreUids (items_view items.now) v.items) (Refuses (AreUids (items_view items.now))) }
 {
-    let mut uids = Vec::new(alloc);
+    let mut uids = Vec::with_capacity(alloc, items.len())?;
     let mut rest = items;
     'walk: while let Some((item, others)) = rest.split_first() {
         let uid = read_uid(alloc, item)?;

@@ -11,7 +11,7 @@ use Rattle.cedar_data.proofs.value.+read.Goals as goal
 
 pub read_fields-returns-in_err-add_field : goal.read_fields-returns-in_err-add_field
 read_fields-returns-in_err-add_field t c =
-    let p = err_from_is_err_and c.from_residual.result c.from_residual.ensures.1 in
+    let p = err_from_is_err_and c.from_residual-in_err-add_field.result c.from_residual-in_err-add_field.ensures.1 in
     rw (p.1, p.2) (fields_refused (view c.args.json.now) c.walk.rest.now c.in-Some.attribute.now c.in-Some.others.now _ (fields_read (attributes_of c.args.attributes.now) (view c.args.json.now)) c.in-Some.ensures.cases.0 c.in_err-add_field.ensures c.walk.invariant.faults)
 
 pub read_fields-walk-preserved : goal.read_fields-walk-preserved
@@ -32,7 +32,7 @@ read_fields-returns t c =
 
 pub read_members-returns-in_err-value : goal.read_members-returns-in_err-value
 read_members-returns-in_err-value t c =
-    let p = err_from_is_err_and c.from_residual.result c.from_residual.ensures.1 in
+    let p = err_from_is_err_and c.from_residual-in_err-value.result c.from_residual-in_err-value.ensures.1 in
     rw (p.1, p.2) (items_refused (value_read c.args.member.now) c.walk.rest.now c.in-Some.item.now c.in-Some.others.now _ (all_read (value_read c.args.member.now) (items_view c.args.items.now)) c.in-Some.ensures.cases.0 c.in_err-value.ensures.reads c.walk.invariant.faults)
 
 pub read_members-walk-preserved : goal.read_members-walk-preserved

@@ -5,7 +5,7 @@ use Rattle.cedar_entities.proofs.written.read_uids.Goals as goal
 
 pub returns-in_err-uid : goal.returns-in_err-uid
 returns-in_err-uid c =
-    let p = err_from_is_err_and c.from_residual.result c.from_residual.ensures.1 in
+    let p = err_from_is_err_and c.from_residual-in_err-uid.result c.from_residual-in_err-uid.ensures.1 in
     rw (p.1, p.2) (uids_refused view c.walk.uids.items c.walk.rest.now c.in-Some.others.now c.in-Some.item.now (items_view c.args.items.now) _ c.in-Some.ensures.cases.0 c.in_err-uid.ensures c.walk.invariant)
 
 pub walk-preserved : goal.walk-preserved

@@ -1,6 +1,6 @@
 -- What a scope asks evaluates to whether it is met.
-use Rattle.std.proofs.Common.{◌≡◌, ℕ, ◌+◌, Bool, true, false, cond, ◌&&◌, ◌||◌, List, [], ◌∷◌, map, length, refl, sym, ap, ap₂, subst, ◌∙◌, arith}
-use Rattle.std.specs.Prelude.{Ok, Err}
+use Rattle.std.proofs.Common.{◌≡◌, ℕ, Bool, true, false, cond, ◌&&◌, ◌||◌, List, [], ◌∷◌, map, length, refl, sym, ap, ap₂, subst, ◌∙◌, arith}
+use Rattle.std.specs.Prelude.{Ok}
 use Rattle.std.specs.List.{AllByRecursion, list_all, list_any}
 use Rattle.cedar_value.specs.Datum.{Datum, boolean, uid, list_of, members_of}
 use Rattle.cedar_value.specs.Private.Lists.{list_of-members_of}
@@ -15,10 +15,9 @@ use Rattle.cedar_ast.specs.declared.scope.ActionScope.{ActionScope}
 use Rattle.cedar_ast.specs.declared.scope.ActionScope.TheVariants as action
 use Rattle.cedar_ast.specs.declared.operator.UnaryOperator.TheVariants as one
 use Rattle.cedar_ast.specs.declared.operator.BinaryOperator.TheVariants as two
-use Rattle.cedar_ast.specs.declared.error.EvaluationError.TheVariants.{«Type»}
 use Rattle.cedar_ast.specs.Answer.{Answer, with_answer}
 use Rattle.cedar_ast.specs.Condition.{entity_literal, entity_scope_of, action_scope_of}
-use Rattle.cedar_ast.specs.Expression.{Expression, expressions_of}
+use Rattle.cedar_ast.specs.Expression.{expressions_of}
 use Rattle.cedar_ast.specs.Evaluation.{variable_of, and_of, set_of_values, eval, eval_all}
 use Rattle.cedar_ast.specs.Operators.{unary_of, binary_of, in_of, is_in, is_uid}
 use Rattle.cedar_code.specs.Code.{size_all}

@@ -1,5 +1,5 @@
 -- Whether a scope is met, as a test.
-use Rattle.std.specs.Prelude.{ℕ, Bool, true, ◌&&◌, ◌||◌, List}
+use Rattle.std.specs.Prelude.{Bool, true, ◌&&◌, ◌||◌, List}
 use Rattle.std.specs.List.{list_any}
 use Rattle.std.specs.Str.{bytes_eq}
 use Rattle.cedar_value.specs.Datum.{same_uid}

@@ -1,4 +1,4 @@
-use Rattle.std.proofs.Common.{◌≡◌, length, ap, arith}
+use Rattle.std.proofs.Common.{length, ap, arith}
 use Rattle.cedar_scope.proofs.Meets.{size_literals}
 use Rattle.cedar_scope.proofs.action.size_of.Goals as goal
 

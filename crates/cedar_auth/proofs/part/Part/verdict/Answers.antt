@@ -1,4 +1,4 @@
-use Rattle.std.proofs.Common.{◌≤◌, sym, ap, ◌∙◌}
+use Rattle.std.proofs.Common.{sym, ap}
 use Rattle.std.proofs.lemmas.Result.{IfOk-weaker}
 use Rattle.cedar_ast.specs.Condition.{condition_of, conditions_of}
 use Rattle.cedar_machine.specs.Verdict.{verdict_of}

@@ -4,13 +4,13 @@ use Rattle.cedar_text.specs.declared.token_kind.TokenKind.{TokenKind}
 use Rattle.cedar_tokens.specs.Marks.{Marks}
 use Rattle.cedar_tokens.specs.Names as n
 use Rattle.cedar_tokens.specs.Names.{Rule}
-use Rattle.cedar_grammar.specs.declared.sign.ChainSign.{ChainSign}
-use Rattle.cedar_grammar.specs.declared.written.Link.{Link}
-use Rattle.cedar_grammar.specs.declared.written_statement.WrittenCondition.{WrittenCondition}
-use Rattle.cedar_grammar.specs.Written.{Written}
-use Rattle.cedar_grammar.specs.StatementTree.{StatementTree}
-use Rattle.cedar_grammar.specs.Grammar as g
-use Rattle.cedar_grammar.specs.Grammar.{Series, Arguments, Entry, Primary, Suffixes, Member, Signed, Unary, Operands, Chain, or_sign, and_sign, sum_sign, product_sign, Products, Sums, Relation, Ors, Expression, Nested}
+use Rattle.cedar_written.specs.declared.sign.ChainSign.{ChainSign}
+use Rattle.cedar_written.specs.declared.written.Link.{Link}
+use Rattle.cedar_written.specs.declared.written_statement.WrittenCondition.{WrittenCondition}
+use Rattle.cedar_written.specs.Written.{Written}
+use Rattle.cedar_written.specs.StatementTree.{StatementTree}
+use Rattle.cedar_expressions.specs.Grammar as g
+use Rattle.cedar_expressions.specs.Grammar.{Series, Arguments, Entry, Primary, Suffixes, Member, Signed, Unary, Operands, Chain, or_sign, and_sign, sum_sign, product_sign, Products, Sums, Relation, Ors, Expression, Nested}
 use Rattle.cedar_grammar.specs.Statements as s
 use Rattle.cedar_grammar.specs.Statements.{Block, Conditions, Statement, Statements}
 use Rattle.cedar_grammar.specs.Earlier as o

@@ -1,10 +1,5 @@
-pub mod Moves
-pub mod Binds
-pub mod Sound
-pub mod Complete
 pub mod StatementMoves
 pub mod StatementsSound
 pub mod StatementsComplete
-pub mod StepLemmas
 pub mod StatementClauses
 pub mod EarlierReadings

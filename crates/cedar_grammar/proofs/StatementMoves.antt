@@ -3,14 +3,14 @@ use Rattle.std.proofs.Common.{true, ◌≡◌, refl, sym, subst, ℕ, ◌≤◌,
 use Rattle.cedar_text.specs.declared.token_kind.TokenKind.{TokenKind}
 use Rattle.cedar_text.specs.declared.token_kind.TokenKind.TheVariants as k
 use Rattle.cedar_tokens.specs.Marks.{Mark, Marks}
-use Rattle.cedar_grammar.specs.declared.written_statement.WrittenAnnotation.{WrittenAnnotation}
-use Rattle.cedar_grammar.specs.declared.written_statement.WrittenCondition.{WrittenCondition}
-use Rattle.cedar_grammar.specs.Nesting.{closes}
+use Rattle.cedar_written.specs.declared.written_statement.WrittenAnnotation.{WrittenAnnotation}
+use Rattle.cedar_written.specs.declared.written_statement.WrittenCondition.{WrittenCondition}
+use Rattle.cedar_expressions.specs.Nesting.{closes}
 use Rattle.cedar_tokens.specs.Names.{Entity}
 use Rattle.cedar_grammar.specs.Statements as s
 use Rattle.cedar_tokens.specs.Names.{is_word_kind}
 use Rattle.cedar_grammar.specs.Statements.{Annotation, Annotations, Word, References, EntityScopes, ActionScopes, Scopes, Block, Conditions, Statement, Statements}
-use Rattle.cedar_grammar.proofs.Moves.{Moves, Level, level_then, moves_then, takes_moves, token_moves, weight, Advances, text_moves, path_moves, entity_moves, arguments_between, nested_moves}
+use Rattle.cedar_expressions.proofs.Moves.{Moves, Level, level_then, moves_then, takes_moves, token_moves, weight, Advances, text_moves, path_moves, entity_moves, arguments_between, nested_moves}
 
 word_never : (q : TokenKind) → is_word_kind q ≡ true → weight (closes q) ≡ 0
 word_never k.True h = refl

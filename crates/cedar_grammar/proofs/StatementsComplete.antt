@@ -10,37 +10,37 @@ use Rattle.cedar_ast.specs.declared.variable.Variable.{Variable}
 use Rattle.cedar_ast.specs.declared.effect.Effect.{Effect}
 use Rattle.cedar_ast.specs.declared.condition.ConditionKind.{ConditionKind}
 use Rattle.cedar_tokens.specs.Marks.{Mark, Marks}
-use Rattle.cedar_grammar.specs.Written.{Written}
+use Rattle.cedar_written.specs.Written.{Written}
 use Rattle.cedar_tokens.specs.declared.content.WrittenUid.{WrittenUid}
-use Rattle.cedar_grammar.specs.declared.written_statement.Reference.{Reference}
-use Rattle.cedar_grammar.specs.declared.written_statement.Reference.TheVariants as reference
-use Rattle.cedar_grammar.specs.declared.written_statement.WrittenAnnotation.{WrittenAnnotation}
-use Rattle.cedar_grammar.specs.declared.written_statement.WrittenCondition.{WrittenCondition}
-use Rattle.cedar_grammar.specs.declared.written_statement.WrittenEntityScope.{WrittenEntityScope}
-use Rattle.cedar_grammar.specs.declared.written_statement.WrittenEntityScope.TheVariants as entity_scope
-use Rattle.cedar_grammar.specs.declared.written_statement.WrittenActionScope.{WrittenActionScope}
-use Rattle.cedar_grammar.specs.declared.written_statement.WrittenActionScope.TheVariants as action_scope
-use Rattle.cedar_grammar.specs.declared.written_statement.WrittenScope.{WrittenScope}
-use Rattle.cedar_grammar.specs.StatementTree.{StatementTree}
-use Rattle.cedar_grammar.specs.Grammar as h
+use Rattle.cedar_written.specs.declared.written_statement.Reference.{Reference}
+use Rattle.cedar_written.specs.declared.written_statement.Reference.TheVariants as reference
+use Rattle.cedar_written.specs.declared.written_statement.WrittenAnnotation.{WrittenAnnotation}
+use Rattle.cedar_written.specs.declared.written_statement.WrittenCondition.{WrittenCondition}
+use Rattle.cedar_written.specs.declared.written_statement.WrittenEntityScope.{WrittenEntityScope}
+use Rattle.cedar_written.specs.declared.written_statement.WrittenEntityScope.TheVariants as entity_scope
+use Rattle.cedar_written.specs.declared.written_statement.WrittenActionScope.{WrittenActionScope}
+use Rattle.cedar_written.specs.declared.written_statement.WrittenActionScope.TheVariants as action_scope
+use Rattle.cedar_written.specs.declared.written_statement.WrittenScope.{WrittenScope}
+use Rattle.cedar_written.specs.StatementTree.{StatementTree}
+use Rattle.cedar_expressions.specs.Grammar as h
 use Rattle.cedar_tokens.specs.Names.{Takes, Path, Entity}
-use Rattle.cedar_grammar.specs.Grammar.{Series, Arguments, slot_of}
+use Rattle.cedar_expressions.specs.Grammar.{Series, Arguments, slot_of}
 use Rattle.cedar_grammar.specs.Statements as g
 use Rattle.cedar_tokens.specs.Names.{is_word_kind}
 use Rattle.cedar_grammar.specs.Statements.{Annotation, Annotations, Word, References, EntityScopes, ActionScopes, Scopes, Block, Conditions, Statement, effect_of, condition_kind_of}
 use Rattle.cedar_tokens.specs.Marks.{start_of}
 use Rattle.cedar_tokens.specs.Private.Reading.{Syntax, TooDeep, Outcome, and_then, on_some, same_kind, sees, next, first, expect, entity}
-use Rattle.cedar_grammar.specs.Private.Reading.{arguments, nested}
+use Rattle.cedar_expressions.specs.Private.Reading.{arguments, nested}
 use Rattle.cedar_grammar.specs.Private.StatementReading as r
 use Rattle.cedar_tokens.proofs.Outcomes.{Answers, given, deep, answers_then, answers_by}
-use Rattle.cedar_grammar.proofs.StepLemmas.{answers_flat}
-use Rattle.cedar_grammar.proofs.Moves.{shorter, takes_moves, entity_moves}
+use Rattle.cedar_expressions.proofs.StepLemmas.{answers_flat}
+use Rattle.cedar_expressions.proofs.Moves.{shorter, takes_moves, entity_moves}
 use Rattle.cedar_grammar.proofs.StatementMoves as m
-use Rattle.cedar_grammar.proofs.Binds as b
-use Rattle.cedar_grammar.proofs.Binds.{takes_bind, Begins}
+use Rattle.cedar_expressions.proofs.Binds as b
+use Rattle.cedar_expressions.proofs.Binds.{takes_bind, Begins}
 use Rattle.cedar_tokens.proofs.NamesComplete.{sees_other}
 use Rattle.cedar_tokens.proofs.NamesComplete.{sees_yes, next_is, expect_yes, if_true, if_false, at_next, expect_then, known_then, text_yes, path_yes, no_path_on, path_first, entity_yes}
-use Rattle.cedar_grammar.proofs.Complete.{Complete, arguments_complete, nested_complete}
+use Rattle.cedar_expressions.proofs.Complete.{Complete, arguments_complete, nested_complete}
 
 -- ---- annotations
 

@@ -7,31 +7,31 @@ use Rattle.cedar_ast.specs.declared.variable.Variable.{Variable}
 use Rattle.cedar_ast.specs.declared.effect.Effect.{Effect}
 use Rattle.cedar_ast.specs.declared.condition.ConditionKind.{ConditionKind}
 use Rattle.cedar_tokens.specs.Marks.{Mark, Marks}
-use Rattle.cedar_grammar.specs.Written.{Written}
+use Rattle.cedar_written.specs.Written.{Written}
 use Rattle.cedar_tokens.specs.declared.content.WrittenUid.{WrittenUid}
-use Rattle.cedar_grammar.specs.declared.written_statement.WrittenAnnotation.{WrittenAnnotation}
-use Rattle.cedar_grammar.specs.declared.written_statement.WrittenCondition.{WrittenCondition}
-use Rattle.cedar_grammar.specs.declared.written_statement.WrittenEntityScope.{WrittenEntityScope}
-use Rattle.cedar_grammar.specs.declared.written_statement.WrittenActionScope.{WrittenActionScope}
-use Rattle.cedar_grammar.specs.declared.written_statement.WrittenScope.{WrittenScope}
-use Rattle.cedar_grammar.specs.StatementTree.{StatementTree}
-use Rattle.cedar_grammar.specs.Grammar as h
+use Rattle.cedar_written.specs.declared.written_statement.WrittenAnnotation.{WrittenAnnotation}
+use Rattle.cedar_written.specs.declared.written_statement.WrittenCondition.{WrittenCondition}
+use Rattle.cedar_written.specs.declared.written_statement.WrittenEntityScope.{WrittenEntityScope}
+use Rattle.cedar_written.specs.declared.written_statement.WrittenActionScope.{WrittenActionScope}
+use Rattle.cedar_written.specs.declared.written_statement.WrittenScope.{WrittenScope}
+use Rattle.cedar_written.specs.StatementTree.{StatementTree}
+use Rattle.cedar_expressions.specs.Grammar as h
 use Rattle.cedar_tokens.specs.Names.{Takes, Text, Path, Entity}
-use Rattle.cedar_grammar.specs.Grammar.{Series, Arguments, slot_of, Nested}
-use Rattle.cedar_grammar.specs.Private.Reading as q
+use Rattle.cedar_expressions.specs.Grammar.{Series, Arguments, slot_of, Nested}
+use Rattle.cedar_expressions.specs.Private.Reading as q
 use Rattle.cedar_grammar.specs.Statements as g
 use Rattle.cedar_tokens.specs.Names.{is_word_kind}
 use Rattle.cedar_grammar.specs.Statements.{Annotation, Annotations, Word, References, EntityScopes, ActionScopes, Scopes, Block, Conditions, Statement, effect_of, condition_kind_of}
 use Rattle.cedar_tokens.specs.Marks.{start_of}
 use Rattle.cedar_tokens.specs.Private.Reading.{Syntax, on_some, same_kind, sees, next, first, expect, text, path, entity}
-use Rattle.cedar_grammar.specs.Private.Reading.{arguments, nested}
+use Rattle.cedar_expressions.specs.Private.Reading.{arguments, nested}
 use Rattle.cedar_grammar.specs.Private.StatementReading as r
 use Rattle.cedar_tokens.proofs.Outcomes.{Meets, meets_then, meets_as, if_meets, some_meets}
-use Rattle.cedar_grammar.proofs.StepLemmas.{meets_flat}
-use Rattle.cedar_grammar.proofs.Moves.{level_then, IsOver, over_after, takes_moves}
+use Rattle.cedar_expressions.proofs.StepLemmas.{meets_flat}
+use Rattle.cedar_expressions.proofs.Moves.{level_then, IsOver, over_after, takes_moves}
 use Rattle.cedar_grammar.proofs.StatementMoves as m
 use Rattle.cedar_tokens.proofs.NamesSound.{takes_next_by, sees_takes, expect_takes, text_reads, path_reads, entity_reads}
-use Rattle.cedar_grammar.proofs.Sound.{after_step, nested_reads}
+use Rattle.cedar_expressions.proofs.Sound.{after_step, nested_reads}
 
 -- ---- annotations, which open one bracket and close it: a nesting refusal shows anything
 

@@ -8,14 +8,14 @@ use Rattle.cedar_text.specs.declared.token_kind.TokenKind.TheVariants as k
 use Rattle.cedar_tokens.specs.Marks.{Mark, Marks, start_of, pattern_of}
 use Rattle.cedar_tokens.specs.Names.{Rule, Takes, Key, Path}
 use Rattle.cedar_tokens.specs.Content.{Content}
-use Rattle.cedar_grammar.specs.Written as w
-use Rattle.cedar_grammar.specs.Written.{Written}
-use Rattle.cedar_grammar.specs.declared.sign.RelationSign.{RelationSign}
-use Rattle.cedar_grammar.specs.declared.written_statement.WrittenAnnotation.{WrittenAnnotation}
-use Rattle.cedar_grammar.specs.declared.written_statement.WrittenCondition.{WrittenCondition}
-use Rattle.cedar_grammar.specs.declared.written_statement.WrittenScope.{WrittenScope}
-use Rattle.cedar_grammar.specs.Grammar.{Opens, Chain, or_sign, and_sign, relation_sign_of, Sums}
-use Rattle.cedar_grammar.specs.StatementTree.{StatementTree}
+use Rattle.cedar_written.specs.Written as w
+use Rattle.cedar_written.specs.Written.{Written}
+use Rattle.cedar_written.specs.declared.sign.RelationSign.{RelationSign}
+use Rattle.cedar_written.specs.declared.written_statement.WrittenAnnotation.{WrittenAnnotation}
+use Rattle.cedar_written.specs.declared.written_statement.WrittenCondition.{WrittenCondition}
+use Rattle.cedar_written.specs.declared.written_statement.WrittenScope.{WrittenScope}
+use Rattle.cedar_expressions.specs.Grammar.{Opens, Chain, or_sign, and_sign, relation_sign_of, Sums}
+use Rattle.cedar_written.specs.StatementTree.{StatementTree}
 use Rattle.cedar_grammar.specs.Statements.{Annotations, Scopes, effect_of, condition_kind_of}
 
 -- Behind `has` stands one key.

@@ -1,8 +1,3 @@
-pub mod Written
-pub mod WrittenKind
-pub mod Grammar
-pub mod Nesting
-pub mod StatementTree
 pub mod Statements
 pub mod Earlier
 pub mod StatementText

@@ -1,8 +1,2 @@
 -- What proofs and private contracts speak of, and no public clause.
-pub mod WrittenCode
-pub mod WrittenParts
-pub mod WrittenSize
-pub mod Reading
 pub mod StatementReading
-pub mod Nests
-pub mod Operands

@@ -3,8 +3,8 @@ use Rattle.std.specs.Prelude.{◌≡◌, ℕ, suc, Result, Ok, Err}
 use Rattle.cedar_tokens.specs.Marks.{Marks}
 use Rattle.cedar_tokens.specs.declared.parse_fault.ParseFault.{ParseFault}
 use Rattle.cedar_tokens.specs.declared.parse_fault.ParseFault.TheVariants as f
-use Rattle.cedar_grammar.specs.Nesting.{IsDeep}
-use Rattle.cedar_grammar.specs.StatementTree.{StatementTree}
+use Rattle.cedar_expressions.specs.Nesting.{IsDeep}
+use Rattle.cedar_written.specs.StatementTree.{StatementTree}
 use Rattle.cedar_grammar.specs.Statements.{Statement}
 
 -- how many brackets and `if`s may be open at one place inside a condition

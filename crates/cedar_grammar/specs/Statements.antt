@@ -17,20 +17,20 @@ use Rattle.cedar_ast.specs.declared.condition.ConditionKind.TheVariants.{When, U
 use Rattle.cedar_text.specs.declared.token_kind.TokenKind.TheVariants as k
 use Rattle.cedar_tokens.specs.Marks.{Mark, Marks, start_of}
 use Rattle.cedar_tokens.specs.Names.{Takes, Text, Path, Entity, is_word_kind}
-use Rattle.cedar_grammar.specs.Grammar.{Arguments, slot_of, Nested}
+use Rattle.cedar_expressions.specs.Grammar.{Arguments, slot_of, Nested}
 use Rattle.cedar_tokens.specs.Content.{Content}
-use Rattle.cedar_grammar.specs.Written.{Written}
+use Rattle.cedar_written.specs.Written.{Written}
 use Rattle.cedar_tokens.specs.declared.content.WrittenUid.{WrittenUid}
-use Rattle.cedar_grammar.specs.declared.written_statement.Reference.{Reference}
-use Rattle.cedar_grammar.specs.declared.written_statement.Reference.TheVariants as reference
-use Rattle.cedar_grammar.specs.declared.written_statement.WrittenAnnotation.{WrittenAnnotation}
-use Rattle.cedar_grammar.specs.declared.written_statement.WrittenCondition.{WrittenCondition}
-use Rattle.cedar_grammar.specs.declared.written_statement.WrittenEntityScope.{WrittenEntityScope}
-use Rattle.cedar_grammar.specs.declared.written_statement.WrittenEntityScope.TheVariants as entity_scope
-use Rattle.cedar_grammar.specs.declared.written_statement.WrittenActionScope.{WrittenActionScope}
-use Rattle.cedar_grammar.specs.declared.written_statement.WrittenActionScope.TheVariants as action_scope
-use Rattle.cedar_grammar.specs.declared.written_statement.WrittenScope.{WrittenScope}
-use Rattle.cedar_grammar.specs.StatementTree.{StatementTree}
+use Rattle.cedar_written.specs.declared.written_statement.Reference.{Reference}
+use Rattle.cedar_written.specs.declared.written_statement.Reference.TheVariants as reference
+use Rattle.cedar_written.specs.declared.written_statement.WrittenAnnotation.{WrittenAnnotation}
+use Rattle.cedar_written.specs.declared.written_statement.WrittenCondition.{WrittenCondition}
+use Rattle.cedar_written.specs.declared.written_statement.WrittenEntityScope.{WrittenEntityScope}
+use Rattle.cedar_written.specs.declared.written_statement.WrittenEntityScope.TheVariants as entity_scope
+use Rattle.cedar_written.specs.declared.written_statement.WrittenActionScope.{WrittenActionScope}
+use Rattle.cedar_written.specs.declared.written_statement.WrittenActionScope.TheVariants as action_scope
+use Rattle.cedar_written.specs.declared.written_statement.WrittenScope.{WrittenScope}
+use Rattle.cedar_written.specs.StatementTree.{StatementTree}
 
 -- ---- annotations
 

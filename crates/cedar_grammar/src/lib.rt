@@ -7,27 +7,16 @@
 //! assert_eq!(written.effect, Effect::Permit);
 //! ```
 //!
-//! The grammar stands in `specs/Grammar.antt` and `specs/Statements.antt`, the tree as written in `specs/Written.antt` and
-//! `specs/StatementTree.antt`.
+//! The grammar of statements stands in `specs/Statements.antt`, that of expressions in cedar_expressions, the tree as written in
+//! cedar_written.
 #![tactic(auto)]
 
-mod attribute_path;
-mod expressions;
-mod lookup;
-mod making;
 mod scopes;
-mod series;
-mod sign;
 mod statements;
-mod written;
-mod written_statement;
 
-pub use attribute_path::AttributePath;
-pub use series::Series;
-pub use sign::{ChainSign, RelationSign};
-pub use statements::statement;
-pub use written::{Field, Link, Written, WrittenKind};
-pub use written_statement::{
-    Reference, WrittenActionScope, WrittenAnnotation, WrittenCondition, WrittenEntityScope,
+pub use cedar_written::{
+    AttributePath, ChainSign, Field, Link, Reference, RelationSign, Series, Written,
+    WrittenActionScope, WrittenAnnotation, WrittenCondition, WrittenEntityScope, WrittenKind,
     WrittenScope, WrittenStatement, WrittenUids,
 };
+pub use statements::statement;

@@ -1,16 +1,14 @@
 //! Scopes, read from tokens.
 ghost use Rattle.std.specs.Prelude.{◌≡◌, ◌++◌, ◌∷◌, [], OnOk};
 ghost use Rattle.cedar_text.specs.declared.token_kind.TokenKind.TheVariants as kind;
-ghost use Rattle.cedar_grammar.specs.Private.Reading as reading;
+ghost use Rattle.cedar_expressions.specs.Private.Reading as reading;
 ghost use Rattle.cedar_grammar.specs.Private.StatementReading as spec;
 ghost use Rattle.cedar_tokens.specs.Private.Contract.{Reads, ReadsItems};
 
-use crate::lookup::slot_of;
-use crate::written_statement::{
-    Reference, WrittenActionScope, WrittenEntityScope, WrittenScope, WrittenUids,
-};
+use cedar_expressions::slot_of;
 use cedar_text::TokenKind;
 use cedar_tokens::{Cursor, ParseFault, WrittenUid, entity, path};
+use cedar_written::{Reference, WrittenActionScope, WrittenEntityScope, WrittenScope, WrittenUids};
 use std::alloc::{AllocError, Global};
 
 /// What stands between the round brackets of a statement, with them (Cedar language reference, grammar: scope).
@@ -191,7 +189,7 @@ fn entities(alloc: Global, tokens: &mut Cursor<'_>) -> Result<WrittenActionScope
 }
 
 // Entities with commas between them, and the bracket that closes them.
-#[tactic(auto, unfolding(crate::specs::Private::Reading::arguments))]
+#[tactic(auto, unfolding(cedar_expressions::specs::Private::Reading::arguments))]
 fn list(alloc: Global, tokens: &mut Cursor<'_>) -> Result<Vec<WrittenUid>, ParseFault>
     ensures { ReadsItems (reading.arguments reading.entity kind.RightBracket tokens.old) result tokens.new }
 {

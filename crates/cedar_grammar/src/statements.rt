@@ -1,19 +1,18 @@
 //! Statements, read from tokens.
 ghost use Rattle.std.specs.Prelude.{◌≡◌, ◌++◌, ◌∷◌, [], OnOk, IfOk, IfErr};
 ghost use Rattle.cedar_grammar.specs.Statements as grammar;
-ghost use Rattle.cedar_grammar.specs.StatementTree.{StatementTree};
+ghost use Rattle.cedar_written.specs.StatementTree.{StatementTree};
 ghost use Rattle.cedar_grammar.specs.StatementText.{IsStatement, HasStatement, HasStatementFault};
 ghost use Rattle.cedar_tokens.specs.Marks.{Marks};
 ghost use Rattle.cedar_grammar.specs.Private.StatementReading as spec;
 ghost use Rattle.cedar_tokens.specs.Private.Contract.{Reads, ReadsItems};
 
-use crate::expressions::nested;
 use crate::scopes::scope;
-use crate::written::Written;
-use crate::written_statement::{WrittenAnnotation, WrittenCondition, WrittenStatement};
 use cedar_ast::{ConditionKind, Effect};
+use cedar_expressions::nested;
 use cedar_text::TokenKind;
 use cedar_tokens::{Cursor, ParseFault, Word, text};
+use cedar_written::{Written, WrittenAnnotation, WrittenCondition, WrittenStatement};
 use std::alloc::{AllocError, Global};
 
 /// How many brackets may be open at one place inside a condition.

@@ -5,8 +5,8 @@ use Rattle.cedar_ast.specs.PolicySetTree.{PolicySetTree}
 use Rattle.cedar_ast.specs.declared.operator.BinaryOperator.{BinaryOperator}
 use Rattle.cedar_ast.specs.declared.operator.BinaryOperator.TheVariants as operator
 use Rattle.cedar_grammar.proofs.EarlierReadings.{statements_within}
-use Rattle.cedar_parser.specs.declared.functions.Method.TheVariants.{IsEmpty, Binary}
-use Rattle.cedar_parser.specs.Meaning.{method_of}
+use Rattle.cedar_conditions.specs.declared.functions.Method.TheVariants.{IsEmpty, Binary}
+use Rattle.cedar_conditions.specs.Meaning.{method_of}
 use Rattle.cedar_parser.specs.PolicyText.{IsPolicyText}
 use Rattle.cedar_parser.specs.Earlier.{IsEarlierPolicyText, earlier_method_of}
 

@@ -7,12 +7,12 @@ use Rattle.cedar_tokens.specs.Marks.{Marks, IsMarked}
 use Rattle.cedar_tokens.specs.Private.Reading.{Syntax, TooDeep, Outcome}
 use Rattle.cedar_tokens.proofs.MarkLemmas.{OneSpelling, all_same}
 use Rattle.cedar_grammar.specs.Statements.{Statement, Statements, end, next}
-use Rattle.cedar_grammar.specs.StatementTree.{StatementTree}
+use Rattle.cedar_written.specs.StatementTree.{StatementTree}
 use Rattle.cedar_grammar.specs.Private.StatementReading as r
-use Rattle.cedar_grammar.proofs.Moves.{shorter}
+use Rattle.cedar_expressions.proofs.Moves.{shorter}
 use Rattle.cedar_grammar.proofs.StatementMoves.{statement_moves}
 use Rattle.cedar_grammar.proofs.StatementsComplete.{statement_same, statement_none, statement_too_deep}
-use Rattle.cedar_parser.specs.StatementMeaning.{entered_from}
+use Rattle.cedar_conditions.specs.StatementMeaning.{entered_from}
 use Rattle.cedar_parser.specs.PolicyText.{ArePolicies, IsPolicyText}
 use Rattle.cedar_parser.proofs.TextLemmas.{comes_next}
 use Rattle.cedar_parser.proofs.Refusals.{nothing_behind}

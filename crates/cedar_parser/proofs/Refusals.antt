@@ -8,22 +8,22 @@ use Rattle.cedar_ast.specs.Keys.{AreDistinct}
 use Rattle.cedar_ast.specs.PolicySetTree.{PolicySetTree, no_policies, ids_in, id_of}
 use Rattle.cedar_ast.specs.declared.statement.Statement.{Statement as Entry}
 use Rattle.cedar_tokens.specs.Marks.{Marks}
-use Rattle.cedar_parser.specs.declared.side_condition.SideCondition.TheVariants.{Strings, Numbers, Keys, Names, Counts, Slots, Annotations}
+use Rattle.cedar_conditions.specs.declared.side_condition.SideCondition.TheVariants.{Strings, Numbers, Keys, Names, Counts, Slots, Annotations}
 use Rattle.cedar_tokens.specs.declared.parse_fault.ParseFault.{ParseFault}
 use Rattle.cedar_tokens.specs.declared.parse_fault.ParseFault.TheVariants as f
 use Rattle.cedar_grammar.specs.Statements.{Statement, Statements, end, next}
-use Rattle.cedar_grammar.specs.StatementTree.{StatementTree}
-use Rattle.cedar_parser.specs.StatementMeaning.{id_in, id_at, written_id, written_ids_from, entered_from, ids_from}
+use Rattle.cedar_written.specs.StatementTree.{StatementTree}
+use Rattle.cedar_conditions.specs.StatementMeaning.{id_in, id_at, written_id, written_ids_from, entered_from, ids_from}
 use Rattle.cedar_tokens.specs.Content.{Content, text_of}
-use Rattle.cedar_grammar.specs.declared.written_statement.WrittenAnnotation.{WrittenAnnotation}
-use Rattle.cedar_parser.specs.StatementLimits.{KeepAnnotations, IsWithinLimits, Breaks}
+use Rattle.cedar_written.specs.declared.written_statement.WrittenAnnotation.{WrittenAnnotation}
+use Rattle.cedar_conditions.specs.StatementLimits.{KeepAnnotations, IsWithinLimits, Breaks}
 use Rattle.cedar_parser.specs.PolicyText.{ArePolicies, BreaksLimit, TokensFault, Answers}
 use Rattle.cedar_tokens.specs.Private.Reading.{Syntax, TooDeep}
 use Rattle.cedar_grammar.specs.Private.StatementReading as st
 use Rattle.cedar_tokens.specs.Private.Contract.{Refuses}
 use Rattle.cedar_parser.specs.Private.Entering.{RefusesEntry, RefusesAdd, RefusesWhere, refusal_for}
 use Rattle.cedar_tokens.proofs.Outcomes.{Meets}
-use Rattle.cedar_grammar.proofs.Moves.{shorter, IsOver, over_after, over_deep}
+use Rattle.cedar_expressions.proofs.Moves.{shorter, IsOver, over_after, over_deep}
 use Rattle.cedar_grammar.proofs.StatementMoves.{statement_moves}
 use Rattle.cedar_grammar.proofs.StatementsSound.{statement_reads, statement_is}
 use Rattle.cedar_grammar.proofs.StatementsComplete.{statement_none, statement_too_deep}

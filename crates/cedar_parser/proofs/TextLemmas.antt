@@ -18,9 +18,9 @@ use Rattle.cedar_ast.specs.Keys.{AreDistinct}
 use Rattle.cedar_ast.specs.PolicySetTree.{PolicySetTree, no_policies, entered, ids_in, ids_of, id_of}
 use Rattle.cedar_tokens.specs.Marks.{Marks}
 use Rattle.cedar_grammar.specs.Statements.{Statement, Statements, end, next}
-use Rattle.cedar_grammar.specs.StatementTree.{StatementTree}
-use Rattle.cedar_parser.specs.StatementMeaning.{has_slot, to_policy, to_template, statement_of, id_at, entered_from, ids_from}
-use Rattle.cedar_parser.specs.StatementLimits.{IsWithinLimits}
+use Rattle.cedar_written.specs.StatementTree.{StatementTree}
+use Rattle.cedar_conditions.specs.StatementMeaning.{has_slot, to_policy, to_template, statement_of, id_at, entered_from, ids_from}
+use Rattle.cedar_conditions.specs.StatementLimits.{IsWithinLimits}
 use Rattle.cedar_grammar.specs.Private.StatementReading as r
 use Rattle.cedar_tokens.proofs.MarkLemmas.{none_left}
 use Rattle.cedar_grammar.proofs.StatementsSound.{statement_is}

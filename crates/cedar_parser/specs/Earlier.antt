@@ -6,12 +6,12 @@ use Rattle.cedar_ast.specs.declared.operator.BinaryOperator.TheVariants as opera
 use Rattle.cedar_ast.specs.Keys.{AreDistinct}
 use Rattle.cedar_ast.specs.PolicySetTree.{PolicySetTree, no_policies}
 use Rattle.cedar_tokens.specs.Marks.{Marks, IsMarked}
-use Rattle.cedar_grammar.specs.Written.{Written, group, not, negated, relation, has, like, is, is_in, chain, choice, set, record_of, call, Links, no_links, operand, attribute, method, Members, no_members, member, Fields, no_fields, field}
-use Rattle.cedar_grammar.specs.StatementTree.{StatementTree}
+use Rattle.cedar_written.specs.Written.{Written, group, not, negated, relation, has, like, is, is_in, chain, choice, set, record_of, call, Links, no_links, operand, attribute, method, Members, no_members, member, Fields, no_fields, field}
+use Rattle.cedar_written.specs.StatementTree.{StatementTree}
 use Rattle.cedar_grammar.specs.StatementText.{max_open}
 use Rattle.cedar_grammar.specs.Earlier.{EarlierStatements}
-use Rattle.cedar_parser.specs.StatementMeaning.{entered_from, ids_from}
-use Rattle.cedar_parser.specs.StatementLimits.{IsWithinLimits}
+use Rattle.cedar_conditions.specs.StatementMeaning.{entered_from, ids_from}
+use Rattle.cedar_conditions.specs.StatementLimits.{IsWithinLimits}
 
 -- the methods that there were (Cedar language reference, operators and functions)
 abbrev pub earlier_method_of : List ℕ → Option BinaryOperator

@@ -6,10 +6,10 @@ use Rattle.cedar_tokens.specs.Faults.{LacksTokens}
 use Rattle.cedar_tokens.specs.Marks.{Marks, IsMarked}
 use Rattle.cedar_grammar.specs.Statements.{Statements}
 use Rattle.cedar_grammar.specs.StatementText.{max_open}
-use Rattle.cedar_grammar.specs.StatementTree.{StatementTree}
-use Rattle.cedar_parser.specs.StatementMeaning.{entered_from, ids_from, written_id, written_ids_from}
-use Rattle.cedar_parser.specs.StatementLimits.{IsWithinLimits, Breaks}
-use Rattle.cedar_grammar.specs.Nesting.{IsDeep}
+use Rattle.cedar_written.specs.StatementTree.{StatementTree}
+use Rattle.cedar_conditions.specs.StatementMeaning.{entered_from, ids_from, written_id, written_ids_from}
+use Rattle.cedar_conditions.specs.StatementLimits.{IsWithinLimits, Breaks}
+use Rattle.cedar_expressions.specs.Nesting.{IsDeep}
 use Rattle.cedar_tokens.specs.declared.parse_fault.ParseFault.{ParseFault}
 use Rattle.cedar_tokens.specs.declared.parse_fault.ParseFault.TheVariants as f
 

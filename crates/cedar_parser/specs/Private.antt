@@ -1,5 +1,2 @@
 -- What proofs and private contracts speak of, and no public clause.
-pub mod Capped
-pub mod Parts
 pub mod Entering
-pub mod AskedSizes

@@ -1,16 +1,13 @@
 //! What `has` asks along a path of attributes.
-ghost use Rattle.std.specs.Prelude.{◌≡◌, List, ℕ, IfOk};
-ghost use Rattle.cedar_ast.specs.Expression.{Expression, unary, and};
+ghost use Rattle.std.specs.Prelude.{◌≡◌, IfOk};
+ghost use Rattle.cedar_ast.specs.Expression.{unary, and};
 ghost use Rattle.cedar_ast.specs.declared.operator.UnaryOperator.TheVariants.{Has, Get};
 ghost use Rattle.cedar_tokens.specs.Content.{text_of};
-ghost use Rattle.cedar_parser.specs.Meaning.{asked_of};
-ghost use Rattle.cedar_parser.specs.Limits.{size_of};
-ghost use Rattle.cedar_parser.specs.Private.Capped.{capped};
+ghost use Rattle.cedar_conditions.specs.Meaning.{asked_of};
 
-use crate::size::Size;
 use cedar_ast::{Expr, UnaryOperator};
-use cedar_grammar::AttributePath;
 use cedar_value::Text;
+use cedar_written::AttributePath;
 use std::alloc::{AllocError, Global};
 
 /// Whether an operand has the attribute, and that the next one, and so on to the end of the path (Cedar language
@@ -73,18 +70,4 @@ fn attribute(alloc: Global, operand: Expr, name: &str) -> Result<Expr, AllocErro
 {
     let name = Text::read(alloc, name)?;
     Expr::unary(alloc, UnaryOperator::Get(name), operand)
-}
-
-/// The size of what is asked of an operand of this size, with these attributes behind the first one.
-pub fn asked_size(operand: Size, more: &[Text]) -> Size
-    ensures { (a : Expression) (first : List ℕ) → operand ≡ capped (size_of a) → result ≡ capped (size_of (asked_of a first more.now)) }
-{
-    let mut asked = operand.above();
-    let mut place = operand.above();
-    for _name in more {
-        let next = place.above();
-        asked = asked.above_both(next);
-        place = next;
-    }
-    asked
 }

@@ -4,22 +4,22 @@ ghost use Rattle.cedar_ast.specs.Expression.{expressions_of, entries_of, unary, 
 ghost use Rattle.cedar_ast.specs.Keys.{AreDistinct, keys_of};
 ghost use Rattle.cedar_ast.specs.declared.operator.UnaryOperator.TheVariants.{Not, Get, Is};
 ghost use Rattle.cedar_ast.specs.declared.operator.BinaryOperator.TheVariants.{In};
-ghost use Rattle.cedar_parser.specs.declared.side_condition.SideCondition.TheVariants.{Strings, Numbers, Keys};
-ghost use Rattle.cedar_grammar.specs.Written as tree;
-ghost use Rattle.cedar_grammar.specs.Written.{chain, members_of};
-ghost use Rattle.cedar_grammar.specs.WrittenKind.{links_of, fields_of};
-ghost use Rattle.cedar_parser.specs.Meaning.{to_expression, to_expressions, to_entries, related, linked, called, applied, function_of, method_of};
-ghost use Rattle.cedar_parser.specs.declared.functions.Method.TheVariants.{IsEmpty, Binary};
+ghost use Rattle.cedar_conditions.specs.declared.side_condition.SideCondition.TheVariants.{Strings, Numbers, Keys};
+ghost use Rattle.cedar_written.specs.Written as tree;
+ghost use Rattle.cedar_written.specs.Written.{chain, members_of};
+ghost use Rattle.cedar_written.specs.WrittenKind.{links_of, fields_of};
+ghost use Rattle.cedar_conditions.specs.Meaning.{to_expression, to_expressions, to_entries, related, linked, called, applied, function_of, method_of};
+ghost use Rattle.cedar_conditions.specs.declared.functions.Method.TheVariants.{IsEmpty, Binary};
 ghost use Rattle.cedar_tokens.specs.Content.{text_of};
-ghost use Rattle.cedar_parser.specs.Limits.{Keeps, KeepMembers, KeepFields};
-ghost use Rattle.cedar_parser.specs.Private.Parts.{KeepLink, behind, pairs_of};
+ghost use Rattle.cedar_conditions.specs.Limits.{Keeps, KeepMembers, KeepFields};
+ghost use Rattle.cedar_conditions.specs.Private.Parts.{KeepLink, behind, pairs_of};
 
 use crate::asked::asked;
-use crate::functions::{Method, function_of, method_of};
 use cedar_ast::{BinaryOperator, Expr, RecordFault, UnaryOperator};
-use cedar_grammar::{ChainSign, Field, Link, RelationSign, Written, WrittenKind};
+use cedar_conditions::{Method, function_of, method_of};
 use cedar_tokens::Content;
 use cedar_value::{Name, Text, Value};
+use cedar_written::{ChainSign, Field, Link, RelationSign, Written, WrittenKind};
 use std::alloc::{AllocError, Global};
 
 /// The expression that is written.
@@ -239,7 +239,7 @@ fn applied(
 }
 
 // Whether a set has no members, where there are no arguments.
-#[tactic(auto, using(crate::proofs::PartLemmas::empty_none, crate::proofs::PartLemmas::empty_all))]
+#[tactic(auto, using(cedar_conditions::proofs::PartLemmas::empty_none, cedar_conditions::proofs::PartLemmas::empty_all))]
 fn is_empty(alloc: Global, left: Expr, arguments: Vec<Expr>) -> Result<Expr, AllocError>
     ensures { IfOk result (λ e. e ≡ applied (Some IsEmpty) left (expressions_of arguments.items)) }
 {

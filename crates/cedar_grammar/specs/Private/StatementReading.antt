@@ -6,23 +6,23 @@ use Rattle.cedar_ast.specs.declared.effect.Effect.{Effect}
 use Rattle.cedar_ast.specs.declared.condition.ConditionKind.{ConditionKind}
 use Rattle.cedar_text.specs.declared.token_kind.TokenKind.TheVariants as k
 use Rattle.cedar_tokens.specs.Marks.{Mark, Marks}
-use Rattle.cedar_grammar.specs.Written.{Written}
-use Rattle.cedar_grammar.specs.Grammar.{slot_of}
-use Rattle.cedar_grammar.specs.declared.written_statement.Reference.{Reference}
-use Rattle.cedar_grammar.specs.declared.written_statement.Reference.TheVariants as reference
-use Rattle.cedar_grammar.specs.declared.written_statement.WrittenAnnotation.{WrittenAnnotation}
-use Rattle.cedar_grammar.specs.declared.written_statement.WrittenCondition.{WrittenCondition}
-use Rattle.cedar_grammar.specs.declared.written_statement.WrittenEntityScope.{WrittenEntityScope}
-use Rattle.cedar_grammar.specs.declared.written_statement.WrittenEntityScope.TheVariants as entity_scope
-use Rattle.cedar_grammar.specs.declared.written_statement.WrittenActionScope.{WrittenActionScope}
-use Rattle.cedar_grammar.specs.declared.written_statement.WrittenActionScope.TheVariants as action_scope
-use Rattle.cedar_grammar.specs.declared.written_statement.WrittenScope.{WrittenScope}
-use Rattle.cedar_grammar.specs.StatementTree.{StatementTree}
+use Rattle.cedar_written.specs.Written.{Written}
+use Rattle.cedar_expressions.specs.Grammar.{slot_of}
+use Rattle.cedar_written.specs.declared.written_statement.Reference.{Reference}
+use Rattle.cedar_written.specs.declared.written_statement.Reference.TheVariants as reference
+use Rattle.cedar_written.specs.declared.written_statement.WrittenAnnotation.{WrittenAnnotation}
+use Rattle.cedar_written.specs.declared.written_statement.WrittenCondition.{WrittenCondition}
+use Rattle.cedar_written.specs.declared.written_statement.WrittenEntityScope.{WrittenEntityScope}
+use Rattle.cedar_written.specs.declared.written_statement.WrittenEntityScope.TheVariants as entity_scope
+use Rattle.cedar_written.specs.declared.written_statement.WrittenActionScope.{WrittenActionScope}
+use Rattle.cedar_written.specs.declared.written_statement.WrittenActionScope.TheVariants as action_scope
+use Rattle.cedar_written.specs.declared.written_statement.WrittenScope.{WrittenScope}
+use Rattle.cedar_written.specs.StatementTree.{StatementTree}
 use Rattle.cedar_grammar.specs.Statements.{effect_of, condition_kind_of}
 use Rattle.cedar_tokens.specs.Marks.{start_of}
 unfoldable pub use Rattle.cedar_tokens.specs.Private.Reading.{any_word}
 use Rattle.cedar_tokens.specs.Private.Reading.{Syntax, Parser, and_then, on_some, sees, next, first, expect, same_kind, text, path, entity}
-use Rattle.cedar_grammar.specs.Private.Reading.{arguments, nested}
+use Rattle.cedar_expressions.specs.Private.Reading.{arguments, nested}
 
 -- ---- annotations
 

@@ -1,16 +1,12 @@
 -- What entering a statement ensures.
-use Rattle.std.specs.Prelude.{ℕ, ◌<◌, ◌==◌, if◌then◌else◌, Contains}
+use Rattle.std.specs.Prelude.{ℕ, ◌==◌, if◌then◌else◌, Contains}
 use Rattle.cedar_ast.specs.PolicySetTree.{PolicySetTree, id_of, ids_in}
 use Rattle.cedar_ast.specs.declared.statement.Statement.{Statement}
 use Rattle.cedar_tokens.specs.declared.parse_fault.ParseFault.{ParseFault}
 use Rattle.cedar_tokens.specs.declared.parse_fault.ParseFault.TheVariants as f
-use Rattle.cedar_parser.specs.declared.side_condition.SideCondition.{SideCondition}
-use Rattle.cedar_parser.specs.declared.side_condition.SideCondition.TheVariants.{Strings}
-use Rattle.cedar_parser.specs.declared.size.Size.{Size}
-use Rattle.cedar_parser.specs.Limits.{max_height, max_nodes}
-use Rattle.cedar_grammar.specs.StatementTree.{StatementTree}
-use Rattle.cedar_parser.specs.StatementMeaning.{id_at}
-use Rattle.cedar_parser.specs.StatementLimits.{IsWithinLimits, KeepsStatement, Breaks}
+use Rattle.cedar_written.specs.StatementTree.{StatementTree}
+use Rattle.cedar_conditions.specs.StatementMeaning.{id_at}
+use Rattle.cedar_conditions.specs.StatementLimits.{IsWithinLimits, Breaks}
 
 -- why the policy or template of a statement is not added to a set
 abbrev pub RefusesEntry : PolicySetTree → ℕ → StatementTree → ParseFault → Type 0
@@ -31,14 +27,3 @@ refusal_for n start = if n == 204 then f.DuplicateId start else f.OutOfMemory
 -- why a policy or template is not added to a set
 abbrev pub RefusesAdd : PolicySetTree → Statement → ParseFault → Type 0
 RefusesAdd set entry fault = RefusesWhere (Contains (ids_in set) (id_of entry)) fault
-
--- why a size is refused
-abbrev pub BreaksSize : Size → ParseFault → Type 0
-BreaksSize size (f.TooHigh at) = max_height < size.height
-BreaksSize size (f.TooLarge at) = max_nodes < size.nodes
-BreaksSize size fault = ⊥
-
--- Strings are judged before all else: only where each stands for a text are the keys told by their texts.
-abbrev pub KeepsBefore : SideCondition → StatementTree → Type 0
-KeepsBefore Strings s = Unit {0}
-KeepsBefore _ s = KeepsStatement Strings s

@@ -2,9 +2,9 @@ use Rattle.std.proofs.Common.{◌≡◌, sym, ap, subst, ◌∙◌, ◌<◌, len
 use Rattle.std.specs.Prelude.{IfOk}
 use Rattle.cedar_ast.specs.Expression.{Expression, Entries, expressions_of, entries_of, record_with}
 use Rattle.cedar_ast.specs.Keys.{AreDistinct, keys_of}
-use Rattle.cedar_parser.specs.declared.side_condition.SideCondition.TheVariants.{Strings, Numbers, Keys}
-use Rattle.cedar_parser.specs.Meaning.{to_expression}
-use Rattle.cedar_parser.proofs.PartLemmas.{link_lighter, member_lighter, field_lighter, links_here, members_here, fields_here, behind_all, expressions_next, keys_of_pairs, entries_of_pairs}
+use Rattle.cedar_conditions.specs.declared.side_condition.SideCondition.TheVariants.{Strings, Numbers, Keys}
+use Rattle.cedar_conditions.specs.Meaning.{to_expression}
+use Rattle.cedar_conditions.proofs.PartLemmas.{link_lighter, member_lighter, field_lighter, links_here, members_here, fields_here, behind_all, expressions_next, keys_of_pairs, entries_of_pairs}
 use Rattle.cedar_parser.proofs.expression.+expression.Goals as goal
 
 pub chain_expression-link_expression-requires : goal.chain_expression-link_expression-requires

@@ -1,7 +1,7 @@
 use Rattle.std.proofs.Common.{sym, ap, ◌∙◌}
 use Rattle.cedar_ast.specs.Expression.{literal}
-use Rattle.cedar_parser.specs.Meaning.{function_of}
-use Rattle.cedar_parser.proofs.PartLemmas.{called_none}
+use Rattle.cedar_conditions.specs.Meaning.{function_of}
+use Rattle.cedar_conditions.proofs.PartLemmas.{called_none}
 use Rattle.cedar_parser.proofs.expression.called.Goals as goal
 
 pub returns-in_default-sole : goal.returns-in_default-sole

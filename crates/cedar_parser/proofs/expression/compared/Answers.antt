@@ -1,5 +1,5 @@
 use Rattle.std.proofs.Common.{sym}
-use Rattle.cedar_parser.proofs.PartLemmas.{applied_none}
+use Rattle.cedar_conditions.proofs.PartLemmas.{applied_none}
 use Rattle.cedar_parser.proofs.expression.compared.Goals as goal
 
 pub returns-in_default : goal.returns-in_default

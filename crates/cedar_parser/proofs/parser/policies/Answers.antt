@@ -1,6 +1,6 @@
 use Rattle.std.proofs.Common.{arith}
 use Rattle.std.proofs.lemmas.Result.{err_from_is_err_and}
-use Rattle.cedar_grammar.proofs.Moves.{shorter}
+use Rattle.cedar_expressions.proofs.Moves.{shorter}
 use Rattle.cedar_grammar.proofs.StatementMoves.{statement_moves}
 use Rattle.cedar_grammar.proofs.StatementsSound.{statement_is}
 use Rattle.cedar_parser.proofs.TextLemmas.{read_none, read_more, read_all}

@@ -1,0 +1,24 @@
+//! What a statement of the Cedar policy language must keep beside the grammar: side conditions, and the limits of its condition
+//! (Cedar language reference, grammar).
+//!
+//! ```
+//! let written = statement(alloc, &mut cursor)?;
+//! judge(alloc, &written)?;
+//! ```
+//!
+//! The expression that is written stands in `specs/Meaning.antt`, the policy or template that a statement is in
+//! `specs/StatementMeaning.antt`, side conditions and limits in `specs/Limits.antt` and `specs/StatementLimits.antt`. Statements
+//! are read in cedar_grammar, and made into policies in cedar_parser.
+#![tactic(auto)]
+
+mod asked_size;
+mod broken;
+mod condition_size;
+mod expression_size;
+mod functions;
+mod judging;
+mod side_condition;
+mod size;
+
+pub use functions::{Method, function_of, method_of};
+pub use judging::judge;

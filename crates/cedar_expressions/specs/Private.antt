@@ -1,0 +1,4 @@
+-- What proofs and private contracts speak of, and no public clause.
+pub mod Reading
+pub mod Nests
+pub mod Operands

@@ -1,0 +1,4 @@
+pub mod Written
+pub mod WrittenKind
+pub mod StatementTree
+pub mod Private

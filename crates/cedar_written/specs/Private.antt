@@ -1,0 +1,4 @@
+-- What proofs and private contracts speak of, and no public clause.
+pub mod WrittenCode
+pub mod WrittenParts
+pub mod WrittenSize

@@ -7,7 +7,7 @@ use Rattle.cedar_schema.specs.SchemaTree.{SchemaTree}
 use Rattle.cedar_schema.specs.declared.schema.environment.Environment.{Environment}
 use Rattle.cedar_typing.specs.Checking.{form_in_with}
 use Rattle.cedar_typing.specs.Reports.{FaultTree, fault_at, faults_in_with, is_known_false}
-use Rattle.cedar_check.proofs.Held.{drop_here}
+use Rattle.cedar_rules.proofs.Held.{drop_here}
 use Rattle.cedar_typing.specs.declared.settings.Settings.{Settings}
 
 put : (b : Bool) (x : FaultTree) (old rest : List FaultTree) → (old ++ cond b [] (x ∷ [])) ++ rest ≡ old ++ cond b rest (x ∷ rest)

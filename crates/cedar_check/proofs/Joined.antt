@@ -12,7 +12,7 @@ use Rattle.cedar_typing.specs.Capabilities.{Capabilities}
 use Rattle.cedar_typing.specs.Checking.{Typed, type_of_with, types_onto, types_entries, are_distinct}
 use Rattle.cedar_typing.specs.Typing.{names_of}
 use Rattle.cedar_typing.proofs.Trees.{test_from_distinct}
-use Rattle.cedar_check.proofs.Held.{drop_here}
+use Rattle.cedar_rules.proofs.Held.{drop_here}
 use Rattle.cedar_typing.specs.declared.settings.Settings.{Settings}
 
 module _ (settings : Settings) (s : SchemaTree) (env : Environment) (h : Capabilities) where

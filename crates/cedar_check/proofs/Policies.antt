@@ -5,7 +5,7 @@ use Rattle.std.proofs.lemmas.Option.{slice_get_within, get_or_from_slice_get}
 use Rattle.cedar_ast.specs.PolicyTree.{PolicyTree}
 use Rattle.cedar_schema.specs.SchemaTree.{SchemaTree}
 use Rattle.cedar_typing.specs.Reports.{FaultTree, faults_of_with, all_faults_with, is_impossible_with, warnings_with}
-use Rattle.cedar_check.proofs.Held.{drop_here}
+use Rattle.cedar_rules.proofs.Held.{drop_here}
 use Rattle.cedar_typing.specs.declared.settings.Settings.{Settings}
 
 drop_got : (ps : List PolicyTree) (i : ℕ) (p : PolicyTree) → slice_get ps i ≡ Some p → drop i ps ≡ p ∷ drop (i + 1) ps

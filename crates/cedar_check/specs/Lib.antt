@@ -1,3 +1,2 @@
 pub mod FaultView
-pub mod Numbers
 pub mod Private

@@ -1,11 +1,9 @@
 //! The row of `if`, by its branches.
 ghost use Rattle.std.specs.Prelude.{◌≡◌, IfOk, option_and_then, option_map};
-ghost use Rattle.cedar_check.specs.Private.View.{held_view, joined_branches, kept_branch, typed_view, typing_view};
+ghost use Rattle.cedar_rules.specs.Private.View.{held_view, typed_view, typing_view};
+ghost use Rattle.cedar_check.specs.Private.View.{joined_branches, kept_branch};
 
-use crate::capability::{Capability, common, extended, together};
-use crate::joining::join_types;
-use crate::type_fault::TypeFault;
-use crate::typing::{Typed, Typing};
+use cedar_rules::{Capability, TypeFault, Typed, Typing, common, extended, join_types, together};
 use std::alloc::{AllocError, Global};
 
 /// The first branch, behind a condition that is known true: it gains what the condition gains too. It takes

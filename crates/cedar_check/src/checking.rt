@@ -3,18 +3,15 @@ ghost use Rattle.std.specs.Prelude.{◌≡◌, ◌++◌, [], IfOk};
 ghost use Rattle.cedar_ast.specs.Expression.{and, entries_of, expressions_of, if_else, or, record_with, set_with, unary, binary};
 ghost use Rattle.cedar_ast.specs.Keys.{AreDistinct, keys_of};
 ghost use Rattle.cedar_typing.specs.Checking.{type_of_with, types_onto};
-ghost use Rattle.cedar_check.specs.Private.View.{element_view, held_view, tree_of, typing_view};
+ghost use Rattle.cedar_rules.specs.Private.View.{element_view, held_view, tree_of, typing_view};
 
 use crate::branches::{if_joined, if_known};
-use crate::capability::{Capability, extended};
-use crate::joining::join_types;
-use crate::lent_type::LentType;
-use crate::operators::{binary_type, unary_type};
-use crate::records::{add_attribute, set_type};
 use crate::rows::{and_right, boolean_alone, literal_type, or_right, unary_fault, variable_type};
-use crate::type_fault::TypeFault;
-use crate::typing::Typing;
 use cedar_ast::{BinaryOperator, Expr, ExprKind, UnaryOperator};
+use cedar_rules::{
+    Capability, LentType, TypeFault, Typing, add_attribute, binary_type, extended, join_types,
+    set_type, unary_type,
+};
 use cedar_schema::{Environment, RecordType, Schema, Truth, Type, TypeKind};
 use cedar_typing::Settings;
 use cedar_value::Text;

@@ -8,8 +8,8 @@ ghost use Rattle.cedar_check.specs.Private.Condition.{condition_in, IsReady};
 
 use crate::form::{Form, form_of};
 use crate::prepared::Prepared;
-use crate::type_fault::TypeFault;
 use cedar_ast::Policy;
+use cedar_rules::TypeFault;
 use cedar_schema::{Environment, Schema, Truth};
 use cedar_typing::Settings;
 use cedar_value::{Name, Text, Uid};

@@ -4,13 +4,13 @@ ghost use Rattle.cedar_ast.specs.Expression.{and};
 ghost use Rattle.cedar_ast.specs.Replacement.{replace};
 ghost use Rattle.cedar_typing.specs.Checking.{truth_in, type_of_with};
 ghost use Rattle.cedar_check.specs.Private.Condition.{condition_in, IsReady};
-ghost use Rattle.cedar_check.specs.Private.View.{form_view, typing_view};
+ghost use Rattle.cedar_rules.specs.Private.View.{typing_view};
+ghost use Rattle.cedar_check.specs.Private.View.{form_view};
 
 use crate::checking::{check, check_scoped};
 use crate::prepared::{Parts, Prepared};
-use crate::type_fault::TypeFault;
-use crate::typing::Typing;
 use cedar_ast::Expr;
+use cedar_rules::{TypeFault, Typing};
 use cedar_schema::{Environment, Schema, Truth};
 use cedar_typing::Settings;
 use std::alloc::{AllocError, Global};

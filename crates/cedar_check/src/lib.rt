@@ -11,33 +11,19 @@
 //! settings.
 //!
 //! A condition is typed in one pass, with a function for each row of the rules that cedar_typing defines.
-//! Types are lent from the schema and the policy wherever they can be, so that a Boolean, a number, a
-//! text, an entity or an attribute takes no memory.
+//! The rows of operators, by the types of their operands, and the types themselves stand in cedar_rules.
 #![tactic(auto)]
 
-mod attributes;
 mod branches;
-mod capability;
 mod checking;
-mod declared;
-mod equality;
 mod fault;
 mod form;
-mod hierarchy;
-mod joining;
-mod joins;
-mod lent_type;
 mod mention;
-mod operators;
 mod prepared;
-mod records;
 mod report;
 mod rows;
-mod sets;
-mod type_fault;
-mod typing;
 
+pub use cedar_rules::TypeFault;
 pub use cedar_typing::Settings;
 pub use fault::Fault;
 pub use report::{Report, check, check_with};
-pub use type_fault::TypeFault;

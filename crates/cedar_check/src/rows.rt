@@ -1,22 +1,15 @@
 //! The rows of strict typing that type no part of the expression.
-ghost use Rattle.std.specs.Prelude.{◌≡◌, IfOk, option_and_then, option_copied, option_map};
+ghost use Rattle.std.specs.Prelude.{◌≡◌, IfOk};
 ghost use Rattle.cedar_types.specs.Types.{boolean};
 ghost use Rattle.cedar_value.specs.Datum.{uid as uid_datum};
-ghost use Rattle.cedar_types.specs.Lookup.{attribute_at};
-ghost use Rattle.cedar_types.specs.TypeKind.{type_of as kind_type};
-ghost use Rattle.cedar_typing.specs.Checking.{and_right, as_type, decimal_type, decimals_type, gaining, literal_type, longs_type, on_boolean, or_right, sets_type, unary_type, variable_type};
-ghost use Rattle.cedar_typing.specs.Typing.{attributes_in, flipped};
-ghost use Rattle.cedar_check.specs.Private.View.{capability_view, held_view, tree_of, type_seen, typed_view, typing_view};
+ghost use Rattle.cedar_typing.specs.Checking.{and_right, gaining, literal_type, on_boolean, or_right, variable_type};
+ghost use Rattle.cedar_rules.specs.Private.View.{held_view, typing_view};
 
-use crate::capability::{Capability, common, together};
-use crate::declared::is_action;
-use crate::lent_type::{LentType, TypeGlance};
-use crate::type_fault::TypeFault;
-use crate::typing::{Typed, Typing};
-use cedar_ast::{Expr, ExprKind, UnaryOperator, Variable};
-use cedar_schema::{Attribute, Environment, Schema, Truth, TypeKind};
+use cedar_ast::{UnaryOperator, Variable};
+use cedar_rules::{Capability, LentType, TypeFault, Typed, Typing, common, is_action, together};
+use cedar_schema::{Environment, Schema, Truth};
 use cedar_typing::Settings;
-use cedar_value::{Text, Uid, Value, ValueKind};
+use cedar_value::{Uid, Value, ValueKind};
 use std::alloc::{AllocError, Global};
 
 // The type of a uid that is written.
@@ -60,17 +53,6 @@ pub(crate) fn variable_type<'a>(
         Variable::Action => Typing::Refused(TypeFault::OperandKind),
         Variable::Resource => Typing::plain(alloc, LentType::Entity(&environment.resource)),
         Variable::Context => Typing::plain(alloc, LentType::Lent(&environment.context)),
-    }
-}
-
-// True and false exchanged.
-pub(crate) fn flipped(truth: Truth) -> Truth
-    ensures { result ≡ flipped truth }
-{
-    match truth {
-        Truth::True => Truth::False,
-        Truth::False => Truth::True,
-        Truth::Any => Truth::Any,
     }
 }
 
@@ -125,37 +107,6 @@ pub(crate) fn or_right<'a>(
             ty: LentType::Boolean(Truth::Any),
             gained: common(alloc, &gained, &y.gained)?,
         })),
-    }
-}
-
-/// The type of an operator on two whole numbers.
-pub(crate) fn longs_type<'a>(
-    alloc: Global,
-    ty: LentType<'a>,
-    left: &LentType<'a>,
-    right: &LentType<'a>,
-) -> Typing<'a>
-    ensures { typing_view result ≡ option_and_then as_type (longs_type (tree_of ty.entry) (tree_of left.now) (tree_of right.now)) }
-{
-    if left.is_long() && right.is_long() {
-        Typing::plain(alloc, ty)
-    } else {
-        Typing::Refused(TypeFault::OperandKind)
-    }
-}
-
-/// The type of a comparison of two decimals.
-pub(crate) fn decimals_type<'a>(
-    alloc: Global,
-    left: &LentType<'a>,
-    right: &LentType<'a>,
-) -> Typing<'a>
-    ensures { typing_view result ≡ option_and_then as_type (decimals_type (tree_of left.now) (tree_of right.now)) }
-{
-    if left.is_decimal() && right.is_decimal() {
-        Typing::plain(alloc, LentType::Boolean(Truth::Any))
-    } else {
-        Typing::Refused(TypeFault::OperandKind)
     }
 }
 

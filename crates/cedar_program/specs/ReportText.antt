@@ -8,9 +8,9 @@ use Rattle.cedar_schema.specs.SchemaTree.{SchemaTree}
 use Rattle.cedar_typing.specs.Reports.{FaultTree, all_faults_with, faults_of_with, is_impossible_with, warnings_with}
 use Rattle.cedar_typing.specs.declared.settings.Settings.{Settings}
 use Rattle.cedar_check.specs.FaultView.{fault_view}
-use Rattle.cedar_check.specs.Numbers.{number_of}
+use Rattle.cedar_rules.specs.Numbers.{number_of}
 use Rattle.cedar_check.specs.declared.report.Report.{Report}
-use Rattle.cedar_check.specs.declared.type_fault.TypeFault.{TypeFault}
+use Rattle.cedar_rules.specs.declared.type_fault.TypeFault.{TypeFault}
 use Rattle.cedar_program.specs.ReportJson.{fault_data, totals_data, warning_data}
 
 -- What a line of a report tells: a fault, a warning by the policy's id, or how many of each there are (own).

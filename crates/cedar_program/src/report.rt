@@ -5,7 +5,7 @@ ghost use Rattle.cedar_lines.specs.Lines.{line_feed};
 ghost use Rattle.cedar_schema.specs.SchemaTree.{SchemaTree};
 ghost use Rattle.cedar_typing.specs.declared.settings.Settings.{Settings};
 ghost use Rattle.cedar_check.specs.FaultView.{fault_view};
-ghost use Rattle.cedar_check.specs.Numbers.{number_of};
+ghost use Rattle.cedar_rules.specs.Numbers.{number_of};
 ghost use Rattle.cedar_program.specs.ReportJson.{action_data, fault_data, totals_data, warning_data};
 ghost use Rattle.cedar_program.specs.ReportText.{IsReportText, Reports, fault_line, totals_line, warning_line};
 ghost use Rattle.cedar_program.specs.Private.Telling.{AppendsLines, begins_with, faults_after, faults_of_first};

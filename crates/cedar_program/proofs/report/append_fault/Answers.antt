@@ -1,6 +1,6 @@
 use Rattle.std.proofs.Common.{refl, ◌∙◌}
 use Rattle.cedar_check.specs.FaultView.{fault_view}
-use Rattle.cedar_check.specs.Numbers.{number_of}
+use Rattle.cedar_rules.specs.Numbers.{number_of}
 use Rattle.cedar_program.specs.ReportJson.{fault_data}
 use Rattle.cedar_program.specs.ReportText.{fault_line}
 use Rattle.cedar_program.proofs.Telling.{line-behind}

@@ -1,0 +1,31 @@
+-- Capabilities from a place on.
+use Rattle.std.proofs.Common.{◌≡◌, true, false, ℕ, ◌<◌, ◌+◌, List, [], ◌∷◌, ◌++◌, cond, length, get_or, drop, drop-cons, add-one, refl, ap, ap₂, sym, ◌∙◌}
+use Rattle.std.specs.Prelude.{◌||◌}
+use Rattle.cedar_typing.specs.Capabilities as spec
+use Rattle.cedar_typing.specs.Checking.{is_held, same_capability, common}
+use Rattle.cedar_rules.specs.declared.capability.Capability.{Capability}
+use Rattle.cedar_rules.specs.Private.View.{capability_view, held_view}
+
+pub drop_here : {A : Type 0} (xs : List A) (i : ℕ) (x : A) → i < length xs → x ≡ get_or xs i x → drop i xs ≡ x ∷ drop (i + 1) xs
+drop_here xs i x h e = drop-cons xs i x h ∙ ap₂ (λ y (n : ℕ). y ∷ drop n xs) (sym e) (sym (add-one i))
+
+pub held_step : (x : spec.Capability) (hs : List Capability) (i : ℕ) (h : Capability) → i < length hs → h ≡ get_or hs i h → is_held x (held_view (drop i hs)) ≡ (same_capability (capability_view h) x || is_held x (held_view (drop (i + 1) hs)))
+held_step x hs i h lt e = ap (λ l. is_held x (held_view l)) (drop_here hs i h lt e)
+
+held_snoc : (xs : List Capability) (h : Capability) (rest : spec.Capabilities) → held_view (xs ++ h ∷ []) ++ rest ≡ held_view xs ++ capability_view h ∷ rest
+held_snoc [] h rest = refl
+held_snoc (x ∷ xs) h rest = ap (λ l. capability_view x ∷ l) (held_snoc xs h rest)
+
+-- those of the first list that the second has, from a place on
+pub common_taken : (xs hs two : List Capability) (i : ℕ) (h : Capability) → i < length hs → h ≡ get_or hs i h → is_held (capability_view h) (held_view two) ≡ true
+    → held_view (xs ++ h ∷ []) ++ common (held_view (drop (i + 1) hs)) (held_view two) ≡ held_view xs ++ common (held_view (drop i hs)) (held_view two)
+common_taken xs hs two i h lt e is =
+    held_snoc xs h (common (held_view (drop (i + 1) hs)) (held_view two))
+    ∙ ap (λ l. held_view xs ++ l) (sym (ap (λ l. common (held_view l) (held_view two)) (drop_here hs i h lt e)
+    ∙ ap (λ b. cond b (capability_view h ∷ common (held_view (drop (i + 1) hs)) (held_view two)) (common (held_view (drop (i + 1) hs)) (held_view two))) is))
+
+pub common_left : (xs hs two : List Capability) (i : ℕ) (h : Capability) → i < length hs → h ≡ get_or hs i h → is_held (capability_view h) (held_view two) ≡ false
+    → held_view xs ++ common (held_view (drop (i + 1) hs)) (held_view two) ≡ held_view xs ++ common (held_view (drop i hs)) (held_view two)
+common_left xs hs two i h lt e is =
+    ap (λ l. held_view xs ++ l) (sym (ap (λ l. common (held_view l) (held_view two)) (drop_here hs i h lt e)
+    ∙ ap (λ b. cond b (capability_view h ∷ common (held_view (drop (i + 1) hs)) (held_view two)) (common (held_view (drop (i + 1) hs)) (held_view two))) is))

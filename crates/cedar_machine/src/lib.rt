@@ -26,6 +26,7 @@ mod machine;
 mod making;
 mod operators;
 mod owning;
+mod performing;
 mod resting;
 mod stack;
 mod state;

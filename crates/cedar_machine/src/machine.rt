@@ -10,8 +10,9 @@ ghost use Rattle.cedar_ast.specs.Expression.{Expression};
 
 use crate::driving::{drive, outcome_at};
 use crate::execution::Run;
+use crate::performing::perform;
 use crate::stack::Stack;
-use crate::state::{State, perform};
+use crate::state::{State, settle};
 use cedar_code::{Code, Outcome, execution_is_evaluation};
 use cedar_value::{Hierarchy, Request};
 use std::alloc::{AllocError, Global};
@@ -104,15 +105,17 @@ impl<'a, H: Hierarchy> Machine<'a, H> {
         let State::Going(place) = self.state else {
             return Ok(Progress::Ended);
         };
-        self.state = perform(
+        let instructions = self.code.instructions();
+        let moved = perform(
             self.alloc,
-            self.code.instructions(),
+            instructions,
             self.code.literal_sets(),
             self.request,
             self.hierarchy,
             place,
             &mut self.stack,
         )?;
+        self.state = settle(instructions, moved, &self.stack);
         self.executed += 1;
         match self.state {
             State::Going(_) => Ok(Progress::Going),

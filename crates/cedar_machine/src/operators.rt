@@ -132,6 +132,27 @@ fn is_empty(operand: Glance<'_>) -> Result<Entry<'static>, EvaluationError>
     }
 }
 
+/// An operator's answer for two entries. Numbers are compared at once.
+#[inline(always)]
+pub fn of_two<H: Hierarchy>(
+    hierarchy: &H,
+    operator: BinaryOperator,
+    left: &Entry<'_>,
+    right: &Entry<'_>,
+) -> Result<Entry<'static>, EvaluationError>
+    ensures { result ≡ binary_of (H.world hierarchy.now) operator left.now right.now }
+{
+    if let (Some(one), Some(two)) = (left.number(), right.number()) {
+        match operator {
+            BinaryOperator::Equal => return Ok(Entry::boolean(one == two)),
+            BinaryOperator::Less => return Ok(Entry::boolean(one < two)),
+            BinaryOperator::LessEqual => return Ok(Entry::boolean(one <= two)),
+            _ => {}
+        }
+    }
+    binary(hierarchy, operator, left.glance(), right.glance())
+}
+
 /// An operator's answer for its operands.
 pub fn binary<H: Hierarchy>(
     hierarchy: &H,

@@ -1,16 +1,18 @@
 //! One instruction over operands that borrow nothing.
-ghost use Rattle.std.specs.Prelude.{◌≡◌, ◌<◌, ◌≤◌, ◌∷◌, length, IfOk, OnErr, option_copied};
+ghost use Rattle.std.specs.Prelude.{List, ◌≡◌, ◌<◌, ◌≤◌, ◌∷◌, length, IfOk, OnErr, option_copied};
 ghost use Rattle.cedar_value.specs.Glance.{datum_seen};
 ghost use Rattle.cedar_ast.specs.Operators.{unary_of, source, get_in, attribute_of};
 ghost use Rattle.cedar_code.specs.Machine.{arrive, give, next, on_top};
 ghost use Rattle.cedar_machine.specs.Private.Access.{IsNoAccess};
-ghost use Rattle.cedar_machine.specs.Private.State.{configuration_of};
+ghost use Rattle.cedar_code.specs.declared.instruction.Instruction.{Instruction as InstructionTree};
+ghost use Rattle.cedar_machine.specs.Private.State.{led_to};
 
 use crate::entry::Entry;
 use crate::making::{make_record, make_set};
 use crate::operators::unary_but_get;
+use crate::performing::{and_else, branch, combine, give, or_else, test};
 use crate::stack::Stack;
-use crate::state::{State, and_else, arrive, branch, combine, give, or_else, test};
+use crate::state::Move;
 use cedar_ast::{EvaluationError, UnaryOperator};
 use cedar_code::Instruction;
 use cedar_value::{Glance, Hierarchy, Request, Value};
@@ -25,88 +27,82 @@ pub fn perform_owned<H: Hierarchy>(
     hierarchy: &H,
     place: usize,
     stack: &mut Stack<'static>,
-) -> Result<State, AllocError>
+) -> Result<Move, AllocError>
     requires { length stack.old.values < stack.old.capacity }
-    ensures configuration { IfOk result (λ s. configuration_of s stack.new.values ≡ next code.now request.now (H.world hierarchy.now) place stack.old.values) }
+    ensures configuration { IfOk result (λ s. led_to code.now s stack.new.values ≡ next code.now request.now (H.world hierarchy.now) place stack.old.values) }
     ensures refused { OnErr result (stack.new.values ≡ stack.old.values) }
 {
     let Some(instruction) = code.get(place) else {
-        return Ok(State::Faulted);
+        return Ok(Move::Faulted);
     };
     match instruction {
-        Instruction::Push(value) => push_copy(alloc, code, place + 1, stack, value.glance()),
-        Instruction::Var(name) => push_copy(alloc, code, place + 1, stack, name.of(request)),
+        Instruction::Push(value) => push_copy(alloc, place + 1, stack, value.glance()),
+        Instruction::Var(name) => push_copy(alloc, place + 1, stack, name.of(request)),
         Instruction::Unary(operator) => {
-            apply_owned(alloc, code, place + 1, stack, hierarchy, operator)
+            apply_owned(alloc, place + 1, stack, hierarchy, operator)
         }
-        Instruction::Binary(operator) => {
-            Ok(combine(code, place + 1, stack, hierarchy, *operator))
-        }
-        Instruction::And(end) => Ok(and_else(code, place, *end, stack)),
-        Instruction::Or(end) => Ok(or_else(code, place, *end, stack)),
-        Instruction::Test => Ok(test(code, place, stack)),
-        Instruction::Branch(other) => Ok(branch(code, place, *other, stack)),
-        Instruction::Jump(end) => Ok(arrive(code, *end, stack)),
-        Instruction::Set(count) => make_set(alloc, code, place + 1, stack, *count, None),
-        Instruction::Record(keys) => make_record(alloc, code, place + 1, stack, keys),
+        Instruction::Binary(operator) => { Ok(combine(place + 1, stack, hierarchy, *operator)) }
+        Instruction::And(end) => Ok(and_else(place, *end, stack)),
+        Instruction::Or(end) => Ok(or_else(place, *end, stack)),
+        Instruction::Test => Ok(test(place, stack)),
+        Instruction::Branch(other) => Ok(branch(place, *other, stack)),
+        Instruction::Jump(end) => Ok(Move::To(*end)),
+        Instruction::Set(count) => make_set(alloc, place + 1, stack, *count, None),
+        Instruction::Record(keys) => make_record(alloc, place + 1, stack, keys),
     }
 }
 
 // Pushes a copy.
 fn push_copy(
     alloc: Global,
-    code: &[Instruction],
     next: usize,
     stack: &mut Stack<'static>,
     value: Glance<'_>,
-) -> Result<State, AllocError>
+) -> Result<Move, AllocError>
     requires { length stack.old.values < stack.old.capacity }
-    ensures configuration { IfOk result (λ s. configuration_of s stack.new.values ≡ arrive code.now next (datum_seen value.entry ∷ stack.old.values)) }
+    ensures configuration { IfOk result (λ s. (code : List InstructionTree) → led_to code s stack.new.values ≡ arrive code next (datum_seen value.entry ∷ stack.old.values)) }
     ensures refused { OnErr result (stack.new.values ≡ stack.old.values) }
 {
     let entry = Entry::owned(alloc, value)?;
     stack.push(entry);
-    Ok(arrive(code, next, stack))
+    Ok(Move::To(next))
 }
 
 // An operator on the top.
 fn apply_owned<H: Hierarchy>(
     alloc: Global,
-    code: &[Instruction],
     next: usize,
     stack: &mut Stack<'static>,
     hierarchy: &H,
     operator: &UnaryOperator,
-) -> Result<State, AllocError>
+) -> Result<Move, AllocError>
     requires { length stack.old.values ≤ stack.old.capacity }
-    ensures configuration { IfOk result (λ s. configuration_of s stack.new.values
-        ≡ on_top stack.old.values (λ x rest. give code.now next rest (unary_of (H.world hierarchy.now) operator.now x))) }
+    ensures configuration { IfOk result (λ s. (code : List InstructionTree) → led_to code s stack.new.values
+        ≡ on_top stack.old.values (λ x rest. give code next rest (unary_of (H.world hierarchy.now) operator.now x))) }
     ensures refused { OnErr result (stack.new.values ≡ stack.old.values) }
 {
     match operator {
-        UnaryOperator::Get(key) => { get_owned(alloc, code, next, stack, hierarchy, key.as_str()) }
-        _ => Ok(compute(code, next, stack, hierarchy, operator)),
+        UnaryOperator::Get(key) => { get_owned(alloc, next, stack, hierarchy, key.as_str()) }
+        _ => Ok(compute(next, stack, hierarchy, operator)),
     }
 }
 
 // An operator on the top that looks no attribute up.
 fn compute<H: Hierarchy>(
-    code: &[Instruction],
     next: usize,
     stack: &mut Stack<'_>,
     hierarchy: &H,
     operator: &UnaryOperator,
-) -> State
+) -> Move
     requires fits { length stack.old.values ≤ stack.old.capacity }
     requires kind { IsNoAccess operator.now }
-    ensures { configuration_of result stack.new.values
-        ≡ on_top stack.old.values (λ x rest. give code.now next rest (unary_of (H.world hierarchy.now) operator.now x)) }
+    ensures { (code : List InstructionTree) → led_to code result stack.new.values
+        ≡ on_top stack.old.values (λ x rest. give code next rest (unary_of (H.world hierarchy.now) operator.now x)) }
 {
     let Some(operand) = stack.pop() else {
-        return State::Faulted;
+        return Move::Faulted;
     };
     give(
-        code,
         next,
         stack,
         unary_but_get(hierarchy, operator, operand.glance()),
@@ -116,23 +112,22 @@ fn compute<H: Hierarchy>(
 // The attribute of the top, which stands there until a copy is made.
 fn get_owned<H: Hierarchy>(
     alloc: Global,
-    code: &[Instruction],
     next: usize,
     stack: &mut Stack<'static>,
     hierarchy: &H,
     key: &str,
-) -> Result<State, AllocError>
+) -> Result<Move, AllocError>
     requires { length stack.old.values ≤ stack.old.capacity }
-    ensures configuration { IfOk result (λ s. configuration_of s stack.new.values
-        ≡ on_top stack.old.values (λ x rest. give code.now next rest (get_in key.now (source (H.world hierarchy.now) x)))) }
+    ensures configuration { IfOk result (λ s. (code : List InstructionTree) → led_to code s stack.new.values
+        ≡ on_top stack.old.values (λ x rest. give code next rest (get_in key.now (source (H.world hierarchy.now) x)))) }
     ensures refused { OnErr result (stack.new.values ≡ stack.old.values) }
 {
     let Some(top) = stack.top() else {
-        return Ok(State::Faulted);
+        return Ok(Move::Faulted);
     };
     let answer = attribute_copy(alloc, top.glance(), key, hierarchy)?;
     let _ = stack.pop();
-    Ok(give(code, next, stack, answer))
+    Ok(give(next, stack, answer))
 }
 
 // A copy of the attribute that a value has.

@@ -8,7 +8,7 @@ use crate::driving::outcome_at;
 use crate::machine::Progress;
 use crate::owning::perform_owned;
 use crate::stack::Stack;
-use crate::state::State;
+use crate::state::{State, settle};
 use cedar_code::{Code, Outcome, jumps_go_forward};
 use cedar_value::{Hierarchy, Request};
 use std::alloc::{AllocError, Global};
@@ -76,14 +76,16 @@ impl Resting {
             return Ok(Progress::Ended);
         };
         self.stack.make_room()?;
-        self.state = perform_owned(
+        let instructions = code.instructions();
+        let moved = perform_owned(
             alloc,
-            code.instructions(),
+            instructions,
             request,
             hierarchy,
             place,
             &mut self.stack,
         )?;
+        self.state = settle(instructions, moved, &self.stack);
         self.executed += 1;
         match self.state {
             State::Going(_) => Ok(Progress::Going),

@@ -6,19 +6,23 @@ ghost use Rattle.cedar_value.specs.Datum.{Datum};
 use crate::entry::Entry;
 use smallvec::SmallVec;
 use std::alloc::{AllocError, Global};
+use std::default::Default;
 use std::marker::Model;
+use std::mem;
 
 /// How many entries lie in the machine itself.
 pub const INLINE_PLACES: usize = 16;
 
-/// Operands, which contracts see as their values, the top first.
+/// Operands, which contracts see as their values, the top first. They stand in places that are made beforehand; what a place
+/// above them holds counts for nothing, and is dropped when the place is taken.
 #[derive(Drop)]
 pub struct Stack<'a> {
-    entries: SmallVec<Entry<'a>, INLINE_PLACES>,
+    places: SmallVec<Entry<'a>, INLINE_PLACES>,
+    height: usize,
 }
 
 impl<'a> Model for Stack<'a> {
-    ghost use Rattle.std.specs.Prelude.{reverse};
+    ghost use Rattle.std.specs.Prelude.{◌≤◌, length, reverse, take};
     ghost use Rattle.cedar_machine.specs.Private.StackView.{StackView};
     ghost use Rattle.std.specs.Coded.{codes};
     ghost use Rattle.cedar_value.specs.Private.DatumCode.{datum_code};
@@ -27,7 +31,9 @@ impl<'a> Model for Stack<'a> {
 
     ghost coded = { Prim.hlevel (codes, datum_code) };
 
-    ghost view = { λ s. record { values = reverse s.entries.items; capacity = s.entries.capacity } };
+    ghost view = { λ s. record { values = reverse (take s.height s.places.items); capacity = length s.places.items } };
+
+    ghost invariant = { λ s. s.height ≤ length s.places.items };
 }
 
 impl<'a> Stack<'a> {
@@ -36,7 +42,8 @@ impl<'a> Stack<'a> {
         ensures { result.values ≡ [] }
     {
         Stack {
-            entries: SmallVec::new(alloc),
+            places: SmallVec::new(alloc),
+            height: 0,
         }
     }
 
@@ -46,9 +53,9 @@ impl<'a> Stack<'a> {
         ensures capacity { IfOk result (λ s. room ≤ s.capacity) }
         ensures succeeds { room ≤ INLINE_PLACES → IsOk result }
     {
-        Ok(Stack {
-            entries: SmallVec::with_capacity(alloc, room)?,
-        })
+        let mut stack = Stack::new(alloc);
+        stack.restart(room)?;
+        Ok(stack)
     }
 
     /// Empties the stack and makes room for so many entries. Where there was room it takes no memory.
@@ -57,12 +64,11 @@ impl<'a> Stack<'a> {
         ensures capacity { OnOk result (room ≤ self.new.capacity) }
         ensures succeeds { room ≤ INLINE_PLACES → IsOk result }
     {
-        if !self.entries.is_empty() {
-            self.entries.clear();
+        self.height = 0;
+        if self.places.capacity() < room {
+            self.places.reserve_exact(room - self.places.len())?;
         }
-        if self.entries.capacity() < room {
-            self.entries.reserve_exact(room)?;
-        }
+        make_places(&mut self.places, room);
         Ok(())
     }
 
@@ -71,7 +77,11 @@ impl<'a> Stack<'a> {
         ensures values { self.new.values ≡ self.old.values }
         ensures room { OnOk result (length self.new.values < self.new.capacity) }
     {
-        self.entries.reserve(1)
+        if self.height == self.places.len() {
+            self.places.reserve(1)?;
+            self.places.push_reserved(Entry::default());
+        }
+        Ok(())
     }
 
     /// Puts an entry on top, for which there is room.
@@ -81,7 +91,8 @@ impl<'a> Stack<'a> {
         ensures values { self.new.values ≡ entry.entry ∷ self.old.values }
         ensures capacity { self.new.capacity ≡ self.old.capacity }
     {
-        self.entries.push_reserved(entry);
+        self.places.as_mut_slice()[self.height] = entry;
+        self.height += 1;
     }
 
     /// Takes the top, if there is one.
@@ -90,16 +101,46 @@ impl<'a> Stack<'a> {
         ensures value { MatchOption result ((self.old.values ≡ []) × (self.new.values ≡ [])) (λ e. self.old.values ≡ e ∷ self.new.values) }
         ensures capacity { self.new.capacity ≡ self.old.capacity }
     {
-        self.entries.pop()
+        if self.height == 0 {
+            return None;
+        }
+        self.height -= 1;
+        let place = &mut self.places.as_mut_slice()[self.height];
+        Some(mem::replace(place, Entry::default()))
     }
 
-    /// Drops so many entries from the top, of which there are that many.
+    /// The two topmost entries, the top behind the other, if there are two.
+    #[inline(always)]
+    pub fn top_two(&self) -> Option<(&Entry<'a>, &Entry<'a>)>
+        ensures some { IfSome result (λ p. (rest : List Datum) × (self.now.values ≡ p.1.now ∷ p.0.now ∷ rest)) }
+        ensures none { IfNone result (length self.now.values < 2) }
+    {
+        if self.height < 2 {
+            return None;
+        }
+        let places = self.places.as_slice();
+        Some((&places[self.height - 2], &places[self.height - 1]))
+    }
+
+    /// Puts an entry in the place of the two topmost.
+    #[inline(always)]
+    pub fn replace_two(&mut self, entry: Entry<'a>)
+        requires { 2 ≤ length self.old.values }
+        ensures values { self.new.values ≡ entry.entry ∷ drop 2 self.old.values }
+        ensures capacity { self.new.capacity ≡ self.old.capacity }
+    {
+        self.height -= 1;
+        self.places.as_mut_slice()[self.height - 1] = entry;
+    }
+
+    /// Leaves out so many entries from the top, of which there are that many.
+    #[inline(always)]
     pub fn drop_top(&mut self, count: usize)
         requires { count ≤ length self.old.values }
         ensures values { self.new.values ≡ drop count self.old.values }
         ensures capacity { self.new.capacity ≡ self.old.capacity }
     {
-        self.entries.truncate(self.entries.len() - count);
+        self.height -= count;
     }
 
     /// The topmost entries, of which there are so many, the top last, lent.
@@ -107,8 +148,7 @@ impl<'a> Stack<'a> {
         requires { count ≤ length self.now.values }
         ensures { result.now ≡ reverse (take count self.now.values) }
     {
-        let entries = self.entries.as_slice();
-        &entries[entries.len() - count..]
+        &self.places.as_slice()[self.height - count..self.height]
     }
 
     /// How many entries there are.
@@ -116,7 +156,7 @@ impl<'a> Stack<'a> {
     pub fn len(&self) -> usize
         ensures value { result ≡ length self.now.values }
     {
-        self.entries.len()
+        self.height
     }
 
     /// The top, if there is one.
@@ -124,6 +164,19 @@ impl<'a> Stack<'a> {
     pub fn top(&self) -> Option<&Entry<'a>>
         ensures { MatchOption result (self.now.values ≡ []) (λ e. (rest : List Datum) × (self.now.values ≡ e.now ∷ rest)) }
     {
-        self.entries.as_slice().last()
+        if self.height == 0 {
+            return None;
+        }
+        Some(&self.places.as_slice()[self.height - 1])
+    }
+}
+
+// Makes places until there are so many, for which there is room.
+fn make_places(places: &mut SmallVec<Entry<'_>, INLINE_PLACES>, count: usize)
+    requires { count ≤ places.old.capacity }
+    ensures { count ≤ length places.new.items }
+{
+    'places: while places.len() < count {
+        places.push_reserved(Entry::default());
     }
 }

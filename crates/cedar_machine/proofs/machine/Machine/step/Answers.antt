@@ -11,7 +11,7 @@ perform-requires-clause-fits g c =
 pub perform-requires-clause-room : goal.perform-requires-clause-room
 perform-requires-clause-room g c = λ pushes.
     let came = rw c.in-Going.is at c.self.invariant.came in
-    let low = compiled_room c.execution_is_evaluation.ensures _ _ _ _ c.self.invariant.compiled _ _ _ came (rw c.instructions.ensures.value at pushes) in
+    let low = compiled_room c.execution_is_evaluation.ensures _ _ _ _ c.self.invariant.compiled _ _ _ came (rw c.instructions-instructions.ensures.value at pushes) in
     omega (arith, low, c.self.invariant.room)
 
 pub overflow_add-self : goal.overflow_add-self

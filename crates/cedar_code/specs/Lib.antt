@@ -3,4 +3,5 @@ pub mod CodeFault
 pub mod CodeView
 pub mod Jumps
 pub mod Machine
+pub mod Private
 pub mod TrueSides

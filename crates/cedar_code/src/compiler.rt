@@ -6,6 +6,7 @@ ghost use Rattle.cedar_code.specs.Code.{code_at, code_all, code_entries, code_of
 use crate::code::Code;
 use crate::fault::CodeFault;
 use crate::instruction::Instruction;
+use crate::literal::Literal;
 use crate::literal_set::literal_sets;
 use cedar_ast::{Expr, ExprKind};
 use cedar_value::Text;
@@ -142,7 +143,7 @@ fn emit(alloc: Global, code: &mut Vec<Instruction>, expression: &Expr) -> Result
     ensures { OnOk result (code.new.items ≡ code.old.items ++ code_at (length code.old.items) expression.now) }
 {
     match expression.kind() {
-        ExprKind::Literal(value) => put(code, Instruction::Push(value.try_clone(alloc)?)),
+        ExprKind::Literal(value) => put(code, Instruction::Push(Literal::new(alloc, value)?)),
         ExprKind::Variable(variable) => put(code, Instruction::Var(*variable)),
         ExprKind::Unary(operator, operand) => {
             emit(alloc, code, operand)?;

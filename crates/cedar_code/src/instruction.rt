@@ -1,12 +1,12 @@
 //! Instructions.
+use crate::literal::Literal;
 use cedar_ast::{BinaryOperator, Keys, UnaryOperator, Variable};
-use cedar_value::Value;
 
 /// One instruction of flat code. Places count from 0, and a jump goes forward.
 #[derive(Drop)]
 pub enum Instruction {
     /// Pushes a value.
-    Push(Value),
+    Push(Literal),
     /// Pushes what the request has for a variable.
     Var(Variable),
     /// Pops an operand and pushes the operator's answer.

@@ -16,6 +16,7 @@ mod compiler;
 mod fault;
 mod instruction;
 mod law;
+mod literal;
 mod literal_set;
 mod outcome;
 
@@ -24,5 +25,6 @@ pub use compiler::{MOST_INSTRUCTIONS, compile};
 pub use fault::CodeFault;
 pub use instruction::Instruction;
 pub use law::{execution_is_evaluation, jumps_go_forward, true_sides_are_passed};
+pub use literal::Literal;
 pub use literal_set::LiteralSet;
 pub use outcome::Outcome;

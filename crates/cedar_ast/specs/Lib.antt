@@ -1,16 +1,9 @@
-pub mod AddFault
 pub mod Answer
-pub mod Condition
 pub mod Evaluation
 pub mod Expression
 pub mod ExprKind
 pub mod Keys
-pub mod Linking
-pub mod LinkFault
 pub mod Operators
-pub mod PolicySetTree
-pub mod PolicyTree
 pub mod Private
 pub mod RecordFault
 pub mod Replacement
-pub mod Response

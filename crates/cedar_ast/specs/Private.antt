@@ -3,6 +3,5 @@ pub mod Depth
 pub mod ExpressionCode
 pub mod Falls
 pub mod OperatorCode
-pub mod PolicyIds
 pub mod Replaced
 pub mod SameExpression

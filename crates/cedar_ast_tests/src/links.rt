@@ -1,10 +1,10 @@
 //! Links of templates (Cedar language reference, policy templates): which are refused, and what the others are.
 use crate::policy_sets::{enter, is_entered};
 use crate::uids::uid;
-use cedar_ast::{
-    ActionScope, Annotation, BinaryOperator, Condition, ConditionKind, Effect, EntityReference,
-    EntityScope, Expr, Policy, PolicySet, Scope, Slots, Statement, Template, TemplateEntityScope,
-    TemplateScope, Uids, UnaryOperator, Variable,
+use cedar_ast::{BinaryOperator, Expr, UnaryOperator, Variable};
+use cedar_policies::{
+    ActionScope, Annotation, Condition, ConditionKind, Effect, EntityReference, EntityScope,
+    Policy, PolicySet, Scope, Slots, Statement, Template, TemplateEntityScope, TemplateScope, Uids,
 };
 use cedar_value::{Name, Text, Value};
 use std::alloc::{AllocError, Global};

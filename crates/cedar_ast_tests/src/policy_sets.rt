@@ -1,9 +1,9 @@
 //! The set of policies, and what each call gives with ample memory.
 use crate::uids::uid;
-use cedar_ast::{
-    ActionScope, AddFault, BinaryOperator, Condition, ConditionKind, Effect, EntityReference,
-    EntityScope, Expr, ExprKind, Policy, PolicySet, Scope, Statement, Template,
-    TemplateEntityScope, TemplateScope, UnaryOperator, Variable, first_repeated,
+use cedar_ast::{BinaryOperator, Expr, ExprKind, UnaryOperator, Variable, first_repeated};
+use cedar_policies::{
+    ActionScope, AddFault, Condition, ConditionKind, Effect, EntityReference, EntityScope, Policy,
+    PolicySet, Scope, Statement, Template, TemplateEntityScope, TemplateScope,
 };
 use cedar_value::{Text, Value};
 use std::alloc::{AllocError, Global};

@@ -17,7 +17,7 @@ use Rattle.cedar_tokens.specs.UidText.{IsUidText}
 use Rattle.cedar_types.specs.Membership.{Member}
 use Rattle.cedar_types.specs.Types.{TypeTree}
 use Rattle.cedar_types.specs.Types as kind
-use Rattle.cedar_ast.specs.Response.{response}
+use Rattle.cedar_policies.specs.Response.{response}
 use Rattle.cedar_schema.specs.Declarations.{IsAction, is_action, ActionsAreDecided}
 use Rattle.cedar_schema.specs.Declaring.{is_record}
 use Rattle.cedar_schema.specs.SchemaTree.{SchemaTree, shape_of, environments_of, IsEnvironmentOf, HasEnvironment}

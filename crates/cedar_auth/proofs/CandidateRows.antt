@@ -12,7 +12,7 @@ use Rattle.cedar_value.specs.Private.Same.{uid_same}
 use Rattle.cedar_value.specs.World.{World}
 use Rattle.cedar_value.specs.declared.request.Request.{Request}
 use Rattle.cedar_value.specs.declared.uid.Uid.{Uid}
-use Rattle.cedar_ast.specs.PolicyTree.{PolicyTree}
+use Rattle.cedar_policies.specs.PolicyTree.{PolicyTree}
 use Rattle.cedar_schema.specs.declared.schema.environment.Environment.{Environment}
 use Rattle.cedar_schema.specs.SchemaTree.{SchemaTree, ActionTree, action_at}
 use Rattle.cedar_schema.specs.WellFormed.{AreTypesApart}

@@ -4,14 +4,14 @@ use Rattle.std.specs.List.{list_any}
 use Rattle.cedar_value.specs.Datum.{Datum, boolean}
 use Rattle.cedar_value.specs.World.{World}
 use Rattle.cedar_value.specs.declared.request.Request.{Request}
-use Rattle.cedar_ast.specs.declared.effect.Effect.{Effect}
-use Rattle.cedar_ast.specs.declared.effect.Effect.TheVariants.{Permit, Forbid}
-use Rattle.cedar_ast.specs.declared.decision.Decision.TheVariants.{Allow}
+use Rattle.cedar_policies.specs.declared.effect.Effect.{Effect}
+use Rattle.cedar_policies.specs.declared.effect.Effect.TheVariants.{Permit, Forbid}
+use Rattle.cedar_policies.specs.declared.decision.Decision.TheVariants.{Allow}
 use Rattle.cedar_ast.specs.Answer.{Answer}
 use Rattle.cedar_ast.specs.Expression.{Expression}
-use Rattle.cedar_ast.specs.Condition.{condition_of}
-use Rattle.cedar_ast.specs.PolicyTree.{PolicyTree}
-use Rattle.cedar_ast.specs.Response.{ErringTree, meaning, is_true, is_permit, permits, forbids, erring_by, erring_of, allows, decided, response}
+use Rattle.cedar_policies.specs.Condition.{condition_of}
+use Rattle.cedar_policies.specs.PolicyTree.{PolicyTree}
+use Rattle.cedar_policies.specs.Response.{ErringTree, meaning, is_true, is_permit, permits, forbids, erring_by, erring_of, allows, decided, response}
 use Rattle.cedar_typing.specs.Acceptance.{IsAcceptedWith}
 use Rattle.cedar_typing.specs.Soundness.{GoodWith, IsTruth, IsAllowedWith, SoundAcceptanceWith}
 use Rattle.cedar_typing.specs.declared.settings.Settings.{Settings}

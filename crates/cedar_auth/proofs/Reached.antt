@@ -10,16 +10,16 @@ use Rattle.cedar_value.specs.declared.request.Request.{Request}
 use Rattle.cedar_value.specs.declared.uid.Uid.{Uid}
 use Rattle.cedar_ast.specs.declared.variable.Variable.{Variable}
 use Rattle.cedar_ast.specs.declared.variable.Variable.TheVariants.{Principal, Resource}
-use Rattle.cedar_ast.specs.declared.scope.EntityScope.{EntityScope}
-use Rattle.cedar_ast.specs.declared.scope.EntityScope.TheVariants as entity
+use Rattle.cedar_policies.specs.declared.scope.EntityScope.{EntityScope}
+use Rattle.cedar_policies.specs.declared.scope.EntityScope.TheVariants as entity
 use Rattle.cedar_ast.specs.Answer.{Answer, with_answer}
 use Rattle.cedar_ast.specs.Evaluation.{variable_of, and_of, eval}
 use Rattle.cedar_ast.specs.declared.operator.UnaryOperator.TheVariants as one
 use Rattle.cedar_ast.specs.declared.operator.BinaryOperator.TheVariants as two
 use Rattle.cedar_ast.specs.Operators.{unary_of, binary_of}
-use Rattle.cedar_ast.specs.PolicyTree.{PolicyTree}
-use Rattle.cedar_ast.specs.Condition.{entity_scope_of, conditions_of}
-use Rattle.cedar_ast.specs.Response.{meaning}
+use Rattle.cedar_policies.specs.PolicyTree.{PolicyTree}
+use Rattle.cedar_policies.specs.Condition.{entity_scope_of, conditions_of}
+use Rattle.cedar_policies.specs.Response.{meaning}
 use Rattle.cedar_schema.specs.declared.schema.environment.Environment.{Environment}
 use Rattle.cedar_schema.specs.SchemaTree.{SchemaTree}
 use Rattle.cedar_schema.specs.WellFormed.{AreTypesApart}

@@ -4,7 +4,7 @@ use Rattle.std.specs.List.{slice_get, range_with_len}
 use Rattle.std.proofs.lemmas.List.{take_all, take_more}
 use Rattle.std.proofs.lemmas.List.Elements.{Contains-get_or}
 use Rattle.std.proofs.lemmas.List.FromFn.{length-range_with_len, get_or-range_with_len}
-use Rattle.cedar_ast.specs.PolicyTree.{PolicyTree}
+use Rattle.cedar_policies.specs.PolicyTree.{PolicyTree}
 use Rattle.cedar_auth.specs.Candidates.{Ascend}
 use Rattle.cedar_auth.specs.Private.Sifting.{OfPolicy, Sifted, none_left, keeps, drops, SiftedBy}
 use Rattle.cedar_auth.proofs.Listed.{here, there, cases, nowhere}

@@ -6,8 +6,8 @@ use Rattle.cedar_value.specs.Datum.{Datum, boolean}
 use Rattle.cedar_value.specs.World.{World}
 use Rattle.cedar_value.specs.declared.request.Request.{Request}
 use Rattle.cedar_ast.specs.Answer.{Answer}
-use Rattle.cedar_ast.specs.PolicyTree.{PolicyTree}
-use Rattle.cedar_ast.specs.Response.{ErringTree, meaning, is_true, is_permit, permits, forbids, erring_by, erring_of}
+use Rattle.cedar_policies.specs.PolicyTree.{PolicyTree}
+use Rattle.cedar_policies.specs.Response.{ErringTree, meaning, is_true, is_permit, permits, forbids, erring_by, erring_of}
 use Rattle.cedar_auth.specs.Private.Sifting.{LeavesFalse, policies_at}
 use Rattle.cedar_auth.specs.Private.Tally.{TallyTree, tally_of}
 use Rattle.cedar_auth.proofs.Listed.{cases, nowhere}

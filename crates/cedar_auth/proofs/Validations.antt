@@ -1,6 +1,6 @@
 -- Policies without faults are accepted.
 use Rattle.std.proofs.Common.{◌≡◌, ◌≢◌, ⊎_elim, List, [], ◌∷◌, ◌++◌, map, length, Contains, arith, refl, sym, subst, ◌∙◌}
-use Rattle.cedar_ast.specs.PolicyTree.{PolicyTree}
+use Rattle.cedar_policies.specs.PolicyTree.{PolicyTree}
 use Rattle.cedar_schema.specs.SchemaTree.{SchemaTree}
 use Rattle.cedar_typing.specs.Reports.{faults_of_with, all_faults_with, AcceptedHasNoFaultWith}
 use Rattle.cedar_typing.specs.declared.settings.Settings.{Settings}

@@ -2,7 +2,7 @@
 use Rattle.std.specs.Prelude.{◌≡◌, ◌≢◌, ◌⊎◌, ℕ, List}
 use Rattle.serde_json.specs.Written.{compact_text}
 use Rattle.cedar_value.specs.declared.request.Request.{Request}
-use Rattle.cedar_ast.specs.Response.{response}
+use Rattle.cedar_policies.specs.Response.{response}
 use Rattle.cedar_data.specs.declared.conform_fault.ConformFault.{ConformFault}
 use Rattle.cedar_data.specs.declared.conform_fault.ConformFault.TheVariants.{OutOfMemory}
 use Rattle.cedar_data.specs.Numbers.{number_of}

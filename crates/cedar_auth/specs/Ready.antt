@@ -1,6 +1,6 @@
 -- What contracts see of policies that are ready to answer.
 use Rattle.cedar_value.specs.World.{World}
-use Rattle.cedar_ast.specs.PolicySetTree.{PolicySetTree}
+use Rattle.cedar_policies.specs.PolicySetTree.{PolicySetTree}
 use Rattle.cedar_schema.specs.SchemaTree.{SchemaTree}
 use Rattle.cedar_typing.specs.declared.settings.Settings.{Settings}
 

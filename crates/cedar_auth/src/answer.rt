@@ -9,7 +9,8 @@ ghost use Rattle.cedar_auth.specs.Private.Tokens.{data_tokens};
 
 use crate::response::Erring;
 use crate::told::Told;
-use cedar_ast::{Decision, EvaluationError};
+use cedar_ast::EvaluationError;
+use cedar_policies::Decision;
 use json::Writer;
 use std::alloc::{AllocError, Global};
 use std::mem;

@@ -6,8 +6,8 @@ ghost use Rattle.cedar_auth.specs.Private.Sifting.{ByAction, ByPrincipal, ByReso
 use crate::cell::Cell;
 use crate::question::Question;
 use crate::sifting::sifted;
-use cedar_ast::PolicySet;
 use cedar_index::Index;
+use cedar_policies::PolicySet;
 use cedar_schema::{Action, Schema};
 use cedar_value::{Name, Uid};
 use std::alloc::{AllocError, Global};

@@ -4,7 +4,8 @@ ghost use Rattle.cedar_auth.specs.Private.Tally.{allows, entered, response_by};
 
 use crate::response::{Erring, Response};
 use crate::told::Told;
-use cedar_ast::{Decision, Effect, EvaluationError};
+use cedar_ast::EvaluationError;
+use cedar_policies::{Decision, Effect};
 use std::alloc::{AllocError, Global};
 use std::marker::Model;
 

@@ -1,6 +1,6 @@
 //! Policies that strict validation accepted.
 ghost use Rattle.std.specs.Prelude.{◌≡◌, IfOk, IfErr, OnOk, option_copied, slice_get};
-ghost use Rattle.cedar_ast.specs.Response.{response};
+ghost use Rattle.cedar_policies.specs.Response.{response};
 ghost use Rattle.cedar_typing.specs.Settings.{default_settings};
 ghost use Rattle.cedar_auth.specs.Validation.{HasFault, HasFaultWith, IsValidated, IsValidatedWith};
 ghost use Rattle.cedar_auth.specs.Private.Kept.{AreCodes};
@@ -14,10 +14,10 @@ use crate::part::Part;
 use crate::response::Response;
 use crate::tally::Tally;
 use crate::validation_fault::ValidationFault;
-use cedar_ast::PolicySet;
 use cedar_check::check_with;
 use cedar_code::{Code, CodeFault};
 use cedar_machine::Operands;
+use cedar_policies::PolicySet;
 use cedar_schema::Schema;
 use cedar_typing::{Settings, typing_is_computed};
 use cedar_value::{Hierarchy, Request};

@@ -2,8 +2,9 @@
 //! authorization (Cedar language reference).
 use crate::candidates::SCOPES;
 use crate::world::{Asked, ready, request, validated};
-use cedar_ast::{Decision, EvaluationError};
+use cedar_ast::EvaluationError;
 use cedar_auth::{Ready, Response, Validated, engine_is_sound};
+use cedar_policies::Decision;
 use cedar_value::{NoEntities, Request};
 use std::alloc::{AllocError, Global};
 use std::process::Abort;

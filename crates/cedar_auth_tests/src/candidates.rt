@@ -1,7 +1,7 @@
 //! Which policies are candidates for a request, by the types of its entities and by its action alone.
 use crate::world::{Asked, ready, request};
-use cedar_ast::Effect;
 use cedar_auth::Ready;
+use cedar_policies::Effect;
 use cedar_value::Hierarchy;
 use std::alloc::Global;
 use std::process::Abort;

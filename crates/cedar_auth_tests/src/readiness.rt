@@ -1,8 +1,8 @@
 //! Entities that conform to the schema, entities that do not, and requests that fit (Cedar documentation, entities JSON;
 //! validation).
 use crate::world::{Asked, ENTITIES, ready, request, validated};
-use cedar_ast::Decision;
 use cedar_auth::{NotReady, Ready};
+use cedar_policies::Decision;
 use cedar_value::Request;
 use std::alloc::Global;
 use std::process::Abort;

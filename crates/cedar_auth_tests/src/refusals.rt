@@ -1,11 +1,11 @@
 //! Policies that strict validation refuses (Cedar documentation, policy validation), and codes that are too long.
 use crate::world::schema;
-use cedar_ast::{
-    ActionScope, BinaryOperator, Condition, ConditionKind, Effect, EntityScope, Expr, Policy,
-    PolicySet, Scope, Statement,
-};
+use cedar_ast::{BinaryOperator, Expr};
 use cedar_auth::{NotValidated, Validated, ValidationFault};
 use cedar_parser::parse;
+use cedar_policies::{
+    ActionScope, Condition, ConditionKind, Effect, EntityScope, Policy, PolicySet, Scope, Statement,
+};
 use cedar_value::{Name, Text, Value};
 use std::alloc::{AllocError, Global};
 use std::test::Fail;

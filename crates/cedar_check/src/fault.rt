@@ -1,6 +1,6 @@
 //! Faults of policies.
 ghost use Rattle.std.specs.Prelude.{◌≡◌, ◌++◌, ◌∷◌, [], IfOk, OnOk, cond, is_some, map};
-ghost use Rattle.cedar_ast.specs.Condition.{condition_of};
+ghost use Rattle.cedar_policies.specs.Condition.{condition_of};
 ghost use Rattle.cedar_typing.specs.Checking.{form_in_with};
 ghost use Rattle.cedar_typing.specs.Reports.{fault_at, faults_of_with, is_impossible_with, is_known_false};
 ghost use Rattle.cedar_check.specs.FaultView.{fault_view};
@@ -8,7 +8,7 @@ ghost use Rattle.cedar_check.specs.Private.Condition.{condition_in, IsReady};
 
 use crate::form::{Form, form_of};
 use crate::prepared::Prepared;
-use cedar_ast::Policy;
+use cedar_policies::Policy;
 use cedar_rules::TypeFault;
 use cedar_schema::{Environment, Schema, Truth};
 use cedar_typing::Settings;

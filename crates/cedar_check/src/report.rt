@@ -4,7 +4,7 @@ ghost use Rattle.cedar_typing.specs.Reports.{all_faults, all_faults_with, faults
 ghost use Rattle.cedar_check.specs.FaultView.{fault_view};
 
 use crate::fault::{Fault, check_policy};
-use cedar_ast::{Policy, PolicySet};
+use cedar_policies::{Policy, PolicySet};
 use cedar_schema::Schema;
 use cedar_typing::Settings;
 use cedar_value::Text;

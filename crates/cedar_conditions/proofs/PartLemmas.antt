@@ -12,7 +12,7 @@ use Rattle.cedar_conditions.specs.declared.functions.Method.TheVariants.{IsEmpty
 use Rattle.cedar_ast.specs.declared.operator.BinaryOperator.{BinaryOperator}
 use Rattle.cedar_conditions.specs.declared.size.Size.{Size}
 use Rattle.cedar_conditions.specs.Private.Capped.{capped}
-use Rattle.cedar_ast.specs.Condition.{entity_literal}
+use Rattle.cedar_policies.specs.Condition.{entity_literal}
 use Rattle.cedar_tokens.specs.declared.content.WrittenUid.{WrittenUid}
 use Rattle.cedar_ast.specs.Expression as e
 use Rattle.cedar_ast.specs.Expression.{Expression, entries_of}

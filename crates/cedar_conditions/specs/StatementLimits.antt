@@ -1,6 +1,6 @@
 -- What a statement must keep beside the grammar: side conditions, and the limits of its condition.
 use Rattle.std.specs.Prelude.{◌≡◌, ◌<◌, ◌≤◌, List, [], ◌∷◌, map}
-use Rattle.cedar_ast.specs.Condition.{condition_of}
+use Rattle.cedar_policies.specs.Condition.{condition_of}
 use Rattle.cedar_ast.specs.Keys.{AreDistinct}
 use Rattle.cedar_ast.specs.declared.variable.Variable.{Variable}
 use Rattle.cedar_ast.specs.declared.variable.Variable.TheVariants.{Principal, Resource}

@@ -2,23 +2,23 @@
 use Rattle.std.specs.Prelude.{ℕ, ◌+◌, Bool, true, false, ◌||◌, List, [], ◌∷◌, ◌++◌, Option, Some, None, map, codes, decimal, unwrap_or, if◌then◌else◌}
 use Rattle.std.specs.Str.{bytes_eq}
 use Rattle.cedar_value.specs.declared.uid.Uid.{Uid}
-use Rattle.cedar_ast.specs.declared.annotation.Annotation.{Annotation}
-use Rattle.cedar_ast.specs.declared.condition.Condition.{Condition}
-use Rattle.cedar_ast.specs.declared.scope.EntityScope.{EntityScope}
-use Rattle.cedar_ast.specs.declared.scope.EntityScope.TheVariants as entity_scope
-use Rattle.cedar_ast.specs.declared.scope.ActionScope.{ActionScope}
-use Rattle.cedar_ast.specs.declared.scope.ActionScope.TheVariants as action_scope
-use Rattle.cedar_ast.specs.declared.scope.Scope.{Scope}
-use Rattle.cedar_ast.specs.declared.template_scope.EntityReference.{EntityReference}
-use Rattle.cedar_ast.specs.declared.template_scope.EntityReference.TheVariants as entity_reference
-use Rattle.cedar_ast.specs.declared.template_scope.TemplateEntityScope.{TemplateEntityScope}
-use Rattle.cedar_ast.specs.declared.template_scope.TemplateEntityScope.TheVariants as template_scope
-use Rattle.cedar_ast.specs.declared.template_scope.TemplateScope.{TemplateScope}
-use Rattle.cedar_ast.specs.declared.statement.Statement.{Statement}
-use Rattle.cedar_ast.specs.declared.statement.Statement.TheVariants as statement
-use Rattle.cedar_ast.specs.PolicyTree.{PolicyTree}
-use Rattle.cedar_ast.specs.PolicyTree.{TemplateTree}
-use Rattle.cedar_ast.specs.PolicySetTree.{PolicySetTree, entered}
+use Rattle.cedar_policies.specs.declared.annotation.Annotation.{Annotation}
+use Rattle.cedar_policies.specs.declared.condition.Condition.{Condition}
+use Rattle.cedar_policies.specs.declared.scope.EntityScope.{EntityScope}
+use Rattle.cedar_policies.specs.declared.scope.EntityScope.TheVariants as entity_scope
+use Rattle.cedar_policies.specs.declared.scope.ActionScope.{ActionScope}
+use Rattle.cedar_policies.specs.declared.scope.ActionScope.TheVariants as action_scope
+use Rattle.cedar_policies.specs.declared.scope.Scope.{Scope}
+use Rattle.cedar_policies.specs.declared.template_scope.EntityReference.{EntityReference}
+use Rattle.cedar_policies.specs.declared.template_scope.EntityReference.TheVariants as entity_reference
+use Rattle.cedar_policies.specs.declared.template_scope.TemplateEntityScope.{TemplateEntityScope}
+use Rattle.cedar_policies.specs.declared.template_scope.TemplateEntityScope.TheVariants as template_scope
+use Rattle.cedar_policies.specs.declared.template_scope.TemplateScope.{TemplateScope}
+use Rattle.cedar_policies.specs.declared.statement.Statement.{Statement}
+use Rattle.cedar_policies.specs.declared.statement.Statement.TheVariants as statement
+use Rattle.cedar_policies.specs.PolicyTree.{PolicyTree}
+use Rattle.cedar_policies.specs.PolicyTree.{TemplateTree}
+use Rattle.cedar_policies.specs.PolicySetTree.{PolicySetTree, entered}
 use Rattle.cedar_tokens.specs.Content.{Content, text_of}
 use Rattle.cedar_tokens.specs.Names.{to_uid}
 use Rattle.cedar_conditions.specs.Meaning.{to_expression}

@@ -1,6 +1,6 @@
 //! The size of the condition that a statement is written for.
 ghost use Rattle.std.specs.Prelude.{◌≡◌, map};
-ghost use Rattle.cedar_ast.specs.Condition.{entity_scope_of, action_scope_of, asked_by, conditions_of, entity_literal};
+ghost use Rattle.cedar_policies.specs.Condition.{entity_scope_of, action_scope_of, asked_by, conditions_of, entity_literal};
 ghost use Rattle.cedar_ast.specs.Expression.{expressions_of};
 ghost use Rattle.cedar_ast.specs.declared.variable.Variable.{Variable};
 ghost use Rattle.cedar_conditions.specs.Private.Capped.{capped};
@@ -12,7 +12,7 @@ ghost use Rattle.cedar_conditions.specs.StatementMeaning.{to_entity_scope, to_ac
 
 use crate::expression_size::size;
 use crate::size::{Size, leaf, nothing};
-use cedar_ast::ConditionKind;
+use cedar_policies::ConditionKind;
 use cedar_tokens::WrittenUid;
 use cedar_written::{WrittenActionScope, WrittenCondition, WrittenEntityScope, WrittenStatement};
 

@@ -7,8 +7,8 @@ use Rattle.serde_json.specs.View.{view, items_view}
 use Rattle.serde_json.specs.declared.value.Value.{Value}
 use Rattle.cedar_json.specs.JsonTree.{json_of}
 use Rattle.cedar_value.specs.declared.uid.Uid.{Uid}
-use Rattle.cedar_ast.specs.declared.link.Link.{Link}
-use Rattle.cedar_ast.specs.declared.slots.Slots.{Slots}
+use Rattle.cedar_policies.specs.declared.link.Link.{Link}
+use Rattle.cedar_policies.specs.declared.slots.Slots.{Slots}
 use Rattle.cedar_data.specs.WrittenUids.{UidAt, WritesUid, WritesOneUid}
 use Rattle.cedar_data.specs.declared.conform_fault.ConformFault.{ConformFault}
 use Rattle.cedar_data.specs.declared.conform_fault.ConformFault.TheVariants.{OutOfMemory, Json, Shape}

@@ -5,8 +5,8 @@ use Rattle.serde_json.specs.Data.{Data, Items, no_items, item, Members, no_membe
 use Rattle.serde_json.specs.Find.{get, as_array, as_object}
 use Rattle.cedar_json.specs.JsonTree.{json_of}
 use Rattle.cedar_value.specs.declared.uid.Uid.{Uid}
-use Rattle.cedar_ast.specs.declared.link.Link.{Link}
-use Rattle.cedar_ast.specs.declared.slots.Slots.{Slots}
+use Rattle.cedar_policies.specs.declared.link.Link.{Link}
+use Rattle.cedar_policies.specs.declared.slots.Slots.{Slots}
 use Rattle.cedar_data.specs.Objects.{size_of, text_at}
 use Rattle.cedar_data.specs.WrittenUids.{UidAt}
 use Rattle.cedar_data.specs.declared.conform_fault.ConformFault.{ConformFault}

@@ -1,14 +1,14 @@
 //! Links from JSON.
 ghost use Rattle.std.specs.Prelude.{◌≡◌, ◌≢◌, IfErr, IfOk, List, MatchResult};
 ghost use Rattle.serde_json.specs.View.{items_view, members_view, view};
-ghost use Rattle.cedar_ast.specs.declared.link.Link.{Link as LinkTree};
+ghost use Rattle.cedar_policies.specs.declared.link.Link.{Link as LinkTree};
 ghost use Rattle.cedar_data.specs.declared.conform_fault.ConformFault.TheVariants.{OutOfMemory};
 ghost use Rattle.cedar_conform.specs.Links.{BytesDenoteLinks, DenoteLinks, DenotesLink, DenotesLinks, DenotesSlots, IsGiven, LinksAreRefused, are_slot_keys, has_slot_keys, is_slot_key};
 ghost use Rattle.cedar_conform.specs.Private.Refusals.{ReadsOne, Refuses};
 
-use cedar_ast::{Link, Slots};
 use cedar_data::{ConformFault, one_written_uid, size_of, text_at, written_uid};
 use cedar_json::read_json;
+use cedar_policies::{Link, Slots};
 use cedar_value::{Text, Uid};
 use serde_json::{Map, Value as Json};
 use std::alloc::Global;

@@ -1,7 +1,7 @@
 //! Lists of links, each worked out from the rules of their form.
 use crate::value_text::uid_text;
-use cedar_ast::Link;
 use cedar_conform::{ConformFault, read_links};
+use cedar_policies::Link;
 use cedar_value::Uid;
 use std::alloc::{AllocError, Global};
 use std::test::Fail;

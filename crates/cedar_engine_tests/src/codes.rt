@@ -1,11 +1,9 @@
 //! Codes: instructions, jumps, lengths and heights.
 use crate::expressions::{long, record, set_of_first, truth};
 use crate::held::made;
-use cedar_ast::{
-    ActionScope, BinaryOperator, Condition, ConditionKind, Effect, EntityScope, Expr, Policy,
-    Scope, UnaryOperator, Variable,
-};
+use cedar_ast::{BinaryOperator, Expr, UnaryOperator, Variable};
 use cedar_code::{Code, CodeFault, Instruction, compile};
+use cedar_policies::{ActionScope, Condition, ConditionKind, Effect, EntityScope, Policy, Scope};
 use cedar_value::Text;
 use std::alloc::{AllocError, Global};
 use std::process::Abort;

@@ -1,15 +1,15 @@
 //! Scopes that are asked without the machine, over the scopes of the table, whose policies have no conditions.
 ghost use Rattle.std.specs.Prelude.{◌≡◌, IfOk};
-ghost use Rattle.cedar_ast.specs.Condition.{condition_of};
+ghost use Rattle.cedar_policies.specs.Condition.{condition_of};
 ghost use Rattle.cedar_code.specs.Code.{code_of};
 
 use crate::ending::End;
 use crate::held::made;
 use crate::table::scopes::ROWS;
 use crate::world::World;
-use cedar_ast::{Policy, PolicySet};
 use cedar_code::{Code, CodeFault, compile};
 use cedar_parser::parse;
+use cedar_policies::{Policy, PolicySet};
 use cedar_scope::{is_met, place_behind};
 use std::alloc::Global;
 use std::process::Abort;

@@ -7,8 +7,8 @@ use Rattle.cedar_text.specs.contracts.token_kind.TokenKind.{the_type}
 use Rattle.cedar_text.specs.declared.token_kind.TokenKind.{TokenKind}
 use Rattle.cedar_text.specs.declared.token_kind.TokenKind.TheVariants as k
 use Rattle.cedar_ast.specs.declared.variable.Variable.{Variable}
-use Rattle.cedar_ast.specs.declared.effect.Effect.{Effect}
-use Rattle.cedar_ast.specs.declared.condition.ConditionKind.{ConditionKind}
+use Rattle.cedar_policies.specs.declared.effect.Effect.{Effect}
+use Rattle.cedar_policies.specs.declared.condition.ConditionKind.{ConditionKind}
 use Rattle.cedar_tokens.specs.Marks.{Mark, Marks}
 use Rattle.cedar_written.specs.Written.{Written}
 use Rattle.cedar_tokens.specs.declared.content.WrittenUid.{WrittenUid}

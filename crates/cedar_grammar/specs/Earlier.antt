@@ -2,8 +2,8 @@
 --
 --     Relation = Sum [ ("<" | "<=" | ">" | ">=" | "==" | "!=" | "in") Sum | "has" Key | "like" STR | "is" Path [ "in" Sum ] ]
 use Rattle.std.specs.Prelude.{◌≡◌, ℕ, zero, suc, List, [], ◌∷◌, ◌++◌, Some}
-use Rattle.cedar_ast.specs.declared.effect.Effect.{Effect}
-use Rattle.cedar_ast.specs.declared.condition.ConditionKind.{ConditionKind}
+use Rattle.cedar_policies.specs.declared.effect.Effect.{Effect}
+use Rattle.cedar_policies.specs.declared.condition.ConditionKind.{ConditionKind}
 use Rattle.cedar_text.specs.declared.token_kind.TokenKind.TheVariants as k
 use Rattle.cedar_tokens.specs.Marks.{Mark, Marks, start_of, pattern_of}
 use Rattle.cedar_tokens.specs.Names.{Rule, Takes, Key, Path}

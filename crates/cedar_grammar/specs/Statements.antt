@@ -10,10 +10,10 @@
 use Rattle.std.specs.Prelude.{◌≡◌, ℕ, true, List, [], ◌∷◌, ◌++◌, Option, Some, None, codes, if◌then◌else◌}
 use Rattle.std.specs.Str.{bytes_eq}
 use Rattle.cedar_ast.specs.declared.variable.Variable.{Variable}
-use Rattle.cedar_ast.specs.declared.effect.Effect.{Effect}
-use Rattle.cedar_ast.specs.declared.effect.Effect.TheVariants.{Permit, Forbid}
-use Rattle.cedar_ast.specs.declared.condition.ConditionKind.{ConditionKind}
-use Rattle.cedar_ast.specs.declared.condition.ConditionKind.TheVariants.{When, Unless}
+use Rattle.cedar_policies.specs.declared.effect.Effect.{Effect}
+use Rattle.cedar_policies.specs.declared.effect.Effect.TheVariants.{Permit, Forbid}
+use Rattle.cedar_policies.specs.declared.condition.ConditionKind.{ConditionKind}
+use Rattle.cedar_policies.specs.declared.condition.ConditionKind.TheVariants.{When, Unless}
 use Rattle.cedar_text.specs.declared.token_kind.TokenKind.TheVariants as k
 use Rattle.cedar_tokens.specs.Marks.{Mark, Marks, start_of}
 use Rattle.cedar_tokens.specs.Names.{Takes, Text, Path, Entity, is_word_kind}

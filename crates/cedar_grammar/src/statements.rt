@@ -8,8 +8,8 @@ ghost use Rattle.cedar_grammar.specs.Private.StatementReading as spec;
 ghost use Rattle.cedar_tokens.specs.Private.Contract.{Reads, ReadsItems};
 
 use crate::scopes::scope;
-use cedar_ast::{ConditionKind, Effect};
 use cedar_expressions::nested;
+use cedar_policies::{ConditionKind, Effect};
 use cedar_text::TokenKind;
 use cedar_tokens::{Cursor, ParseFault, Word, text};
 use cedar_written::{Written, WrittenAnnotation, WrittenCondition, WrittenStatement};

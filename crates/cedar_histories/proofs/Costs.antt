@@ -4,9 +4,9 @@ use Rattle.std.proofs.lemmas.List.Sums.{sum_by-cons, sum_by-append}
 use Rattle.cedar_value.specs.World.{World}
 use Rattle.cedar_value.specs.declared.request.Request.{Request}
 use Rattle.cedar_ast.specs.Expression.{Expression}
-use Rattle.cedar_ast.specs.PolicyTree.{PolicyTree}
-use Rattle.cedar_ast.specs.Condition.{condition_of}
-use Rattle.cedar_ast.specs.Response.{meaning}
+use Rattle.cedar_policies.specs.PolicyTree.{PolicyTree}
+use Rattle.cedar_policies.specs.Condition.{condition_of}
+use Rattle.cedar_policies.specs.Response.{meaning}
 use Rattle.cedar_code.specs.declared.outcome.Outcome.{Outcome}
 use Rattle.cedar_code.specs.Machine.{Configuration, ended, start, Steps, outcome_of, RunsAsEvaluated}
 use Rattle.cedar_auth.specs.Codes.{policy_code}

@@ -7,11 +7,11 @@ use Rattle.std.proofs.lemmas.Bool.Decides.{nat_tests}
 use Rattle.cedar_value.specs.Datum.{Datum, boolean}
 use Rattle.cedar_value.specs.World.{World}
 use Rattle.cedar_value.specs.declared.request.Request.{Request}
-use Rattle.cedar_ast.specs.declared.effect.Effect.{Effect}
-use Rattle.cedar_ast.specs.declared.effect.Effect.TheVariants.{Permit, Forbid}
+use Rattle.cedar_policies.specs.declared.effect.Effect.{Effect}
+use Rattle.cedar_policies.specs.declared.effect.Effect.TheVariants.{Permit, Forbid}
 use Rattle.cedar_ast.specs.Answer.{Answer}
-use Rattle.cedar_ast.specs.PolicyTree.{PolicyTree}
-use Rattle.cedar_ast.specs.Response.{ErringTree, ResponseTree, meaning, is_true, is_permit, permits, forbids, erring_by, erring_of, allows, decided, response}
+use Rattle.cedar_policies.specs.PolicyTree.{PolicyTree}
+use Rattle.cedar_policies.specs.Response.{ErringTree, ResponseTree, meaning, is_true, is_permit, permits, forbids, erring_by, erring_of, allows, decided, response}
 use Rattle.cedar_code.specs.Machine.{outcome_of}
 use Rattle.cedar_histories.specs.Results.{Results, entered, allowed_by, decided_by}
 use Rattle.cedar_histories.specs.Jobs.{tells, IsPartToRun, none_to_run, runs, leaves_out}

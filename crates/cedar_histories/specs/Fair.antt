@@ -1,7 +1,7 @@
 -- What histories of a service are fair, and the law that all are, `EveryHistoryIsFair`.
 use Rattle.std.specs.Prelude.{◌≡◌, ◌≢◌, ◌⊎◌, ◌↔◌, ℕ, ◌+◌, ◌<◌, ◌≤◌, Bool, true, false, List, Option, Some, None}
 use Rattle.cedar_value.specs.declared.request.Request.{Request}
-use Rattle.cedar_ast.specs.Response.{ResponseTree, response}
+use Rattle.cedar_policies.specs.Response.{ResponseTree, response}
 use Rattle.cedar_conform.specs.Requests.{LineDenotes}
 use Rattle.cedar_auth.specs.Ready.{ReadyTree}
 use Rattle.cedar_histories.specs.Jobs.{most_steps}

@@ -4,8 +4,8 @@ use Rattle.cedar_value.specs.Datum.{Datum}
 use Rattle.cedar_value.specs.World.{World}
 use Rattle.cedar_value.specs.declared.request.Request.{Request}
 use Rattle.cedar_ast.specs.Answer.{Answer}
-use Rattle.cedar_ast.specs.PolicyTree.{PolicyTree}
-use Rattle.cedar_ast.specs.Response.{is_true, meaning}
+use Rattle.cedar_policies.specs.PolicyTree.{PolicyTree}
+use Rattle.cedar_policies.specs.Response.{is_true, meaning}
 use Rattle.cedar_code.specs.declared.outcome.Outcome.{Outcome}
 use Rattle.cedar_code.specs.Machine.{Configuration, going, ended, start, Step, Executes, outcome_of}
 use Rattle.cedar_auth.specs.Codes.{policy_code}

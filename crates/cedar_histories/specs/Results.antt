@@ -1,8 +1,8 @@
 -- The results of the policies that a job has run, and what they decide.
 use Rattle.std.specs.Prelude.{ℕ, Bool, not, ◌&&◌, ◌==◌, if◌then◌else◌, List, [], ◌∷◌, ◌++◌, length, Ok}
-use Rattle.cedar_ast.specs.declared.effect.Effect.{Effect}
-use Rattle.cedar_ast.specs.declared.effect.Effect.TheVariants.{Permit, Forbid}
-use Rattle.cedar_ast.specs.Response.{is_true, ErringTree, ResponseTree, decided}
+use Rattle.cedar_policies.specs.declared.effect.Effect.{Effect}
+use Rattle.cedar_policies.specs.declared.effect.Effect.TheVariants.{Permit, Forbid}
+use Rattle.cedar_policies.specs.Response.{is_true, ErringTree, ResponseTree, decided}
 use Rattle.cedar_code.specs.declared.outcome.Outcome.{Outcome}
 use Rattle.cedar_code.specs.declared.outcome.Outcome.TheVariants.{Value, Error, StackFault}
 

@@ -1,7 +1,7 @@
 -- The events of a service: versions are published, and jobs are opened, stepped and taken, one after another.
 use Rattle.std.specs.Prelude.{◌≡◌, ◌≢◌, ◌⊎◌, ℕ, ◌+◌, ◌<◌, Bool, true, List, [], ◌∷◌, Option, Some, None}
-use Rattle.cedar_ast.specs.PolicyTree.{PolicyTree}
-use Rattle.cedar_ast.specs.Response.{ResponseTree}
+use Rattle.cedar_policies.specs.PolicyTree.{PolicyTree}
+use Rattle.cedar_policies.specs.Response.{ResponseTree}
 use Rattle.cedar_schema.specs.SchemaTree.{SchemaTree}
 use Rattle.cedar_data.specs.declared.conform_fault.ConformFault.{ConformFault}
 use Rattle.cedar_data.specs.declared.conform_fault.ConformFault.TheVariants.{OutOfMemory}

@@ -1,5 +1,6 @@
 //! The text of an answer: the JSON that the program `cedar` writes to a request line.
-use cedar_ast::{Decision, EvaluationError};
+use cedar_ast::EvaluationError;
+use cedar_policies::Decision;
 use cedar_service::{Erring, Response};
 use cedar_value::Text;
 use json::Writer;

@@ -1,7 +1,7 @@
 //! Reads a version from its files.
 use crate::no_version::NoVersion;
-use cedar_ast::PolicySet;
 use cedar_auth::{Ready, Validated};
+use cedar_policies::PolicySet;
 use cedar_program::{Files, Role, read_policies, read_ready, read_schema};
 use cedar_schema::Schema;
 use std::alloc::Global;

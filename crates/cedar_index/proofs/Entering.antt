@@ -9,7 +9,7 @@ use Rattle.std.proofs.lemmas.List.Elements.{Contains-push_cases}
 use Rattle.cedar_value.specs.Datum.{same_uid}
 use Rattle.cedar_value.specs.Private.Equality.{same_uid-Decides}
 use Rattle.cedar_value.specs.declared.uid.Uid.{Uid}
-use Rattle.cedar_ast.specs.PolicyTree.{PolicyTree}
+use Rattle.cedar_policies.specs.PolicyTree.{PolicyTree}
 use Rattle.cedar_index.specs.Index.{IsIndexOf}
 use Rattle.cedar_index.specs.Private.Kept.{Holds, KeepsAll, KeepsIndex, IsKept, Lists, list_at, list_for}
 use Rattle.cedar_index.specs.Reached.{uid_in}

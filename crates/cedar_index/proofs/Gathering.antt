@@ -4,7 +4,7 @@ use Rattle.std.specs.Borrow.{Bor}
 use Rattle.cedar_value.specs.declared.uid.Uid.{Uid}
 use Rattle.cedar_value.specs.World.{World, Below}
 use Rattle.cedar_value.specs.declared.request.Request.{Request}
-use Rattle.cedar_ast.specs.PolicyTree.{PolicyTree}
+use Rattle.cedar_policies.specs.PolicyTree.{PolicyTree}
 use Rattle.cedar_index.specs.Private.Kept.{Holds, IsKept, Lists, list_at, list_for}
 use Rattle.cedar_index.specs.Reached.{IsReached, uid_in}
 use Rattle.cedar_index.specs.declared.index.Index.{Index}

@@ -3,9 +3,9 @@ use Rattle.std.specs.Prelude.{◌≡◌, ◌⊎◌, Option, None, Some}
 use Rattle.cedar_value.specs.World.{World, Below}
 use Rattle.cedar_value.specs.declared.request.Request.{Request}
 use Rattle.cedar_value.specs.declared.uid.Uid.{Uid}
-use Rattle.cedar_ast.specs.declared.scope.EntityScope.{EntityScope}
-use Rattle.cedar_ast.specs.declared.scope.EntityScope.TheVariants as entity
-use Rattle.cedar_ast.specs.PolicyTree.{PolicyTree}
+use Rattle.cedar_policies.specs.declared.scope.EntityScope.{EntityScope}
+use Rattle.cedar_policies.specs.declared.scope.EntityScope.TheVariants as entity
+use Rattle.cedar_policies.specs.PolicyTree.{PolicyTree}
 
 -- The uid that the scope of a principal or a resource names, where it names one (Cedar language reference, policy scope).
 abbrev pub uid_in : EntityScope → Option Uid

@@ -7,7 +7,7 @@ ghost use Rattle.std.specs.List.Sorted.{IsStrictlyIncreasing};
 
 use crate::selection::Selection;
 use crate::uid_lists::{UidLists, insert};
-use cedar_ast::{EntityScope, PolicySet, Scope};
+use cedar_policies::{EntityScope, PolicySet, Scope};
 use cedar_store::{Store, UidHashing};
 use cedar_value::{Request, Uid};
 use indexmap::IndexMap;

@@ -1,7 +1,7 @@
 //! Texts that read, with what they are.
 use crate::policy_text::{refusal, with_condition};
-use cedar_ast::{Annotation, Effect, PolicySet};
 use cedar_parser::{parse, read_uid};
+use cedar_policies::{Annotation, Effect, PolicySet};
 use cedar_value::Text;
 use std::alloc::{AllocError, Global};
 use std::test::Fail;

@@ -2,8 +2,10 @@
 //! out from the grammar (Cedar language reference, policy scope and conditions, policy templates, annotations).
 use crate::tree_text::{quoted, uid_text};
 use crate::trees::condition_tree;
-use cedar_ast::{ActionScope, Annotation, Effect, EntityReference, PolicySet, TemplateEntityScope};
 use cedar_parser::parse;
+use cedar_policies::{
+    ActionScope, Annotation, Effect, EntityReference, PolicySet, TemplateEntityScope,
+};
 use cedar_value::Uid;
 use std::alloc::{AllocError, Global};
 use std::test::Fail;

@@ -1,7 +1,7 @@
 -- What was read before is read as it was.
 use Rattle.std.proofs.Common.{◌≡◌, ℕ, List, [], Bool, true, false, cond, Some, None, codes}
 use Rattle.std.specs.Str.{bytes_eq}
-use Rattle.cedar_ast.specs.PolicySetTree.{PolicySetTree}
+use Rattle.cedar_policies.specs.PolicySetTree.{PolicySetTree}
 use Rattle.cedar_ast.specs.declared.operator.BinaryOperator.{BinaryOperator}
 use Rattle.cedar_ast.specs.declared.operator.BinaryOperator.TheVariants as operator
 use Rattle.cedar_grammar.proofs.EarlierReadings.{statements_within}

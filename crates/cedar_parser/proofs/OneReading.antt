@@ -1,6 +1,6 @@
 -- No text is read in two ways.
 use Rattle.std.proofs.Common.{◌≡◌, refl, sym, ap, subst, ◌∙◌, ℕ, ◌<◌, List, [], ◌∷◌, length, Ok, Err, arith}
-use Rattle.cedar_ast.specs.PolicySetTree.{PolicySetTree, no_policies}
+use Rattle.cedar_policies.specs.PolicySetTree.{PolicySetTree, no_policies}
 use Rattle.cedar_text.specs.Lexeme.{Lexemes}
 use Rattle.cedar_text.specs.Tokens.{AreTokens}
 use Rattle.cedar_tokens.specs.Marks.{Marks, IsMarked}

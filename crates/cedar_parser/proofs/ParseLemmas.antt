@@ -1,7 +1,7 @@
 -- From a text to its tokens with their letters, and from these to what is answered.
 use Rattle.std.proofs.Common.{sym, subst, ℕ, List, [], Result, Ok, Err}
 use Rattle.std.specs.Prelude.{IfOk, IfErr}
-use Rattle.cedar_ast.specs.PolicySetTree.{PolicySetTree}
+use Rattle.cedar_policies.specs.PolicySetTree.{PolicySetTree}
 use Rattle.cedar_tokens.specs.Marks.{Marks}
 use Rattle.cedar_tokens.specs.Spelling.{HasMarks, HasMarksFault}
 use Rattle.cedar_tokens.specs.declared.parse_fault.ParseFault.{ParseFault}

@@ -5,8 +5,8 @@ use Rattle.std.specs.Prelude.{All, Contains, IfErr, IsSome, unwrap_or, codes, de
 use Rattle.std.specs.Str.{bytes_eq}
 use Rattle.std.proofs.lemmas.List.{append-nil, get_or_append_left}
 use Rattle.cedar_ast.specs.Keys.{AreDistinct}
-use Rattle.cedar_ast.specs.PolicySetTree.{PolicySetTree, no_policies, ids_in, id_of}
-use Rattle.cedar_ast.specs.declared.statement.Statement.{Statement as Entry}
+use Rattle.cedar_policies.specs.PolicySetTree.{PolicySetTree, no_policies, ids_in, id_of}
+use Rattle.cedar_policies.specs.declared.statement.Statement.{Statement as Entry}
 use Rattle.cedar_tokens.specs.Marks.{Marks}
 use Rattle.cedar_conditions.specs.declared.side_condition.SideCondition.TheVariants.{Strings, Numbers, Keys, Names, Counts, Slots, Annotations}
 use Rattle.cedar_tokens.specs.declared.parse_fault.ParseFault.{ParseFault}

@@ -4,7 +4,7 @@ use Rattle.std.specs.Str.{bytes_eq}
 use Rattle.cedar_ast.specs.declared.operator.BinaryOperator.{BinaryOperator}
 use Rattle.cedar_ast.specs.declared.operator.BinaryOperator.TheVariants as operator
 use Rattle.cedar_ast.specs.Keys.{AreDistinct}
-use Rattle.cedar_ast.specs.PolicySetTree.{PolicySetTree, no_policies}
+use Rattle.cedar_policies.specs.PolicySetTree.{PolicySetTree, no_policies}
 use Rattle.cedar_tokens.specs.Marks.{Marks, IsMarked}
 use Rattle.cedar_written.specs.Written.{Written, group, not, negated, relation, has, like, is, is_in, chain, choice, set, record_of, call, Links, no_links, operand, attribute, method, Members, no_members, member, Fields, no_fields, field}
 use Rattle.cedar_written.specs.StatementTree.{StatementTree}

@@ -1,7 +1,7 @@
 -- What a policy text is, and what a uid's text is (Cedar language reference, grammar; policies; entity identifiers).
 use Rattle.std.specs.Prelude.{◌≡◌, ℕ, suc, List, [], ◌∷◌, ◌++◌, length, Some, Result, Ok, Err, All, Contains}
 use Rattle.cedar_ast.specs.Keys.{AreDistinct}
-use Rattle.cedar_ast.specs.PolicySetTree.{PolicySetTree, no_policies}
+use Rattle.cedar_policies.specs.PolicySetTree.{PolicySetTree, no_policies}
 use Rattle.cedar_tokens.specs.Faults.{LacksTokens}
 use Rattle.cedar_tokens.specs.Marks.{Marks, IsMarked}
 use Rattle.cedar_grammar.specs.Statements.{Statements}

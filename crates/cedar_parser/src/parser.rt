@@ -1,9 +1,9 @@
 //! Policy texts.
 ghost use Rattle.std.specs.Prelude.{◌≡◌, [], ℕ, List, Some, IfOk, OnOk, IfErr, Contains};
-ghost use Rattle.cedar_ast.specs.PolicySetTree.{PolicySetTree, entered, id_of, ids_in};
+ghost use Rattle.cedar_policies.specs.PolicySetTree.{PolicySetTree, entered, id_of, ids_in};
 ghost use Rattle.cedar_parser.specs.PolicyText.{ArePolicies, IsPolicyText, TokensFault, HasFault, Answers};
 ghost use Rattle.cedar_parser.specs.Private.Entering.{RefusesEntry, RefusesAdd, refusal_for};
-ghost use Rattle.cedar_ast.specs.AddFault.{number_of};
+ghost use Rattle.cedar_policies.specs.AddFault.{number_of};
 ghost use Rattle.cedar_conditions.specs.StatementMeaning.{statement_of, id_at};
 ghost use Rattle.cedar_conditions.specs.StatementLimits.{IsWithinLimits};
 ghost use Rattle.cedar_ast.specs.Expression.{unary};
@@ -16,9 +16,9 @@ ghost use Rattle.cedar_conditions.specs.Meaning.{to_expression, method_of};
 ghost use Rattle.cedar_parser.specs.Earlier.{IsEarlierPolicyText, earlier_method_of};
 
 use crate::policy::{id_of, to_statement};
-use cedar_ast::{AddFault, PolicySet, Statement};
 use cedar_conditions::judge;
 use cedar_grammar::statement;
+use cedar_policies::{AddFault, PolicySet, Statement};
 use cedar_text::{one_list, one_spelling};
 use cedar_tokens::{Cursor, ParseFault, spelled_tokens};
 use cedar_written::WrittenStatement;

@@ -7,7 +7,7 @@ ghost use Rattle.cedar_conditions.specs.StatementMeaning.{to_entity, to_referenc
 ghost use Rattle.cedar_conditions.specs.StatementLimits.{KeepConditions};
 
 use crate::expression::to_expression;
-use cedar_ast::{
+use cedar_policies::{
     ActionScope, Annotation, Condition, EntityReference, EntityScope, Policy, Scope, Statement,
     Template, TemplateEntityScope, TemplateScope, Uids,
 };

@@ -1,7 +1,7 @@
 -- Lemmas on what the files hold.
 use Rattle.std.proofs.Common.{◌≡◌, ℕ, List, Option, sym, subst}
 use Rattle.std.specs.Prelude.{IfSome}
-use Rattle.cedar_ast.specs.PolicySetTree.{PolicySetTree}
+use Rattle.cedar_policies.specs.PolicySetTree.{PolicySetTree}
 use Rattle.cedar_schema.specs.SchemaTree.{SchemaTree}
 use Rattle.cedar_auth.specs.Ready.{ReadyTree}
 use Rattle.cedar_auth.specs.Validation.{IsValidatedWith, ValidatedTree}

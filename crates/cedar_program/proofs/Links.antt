@@ -1,13 +1,13 @@
 -- Lemmas on links.
 use Rattle.std.proofs.Common.{◌≡◌, ◌≢◌, ℕ, List, ◌∷◌, Result, Ok, Err, inl, inr, refl, sym, subst}
 use Rattle.std.specs.Prelude.{Contains, IfErr}
-use Rattle.cedar_ast.specs.LinkFault.{number_of}
-use Rattle.cedar_ast.specs.Linking.{HasExtraSlot, HasMissingSlot, IsLinked, IsTemplate}
-use Rattle.cedar_ast.specs.PolicySetTree.{PolicySetTree, ids_in}
-use Rattle.cedar_ast.specs.PolicyTree.{TemplateTree}
-use Rattle.cedar_ast.specs.declared.link.Link.{Link}
-use Rattle.cedar_ast.specs.declared.link_fault.LinkFault.{LinkFault}
-use Rattle.cedar_ast.specs.declared.link_fault.LinkFault.TheVariants.{OutOfMemory, DuplicateId, NoSuchTemplate, MissingSlot, ExtraSlot}
+use Rattle.cedar_policies.specs.LinkFault.{number_of}
+use Rattle.cedar_policies.specs.Linking.{HasExtraSlot, HasMissingSlot, IsLinked, IsTemplate}
+use Rattle.cedar_policies.specs.PolicySetTree.{PolicySetTree, ids_in}
+use Rattle.cedar_policies.specs.PolicyTree.{TemplateTree}
+use Rattle.cedar_policies.specs.declared.link.Link.{Link}
+use Rattle.cedar_policies.specs.declared.link_fault.LinkFault.{LinkFault}
+use Rattle.cedar_policies.specs.declared.link_fault.LinkFault.TheVariants.{OutOfMemory, DuplicateId, NoSuchTemplate, MissingSlot, ExtraSlot}
 use Rattle.cedar_program.specs.LinksFile.{AreLinked, HasLinkFault, HaveLinkFault}
 
 -- ---- one link

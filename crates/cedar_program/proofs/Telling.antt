@@ -11,8 +11,8 @@ use Rattle.json.specs.Print.{print}
 use Rattle.serde_json.specs.Data.{Data}
 use Rattle.serde_json.specs.Written.{compact_text}
 use Rattle.serde_json.proofs.Texts.{print-outline}
-use Rattle.cedar_ast.specs.PolicyTree.{PolicyTree}
-use Rattle.cedar_ast.specs.PolicySetTree.{ids_of}
+use Rattle.cedar_policies.specs.PolicyTree.{PolicyTree}
+use Rattle.cedar_policies.specs.PolicySetTree.{ids_of}
 use Rattle.cedar_lines.specs.Lines.{line_feed}
 use Rattle.cedar_schema.specs.SchemaTree.{SchemaTree, environments_of}
 use Rattle.cedar_schema.specs.declared.schema.environment.Environment.{Environment}

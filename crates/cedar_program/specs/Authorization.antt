@@ -1,7 +1,7 @@
 -- What authorization writes, by what the files hold.
 use Rattle.std.specs.Prelude.{◌≡◌, ◌⊎◌, ℕ, List, Option, None, IfSome}
 use Rattle.std.specs.Io.KnownBytes.{Keeps}
-use Rattle.cedar_ast.specs.PolicySetTree.{PolicySetTree}
+use Rattle.cedar_policies.specs.PolicySetTree.{PolicySetTree}
 use Rattle.cedar_schema.specs.SchemaTree.{SchemaTree}
 use Rattle.cedar_typing.specs.declared.settings.Settings.{Settings}
 use Rattle.cedar_lines.specs.AnswerText.{AnswersFirst, BeginsAnswers, Writes}

@@ -1,9 +1,9 @@
 -- What a links file makes of the policies of the policy file, and why it is refused.
 use Rattle.std.specs.Prelude.{◌≡◌, ◌≢◌, ◌⊎◌, ℕ, List, [], ◌∷◌, Option, Some, None, Contains}
-use Rattle.cedar_ast.specs.Linking.{HasExtraSlot, HasMissingSlot, IsLinked, IsTemplate}
-use Rattle.cedar_ast.specs.PolicySetTree.{PolicySetTree, ids_in}
-use Rattle.cedar_ast.specs.PolicyTree.{TemplateTree}
-use Rattle.cedar_ast.specs.declared.link.Link.{Link}
+use Rattle.cedar_policies.specs.Linking.{HasExtraSlot, HasMissingSlot, IsLinked, IsTemplate}
+use Rattle.cedar_policies.specs.PolicySetTree.{PolicySetTree, ids_in}
+use Rattle.cedar_policies.specs.PolicyTree.{TemplateTree}
+use Rattle.cedar_policies.specs.declared.link.Link.{Link}
 use Rattle.cedar_conform.specs.Links.{BytesDenoteLinks, LinksAreRefused}
 use Rattle.cedar_data.specs.Numbers.{number_of}
 use Rattle.cedar_data.specs.declared.conform_fault.ConformFault.{ConformFault}

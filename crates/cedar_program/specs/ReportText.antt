@@ -3,7 +3,7 @@ use Rattle.std.specs.Prelude.{◌≡◌, ℕ, cond, List, [], ◌∷◌, ◌++�
 use Rattle.std.specs.List.{flat_map}
 use Rattle.serde_json.specs.Written.{compact_text}
 use Rattle.cedar_lines.specs.Lines.{line_feed}
-use Rattle.cedar_ast.specs.PolicyTree.{PolicyTree}
+use Rattle.cedar_policies.specs.PolicyTree.{PolicyTree}
 use Rattle.cedar_schema.specs.SchemaTree.{SchemaTree}
 use Rattle.cedar_typing.specs.Reports.{FaultTree, all_faults_with, faults_of_with, is_impossible_with, warnings_with}
 use Rattle.cedar_typing.specs.declared.settings.Settings.{Settings}

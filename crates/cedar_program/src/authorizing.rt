@@ -1,7 +1,7 @@
 //! The subcommand `authorize`.
 ghost use Rattle.std.specs.Prelude.{◌≡◌, ◌≢◌, ◌⊎◌, ◌-◌, ◌<◌, ◌^◌, [], None, IfSome};
 ghost use Rattle.std.specs.Io.KnownBytes.{Keeps};
-ghost use Rattle.cedar_ast.specs.PolicySetTree.{PolicySetTree};
+ghost use Rattle.cedar_policies.specs.PolicySetTree.{PolicySetTree};
 ghost use Rattle.cedar_schema.specs.SchemaTree.{SchemaTree};
 ghost use Rattle.cedar_typing.specs.Reports.{all_faults_with};
 ghost use Rattle.cedar_auth.specs.AnswerLine.{AnswersLine};
@@ -21,9 +21,9 @@ use crate::linking::enter_links;
 use crate::reading::{read_policies, read_ready, read_schema};
 use crate::refusal::{FileRefusal, refuse};
 use crate::validating::{stop, write_report};
-use cedar_ast::PolicySet;
 use cedar_auth::{NotValidated, Ready, Validated, ValidationFault, serve};
 use cedar_lines::{ServeFault, Sink, Source};
+use cedar_policies::PolicySet;
 use cedar_schema::Schema;
 use cedar_typing::Settings;
 use std::alloc::Global;

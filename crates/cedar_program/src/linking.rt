@@ -1,15 +1,15 @@
 //! Reads the links from their file, and enters them behind the policies.
 ghost use Rattle.std.specs.Prelude.{◌≡◌, ◌≢◌, None, Some, IfErr, IfSome, IsErrOf, OnOk};
-ghost use Rattle.cedar_ast.specs.LinkFault.{number_of};
-ghost use Rattle.cedar_ast.specs.Linking.{IsLinked};
+ghost use Rattle.cedar_policies.specs.LinkFault.{number_of};
+ghost use Rattle.cedar_policies.specs.Linking.{IsLinked};
 ghost use Rattle.cedar_program.specs.LinksFile.{AreLinked, HasLinkFault, HaveLinkFault, HoldsLinked, HoldsNoLinks};
 ghost use Rattle.cedar_program.specs.Private.Unread.{IfRefused};
 
 use crate::files::{Files, Role};
 use crate::reading::{OUT_OF_MEMORY, Unread, read_file, refusal_of};
 use crate::refusal::FileRefusal;
-use cedar_ast::{Link, LinkFault, PolicySet};
 use cedar_conform::read_links;
+use cedar_policies::{Link, LinkFault, PolicySet};
 use std::alloc::Global;
 
 // Enters a link as the last policy. A refusal leaves the set as it was.

@@ -9,10 +9,10 @@ ghost use Rattle.cedar_program.specs.Private.Unread.{IfRefused};
 
 use crate::files::{FileFault, Files, Role};
 use crate::refusal::FileRefusal;
-use cedar_ast::PolicySet;
 use cedar_auth::{NotReady, Ready, Validated};
 use cedar_data::ConformFault;
 use cedar_parser::parse;
+use cedar_policies::PolicySet;
 use cedar_schema::{Schema, SchemaFault};
 use std::alloc::Global;
 

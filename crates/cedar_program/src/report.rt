@@ -11,8 +11,8 @@ ghost use Rattle.cedar_program.specs.ReportText.{IsReportText, Reports, fault_li
 ghost use Rattle.cedar_program.specs.Private.Telling.{AppendsLines, begins_with, faults_after, faults_of_first};
 ghost use Rattle.cedar_program.specs.Private.Tokens.{data_tokens};
 
-use cedar_ast::PolicySet;
 use cedar_check::{Fault, Report};
+use cedar_policies::PolicySet;
 use cedar_value::{Text, Uid};
 use json::Writer;
 use std::alloc::{AllocError, Global};

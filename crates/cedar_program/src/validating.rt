@@ -1,7 +1,7 @@
 //! The subcommand `validate`.
 ghost use Rattle.std.specs.Prelude.{◌≡◌, ◌≢◌, ◌⊎◌, ◌-◌, ◌<◌, ◌^◌, [], None, IfSome};
 ghost use Rattle.std.specs.Io.KnownBytes.{Keeps};
-ghost use Rattle.cedar_ast.specs.PolicySetTree.{PolicySetTree};
+ghost use Rattle.cedar_policies.specs.PolicySetTree.{PolicySetTree};
 ghost use Rattle.cedar_schema.specs.SchemaTree.{SchemaTree};
 ghost use Rattle.cedar_typing.specs.Reports.{all_faults_with};
 ghost use Rattle.cedar_lines.specs.AnswerText.{Writes};
@@ -15,9 +15,9 @@ use crate::linking::enter_links;
 use crate::reading::{Unread, read_policies, read_schema};
 use crate::refusal::{FileRefusal, refuse};
 use crate::report::report_text;
-use cedar_ast::PolicySet;
 use cedar_check::{Report, check_with};
 use cedar_lines::{Sink, flush};
+use cedar_policies::PolicySet;
 use cedar_schema::Schema;
 use cedar_typing::Settings;
 use std::alloc::Global;

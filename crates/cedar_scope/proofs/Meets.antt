@@ -9,14 +9,14 @@ use Rattle.cedar_value.specs.World.{World}
 use Rattle.cedar_value.specs.declared.request.Request.{Request}
 use Rattle.cedar_value.specs.declared.uid.Uid.{Uid}
 use Rattle.cedar_ast.specs.declared.variable.Variable.{Variable}
-use Rattle.cedar_ast.specs.declared.scope.EntityScope.{EntityScope}
-use Rattle.cedar_ast.specs.declared.scope.EntityScope.TheVariants as entity
-use Rattle.cedar_ast.specs.declared.scope.ActionScope.{ActionScope}
-use Rattle.cedar_ast.specs.declared.scope.ActionScope.TheVariants as action
+use Rattle.cedar_policies.specs.declared.scope.EntityScope.{EntityScope}
+use Rattle.cedar_policies.specs.declared.scope.EntityScope.TheVariants as entity
+use Rattle.cedar_policies.specs.declared.scope.ActionScope.{ActionScope}
+use Rattle.cedar_policies.specs.declared.scope.ActionScope.TheVariants as action
 use Rattle.cedar_ast.specs.declared.operator.UnaryOperator.TheVariants as one
 use Rattle.cedar_ast.specs.declared.operator.BinaryOperator.TheVariants as two
 use Rattle.cedar_ast.specs.Answer.{Answer, with_answer}
-use Rattle.cedar_ast.specs.Condition.{entity_literal, entity_scope_of, action_scope_of}
+use Rattle.cedar_policies.specs.Condition.{entity_literal, entity_scope_of, action_scope_of}
 use Rattle.cedar_ast.specs.Expression.{expressions_of}
 use Rattle.cedar_ast.specs.Evaluation.{variable_of, and_of, set_of_values, eval, eval_all}
 use Rattle.cedar_ast.specs.Operators.{unary_of, binary_of, in_of, is_in, is_uid}

@@ -1,11 +1,11 @@
 //! What a scope asks of the action.
 ghost use Rattle.std.specs.Prelude.{◌≡◌, ◌≤◌};
-ghost use Rattle.cedar_ast.specs.Condition.{action_scope_of};
+ghost use Rattle.cedar_policies.specs.Condition.{action_scope_of};
 ghost use Rattle.cedar_code.specs.Code.{size, most_instructions};
 ghost use Rattle.cedar_scope.specs.Private.Met.{is_action_met, is_within_one_of};
 
 use crate::entity::is_within;
-use cedar_ast::ActionScope;
+use cedar_policies::ActionScope;
 use cedar_value::{Hierarchy, Uid};
 
 // Whether the action is one of these, or below one.

@@ -3,11 +3,11 @@ ghost use Rattle.std.specs.Prelude.{◌≡◌, ◌||◌};
 ghost use Rattle.cedar_value.specs.Datum.{same_uid};
 ghost use Rattle.cedar_value.specs.World.{below};
 ghost use Rattle.cedar_ast.specs.declared.variable.Variable.{Variable};
-ghost use Rattle.cedar_ast.specs.Condition.{entity_scope_of};
+ghost use Rattle.cedar_policies.specs.Condition.{entity_scope_of};
 ghost use Rattle.cedar_code.specs.Code.{size};
 ghost use Rattle.cedar_scope.specs.Private.Met.{is_entity_met};
 
-use cedar_ast::EntityScope;
+use cedar_policies::EntityScope;
 use cedar_value::{Hierarchy, Uid};
 
 /// Whether the one entity is the other, or below it (Cedar language reference, operators, `in`).

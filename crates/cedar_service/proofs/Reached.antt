@@ -4,11 +4,11 @@ use mathlib.Core.Logic.{inl, inr}
 use Rattle.std.specs.List.{slice_get}
 use Rattle.std.proofs.lemmas.List.Elements.{Contains-push_cases}
 use Rattle.cedar_value.specs.declared.request.Request.{Request}
-use Rattle.cedar_ast.specs.declared.effect.Effect.{Effect}
-use Rattle.cedar_ast.specs.declared.effect.Effect.TheVariants.{Permit, Forbid}
+use Rattle.cedar_policies.specs.declared.effect.Effect.{Effect}
+use Rattle.cedar_policies.specs.declared.effect.Effect.TheVariants.{Permit, Forbid}
 use Rattle.cedar_ast.specs.declared.error.EvaluationError.{EvaluationError}
-use Rattle.cedar_ast.specs.PolicyTree.{PolicyTree}
-use Rattle.cedar_ast.specs.Response.{ErringTree}
+use Rattle.cedar_policies.specs.PolicyTree.{PolicyTree}
+use Rattle.cedar_policies.specs.Response.{ErringTree}
 use Rattle.cedar_code.specs.declared.instruction.Instruction.{Instruction}
 use Rattle.cedar_code.specs.declared.outcome.Outcome.{Outcome}
 use Rattle.cedar_code.specs.declared.outcome.Outcome.TheVariants.{Value, Error, StackFault}

@@ -1,6 +1,6 @@
 -- Which errors the answer of a job names.
 use Rattle.std.specs.Prelude.{Contains, Option, Some, None}
-use Rattle.cedar_ast.specs.Response.{ErringTree, ResponseTree}
+use Rattle.cedar_policies.specs.Response.{ErringTree, ResponseTree}
 use Rattle.cedar_typing.specs.Soundness.{IsAllowedWith}
 use Rattle.cedar_histories.specs.Jobs.{JobTree}
 

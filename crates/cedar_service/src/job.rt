@@ -1,6 +1,6 @@
 //! Jobs: requests that are being answered.
 ghost use Rattle.std.specs.Prelude.{◌≡◌, ◌<◌, nat_lt, length, All, Contains, IfOk, IsOk, OnErr, is_some, option_copied};
-ghost use Rattle.cedar_ast.specs.Response.{ErringTree};
+ghost use Rattle.cedar_policies.specs.Response.{ErringTree};
 ghost use Rattle.cedar_code.specs.Machine.{start};
 ghost use Rattle.cedar_schema.specs.Conformance.{Fits};
 ghost use Rattle.cedar_typing.specs.Soundness.{IsAllowedWith};

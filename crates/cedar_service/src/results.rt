@@ -4,7 +4,8 @@ ghost use Rattle.cedar_histories.specs.Results.{no_results, allowed_by, decided_
 ghost use Rattle.cedar_service.specs.Private.Verdicts.{with_verdict};
 
 use crate::response::{Erring, Response};
-use cedar_ast::{Decision, Effect, EvaluationError};
+use cedar_ast::EvaluationError;
+use cedar_policies::{Decision, Effect};
 use cedar_value::Text;
 use std::alloc::{AllocError, Global};
 use std::marker::Model;

@@ -1,8 +1,9 @@
 //! A schema of documents, entities that conform to it, and what is asked. A mistake in them fails each test.
 use crate::held::{both, made, made_or, once};
-use cedar_ast::{Decision, EvaluationError, PolicySet};
+use cedar_ast::EvaluationError;
 use cedar_auth::{Ready, Validated};
 use cedar_parser::parse;
+use cedar_policies::{Decision, PolicySet};
 use cedar_schema::Schema;
 use cedar_service::{JobId, Response, Service};
 use cedar_typing::Settings;

@@ -30,7 +30,7 @@ use Rattle.cedar_typing.specs.Checking.{Typed, is_held, common, as_type, gaining
 use Rattle.cedar_typing.proofs.Listed.{both_true, or_right as by_right}
 use Rattle.cedar_typing.proofs.Descents.{is_action-Decides, is_action_type-Decides}
 use Rattle.cedar_typing.proofs.Trees.{test_from_cap, cap_from_test, test_from_distinct}
-use Rattle.cedar_ast.specs.Condition.{condition_of}
+use Rattle.cedar_policies.specs.Condition.{condition_of}
 use Rattle.cedar_ast.specs.Replacement.{replace}
 use Rattle.cedar_typing.specs.Exactness.{FoundIsTypedWith, TypedIsFoundWith, FormIsFoundWith}
 use Rattle.cedar_typing.proofs.Found.{union_append, common_is, form_is, found, names_action-Decides, written-Decides, related-Decides}

@@ -5,8 +5,8 @@ use Rattle.std.specs.List.{list_any, filter_map, cons_option}
 use Rattle.cedar_value.specs.Datum.{boolean}
 use Rattle.cedar_value.specs.World.{World}
 use Rattle.cedar_value.specs.declared.request.Request.{Request}
-use Rattle.cedar_ast.specs.PolicyTree.{PolicyTree}
-use Rattle.cedar_ast.specs.Response.{meaning, is_true, is_permit, permits, forbids, erring_by, erring_of, allows, decided, response}
+use Rattle.cedar_policies.specs.PolicyTree.{PolicyTree}
+use Rattle.cedar_policies.specs.Response.{meaning, is_true, is_permit, permits, forbids, erring_by, erring_of, allows, decided, response}
 use Rattle.cedar_typing.specs.Candidates.{FalseOnesMayGo}
 
 module _ {A : Type 0} (keeps : A → Bool) where

@@ -6,8 +6,8 @@ use Rattle.cedar_value.specs.Datum.{Datum}
 use Rattle.cedar_value.specs.World.{World}
 use Rattle.cedar_value.specs.declared.request.Request.{Request}
 use Rattle.cedar_ast.specs.Answer.{Answer}
-use Rattle.cedar_ast.specs.Response.{ErringTree, erring_of, erring_by, meaning}
-use Rattle.cedar_ast.specs.PolicyTree.{PolicyTree}
+use Rattle.cedar_policies.specs.Response.{ErringTree, erring_of, erring_by, meaning}
+use Rattle.cedar_policies.specs.PolicyTree.{PolicyTree}
 use Rattle.cedar_schema.specs.SchemaTree.{SchemaTree}
 use Rattle.cedar_schema.specs.WellFormed.{AreTypesApart}
 use Rattle.cedar_schema.specs.Conformance.{Conforms, Fits}

@@ -7,15 +7,15 @@ use Rattle.cedar_value.specs.declared.uid.Uid.{Uid}
 use Rattle.cedar_ast.specs.declared.variable.Variable.TheVariants.{Principal, Action, Resource, Context}
 use Rattle.cedar_ast.specs.declared.operator.UnaryOperator.TheVariants as one
 use Rattle.cedar_ast.specs.declared.operator.BinaryOperator.TheVariants as two
-use Rattle.cedar_ast.specs.declared.effect.Effect.TheVariants.{Permit}
-use Rattle.cedar_ast.specs.declared.scope.EntityScope.{EntityScope}
-use Rattle.cedar_ast.specs.declared.scope.EntityScope.TheVariants as entity
-use Rattle.cedar_ast.specs.declared.scope.ActionScope.{ActionScope}
-use Rattle.cedar_ast.specs.declared.scope.ActionScope.TheVariants as action
-use Rattle.cedar_ast.specs.declared.condition.ConditionKind.TheVariants.{When}
+use Rattle.cedar_policies.specs.declared.effect.Effect.TheVariants.{Permit}
+use Rattle.cedar_policies.specs.declared.scope.EntityScope.{EntityScope}
+use Rattle.cedar_policies.specs.declared.scope.EntityScope.TheVariants as entity
+use Rattle.cedar_policies.specs.declared.scope.ActionScope.{ActionScope}
+use Rattle.cedar_policies.specs.declared.scope.ActionScope.TheVariants as action
+use Rattle.cedar_policies.specs.declared.condition.ConditionKind.TheVariants.{When}
 use Rattle.cedar_ast.specs.Private.SameExpression.{same_expression}
 use Rattle.cedar_ast.specs.Expression.{Expression, literal, variable, and, or, if_else, unary, binary, set_with, record_with, expressions_of, entries_of}
-use Rattle.cedar_ast.specs.PolicyTree.{PolicyTree}
+use Rattle.cedar_policies.specs.PolicyTree.{PolicyTree}
 use Rattle.cedar_types.specs.declared.truth.Truth.{Truth}
 use Rattle.cedar_types.specs.declared.truth.Truth.TheVariants.{True, False, Any}
 use Rattle.cedar_types.specs.Types.{TypeTree, Attributes, no_attributes, attribute}

@@ -19,7 +19,7 @@ use Rattle.cedar_ast.specs.Answer.{Answer, with_answer}
 use Rattle.cedar_ast.specs.Expression.{Expression, literal, variable, and, or, if_else, unary, binary, set_with, record_with, Expressions, no_more, and_then, Entries, no_entries, entry}
 use Rattle.cedar_ast.specs.Evaluation.{and_of, or_of, if_of, set_of_values, record_of_pairs, eval, eval_all, eval_entries}
 use Rattle.cedar_ast.specs.Operators.{source, is_empty, decimal_or_error, unary_of, binary_of}
-use Rattle.cedar_ast.specs.Condition.{condition_of}
+use Rattle.cedar_policies.specs.Condition.{condition_of}
 use Rattle.cedar_ast.specs.Keys.{AreDistinct}
 use Rattle.cedar_types.specs.declared.truth.Truth.{Truth}
 use Rattle.cedar_types.specs.declared.truth.Truth.TheVariants.{True, False, Any}

@@ -1,7 +1,7 @@
 -- Which policies are accepted, and which cannot be satisfied (Cedar documentation, policy validation).
 use Rattle.std.specs.Prelude.{Contains, []}
-use Rattle.cedar_ast.specs.PolicyTree.{PolicyTree}
-use Rattle.cedar_ast.specs.Condition.{condition_of}
+use Rattle.cedar_policies.specs.PolicyTree.{PolicyTree}
+use Rattle.cedar_policies.specs.Condition.{condition_of}
 use Rattle.cedar_types.specs.declared.truth.Truth.{Truth}
 use Rattle.cedar_types.specs.declared.truth.Truth.TheVariants.{False}
 use Rattle.cedar_schema.specs.declared.schema.environment.Environment.{Environment}

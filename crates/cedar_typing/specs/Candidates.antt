@@ -4,14 +4,14 @@ use Rattle.cedar_value.specs.Datum.{boolean}
 use Rattle.cedar_value.specs.World.{World}
 use Rattle.cedar_value.specs.declared.request.Request.{Request}
 use Rattle.cedar_value.specs.declared.uid.Uid.{Uid}
-use Rattle.cedar_ast.specs.declared.scope.EntityScope.{EntityScope}
-use Rattle.cedar_ast.specs.declared.scope.EntityScope.TheVariants as entity
-use Rattle.cedar_ast.specs.declared.scope.ActionScope.{ActionScope}
-use Rattle.cedar_ast.specs.declared.scope.ActionScope.TheVariants as action
-use Rattle.cedar_ast.specs.PolicyTree.{PolicyTree}
-use Rattle.cedar_ast.specs.Condition.{condition_of}
+use Rattle.cedar_policies.specs.declared.scope.EntityScope.{EntityScope}
+use Rattle.cedar_policies.specs.declared.scope.EntityScope.TheVariants as entity
+use Rattle.cedar_policies.specs.declared.scope.ActionScope.{ActionScope}
+use Rattle.cedar_policies.specs.declared.scope.ActionScope.TheVariants as action
+use Rattle.cedar_policies.specs.PolicyTree.{PolicyTree}
+use Rattle.cedar_policies.specs.Condition.{condition_of}
 use Rattle.cedar_ast.specs.Evaluation.{eval}
-use Rattle.cedar_ast.specs.Response.{response}
+use Rattle.cedar_policies.specs.Response.{response}
 use Rattle.cedar_schema.specs.declared.schema.environment.Environment.{Environment}
 use Rattle.cedar_schema.specs.SchemaTree.{SchemaTree}
 use Rattle.cedar_schema.specs.Descents.{ActionDescends}

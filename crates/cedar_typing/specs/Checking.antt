@@ -14,8 +14,8 @@ use Rattle.cedar_ast.specs.declared.operator.BinaryOperator.{BinaryOperator}
 use Rattle.cedar_ast.specs.declared.operator.BinaryOperator.TheVariants as binary_operator
 use Rattle.cedar_ast.specs.Expression.{Expression, literal, variable, and, or, if_else, unary, binary, set_with, record_with, Expressions, no_more, and_then, Entries, no_entries, entry}
 use Rattle.cedar_ast.specs.Private.SameExpression.{same_expression}
-use Rattle.cedar_ast.specs.PolicyTree.{PolicyTree}
-use Rattle.cedar_ast.specs.Condition.{condition_of}
+use Rattle.cedar_policies.specs.PolicyTree.{PolicyTree}
+use Rattle.cedar_policies.specs.Condition.{condition_of}
 use Rattle.cedar_types.specs.declared.truth.Truth.{Truth}
 use Rattle.cedar_types.specs.declared.truth.Truth.TheVariants.{True, False, Any}
 use Rattle.cedar_schema.specs.declared.schema.environment.Environment.{Environment}

@@ -1,7 +1,7 @@
 -- The function of typing answers just the typings that there are (own).
 use Rattle.std.specs.Prelude.{◌≡◌, ◌↔◌, Some}
 use Rattle.cedar_ast.specs.Expression.{Expression}
-use Rattle.cedar_ast.specs.PolicyTree.{PolicyTree}
+use Rattle.cedar_policies.specs.PolicyTree.{PolicyTree}
 use Rattle.cedar_types.specs.declared.truth.Truth.{Truth}
 use Rattle.cedar_types.specs.declared.truth.Truth.TheVariants.{True, False}
 use Rattle.cedar_schema.specs.declared.schema.environment.Environment.{Environment}

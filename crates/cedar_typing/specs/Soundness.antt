@@ -9,9 +9,9 @@ use Rattle.cedar_ast.specs.declared.error.EvaluationError.TheVariants.{Overflow,
 use Rattle.cedar_ast.specs.Answer.{Answer}
 use Rattle.cedar_ast.specs.Expression.{Expression}
 use Rattle.cedar_ast.specs.Evaluation.{eval}
-use Rattle.cedar_ast.specs.PolicyTree.{PolicyTree}
-use Rattle.cedar_ast.specs.Condition.{condition_of}
-use Rattle.cedar_ast.specs.Response.{ErringTree, response}
+use Rattle.cedar_policies.specs.PolicyTree.{PolicyTree}
+use Rattle.cedar_policies.specs.Condition.{condition_of}
+use Rattle.cedar_policies.specs.Response.{ErringTree, response}
 use Rattle.cedar_schema.specs.declared.schema.environment.Environment.{Environment}
 use Rattle.cedar_types.specs.Types.{TypeTree}
 use Rattle.cedar_schema.specs.SchemaTree.{SchemaTree}

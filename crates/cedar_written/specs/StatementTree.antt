@@ -1,6 +1,6 @@
 -- A statement as it is written (Cedar language reference, policies).
 use Rattle.std.specs.Prelude.{ℕ, List}
-use Rattle.cedar_ast.specs.declared.effect.Effect.{Effect}
+use Rattle.cedar_policies.specs.declared.effect.Effect.{Effect}
 use Rattle.cedar_written.specs.declared.written_statement.WrittenAnnotation.{WrittenAnnotation}
 use Rattle.cedar_written.specs.declared.written_statement.WrittenScope.{WrittenScope}
 use Rattle.cedar_written.specs.declared.written_statement.WrittenCondition.{WrittenCondition}

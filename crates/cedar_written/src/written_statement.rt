@@ -2,7 +2,8 @@
 ghost use Rattle.std.specs.Prelude.{◌≡◌};
 
 use crate::written::Written;
-use cedar_ast::{ConditionKind, Effect, Variable};
+use cedar_ast::Variable;
+use cedar_policies::{ConditionKind, Effect};
 use cedar_tokens::{Content, Word, WrittenUid};
 use cedar_value::Name;
 use std::marker::Model;

@@ -1,7 +1,7 @@
 -- What a `Validated` and a `Ready` keep.
 use Rattle.std.specs.Prelude.{◌≡◌, List, map}
 use Rattle.cedar_value.specs.World.{World}
-use Rattle.cedar_ast.specs.PolicyTree.{PolicyTree}
+use Rattle.cedar_policies.specs.PolicyTree.{PolicyTree}
 use Rattle.cedar_schema.specs.SchemaTree.{SchemaTree}
 use Rattle.cedar_schema.specs.Conformance.{Conforms}
 use Rattle.cedar_code.specs.CodeView.{CodeView}

@@ -7,8 +7,8 @@ use Rattle.cedar_value.specs.Order.{text_cmp, uid_cmp}
 use Rattle.cedar_value.specs.World.{World}
 use Rattle.cedar_value.specs.declared.request.Request.{Request}
 use Rattle.cedar_value.specs.declared.uid.Uid.{Uid}
-use Rattle.cedar_ast.specs.PolicyTree.{PolicyTree}
-use Rattle.cedar_ast.specs.Response.{meaning}
+use Rattle.cedar_policies.specs.PolicyTree.{PolicyTree}
+use Rattle.cedar_policies.specs.Response.{meaning}
 use Rattle.cedar_schema.specs.SchemaTree.{SchemaTree, ActionTree, action_at}
 use Rattle.cedar_typing.specs.Candidates.{MayMeet, Meets}
 use Rattle.cedar_index.specs.Index.{IsIndexOf}

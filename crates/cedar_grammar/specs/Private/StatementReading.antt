@@ -2,8 +2,8 @@
 use Rattle.std.specs.Prelude.{ℕ, zero, suc, List, [], ◌∷◌, ◌++◌, length, Option, Some, None, Ok, Err, option_and_then, codes, if◌then◌else◌}
 use Rattle.std.specs.Str.{bytes_eq}
 use Rattle.cedar_ast.specs.declared.variable.Variable.{Variable}
-use Rattle.cedar_ast.specs.declared.effect.Effect.{Effect}
-use Rattle.cedar_ast.specs.declared.condition.ConditionKind.{ConditionKind}
+use Rattle.cedar_policies.specs.declared.effect.Effect.{Effect}
+use Rattle.cedar_policies.specs.declared.condition.ConditionKind.{ConditionKind}
 use Rattle.cedar_text.specs.declared.token_kind.TokenKind.TheVariants as k
 use Rattle.cedar_tokens.specs.Marks.{Mark, Marks}
 use Rattle.cedar_written.specs.Written.{Written}

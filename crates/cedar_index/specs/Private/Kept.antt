@@ -4,7 +4,7 @@ use Rattle.std.specs.Global.{Vec}
 use Rattle.indexmap.specs.IndexMap.{IndexMap, get}
 use Rattle.cedar_value.specs.Datum.{same_uid}
 use Rattle.cedar_value.specs.declared.uid.Uid.{Uid}
-use Rattle.cedar_ast.specs.declared.scope.Scope.{Scope}
+use Rattle.cedar_policies.specs.declared.scope.Scope.{Scope}
 use Rattle.cedar_store.specs.declared.uid_hashing.UidHashing.{UidHashing}
 use Rattle.cedar_index.specs.Reached.{uid_in}
 use Rattle.cedar_index.specs.declared.index.Index.{Index}

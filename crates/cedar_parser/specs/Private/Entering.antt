@@ -1,7 +1,7 @@
 -- What entering a statement ensures.
 use Rattle.std.specs.Prelude.{ℕ, ◌==◌, if◌then◌else◌, Contains}
-use Rattle.cedar_ast.specs.PolicySetTree.{PolicySetTree, id_of, ids_in}
-use Rattle.cedar_ast.specs.declared.statement.Statement.{Statement}
+use Rattle.cedar_policies.specs.PolicySetTree.{PolicySetTree, id_of, ids_in}
+use Rattle.cedar_policies.specs.declared.statement.Statement.{Statement}
 use Rattle.cedar_tokens.specs.declared.parse_fault.ParseFault.{ParseFault}
 use Rattle.cedar_tokens.specs.declared.parse_fault.ParseFault.TheVariants as f
 use Rattle.cedar_written.specs.StatementTree.{StatementTree}

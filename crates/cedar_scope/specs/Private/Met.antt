@@ -6,11 +6,11 @@ use Rattle.cedar_value.specs.Datum.{same_uid}
 use Rattle.cedar_value.specs.World.{World, below}
 use Rattle.cedar_value.specs.declared.request.Request.{Request}
 use Rattle.cedar_value.specs.declared.uid.Uid.{Uid}
-use Rattle.cedar_ast.specs.declared.scope.EntityScope.{EntityScope}
-use Rattle.cedar_ast.specs.declared.scope.EntityScope.TheVariants as entity
-use Rattle.cedar_ast.specs.declared.scope.ActionScope.{ActionScope}
-use Rattle.cedar_ast.specs.declared.scope.ActionScope.TheVariants as action
-use Rattle.cedar_ast.specs.declared.scope.Scope.{Scope}
+use Rattle.cedar_policies.specs.declared.scope.EntityScope.{EntityScope}
+use Rattle.cedar_policies.specs.declared.scope.EntityScope.TheVariants as entity
+use Rattle.cedar_policies.specs.declared.scope.ActionScope.{ActionScope}
+use Rattle.cedar_policies.specs.declared.scope.ActionScope.TheVariants as action
+use Rattle.cedar_policies.specs.declared.scope.Scope.{Scope}
 
 -- the one entity is the other, or below it
 abbrev pub is_within : World → Uid → Uid → Bool

@@ -1,8 +1,8 @@
 -- What holds of a job as it is kept.
 use Rattle.std.specs.Prelude.{◌≡◌, ℕ, ◌<◌, nat_lt, List, ◌∷◌, length, drop, All, Contains, Option, Some, None, is_some}
 use Rattle.cedar_value.specs.declared.request.Request.{Request}
-use Rattle.cedar_ast.specs.PolicyTree.{PolicyTree}
-use Rattle.cedar_ast.specs.Response.{ErringTree}
+use Rattle.cedar_policies.specs.PolicyTree.{PolicyTree}
+use Rattle.cedar_policies.specs.Response.{ErringTree}
 use Rattle.cedar_code.specs.Machine.{Configuration, start, Steps}
 use Rattle.cedar_machine.specs.RestingView.{RestingView}
 use Rattle.cedar_schema.specs.Conformance.{Fits}

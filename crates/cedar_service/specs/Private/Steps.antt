@@ -1,6 +1,6 @@
 -- One step of a job.
 use Rattle.std.specs.Prelude.{◌≡◌, Bool, true, List, [], ◌∷◌}
-use Rattle.cedar_ast.specs.PolicyTree.{PolicyTree}
+use Rattle.cedar_policies.specs.PolicyTree.{PolicyTree}
 use Rattle.cedar_histories.specs.Jobs.{JobTree, Advances, is_finished}
 
 -- a finished job stays as it is; another one advances, and it is told whether none is left

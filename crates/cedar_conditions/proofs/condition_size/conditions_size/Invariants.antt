@@ -1,5 +1,5 @@
 use Rattle.std.proofs.Common.{◌≡◌, ◌<◌, drop, length, map}
-use Rattle.cedar_ast.specs.Condition.{conditions_of}
+use Rattle.cedar_policies.specs.Condition.{conditions_of}
 use Rattle.cedar_conditions.specs.StatementMeaning.{to_condition}
 use Rattle.cedar_conditions.specs.Limits.{size_of}
 use Rattle.cedar_conditions.specs.Private.Capped.{capped}

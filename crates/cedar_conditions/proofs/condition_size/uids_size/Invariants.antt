@@ -1,5 +1,5 @@
 use Rattle.std.proofs.Common.{◌≡◌, take, map}
-use Rattle.cedar_ast.specs.Condition.{entity_literal}
+use Rattle.cedar_policies.specs.Condition.{entity_literal}
 use Rattle.cedar_ast.specs.Expression.{expressions_of}
 use Rattle.cedar_tokens.specs.Names.{to_uid}
 use Rattle.cedar_conditions.specs.Limits.{size_of_all}

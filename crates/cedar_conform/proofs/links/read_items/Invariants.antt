@@ -1,6 +1,6 @@
 use Rattle.std.proofs.Common.{length, ◌++◌, List}
 use Rattle.serde_json.specs.View.{items_view}
-use Rattle.cedar_ast.specs.declared.link.Link.{Link}
+use Rattle.cedar_policies.specs.declared.link.Link.{Link}
 use Rattle.cedar_conform.specs.Links.{DenoteLinks}
 use Rattle.cedar_conform.proofs.links.read_items.Given as goal
 

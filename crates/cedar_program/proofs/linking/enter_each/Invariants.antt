@@ -1,5 +1,5 @@
 use Rattle.std.proofs.Common.{ℕ, length}
-use Rattle.cedar_ast.specs.PolicySetTree.{PolicySetTree}
+use Rattle.cedar_policies.specs.PolicySetTree.{PolicySetTree}
 use Rattle.cedar_program.specs.LinksFile.{AreLinked, HaveLinkFault}
 use Rattle.cedar_program.proofs.linking.enter_each.Given as goal
 

@@ -1,5 +1,5 @@
 use Rattle.std.proofs.Common.{◌≢◌, subst}
-use Rattle.cedar_ast.specs.PolicySetTree.{PolicySetTree}
+use Rattle.cedar_policies.specs.PolicySetTree.{PolicySetTree}
 use Rattle.cedar_data.specs.declared.conform_fault.ConformFault.TheVariants.{OutOfMemory}
 use Rattle.cedar_entities.specs.Bytes.{BytesHaveFault}
 use Rattle.cedar_schema.specs.Conformance.{Conforms}

@@ -1,6 +1,6 @@
 use Rattle.std.proofs.Common.{Some, sym, ap, ◌∙◌}
-use Rattle.cedar_ast.specs.PolicyTree.{PolicyTree}
-use Rattle.cedar_ast.specs.Response.{meaning}
+use Rattle.cedar_policies.specs.PolicyTree.{PolicyTree}
+use Rattle.cedar_policies.specs.Response.{meaning}
 use Rattle.cedar_machine.specs.Verdict.{verdict_of}
 use Rattle.cedar_auth.proofs.Tallies.{tally_of-next, tally_of-none}
 use Rattle.cedar_auth.proofs.validated.Validated.tally.Goals.{in-Some+in_ok-verdict+in_ok-enter, in_default}

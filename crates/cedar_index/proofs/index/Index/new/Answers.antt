@@ -1,6 +1,6 @@
 use Rattle.std.proofs.Common.{◌≡◌, ◌+◌, get_or, take, Some, sym, ap, subst, ◌∙◌}
-use Rattle.cedar_ast.specs.PolicyTree.{PolicyTree}
-use Rattle.cedar_ast.specs.declared.scope.Scope.{Scope}
+use Rattle.cedar_policies.specs.PolicyTree.{PolicyTree}
+use Rattle.cedar_policies.specs.declared.scope.Scope.{Scope}
 use Rattle.cedar_index.specs.Index.{IsIndexOf}
 use Rattle.cedar_index.specs.Private.Kept.{IsKept, KeepsIndex}
 use Rattle.cedar_index.specs.declared.index.Index.{Index}

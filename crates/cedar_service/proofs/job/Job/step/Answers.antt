@@ -2,7 +2,7 @@ use Rattle.std.proofs.Common.{◌≡◌, ℕ, List, drop, false, ◌+◌, ◌<�
 use Rattle.std.specs.List.{slice_get}
 use Rattle.cedar_value.specs.World.{World}
 use Rattle.cedar_machine.specs.RestingView.{RestsAfter}
-use Rattle.cedar_ast.specs.PolicyTree.{PolicyTree}
+use Rattle.cedar_policies.specs.PolicyTree.{PolicyTree}
 use Rattle.cedar_schema.specs.Conformance.{Fits}
 use Rattle.cedar_auth.specs.Headline.{IsAnsweredSoundlyWith}
 use Rattle.cedar_auth.specs.Ready.{ReadyTree}

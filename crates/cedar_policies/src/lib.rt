@@ -1,0 +1,47 @@
+//! Policies of the Cedar policy language, the templates that they may be linked from, and the sets of both.
+//!
+//! ```rust
+//! use cedar_ast::Expr;
+//! use cedar_policies::{Effect, Policy, PolicySet, Statement};
+//!
+//! // `permit(principal, action, resource);`, with the id `policy0` and a scope that asks nothing
+//! let policy = Policy::new(id, annotations, Effect::Permit, scope, conditions);
+//! let condition: Expr = policy.condition(alloc)?;
+//! let mut policies = PolicySet::new(alloc);
+//! policies.add(Statement::Policy(policy))?;
+//! assert!(rt; policies.count() == 1);
+//! ```
+//!
+//! The definitions of a policy's condition, of a template's links and of the response stand in `specs/`.
+#![tactic(auto)]
+
+mod add_fault;
+mod annotation;
+mod condition;
+mod decision;
+mod effect;
+mod link;
+mod link_fault;
+mod linking;
+mod policy;
+mod policy_set;
+mod scope;
+mod slots;
+mod statement;
+mod template_scope;
+mod uids;
+
+pub use add_fault::AddFault;
+pub use annotation::Annotation;
+pub use condition::{Condition, ConditionKind};
+pub use decision::Decision;
+pub use effect::Effect;
+pub use link::Link;
+pub use link_fault::LinkFault;
+pub use policy::{Policy, PolicyOver, Template};
+pub use policy_set::PolicySet;
+pub use scope::{ActionScope, EntityScope, Scope};
+pub use slots::Slots;
+pub use statement::Statement;
+pub use template_scope::{EntityReference, TemplateEntityScope, TemplateScope};
+pub use uids::Uids;

@@ -15,20 +15,18 @@
 //! while resting.step(alloc, &code, &request, &store)? == Progress::Going {}
 //! ```
 //!
-//! What contracts see of a machine stands in `specs/`; the steps of an execution stand in `cedar_code`.
+//! What contracts see of a machine stands in `specs/`; the steps of an execution stand in `cedar_code`, its operand stack
+//! and the operators on it in `cedar_operators`.
 #![tactic(auto)]
 
 mod deciding;
 mod driving;
-mod entry;
 mod execution;
 mod machine;
 mod making;
-mod operators;
 mod owning;
 mod performing;
 mod resting;
-mod stack;
 mod state;
 
 pub use deciding::Operands;

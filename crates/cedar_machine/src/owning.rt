@@ -1,21 +1,19 @@
 //! One instruction over operands that borrow nothing.
-ghost use Rattle.std.specs.Prelude.{List, ◌≡◌, ◌<◌, ◌≤◌, ◌∷◌, length, IfOk, OnErr, option_copied};
+ghost use Rattle.std.specs.Prelude.{List, ◌≡◌, ◌<◌, ◌≤◌, ◌∷◌, length, IfOk, OnErr};
 ghost use Rattle.cedar_value.specs.Glance.{datum_seen};
-ghost use Rattle.cedar_ast.specs.Operators.{unary_of, source, get_in, attribute_of};
+ghost use Rattle.cedar_ast.specs.Operators.{unary_of, source, get_in};
 ghost use Rattle.cedar_code.specs.Machine.{arrive, give, next, on_top};
-ghost use Rattle.cedar_machine.specs.Private.Access.{IsNoAccess};
 ghost use Rattle.cedar_code.specs.declared.instruction.Instruction.{Instruction as InstructionTree};
 ghost use Rattle.cedar_machine.specs.Private.State.{led_to};
+ghost use Rattle.cedar_operators.specs.Access.{IsNoAccess};
 
-use crate::entry::Entry;
 use crate::making::{make_record, make_set};
-use crate::operators::unary_but_get;
 use crate::performing::{and_else, branch, combine, give, or_else, test};
-use crate::stack::Stack;
 use crate::state::Move;
-use cedar_ast::{EvaluationError, UnaryOperator};
+use cedar_ast::UnaryOperator;
 use cedar_code::Instruction;
-use cedar_value::{Glance, Hierarchy, Request, Value};
+use cedar_operators::{Entry, Stack, attribute_copy, unary_but_get};
+use cedar_value::{Glance, Hierarchy, Request};
 use std::alloc::{AllocError, Global};
 
 /// One instruction at a place, which copies what the code, the request or an entity would lend. Want of memory leaves the
@@ -128,39 +126,4 @@ fn get_owned<H: Hierarchy>(
     let answer = attribute_copy(alloc, top.glance(), key, hierarchy)?;
     let _ = stack.pop();
     Ok(give(next, stack, answer))
-}
-
-// A copy of the attribute that a value has.
-fn attribute_copy<H: Hierarchy>(
-    alloc: Global,
-    value: Glance<'_>,
-    key: &str,
-    hierarchy: &H,
-) -> Result<Result<Entry<'static>, EvaluationError>, AllocError>
-    ensures { IfOk result (λ a. a ≡ get_in key.now (source (H.world hierarchy.now) (datum_seen value.entry))) }
-{
-    match value {
-        Glance::Record(pairs) => copy_found(alloc, pairs.get(key)),
-        Glance::Uid(entity) => match hierarchy.attributes(entity) {
-            Some(pairs) => copy_found(alloc, pairs.get(key)),
-            None => Ok(Err(EvaluationError::MissingEntity)),
-        },
-        _ => Ok(Err(EvaluationError::Type)),
-    }
-}
-
-// A copy of the attribute that was found.
-fn copy_found(
-    alloc: Global,
-    found: Option<&Value>,
-) -> Result<Result<Entry<'static>, EvaluationError>, AllocError>
-    ensures { IfOk result (λ a. a ≡ attribute_of (option_copied found.entry)) }
-{
-    match found {
-        Some(value) => {
-            let copy = Entry::owned(alloc, value.glance())?;
-            Ok(Ok(copy))
-        }
-        None => Ok(Err(EvaluationError::MissingAttribute)),
-    }
 }

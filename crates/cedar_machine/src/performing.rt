@@ -6,13 +6,11 @@ ghost use Rattle.cedar_machine.specs.Private.State.{led_to, Pushes};
 ghost use Rattle.cedar_machine.specs.Progress.{TakesNoMemory};
 ghost use Rattle.cedar_ast.specs.Operators.{unary_of, binary_of};
 
-use crate::entry::Entry;
 use crate::making::{made_for, make_record, make_set};
-use crate::operators::{of_two, unary};
-use crate::stack::Stack;
 use crate::state::Move;
 use cedar_ast::{BinaryOperator, EvaluationError, UnaryOperator};
 use cedar_code::{Instruction, LiteralSet};
+use cedar_operators::{Entry, Stack, of_two, unary};
 use cedar_value::{Hierarchy, Request};
 use std::alloc::{AllocError, Global};
 

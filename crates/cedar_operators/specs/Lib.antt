@@ -1,0 +1,4 @@
+pub mod Access
+pub mod Private
+pub mod StackView
+pub mod Truth

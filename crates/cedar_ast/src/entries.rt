@@ -6,7 +6,7 @@ ghost use Rattle.cedar_ast.specs.RecordFault.{number_of, refused};
 use crate::expression::Expr;
 use crate::keys::{Keys, first_repeated};
 use crate::record_fault::RecordFault;
-use cedar_value::Text;
+use cedar_value::SharedText;
 use std::alloc::{AllocError, Global};
 use std::marker::Model;
 
@@ -15,7 +15,7 @@ use std::marker::Model;
 #[cycle(expression)]
 #[derive(Drop)]
 pub struct Entries {
-    pairs: Vec<(Text, Expr)>,
+    pairs: Vec<(SharedText, Expr)>,
 }
 
 impl Model for Entries {
@@ -47,7 +47,7 @@ impl Model for Entries {
 impl Entries {
     /// The entries of these pairs. A refusal hands them back: 203 where a key stands twice, 1 where memory was
     /// refused (Cedar language reference, records).
-    pub(crate) fn new(alloc: Global, pairs: Vec<(Text, Expr)>) -> Result<Self, RecordFault>
+    pub(crate) fn new(alloc: Global, pairs: Vec<(SharedText, Expr)>) -> Result<Self, RecordFault>
         ensures ok { IfOk result (λ r. r ≡ pairs.items) }
         ensures distinct { IfOk result (λ r. AreDistinct (keys_of r)) }
         ensures duplicate { IfErr result (λ fault. number_of fault ≡ 203 → AreDistinct (keys_of pairs.items) → ⊥) }
@@ -61,7 +61,7 @@ impl Entries {
     }
 
     /// Entries with the keys of others, in the same order.
-    pub(crate) fn with_keys_of(others: &Entries, pairs: Vec<(Text, Expr)>) -> Self
+    pub(crate) fn with_keys_of(others: &Entries, pairs: Vec<(SharedText, Expr)>) -> Self
         requires { keys_of pairs.items ≡ keys_of others.now }
         ensures { result ≡ pairs.items }
     {
@@ -71,7 +71,7 @@ impl Entries {
     }
 
     /// The entries in order, lent.
-    pub fn pairs(&self) -> &[(Text, Expr)]
+    pub fn pairs(&self) -> &[(SharedText, Expr)]
         ensures pairs { result.now ≡ self.now }
         ensures distinct { AreDistinct (keys_of self.now) }
     {
@@ -99,29 +99,32 @@ impl Entries {
 }
 
 #[cycle(copy)]
-fn clone_pairs(alloc: Global, pairs: &[(Text, Expr)]) -> Result<Vec<(Text, Expr)>, AllocError>
+fn clone_pairs(
+    alloc: Global,
+    pairs: &[(SharedText, Expr)],
+) -> Result<Vec<(SharedText, Expr)>, AllocError>
     ensures { IfOk result (λ v. v.items ≡ pairs.now) }
 {
     let mut copies = Vec::new(alloc);
     for pair in pairs {
-        copies.push((pair.0.try_clone(alloc)?, pair.1.try_clone(alloc)?))?;
+        copies.push((pair.0.share()?, pair.1.try_clone(alloc)?))?;
     }
     Ok(copies)
 }
 
 // The keys of the pairs.
-fn copy_keys(alloc: Global, pairs: &[(Text, Expr)]) -> Result<Vec<Text>, AllocError>
+fn copy_keys(alloc: Global, pairs: &[(SharedText, Expr)]) -> Result<Vec<SharedText>, AllocError>
     ensures { IfOk result (λ v. v.items ≡ keys_of pairs.now) }
 {
     let mut keys = Vec::new(alloc);
     for pair in pairs {
-        keys.push(pair.0.try_clone(alloc)?)?;
+        keys.push(pair.0.share()?)?;
     }
     Ok(keys)
 }
 
 // Whether no key stands twice.
-fn are_distinct(alloc: Global, pairs: &[(Text, Expr)]) -> Result<bool, AllocError>
+fn are_distinct(alloc: Global, pairs: &[(SharedText, Expr)]) -> Result<bool, AllocError>
     ensures { IfOk result (λ b. IsTrue b ↔ AreDistinct (keys_of pairs.now)) }
 {
     let keys = lent_keys(alloc, pairs)?;
@@ -129,7 +132,7 @@ fn are_distinct(alloc: Global, pairs: &[(Text, Expr)]) -> Result<bool, AllocErro
 }
 
 // The keys of the pairs, lent.
-fn lent_keys<'a>(alloc: Global, pairs: &'a [(Text, Expr)]) -> Result<Vec<&'a str>, AllocError>
+fn lent_keys<'a>(alloc: Global, pairs: &'a [(SharedText, Expr)]) -> Result<Vec<&'a str>, AllocError>
     ensures { IfOk result (λ v. map (λ k. k.now) v.items ≡ keys_of pairs.now) }
 {
     let mut keys = Vec::new(alloc);

@@ -3,7 +3,7 @@ ghost use Rattle.std.specs.Prelude.{◌≡◌, ◌↔◌, IsTrue};
 
 use crate::expression::{Expr, ExprKind};
 use crate::operator::same_operator;
-use cedar_value::Text;
+use cedar_value::SharedText;
 
 impl PartialEq for Expr {
     ghost use Rattle.std.specs.Cmp.{partial_equiv_from_equiv};
@@ -95,7 +95,7 @@ fn same_members(one: &[Expr], two: &[Expr]) -> bool
 
 // Whether the two lists of keys and expressions are equal.
 #[cycle(same)]
-fn same_pairs(one: &[(Text, Expr)], two: &[(Text, Expr)]) -> bool
+fn same_pairs(one: &[(SharedText, Expr)], two: &[(SharedText, Expr)]) -> bool
     ensures { IsTrue result ↔ (one.now ≡ two.now) }
 {
     if one.len() != two.len() {

@@ -11,7 +11,7 @@ use crate::operator::{BinaryOperator, UnaryOperator};
 use crate::record_fault::RecordFault;
 use crate::replacement::replaced;
 use crate::variable::Variable;
-use cedar_value::{Text, Uid, Value};
+use cedar_value::{SharedText, Uid, Value};
 use std::alloc::{AllocError, Global};
 use std::marker::Model;
 
@@ -148,7 +148,7 @@ impl Expr {
 
     /// The record of these keys with their expressions, in the order in which they are written. A refusal hands them
     /// back: 203 where a key stands twice, 1 where memory was refused (Cedar language reference, records).
-    pub fn record(alloc: Global, pairs: Vec<(Text, Expr)>) -> Result<Self, RecordFault>
+    pub fn record(alloc: Global, pairs: Vec<(SharedText, Expr)>) -> Result<Self, RecordFault>
         ensures ok { IfOk result (λ e. e ≡ record_with (entries_of pairs.items)) }
         ensures distinct { IfOk result (λ e. AreDistinct (keys_of pairs.items)) }
         ensures duplicate { IfErr result (λ fault. number_of fault ≡ 203 → AreDistinct (keys_of pairs.items) → ⊥) }

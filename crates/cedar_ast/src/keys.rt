@@ -2,7 +2,7 @@
 ghost use Rattle.std.specs.Prelude.{◌≡◌, IfOk, IfSome, MatchOption, map};
 ghost use Rattle.cedar_ast.specs.Keys.{AreDistinct, IsFirstRepeated};
 
-use cedar_value::Text;
+use cedar_value::SharedText;
 use std::alloc::{AllocError, Global};
 use std::collections::BTreeSet;
 use std::marker::Model;
@@ -10,7 +10,7 @@ use std::marker::Model;
 /// Keys of which none stands twice, in the order in which they are written. Contracts see the list of their bytes.
 #[derive(Drop)]
 pub struct Keys {
-    pub(crate) texts: Vec<Text>,
+    pub(crate) texts: Vec<SharedText>,
 }
 
 impl Model for Keys {
@@ -26,7 +26,7 @@ impl Model for Keys {
 
 impl Keys {
     /// The keys in order, lent.
-    pub fn texts(&self) -> &[Text]
+    pub fn texts(&self) -> &[SharedText]
         ensures texts { result.now ≡ self.now }
         ensures distinct { AreDistinct self.now }
     {

@@ -3,7 +3,7 @@ ghost use Rattle.std.specs.Prelude.{◌≡◌};
 ghost use Rattle.cedar_ast.specs.RecordFault.{number_of, refused};
 
 use crate::expression::Expr;
-use cedar_value::Text;
+use cedar_value::SharedText;
 use std::fmt;
 use thiserror::Error;
 
@@ -12,10 +12,10 @@ use thiserror::Error;
 pub enum RecordFault {
     /// 1: memory was refused.
     #[error("out of memory")]
-    OutOfMemory(Vec<(Text, Expr)>),
+    OutOfMemory(Vec<(SharedText, Expr)>),
     /// 203: a key stands twice.
     #[error("a key stands twice")]
-    DuplicateKey(Vec<(Text, Expr)>),
+    DuplicateKey(Vec<(SharedText, Expr)>),
 }
 
 impl RecordFault {
@@ -30,7 +30,7 @@ impl RecordFault {
     }
 
     /// The pairs that were handed in.
-    pub fn into_pairs(self) -> Vec<(Text, Expr)>
+    pub fn into_pairs(self) -> Vec<(SharedText, Expr)>
         ensures { result.items ≡ refused self }
     {
         match self {

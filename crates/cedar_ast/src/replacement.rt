@@ -7,7 +7,7 @@ ghost use Rattle.cedar_ast.specs.Private.Replaced.{replace_pair};
 use crate::entries::Entries;
 use crate::expression::{Expr, ExprKind};
 use crate::variable::Variable;
-use cedar_value::{Text, Uid, Value};
+use cedar_value::{SharedText, Uid, Value};
 use std::alloc::{AllocError, Global};
 
 /// A copy of the expression with the action replaced.
@@ -51,7 +51,7 @@ fn replaced_variable(alloc: Global, name: Variable, action: &Uid) -> Result<Expr
     ensures { IfOk result (λ e. e ≡ replace_variable action.now name) }
 {
     match name {
-        Variable::Action => Ok(Expr::literal(Value::uid(action.try_clone(alloc)?))),
+        Variable::Action => Ok(Expr::literal(Value::uid(alloc, action.try_clone(alloc)?)?)),
         other => Ok(Expr::variable(other)),
     }
 }
@@ -90,14 +90,14 @@ fn replaced_record(alloc: Global, entries: &Entries, action: &Uid) -> Result<Exp
 #[cycle(replace)]
 fn replaced_pairs(
     alloc: Global,
-    pairs: &[(Text, Expr)],
+    pairs: &[(SharedText, Expr)],
     action: &Uid,
-) -> Result<Vec<(Text, Expr)>, AllocError>
+) -> Result<Vec<(SharedText, Expr)>, AllocError>
     ensures { IfOk result (λ v. v.items ≡ map (replace_pair action.now) pairs.now) }
 {
     let mut copies = Vec::new(alloc);
     for pair in pairs {
-        copies.push((pair.0.try_clone(alloc)?, replaced(alloc, &pair.1, action)?))?;
+        copies.push((pair.0.share()?, replaced(alloc, &pair.1, action)?))?;
     }
     Ok(copies)
 }

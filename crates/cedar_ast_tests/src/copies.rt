@@ -2,7 +2,7 @@
 use crate::uids::uid;
 use cedar_ast::{BinaryOperator, Expr, ExprKind, Keys, UnaryOperator, Variable};
 use cedar_ext::{Element, Pattern};
-use cedar_value::{Name, Text, Value};
+use cedar_value::{Name, SharedText, Text, Value};
 use std::alloc::{AllocError, Global};
 use std::test::Fail;
 
@@ -11,7 +11,7 @@ fn text(alloc: Global, content: &str) -> Result<Text, AllocError> {
 }
 
 fn name(alloc: Global, content: &str) -> Result<Name, AllocError> {
-    Ok(Name::new(text(alloc, content)?))
+    Name::new(alloc, text(alloc, content)?)
 }
 
 fn like(alloc: Global, elements: &[Element]) -> Result<UnaryOperator, AllocError> {
@@ -45,8 +45,8 @@ fn one() -> Expr {
 }
 
 /// The pair of a key and an expression.
-fn pair(alloc: Global, key: &str, value: Expr) -> Result<Vec<(Text, Expr)>, AllocError> {
-    Ok(vec![in alloc; (text(alloc, key)?, value)]?)
+fn pair(alloc: Global, key: &str, value: Expr) -> Result<Vec<(SharedText, Expr)>, AllocError> {
+    Ok(vec![in alloc; (SharedText::read(alloc, key)?, value)]?)
 }
 
 /// `{key: value}`
@@ -104,7 +104,7 @@ fn is_replaced(alloc: Global, written: Expr, wanted: Expr) -> Result<bool, Fail>
 
 /// The literal uid of `view`.
 fn view(alloc: Global) -> Result<Expr, AllocError> {
-    Ok(Expr::literal(Value::uid(uid(alloc, "Action", "view")?)))
+    Ok(Expr::literal(Value::uid(alloc, uid(alloc, "Action", "view")?)?))
 }
 
 #[test]
@@ -168,9 +168,13 @@ fn the_action_is_replaced_in_entries(rt: HostRuntime) -> Result<(), Fail> {
 }
 
 /// The pairs of two keys, in this order.
-fn two_pairs(alloc: Global, first: &str, second: &str) -> Result<Vec<(Text, Expr)>, AllocError> {
+fn two_pairs(
+    alloc: Global,
+    first: &str,
+    second: &str,
+) -> Result<Vec<(SharedText, Expr)>, AllocError> {
     let mut pairs = pair(alloc, first, one())?;
-    pairs.push((text(alloc, second)?, action()))?;
+    pairs.push((SharedText::read(alloc, second)?, action()))?;
     Ok(pairs)
 }
 

@@ -25,7 +25,7 @@ fn one_slot(alloc: Global) -> Result<Statement, AllocError> {
 
 /// `principal is User in ?principal, action in [Action::"view"], resource in ?resource`
 fn scope_of_two(alloc: Global) -> Result<TemplateScope, AllocError> {
-    let ty = Name::new(Text::read(alloc, "User")?);
+    let ty = Name::new(alloc, Text::read(alloc, "User")?)?;
     let actions = vec![in alloc; uid(alloc, "Action", "view")?]?;
     Ok(TemplateScope {
         principal: TemplateEntityScope::IsIn(ty, EntityReference::Slot),
@@ -251,7 +251,7 @@ fn compared(
     ty: &str,
     id: &str,
 ) -> Result<Expr, AllocError> {
-    let entity = Expr::literal(Value::uid(uid(alloc, ty, id)?));
+    let entity = Expr::literal(Value::uid(alloc, uid(alloc, ty, id)?)?);
     Expr::binary(alloc, operator, Expr::variable(variable), entity)
 }
 
@@ -310,7 +310,7 @@ fn a_template_without_slots_may_be_linked(rt: HostRuntime) -> Result<(), Fail> {
 
 /// `principal is User && principal in User::"ann"`
 fn asked_of_principal(alloc: Global) -> Result<Expr, AllocError> {
-    let ty = Name::new(Text::read(alloc, "User")?);
+    let ty = Name::new(alloc, Text::read(alloc, "User")?)?;
     let principal = Expr::variable(Variable::Principal);
     let of_type = Expr::unary(alloc, UnaryOperator::Is(ty), principal)?;
     let operator = BinaryOperator::In;
@@ -320,7 +320,7 @@ fn asked_of_principal(alloc: Global) -> Result<Expr, AllocError> {
 
 /// `action in [Action::"view"]`
 fn asked_of_action(alloc: Global) -> Result<Expr, AllocError> {
-    let view = Expr::literal(Value::uid(uid(alloc, "Action", "view")?));
+    let view = Expr::literal(Value::uid(alloc, uid(alloc, "Action", "view")?)?);
     let actions = Expr::set(vec![in alloc; view]?);
     let action = Expr::variable(Variable::Action);
     Expr::binary(alloc, BinaryOperator::In, action, actions)

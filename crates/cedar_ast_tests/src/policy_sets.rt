@@ -5,7 +5,7 @@ use cedar_policies::{
     ActionScope, AddFault, Condition, ConditionKind, Effect, EntityReference, EntityScope, Policy,
     PolicySet, Scope, Statement, Template, TemplateEntityScope, TemplateScope,
 };
-use cedar_value::{Text, Value};
+use cedar_value::{SharedText, Text, Value};
 use std::alloc::{AllocError, Global};
 use std::test::Fail;
 
@@ -240,9 +240,9 @@ fn a_condition_asks_the_scope_before_the_rest(rt: HostRuntime) -> Result<(), Fai
 }
 
 /// Two pairs of these keys.
-fn two_pairs(alloc: Global, one: &str, other: &str) -> Result<Vec<(Text, Expr)>, AllocError> {
-    let one = Text::read(alloc, one)?;
-    let other = Text::read(alloc, other)?;
+fn two_pairs(alloc: Global, one: &str, other: &str) -> Result<Vec<(SharedText, Expr)>, AllocError> {
+    let one = SharedText::read(alloc, one)?;
+    let other = SharedText::read(alloc, other)?;
     Ok(vec![in alloc;
         (one, Expr::variable(Variable::Context)),
         (other, Expr::variable(Variable::Action)),
@@ -255,7 +255,7 @@ fn has_two_entries(record: &Expr) -> bool {
 }
 
 /// The number of the refusal of a record of these pairs, of which two are handed back; 0 where it is made, of two entries.
-fn number_of(alloc: Global, pairs: Vec<(Text, Expr)>) -> Option<u16> {
+fn number_of(alloc: Global, pairs: Vec<(SharedText, Expr)>) -> Option<u16> {
     match Expr::record(alloc, pairs) {
         Ok(record) => {
             let is_whole = has_two_entries(&record);

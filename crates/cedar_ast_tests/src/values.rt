@@ -1,7 +1,9 @@
 //! Values from the language's documents, and each call once on its way.
 use crate::uids::uid;
 use cedar_ext::Decimal;
-use cedar_value::{Glance, Name, Record, Request, Text, Uid, Value, ValueKind, ValueSet};
+use cedar_value::{
+    Glance, Name, Record, Request, SharedText, Text, Uid, Value, ValueKind, ValueSet,
+};
 use std::alloc::{AllocError, Global};
 use std::cmp::Ordering;
 use std::test::Fail;
@@ -21,7 +23,7 @@ fn longs(alloc: Global, numbers: &[i64]) -> Result<ValueSet, AllocError> {
 fn record(alloc: Global, keys: &[&str]) -> Result<Option<Record>, AllocError> {
     let mut pairs = Vec::new(alloc);
     for key in keys {
-        pairs.push((Text::read(alloc, key)?, text(alloc, key)?))?;
+        pairs.push((SharedText::read(alloc, key)?, text(alloc, key)?))?;
     }
     Record::from_pairs(pairs)
 }
@@ -36,7 +38,7 @@ fn ascending(alloc: Global) -> Result<Vec<Value>, Fail> {
         values.push(text(alloc, content)?)?;
     }
     for (ty, id) in [("A", "a"), ("A", "b"), ("A1", ""), ("A::B", ""), ("B", "")] {
-        values.push(Value::uid(uid(alloc, ty, id)?))?;
+        values.push(Value::uid(alloc, uid(alloc, ty, id)?)?)?;
     }
     for numbers in [
         [].as_slice(),
@@ -171,7 +173,8 @@ fn uids_stand_in_order(rt: HostRuntime) -> Result<(), Fail> {
 
 #[test]
 fn a_uid_is_a_value(rt: HostRuntime) -> Result<(), Fail> {
-    let owner = Value::uid(uid(rt.alloc(), "Doc", "d")?);
+    let alloc = rt.alloc();
+    let owner = Value::uid(alloc, uid(alloc, "Doc", "d")?)?;
     match owner.kind() {
         ValueKind::Uid(uid) => assert_eq!(rt; uid.id.as_str(), "d"),
         _ => assert!(rt; false),

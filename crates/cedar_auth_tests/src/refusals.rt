@@ -93,7 +93,7 @@ fn policy(alloc: Global, body: Expr) -> Result<Policy, AllocError> {
     let mut conditions = Vec::new(alloc);
     let kind = ConditionKind::When;
     conditions.push(Condition { kind, body })?;
-    let team = Name::new(Text::read(alloc, "Team")?);
+    let team = Name::new(alloc, Text::read(alloc, "Team")?)?;
     let scope = Scope {
         principal: EntityScope::Is(team),
         action: ActionScope::Any,

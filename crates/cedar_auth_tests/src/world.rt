@@ -3,7 +3,7 @@ use cedar_auth::{Ready, Validated};
 use cedar_parser::parse;
 use cedar_schema::Schema;
 use cedar_typing::Settings;
-use cedar_value::{Name, Record, Request, Text, Uid, Value};
+use cedar_value::{Name, Record, Request, SharedText, Text, Uid, Value};
 use std::alloc::{AllocError, Global};
 use std::test::Fail;
 
@@ -86,7 +86,7 @@ pub fn ready(alloc: Global, policies: &str) -> Result<Ready, Fail> {
 
 fn uid(alloc: Global, ty: &str, id: &str) -> Result<Uid, AllocError> {
     Ok(Uid {
-        ty: Name::new(Text::read(alloc, ty)?),
+        ty: Name::new(alloc, Text::read(alloc, ty)?)?,
         id: Text::read(alloc, id)?,
     })
 }
@@ -107,7 +107,7 @@ pub struct Asked {
 fn context(alloc: Global, n: Option<i64>) -> Result<Record, Fail> {
     let mut pairs = Vec::new(alloc);
     if let Some(n) = n {
-        pairs.push((Text::read(alloc, "n")?, Value::long(n)))?;
+        pairs.push((SharedText::read(alloc, "n")?, Value::long(n)))?;
     }
     match Record::from_pairs(pairs)? {
         Some(record) => Ok(record),

@@ -14,7 +14,7 @@ use cedar_rules::{
 };
 use cedar_schema::{Environment, RecordType, Schema, Truth, Type, TypeKind};
 use cedar_typing::Settings;
-use cedar_value::Text;
+use cedar_value::SharedText;
 use std::alloc::{AllocError, Global};
 
 /// The type of an expression under these settings, in an environment where these capabilities are held, and
@@ -377,7 +377,7 @@ fn check_record<'a>(
     schema: &'a Schema,
     environment: &'a Environment,
     held: &[Capability<'a>],
-    pairs: &'a [(Text, Expr)],
+    pairs: &'a [(SharedText, Expr)],
 ) -> Result<Typing<'a>, AllocError>
     requires { AreDistinct (keys_of pairs.now) }
     ensures { IfOk result (λ t. typing_view t ≡ type_of_with settings schema.now environment.now (held_view held.now) (record_with (entries_of pairs.now))) }

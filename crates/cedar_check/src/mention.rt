@@ -4,7 +4,7 @@ ghost use Rattle.cedar_ast.specs.Expression.{entries_of, expressions_of};
 ghost use Rattle.cedar_check.specs.Private.Mention.{is_action, mentions, any_mentions, entries_mention};
 
 use cedar_ast::{Expr, ExprKind, Variable};
-use cedar_value::Text;
+use cedar_value::SharedText;
 
 // Whether the variable is the action.
 fn is_action(variable: Variable) -> bool
@@ -51,7 +51,7 @@ fn members_mention(members: &[Expr]) -> bool
 
 // Whether it stands in the value of one of these entries.
 #[cycle(mention)]
-fn entries_mention(pairs: &[(Text, Expr)]) -> bool
+fn entries_mention(pairs: &[(SharedText, Expr)]) -> bool
     ensures { result ≡ entries_mention (entries_of pairs.now) }
 {
     for pair in pairs {

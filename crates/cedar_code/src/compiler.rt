@@ -9,7 +9,7 @@ use crate::instruction::Instruction;
 use crate::literal::Literal;
 use crate::literal_set::literal_sets;
 use cedar_ast::{Expr, ExprKind};
-use cedar_value::Text;
+use cedar_value::SharedText;
 use std::alloc::{AllocError, Global};
 
 /// How many instructions a code has at most.
@@ -76,7 +76,7 @@ fn count_members(members: &[Expr]) -> usize
 
 // Those of the values of a record, or the greatest number.
 #[cycle(count)]
-fn count_entries(pairs: &[(Text, Expr)]) -> usize
+fn count_entries(pairs: &[(SharedText, Expr)]) -> usize
     ensures { result ≡ min (size_entries (entries_of pairs.now)) usize.MAX }
 {
     let mut count: usize = 0;
@@ -125,7 +125,7 @@ fn members_height(members: &[Expr]) -> usize
 
 // The greatest height over the values of a record, each on those before it.
 #[cycle(height)]
-fn entries_height(pairs: &[(Text, Expr)]) -> usize
+fn entries_height(pairs: &[(SharedText, Expr)]) -> usize
     requires { size_entries (entries_of pairs.now) ≤ most_instructions }
     ensures high { result ≡ height_entries (entries_of pairs.now) }
     ensures low { result ≤ size_entries (entries_of pairs.now) }
@@ -219,7 +219,7 @@ fn emit_members(
 fn emit_entries(
     alloc: Global,
     code: &mut Vec<Instruction>,
-    pairs: &[(Text, Expr)],
+    pairs: &[(SharedText, Expr)],
 ) -> Result<(), AllocError>
     ensures { OnOk result (code.new.items ≡ code.old.items ++ code_entries (length code.old.items) (entries_of pairs.now)) }
 {

@@ -1,6 +1,6 @@
 //! Values and uids as texts: a record as `{key: value}`, a set as `[members]`, both ascending; a decimal as its
 //! ten-thousandths and `d`.
-use cedar_value::{Record, Text, Uid, Value, ValueKind};
+use cedar_value::{Record, SharedText, Text, Uid, Value, ValueKind};
 use std::alloc::{AllocError, Global};
 
 // No value of these tests nests deeper.
@@ -80,7 +80,7 @@ fn push_members(
 fn push_pairs(
     alloc: Global,
     text: &mut String,
-    pairs: &[(Text, Value)],
+    pairs: &[(SharedText, Value)],
     depth: u32,
 ) -> Result<(), AllocError> {
     text.push_str("{")?;

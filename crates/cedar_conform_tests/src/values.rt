@@ -186,7 +186,7 @@ fn check_rows(rt: &impl Abort, alloc: Global, kinds: &Type) -> Result<(), Fail> 
 fn values_by_their_types(rt: HostRuntime) -> Result<(), Fail> {
     let alloc = rt.alloc();
     let schema = Schema::read(alloc, KINDS.as_bytes())?;
-    let name = Name::new(Text::read(alloc, "Kinds")?);
+    let name = Name::new(alloc, Text::read(alloc, "Kinds")?)?;
     match schema.attributes(&name) {
         Some(kinds) => check_rows(&rt, alloc, kinds),
         None => {

@@ -1,5 +1,5 @@
 -- The test of membership, kind by kind: a value of another kind is no member.
-use Rattle.std.proofs.Common.{◌≡◌, ◌==◌, ℕ, suc, ℤ, Bool, false, length, List, [], ◌∷◌, Some, None, refl, sym, ap, ◌∙◌, arith}
+use Rattle.std.proofs.Common.{◌≡◌, ◌==◌, ℕ, suc, ℤ, Bool, Box, Global, false, length, List, [], ◌∷◌, Some, None, refl, sym, ap, ◌∙◌, arith}
 use Rattle.cedar_value.specs.Datum.{Datum}
 use Rattle.cedar_value.specs.ValueKind.{datum_of}
 use Rattle.cedar_value.specs.declared.uid.Uid.{Uid as EntityUid}
@@ -34,7 +34,7 @@ unfolding is_member
 other_string (String y) h = absurd (h y refl)
 other_string _ h = refl
 
-pub other_entity : (n : List ℕ) (l : ValueKind) → ((y : EntityUid) → l ≡ Uid y → ⊥) → IsOther (kind.entity n) l
+pub other_entity : (n : List ℕ) (l : ValueKind) → ((y : Box EntityUid Global) → l ≡ Uid y → ⊥) → IsOther (kind.entity n) l
 unfolding is_member
 other_entity n (Uid y) h = absurd (h y refl)
 other_entity n _ h = refl

@@ -9,7 +9,7 @@ ghost use Rattle.cedar_data.specs.Values.{allows};
 ghost use Rattle.cedar_data.specs.Private.MemberTest.{are_fields, behind, is_member, unless_required};
 
 use cedar_types::{Attribute, RecordType, Truth, Type, TypeKind};
-use cedar_value::{Record, Text, Value, ValueKind};
+use cedar_value::{Record, SharedText, Value, ValueKind};
 use std::cmp::Ordering;
 
 /// Whether the value belongs to the type (cedar-spec, Lean: Cedar.Validation, instances of types). Takes
@@ -77,7 +77,7 @@ fn all_belong(member: &Type, values: &[Value]) -> bool
 }
 
 #[cycle(member)]
-fn are_fields(attributes: &[Attribute], pairs: &[(Text, Value)]) -> bool
+fn are_fields(attributes: &[Attribute], pairs: &[(SharedText, Value)]) -> bool
     ensures { result ≡ are_fields (attributes_of attributes.now) pairs.now }
 {
     let mut rest = attributes;
@@ -94,7 +94,10 @@ fn are_fields(attributes: &[Attribute], pairs: &[(Text, Value)]) -> bool
 
 // The pairs behind what stands at the attribute's name, None where it may not stand there.
 #[cycle(member)]
-fn behind<'p>(attribute: &Attribute, pairs: &'p [(Text, Value)]) -> Option<&'p [(Text, Value)]>
+fn behind<'p>(
+    attribute: &Attribute,
+    pairs: &'p [(SharedText, Value)],
+) -> Option<&'p [(SharedText, Value)]>
     ensures { option_map (λ ps. ps.now) result ≡ behind attribute.now.name attribute.now.required (is_member attribute.now.ty) pairs.now }
 {
     match pairs.split_first() {
@@ -115,8 +118,8 @@ fn behind<'p>(attribute: &Attribute, pairs: &'p [(Text, Value)]) -> Option<&'p [
 
 fn unless_required<'p>(
     attribute: &Attribute,
-    pairs: &'p [(Text, Value)],
-) -> Option<&'p [(Text, Value)]>
+    pairs: &'p [(SharedText, Value)],
+) -> Option<&'p [(SharedText, Value)]>
     ensures { option_map (λ ps. ps.now) result ≡ unless_required attribute.now.required pairs.now }
 {
     if attribute.required {

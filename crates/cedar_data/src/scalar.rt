@@ -62,7 +62,7 @@ pub(crate) fn read_entity(alloc: Global, name: &Name, json: &Json) -> Result<Val
     if found.ty != name.as_str() {
         return Err(ConformFault::WrongType);
     }
-    Ok(Value::uid(uid_of(alloc, name, found.id)?))
+    Ok(Value::uid(alloc, uid_of(alloc, name, found.id)?)?)
 }
 
 // The uid of a type with this id.

@@ -12,7 +12,7 @@ use crate::conform_fault::ConformFault;
 use crate::object::size_of;
 use crate::scalar::{read_decimal, read_entity, read_long, read_text, read_truth};
 use cedar_types::{Attribute, RecordType, Type, TypeKind};
-use cedar_value::{Record, Text, Value, ValueSet};
+use cedar_value::{Record, SharedText, Value, ValueSet};
 use serde_json::{Map, Value as Json};
 use std::alloc::Global;
 
@@ -107,7 +107,7 @@ fn read_fields(
     alloc: Global,
     attributes: &[Attribute],
     json: &Json,
-) -> Result<Vec<(Text, Value)>, ConformFault>
+) -> Result<Vec<(SharedText, Value)>, ConformFault>
     ensures { MatchResult result
         (λ v. ((fields_read (attributes_of attributes.now) (view json.now)).faults ≡ []) × (v.items ≡ (fields_read (attributes_of attributes.now) (view json.now)).pairs))
         (λ e. Told (fields_read (attributes_of attributes.now) (view json.now)).faults e) }
@@ -126,7 +126,7 @@ fn read_fields(
 #[cycle(read)]
 fn add_field(
     alloc: Global,
-    pairs: &mut Vec<(Text, Value)>,
+    pairs: &mut Vec<(SharedText, Value)>,
     attribute: &Attribute,
     json: &Json,
 ) -> Result<(), ConformFault>
@@ -136,7 +136,7 @@ fn add_field(
     match json.get(attribute.name.as_str()) {
         Some(found) => {
             let value = read_value(alloc, found, &attribute.ty)?;
-            let key = attribute.name.try_clone(alloc)?;
+            let key = attribute.name.share()?;
             pairs.push((key, value))?;
             Ok(())
         }

@@ -1,7 +1,7 @@
 //! Expressions that the tests of codes, of runs and of steps are made of.
 use crate::held::{made, once};
 use cedar_ast::Expr;
-use cedar_value::{Text, Value};
+use cedar_value::{SharedText, Value};
 use std::alloc::{AllocError, Global};
 use std::test::Fail;
 
@@ -45,11 +45,11 @@ pub fn set_of_first(alloc: Global, count: i64) -> Result<Expr, AllocError> {
 
 fn push_numbers(
     alloc: Global,
-    pairs: &mut Vec<(Text, Expr)>,
+    pairs: &mut Vec<(SharedText, Expr)>,
     written: &[(&str, i64)],
 ) -> Result<(), AllocError> {
     for (key, number) in written {
-        pairs.push((Text::read(alloc, key)?, long(*number)))?;
+        pairs.push((SharedText::read(alloc, key)?, long(*number)))?;
     }
     Ok(())
 }

@@ -7,7 +7,7 @@ use crate::plain_fault::PlainFault;
 use cedar_ast::{BinaryOperator, EvaluationError, Expr, ExprKind, UnaryOperator, Variable};
 use cedar_ext::{Decimal, Element, Pattern};
 use cedar_store::Hierarchy;
-use cedar_value::{Record, Request, Text, Uid, Value, ValueKind, ValueSet};
+use cedar_value::{Record, Request, SharedText, Uid, Value, ValueKind, ValueSet};
 use std::alloc::Global;
 
 /// The value of an expression. Operands are evaluated from left to right, the first error is the result, and only then
@@ -72,14 +72,14 @@ fn evaluate_all<H: Hierarchy>(
 #[cycle(evaluation)]
 fn evaluate_entries<H: Hierarchy>(
     alloc: Global,
-    entries: &[(Text, Expr)],
+    entries: &[(SharedText, Expr)],
     request: &Request,
     world: &H,
-) -> Result<Vec<(Text, Value)>, PlainFault> {
+) -> Result<Vec<(SharedText, Value)>, PlainFault> {
     let mut pairs = Vec::new(alloc);
     for entry in entries {
         let value = evaluate(alloc, &entry.1, request, world)?;
-        pairs.push((entry.0.try_clone(alloc)?, value))?;
+        pairs.push((entry.0.share()?, value))?;
     }
     Ok(pairs)
 }
@@ -99,7 +99,7 @@ fn variable(alloc: Global, name: Variable, request: &Request) -> Result<Value, P
 }
 
 fn reference(alloc: Global, uid: &Uid) -> Result<Value, PlainFault> {
-    Ok(Value::uid(uid.try_clone(alloc)?))
+    Ok(Value::uid(alloc, uid.try_clone(alloc)?)?)
 }
 
 fn truth_of(answer: Result<Value, PlainFault>) -> Result<bool, PlainFault> {
@@ -116,7 +116,7 @@ fn set_of(members: Result<Vec<Value>, PlainFault>) -> Result<Value, PlainFault> 
 }
 
 // A record expression that is read never has a key twice.
-fn record_of(pairs: Result<Vec<(Text, Value)>, PlainFault>) -> Result<Value, PlainFault> {
+fn record_of(pairs: Result<Vec<(SharedText, Value)>, PlainFault>) -> Result<Value, PlainFault> {
     match Record::from_pairs(pairs?)? {
         Some(record) => Ok(Value::record(record)),
         None => Err(PlainFault::RepeatedKey),

@@ -116,7 +116,7 @@ fn a_right_grouped_sum_stands_higher(rt: HostRuntime) -> Result<(), Fail> {
 }
 
 fn literal_uid(alloc: Global, ty: &str, id: &str) -> Result<Expr, AllocError> {
-    Ok(Expr::literal(Value::uid(uid(alloc, ty, id)?)))
+    Ok(Expr::literal(Value::uid(alloc, uid(alloc, ty, id)?)?))
 }
 
 /// `!(principal == User::"ann")`

@@ -36,7 +36,7 @@ fn entity(alloc: Global, id: &str, parents: &[&str]) -> Result<Entity, AllocErro
 
 fn push_values(alloc: Global, values: &mut Vec<Value>, ids: &[&str]) -> Result<(), AllocError> {
     for id in ids {
-        values.push(Value::uid(uid(alloc, id)?))?;
+        values.push(Value::uid(alloc, uid(alloc, id)?)?)?;
     }
     values.push(Value::long(1))?;
     Ok(())

@@ -2,7 +2,7 @@
 use crate::held::{both, made, once};
 use cedar_ext::Decimal;
 use cedar_store::{Entity, Store};
-use cedar_value::{Name, Record, Request, Text, Uid, Value, ValueSet};
+use cedar_value::{Name, Record, Request, SharedText, Text, Uid, Value, ValueSet};
 use std::alloc::{AllocError, Global};
 use std::test::Fail;
 
@@ -117,12 +117,9 @@ const ROWS: &[Row] = &[
 
 /// The entity of a type and an id.
 pub fn uid(alloc: Global, ty: &str, id: &str) -> Result<Uid, AllocError> {
-    let ty = Text::read(alloc, ty)?;
+    let ty = Name::new(alloc, Text::read(alloc, ty)?)?;
     let (ty, id) = both(ty, Text::read(alloc, id))?;
-    Ok(Uid {
-        ty: Name::new(ty),
-        id,
-    })
+    Ok(Uid { ty, id })
 }
 
 fn push_uids(
@@ -161,7 +158,7 @@ fn text(alloc: Global, content: &str) -> Result<Value, AllocError> {
 }
 
 fn reference(alloc: Global, ty: &str, id: &str) -> Result<Value, AllocError> {
-    Ok(Value::uid(uid(alloc, ty, id)?))
+    Value::uid(alloc, uid(alloc, ty, id)?)
 }
 
 fn decimal(written: &str) -> Result<Value, Fail> {
@@ -169,7 +166,7 @@ fn decimal(written: &str) -> Result<Value, Fail> {
     Ok(Value::decimal(decimal))
 }
 
-fn record_of(pairs: Vec<(Text, Value)>) -> Result<Record, Fail> {
+fn record_of(pairs: Vec<(SharedText, Value)>) -> Result<Record, Fail> {
     match Record::from_pairs(pairs)? {
         Some(record) => Ok(record),
         None => Err("a key of the world stands twice".into()),
@@ -178,11 +175,11 @@ fn record_of(pairs: Vec<(Text, Value)>) -> Result<Record, Fail> {
 
 fn push_fields(
     alloc: Global,
-    pairs: &mut Vec<(Text, Value)>,
+    pairs: &mut Vec<(SharedText, Value)>,
     written: &[(&str, i64)],
 ) -> Result<(), AllocError> {
     for (key, number) in written {
-        pairs.push((Text::read(alloc, key)?, Value::long(*number)))?;
+        pairs.push((SharedText::read(alloc, key)?, Value::long(*number)))?;
     }
     Ok(())
 }
@@ -208,11 +205,11 @@ fn value(alloc: Global, written: &Written) -> Result<Value, Fail> {
 
 fn push_attributes(
     alloc: Global,
-    pairs: &mut Vec<(Text, Value)>,
+    pairs: &mut Vec<(SharedText, Value)>,
     written: &[(&str, Written)],
 ) -> Result<(), Fail> {
     for (key, attribute) in written {
-        let key = Text::read(alloc, key)?;
+        let key = SharedText::read(alloc, key)?;
         pairs.push(both(key, value(alloc, attribute))?)?;
     }
     Ok(())

@@ -31,7 +31,7 @@ pub(crate) enum Entry {
 pub(crate) fn read_entry(alloc: Global, schema: &Schema, json: &Json) -> Result<Entry, ConformFault>
     ensures { MatchResult result (IsEntry schema.now (view json.now)) (RefusesEntry schema.now (view json.now)) }
 {
-    let written = read_written(alloc, json)?;
+    let written = read_written(alloc, schema, json)?;
     if is_action_name(&written.uid.ty) {
         if !repeats_action(schema, json, &written) {
             return Err(ConformFault::ActionDiffers);

@@ -31,7 +31,7 @@ const FEES: &str =
 
 fn uid(alloc: Global, ty: &str, id: &str) -> Result<Uid, AllocError> {
     Ok(Uid {
-        ty: Name::new(Text::read(alloc, ty)?),
+        ty: Name::new(alloc, Text::read(alloc, ty)?)?,
         id: Text::read(alloc, id)?,
     })
 }

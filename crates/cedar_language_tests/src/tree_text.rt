@@ -2,7 +2,7 @@
 //! alike.
 use cedar_ast::{BinaryOperator, Expr, ExprKind, UnaryOperator, Variable};
 use cedar_ext::{Element, Pattern};
-use cedar_value::{Text, Uid, Value, ValueKind};
+use cedar_value::{SharedText, Uid, Value, ValueKind};
 use std::alloc::{AllocError, Global};
 
 /// The expression in brackets, with each operator by its own sign or name.
@@ -54,7 +54,7 @@ fn members_text(alloc: Global, members: &[Expr]) -> Result<String, AllocError> {
 
 // The entries of a record, in the order in which they are written.
 #[cycle(writing)]
-fn entries_text(alloc: Global, entries: &[(Text, Expr)]) -> Result<String, AllocError> {
+fn entries_text(alloc: Global, entries: &[(SharedText, Expr)]) -> Result<String, AllocError> {
     let mut whole = String::new(alloc);
     for entry in entries {
         let value = tree_text(alloc, &entry.1)?;

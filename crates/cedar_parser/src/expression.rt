@@ -18,7 +18,7 @@ use crate::asked::asked;
 use cedar_ast::{BinaryOperator, Expr, RecordFault, UnaryOperator};
 use cedar_conditions::{Method, function_of, method_of};
 use cedar_tokens::Content;
-use cedar_value::{Name, Text, Value};
+use cedar_value::{Name, SharedText, Value};
 use cedar_written::{ChainSign, Field, Link, RelationSign, Written, WrittenKind};
 use std::alloc::{AllocError, Global};
 
@@ -35,7 +35,7 @@ pub fn to_expression(alloc: Global, written: &Written) -> Result<Expr, AllocErro
         WrittenKind::Number(_, number) => Ok(Expr::literal(Value::long(*number as i64))),
         WrittenKind::Negative(_, number) => Ok(Expr::literal(Value::long(negative(*number)))),
         WrittenKind::Text(content) => Ok(Expr::literal(Value::string(content.to_text(alloc)?))),
-        WrittenKind::Entity(uid) => Ok(Expr::literal(Value::uid(uid.to_uid(alloc)?))),
+        WrittenKind::Entity(uid) => Ok(Expr::literal(Value::uid(alloc, uid.to_uid(alloc)?)?)),
         WrittenKind::Variable(name) => Ok(Expr::variable(*name)),
         WrittenKind::Slot(_, name) => Ok(Expr::variable(*name)),
         WrittenKind::Group(inside) => to_expression(alloc, inside),
@@ -208,7 +208,7 @@ fn to_record(alloc: Global, fields: &[Field]) -> Result<Expr, AllocError>
 }
 
 #[cycle(expression)]
-fn pairs(alloc: Global, fields: &[Field]) -> Result<Vec<(Text, Expr)>, AllocError>
+fn pairs(alloc: Global, fields: &[Field]) -> Result<Vec<(SharedText, Expr)>, AllocError>
     requires numbers { KeepFields Numbers (fields_of fields.now) }
     requires keys { KeepFields Keys (fields_of fields.now) }
     requires strings { KeepFields Strings (fields_of fields.now) }
@@ -216,7 +216,7 @@ fn pairs(alloc: Global, fields: &[Field]) -> Result<Vec<(Text, Expr)>, AllocErro
 {
     let mut found = Vec::new(alloc);
     for field in fields {
-        let key = field.key.to_text(alloc)?;
+        let key = SharedText::new(alloc, field.key.to_text(alloc)?)?;
         found.push((key, to_expression(alloc, &field.value)?))?;
     }
     Ok(found)
@@ -288,7 +288,7 @@ fn sole(mut arguments: Vec<Expr>) -> Option<Expr>
 }
 
 // The record of these pairs.
-fn record(alloc: Global, pairs: Vec<(Text, Expr)>) -> Result<Expr, AllocError>
+fn record(alloc: Global, pairs: Vec<(SharedText, Expr)>) -> Result<Expr, AllocError>
     requires { AreDistinct (keys_of pairs.items) }
     ensures { IfOk result (λ e. e ≡ record_with (entries_of pairs.items)) }
 {

@@ -152,7 +152,7 @@ fn referred(alloc: Global, reference: &Reference) -> Result<Uid, AllocError>
     match reference {
         Reference::Entity(uid) => uid.to_uid(alloc),
         Reference::Slot(_, _) => Ok(Uid {
-            ty: Name::new(Text::new(String::new(alloc))),
+            ty: Name::new(alloc, Text::new(String::new(alloc)))?,
             id: Text::new(String::new(alloc)),
         }),
     }

@@ -156,7 +156,7 @@ fn from_resource(
 fn literal(alloc: Global, entity: &Uid) -> Result<Expr, AllocError>
     ensures { IfOk result (λ e. e ≡ entity_literal entity.now) }
 {
-    Ok(Expr::literal(Value::uid(entity.try_clone(alloc)?)))
+    Ok(Expr::literal(Value::uid(alloc, entity.try_clone(alloc)?)?))
 }
 
 // `variable == E` or `variable in E`

@@ -8,7 +8,7 @@ ghost use Rattle.cedar_rules.specs.Private.View.{element_view, tree_of, typing_v
 use crate::lent_type::LentType;
 use crate::typing::Typing;
 use cedar_schema::{Attribute, RecordType, Type, TypeKind};
-use cedar_value::Text;
+use cedar_value::SharedText;
 use std::alloc::{AllocError, Global};
 
 /// The type of sets of members of this type, which gains nothing.
@@ -27,13 +27,13 @@ pub fn set_type<'a>(alloc: Global, member: Typing<'a>) -> Result<Typing<'a>, All
 pub fn add_attribute<'a>(
     alloc: Global,
     attributes: &mut RecordType,
-    key: &Text,
+    key: &SharedText,
     ty: &LentType<'a>,
 ) -> Result<(), AllocError>
     ensures { OnOk result (attributes.new ≡ with_attribute key.now true (tree_of ty.now) attributes.old) }
 {
     attributes.insert(Attribute {
-        name: key.try_clone(alloc)?,
+        name: key.share()?,
         ty: ty.to_type(alloc)?,
         required: true,
     })

@@ -1,5 +1,5 @@
 //! Schemas.
-ghost use Rattle.std.specs.Prelude.{◌≡◌, ◌≢◌, ◌↔◌, IfOk, IfErr, IsTrue, MatchOption, option_copied, []};
+ghost use Rattle.std.specs.Prelude.{◌≡◌, ◌≢◌, ◌↔◌, IfOk, IfErr, IfSome, IsTrue, MatchOption, is_some, option_copied, []};
 ghost use Rattle.cedar_form.specs.declared.schema_fault.SchemaFault.TheVariants.{OutOfMemory};
 ghost use Rattle.cedar_schema.specs.Declarations.{IsAction, IsActionType};
 ghost use Rattle.cedar_schema.specs.Denotes.{BytesAreRefusedWith, BytesDenote};
@@ -145,6 +145,18 @@ impl Schema {
     {
         match self.entities.get(name) {
             Some(found) => Some(&found.shape),
+            None => None,
+        }
+    }
+
+    /// The name of an entity type as the schema keeps it, so that its text can be shared. None exactly where
+    /// there is no such entity type. Takes no memory.
+    pub fn entity_type(&self, name: &Name) -> Option<&Name>
+        ensures same { IfSome result (λ n. n.now ≡ name.now) }
+        ensures declared { is_some result ≡ is_some (shape_of self.now name.now) }
+    {
+        match self.entities.get_key_value(name) {
+            Some((found, _)) => Some(found),
             None => None,
         }
     }

@@ -2,7 +2,7 @@
 use cedar_schema::{
     Attribute, Environment, RecordType, Schema, SchemaFault, Truth, Type, TypeKind, join,
 };
-use cedar_value::{Name, Text, Uid};
+use cedar_value::{Name, SharedText, Text, Uid};
 use std::alloc::{AllocError, Global};
 use std::test::Fail;
 
@@ -19,7 +19,7 @@ fn read(alloc: Global, text: &str) -> Result<Schema, SchemaFault> {
 }
 
 fn name(alloc: Global, text: &str) -> Result<Name, SchemaFault> {
-    Ok(Name::new(Text::read(alloc, text)?))
+    Ok(Name::new(alloc, Text::read(alloc, text)?)?)
 }
 
 fn action(alloc: Global, id: &str) -> Result<Uid, SchemaFault> {
@@ -283,7 +283,7 @@ fn contexts_are_found_by_action_and_types(rt: HostRuntime) -> Result<(), Fail> {
 // A Long at a name.
 fn long_at(alloc: Global, key: &str) -> Result<Attribute, SchemaFault> {
     Ok(Attribute {
-        name: Text::read(alloc, key)?,
+        name: SharedText::read(alloc, key)?,
         ty: Type::new(TypeKind::Long),
         required: true,
     })
@@ -343,7 +343,7 @@ fn record_type(alloc: Global, required: Option<bool>) -> Result<Type, SchemaFaul
     let mut attributes = RecordType::new(alloc);
     if let Some(required) = required {
         attributes.insert(Attribute {
-            name: Text::read(alloc, "n")?,
+            name: SharedText::read(alloc, "n")?,
             ty: Type::new(TypeKind::Long),
             required,
         })?;

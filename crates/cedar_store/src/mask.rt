@@ -33,7 +33,7 @@ fn offset_of(numbers: &Numbers, value: &Value, first: usize) -> Option<usize>
     ensures told { (m : ℕ) → m < NUMBERS → is_numbered numbers.now.keys (first + m) value.now ≡ number_told m result }
 {
     match value.kind() {
-        ValueKind::Uid(uid) => match numbers.get_index_of(uid) {
+        ValueKind::Uid(uid) => match numbers.get_index_of(&**uid) {
             Some(number) => offset_in(number, first),
             None => None,
         },

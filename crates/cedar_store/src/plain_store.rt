@@ -107,7 +107,7 @@ fn has_any(uids: &BTreeSet<Uid>, values: &ValueSet) -> bool
 {
     for value in values.members() {
         if let ValueKind::Uid(uid) = value.kind() {
-            if uids.contains(uid) {
+            if uids.contains(&**uid) {
                 return true;
             }
         }

@@ -44,13 +44,13 @@ pub fn path(alloc: Global, tokens: &mut Cursor<'_>) -> Result<Name, ParseFault>
     let mut path = String::from_str(alloc, word.text())?;
     for _turn in 0..tokens.left() {
         if !goes_on(tokens) {
-            return Ok(Name::new(Text::new(path)));
+            return Ok(Name::new(alloc, Text::new(path))?);
         }
         tokens.skip();
         let word = tokens.expect(TokenKind::Identifier)?;
         lengthen(&mut path, word.text())?;
     }
-    Ok(Name::new(Text::new(path)))
+    Ok(Name::new(alloc, Text::new(path))?)
 }
 
 // Whether a path goes on here.

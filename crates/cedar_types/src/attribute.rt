@@ -1,13 +1,13 @@
 //! Attributes of record types.
 use crate::types::Type;
-use cedar_value::Text;
+use cedar_value::SharedText;
 
 /// An attribute of a record type.
 #[cycle(types)]
 #[derive(Drop)]
 pub struct Attribute {
     /// Its name, the key at which a record has it.
-    pub name: Text,
+    pub name: SharedText,
     /// The type of what stands at the key.
     pub ty: Type,
     /// Whether each record of the type has the key.

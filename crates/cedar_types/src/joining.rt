@@ -72,7 +72,7 @@ fn join_attribute(
     match join(alloc, &left.ty, &right.ty)? {
         None => Ok(None),
         Some(ty) => Ok(Some(Attribute {
-            name: left.name.try_clone(alloc)?,
+            name: left.name.share()?,
             ty,
             required: left.required,
         })),

@@ -5,7 +5,7 @@
 //!
 //! let mut attributes = RecordType::new(alloc);
 //! attributes.insert(Attribute {
-//!     name: Text::read(alloc, "age")?,
+//!     name: SharedText::read(alloc, "age")?,
 //!     ty: Type::new(TypeKind::Long),
 //!     required: false,
 //! })?;

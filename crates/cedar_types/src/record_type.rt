@@ -176,7 +176,7 @@ fn clone_attributes(alloc: Global, attributes: &[Attribute]) -> Result<Vec<Attri
     let mut copies = Vec::new(alloc);
     for attribute in attributes {
         copies.push(Attribute {
-            name: attribute.name.try_clone(alloc)?,
+            name: attribute.name.share()?,
             ty: attribute.ty.try_clone(alloc)?,
             required: attribute.required,
         })?;

@@ -1,5 +1,5 @@
 -- A value of one kind compared with one of another: by their kinds alone.
-use Rattle.std.proofs.Common.{◌≡◌, ℕ, ℤ, Bool, List, nat_cmp, refl}
+use Rattle.std.proofs.Common.{◌≡◌, ℕ, ℤ, Bool, Box, Global, List, nat_cmp, refl}
 use Rattle.cedar_value.specs.Datum.{Datum}
 use Rattle.cedar_value.specs.Order.{datum_cmp}
 use Rattle.cedar_value.specs.Private.Compare.{kind_number, datum_cmp-tree}
@@ -24,7 +24,7 @@ pub other-String : (x : List ℕ) (l : ValueKind) → ((y : List ℕ) → l ≡ 
 other-String x (String y) h = absurd (h y refl)
 other-String x l h = datum_cmp-tree (datum_of (String x)) (datum_of l)
 
-pub other-Uid : (x : EntityUid) (l : ValueKind) → ((y : EntityUid) → l ≡ Uid y → ⊥) → ByKind (Uid x) l
+pub other-Uid : (x : Box EntityUid Global) (l : ValueKind) → ((y : Box EntityUid Global) → l ≡ Uid y → ⊥) → ByKind (Uid x) l
 other-Uid x (Uid y) h = absurd (h y refl)
 other-Uid x l h = datum_cmp-tree (datum_of (Uid x)) (datum_of l)
 

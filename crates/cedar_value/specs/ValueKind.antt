@@ -8,7 +8,7 @@ abbrev pub datum_of : ValueKind → Datum
 datum_of (Boolean b) = boolean b
 datum_of (Long n) = long n
 datum_of (String t) = text t
-datum_of (Uid u) = uid u
+datum_of (Uid u) = uid u.value
 datum_of (Set ds) = set (members_of ds)
 datum_of (Record ps) = record_of (fields_of ps)
 datum_of (Decimal z) = decimal z

@@ -41,7 +41,7 @@ impl Glance<'_> {
             Glance::Boolean(truth) => ValueKind::Boolean(truth),
             Glance::Long(number) => ValueKind::Long(number),
             Glance::String(text) => ValueKind::String(text.try_clone(alloc)?),
-            Glance::Uid(uid) => ValueKind::Uid(uid.try_clone(alloc)?),
+            Glance::Uid(uid) => ValueKind::Uid(Box::new(alloc, uid.try_clone(alloc)?)?),
             Glance::Set(members) => ValueKind::Set(members.try_clone(alloc)?),
             Glance::Record(pairs) => ValueKind::Record(pairs.try_clone(alloc)?),
             Glance::Decimal(decimal) => ValueKind::Decimal(*decimal),

@@ -1,11 +1,11 @@
 //! Values of the Cedar policy language: names, uids, values and requests, and the worlds that they are asked over.
 //!
 //! ```rust
-//! use cedar_value::{Name, Record, Request, Text, Uid, Value};
+//! use cedar_value::{Name, Record, Request, SharedText, Text, Uid, Value};
 //!
 //! let ty = Name::read(alloc, "Photos::User")?.unwrap();
 //! let alice = Uid { ty, id: Text::read(alloc, "alice")? };
-//! let pairs = vec![in alloc; (Text::read(alloc, "age")?, Value::long(7))]?;
+//! let pairs = vec![in alloc; (SharedText::read(alloc, "age")?, Value::long(7))]?;
 //! let context = Record::from_pairs(pairs)?.unwrap();
 //! assert!(rt; context.get("age") == Some(&Value::long(7)));
 //! ```
@@ -20,6 +20,7 @@ mod name;
 mod no_entities;
 mod order;
 mod request;
+mod shared_text;
 mod text;
 mod uid;
 mod value;
@@ -36,6 +37,7 @@ pub use laws::{
 pub use name::Name;
 pub use no_entities::NoEntities;
 pub use request::Request;
+pub use shared_text::SharedText;
 pub use text::Text;
 pub use uid::Uid;
 pub use value::{Value, ValueKind};

@@ -4,6 +4,7 @@ ghost use Rattle.std.specs.List.{list_all};
 ghost use Rattle.cedar_value.specs.Names.{IsName, is_identifier, is_reserved, is_word, is_word_byte, is_word_start};
 ghost use Rattle.std.specs.Str.{bytes_eq};
 
+use crate::shared_text::SharedText;
 use crate::text::Text;
 use cedar_closure::Key;
 use std::alloc::{AllocError, Global};
@@ -12,10 +13,10 @@ use std::hash::{Hash, Hasher};
 use std::marker::Model;
 
 /// A path of identifiers, as `Photos::Album`, which contracts see as the bytes of its text
-/// (Cedar language reference, entity types and namespaces).
+/// (Cedar language reference, entity types and namespaces). Its copies share one text.
 #[derive(Drop)]
 pub struct Name {
-    path: Text,
+    path: SharedText,
 }
 
 impl Model for Name {
@@ -28,10 +29,12 @@ impl Model for Name {
 
 impl Name {
     /// The name whose text this is, for a caller that knows that it is one; `read` tests a text.
-    pub fn new(path: Text) -> Self
-        ensures { result ≡ path }
+    pub fn new(alloc: Global, path: Text) -> Result<Self, AllocError>
+        ensures { IfOk result (λ name. name ≡ path) }
     {
-        Name { path }
+        Ok(Name {
+            path: SharedText::new(alloc, path)?,
+        })
     }
 
     /// The name that the text writes: one or more identifiers, none of them reserved, with `::` between
@@ -44,7 +47,7 @@ impl Name {
             return Ok(None);
         }
         Ok(Some(Name {
-            path: Text::read(alloc, text)?,
+            path: SharedText::read(alloc, text)?,
         }))
     }
 
@@ -55,12 +58,12 @@ impl Name {
         self.path.as_str()
     }
 
-    /// A copy, equal to the original.
-    pub fn try_clone(&self, alloc: Global) -> Result<Self, AllocError>
+    /// A copy, equal to the original, that shares its text: it takes no memory.
+    pub fn try_clone(&self, _alloc: Global) -> Result<Self, AllocError>
         ensures { IfOk result (λ n. n ≡ self.now) }
     {
         Ok(Name {
-            path: self.path.try_clone(alloc)?,
+            path: self.path.share()?,
         })
     }
 }

@@ -5,7 +5,7 @@ ghost use Rattle.cedar_value.specs.Order.{datum_cmp, pair_cmp};
 ghost use Rattle.cedar_value.specs.Private.Compare.{kind_number};
 ghost use Rattle.cedar_value.specs.ValueKind.{datum_of};
 
-use crate::text::Text;
+use crate::shared_text::SharedText;
 use crate::value::{Value, ValueKind};
 use std::cmp::Ordering;
 
@@ -45,7 +45,7 @@ pub(crate) fn order_members(left: &[Value], right: &[Value]) -> Ordering
 
 /// The order of two ascending lists of pairs, a beginning first.
 #[cycle(order)]
-pub(crate) fn order_pairs(left: &[(Text, Value)], right: &[(Text, Value)]) -> Ordering
+pub(crate) fn order_pairs(left: &[(SharedText, Value)], right: &[(SharedText, Value)]) -> Ordering
     ensures { result ≡ slice_cmp pair_cmp left.now right.now }
 {
     for (place, one) in left.iter().enumerate() {
@@ -62,7 +62,7 @@ pub(crate) fn order_pairs(left: &[(Text, Value)], right: &[(Text, Value)]) -> Or
 
 /// The order of two pairs: by their keys, and then by their values.
 #[cycle(order)]
-fn order_pair(left: &(Text, Value), right: &(Text, Value)) -> Ordering
+fn order_pair(left: &(SharedText, Value), right: &(SharedText, Value)) -> Ordering
     ensures { result ≡ pair_cmp left.now right.now }
 {
     match left.0.cmp(&right.0) {

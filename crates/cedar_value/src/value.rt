@@ -29,7 +29,7 @@ pub enum ValueKind {
     /// A text.
     String(Text),
     /// A reference to an entity.
-    Uid(Uid),
+    Uid(Box<Uid>),
     /// A set of values.
     Set(ValueSet),
     /// A record: values by keys.
@@ -101,10 +101,10 @@ impl Value {
     }
 
     /// A reference to an entity.
-    pub fn uid(entity: Uid) -> Self
-        ensures { result ≡ uid entity }
+    pub fn uid(alloc: Global, entity: Uid) -> Result<Self, AllocError>
+        ensures { IfOk result (λ v. v ≡ uid entity) }
     {
-        Value::new(ValueKind::Uid(entity))
+        Ok(Value::new(ValueKind::Uid(Box::new(alloc, entity)?)))
     }
 
     /// A set.
@@ -167,7 +167,7 @@ impl Value {
             ValueKind::Boolean(truth) => ValueKind::Boolean(*truth),
             ValueKind::Long(number) => ValueKind::Long(*number),
             ValueKind::String(text) => ValueKind::String(text.try_clone(alloc)?),
-            ValueKind::Uid(uid) => ValueKind::Uid(uid.try_clone(alloc)?),
+            ValueKind::Uid(uid) => ValueKind::Uid(Box::new(alloc, uid.try_clone(alloc)?)?),
             ValueKind::Set(members) => ValueKind::Set(members.try_clone(alloc)?),
             ValueKind::Record(pairs) => ValueKind::Record(pairs.try_clone(alloc)?),
             ValueKind::Decimal(decimal) => ValueKind::Decimal(*decimal),

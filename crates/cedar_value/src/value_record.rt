@@ -7,7 +7,7 @@ ghost use Rattle.cedar_value.specs.Datum.{fields_of, same_as_records};
 ghost use Rattle.cedar_value.specs.Values.{HoldValues};
 
 use crate::order::order_pairs;
-use crate::text::Text;
+use crate::shared_text::SharedText;
 use crate::value::Value;
 use std::alloc::{AllocError, Global};
 use std::cmp::Ordering;
@@ -19,7 +19,7 @@ use std::slice;
 #[cycle(value)]
 #[derive(Drop)]
 pub struct Record {
-    pairs: Vec<(Text, Value)>,
+    pairs: Vec<(SharedText, Value)>,
 }
 
 impl Model for Record {
@@ -62,7 +62,7 @@ impl Record {
 
     /// The record of these pairs, in whatever order they come. None where a key stands twice
     /// (Cedar language reference, records).
-    pub fn from_pairs(mut pairs: Vec<(Text, Value)>) -> Result<Option<Self>, AllocError>
+    pub fn from_pairs(mut pairs: Vec<(SharedText, Value)>) -> Result<Option<Self>, AllocError>
         ensures distinct { IfOk result (λ o. IsSome o ↔ AreKeysDistinct pairs.items) }
         ensures pairs { IfOk result (λ o. IfSome o (λ r. SamePairs r pairs.items)) }
         ensures ascending { IfOk result (λ o. IfSome o AreKeysAscending) }
@@ -79,7 +79,7 @@ impl Record {
     }
 
     /// The record of pairs whose keys ascend already. Takes no memory, and no comparison.
-    pub fn from_ascending(pairs: Vec<(Text, Value)>) -> Self
+    pub fn from_ascending(pairs: Vec<(SharedText, Value)>) -> Self
         requires { AreKeysAscending pairs.items }
         ensures { result ≡ pairs.items }
     {
@@ -109,7 +109,7 @@ impl Record {
     }
 
     /// The keys with their values, ascending by the keys. Takes no memory.
-    pub fn iter(&self) -> slice::Iter<'_, (Text, Value)>
+    pub fn iter(&self) -> slice::Iter<'_, (SharedText, Value)>
         ensures pairs { iter_rest result ≡ self.now }
         ensures ascending { AreKeysAscending self.now }
     {
@@ -117,7 +117,7 @@ impl Record {
     }
 
     /// The keys with their values, ascending by the keys, as a slice. Takes no memory.
-    pub fn pairs(&self) -> &[(Text, Value)]
+    pub fn pairs(&self) -> &[(SharedText, Value)]
         ensures pairs { result.now ≡ self.now }
         ensures ascending { AreKeysAscending self.now }
     {
@@ -145,7 +145,7 @@ impl Record {
 }
 
 // Each pair of a list holds a value. It is a law, and its loop does nothing.
-fn hold_values(pairs: &[(Text, Value)])
+fn hold_values(pairs: &[(SharedText, Value)])
     ensures { HoldValues (fields_of pairs.now) }
 {
     let mut left = pairs;
@@ -156,18 +156,21 @@ fn hold_values(pairs: &[(Text, Value)])
 }
 
 #[cycle(copy)]
-fn clone_pairs(alloc: Global, pairs: &[(Text, Value)]) -> Result<Vec<(Text, Value)>, AllocError>
+fn clone_pairs(
+    alloc: Global,
+    pairs: &[(SharedText, Value)],
+) -> Result<Vec<(SharedText, Value)>, AllocError>
     ensures { IfOk result (λ v. v.items ≡ pairs.now) }
 {
     let mut copies = Vec::new(alloc);
     for pair in pairs {
-        copies.push((pair.0.try_clone(alloc)?, pair.1.try_clone(alloc)?))?;
+        copies.push((pair.0.share()?, pair.1.try_clone(alloc)?))?;
     }
     Ok(copies)
 }
 
 // Whether each key is below the next.
-fn keys_ascend(pairs: &[(Text, Value)]) -> bool
+fn keys_ascend(pairs: &[(SharedText, Value)]) -> bool
     ensures { IsTrue result ↔ AreKeysAscending pairs.now }
 {
     let Some((first, others)) = pairs.split_first() else {

@@ -12,7 +12,7 @@ use crate::form::table::{Behind, Table};
 use crate::form::{Form, FormField};
 use crate::schema_fault::SchemaFault;
 use cedar_types::{Attribute, RecordType, Truth, Type, TypeKind};
-use cedar_value::Text;
+use cedar_value::SharedText;
 use std::alloc::Global;
 
 /// The type of a form, with at most so many names followed in a chain.
@@ -95,7 +95,7 @@ fn expand_field(
 {
     let ty = expand(alloc, table, names, &field.form)?;
     Ok(Attribute {
-        name: Text::read(alloc, field.name.as_str())?,
+        name: SharedText::read(alloc, field.name.as_str())?,
         ty,
         required: field.required,
     })

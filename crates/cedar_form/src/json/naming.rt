@@ -82,7 +82,8 @@ pub fn has_colon(text: &str) -> bool
 pub fn qualified(alloc: Global, namespace: &str, name: &str) -> Result<Name, AllocError>
     ensures { IfOk result (λ n. n ≡ qualified namespace.now name.now) }
 {
-    Ok(Name::new(Text::new(qualified_text(alloc, namespace, name)?)))
+    let path = Text::new(qualified_text(alloc, namespace, name)?);
+    Name::new(alloc, path)
 }
 
 #[tactic(auto, unfolding(crate::specs::Naming::qualified))]

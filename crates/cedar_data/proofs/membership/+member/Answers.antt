@@ -20,11 +20,11 @@ belongs-returns-in-String-String t c = rw (← c.kind.ensures, ← c.kind-2.ensu
 
 pub belongs-returns-in-Entity-Uid : goal.belongs-returns-in-Entity-Uid
 unfolding is_member
-belongs-returns-in-Entity-Uid t c = rw (← c.kind.ensures, ← c.kind-2.ensures, c.in-Entity-Uid.is-0, c.in-Entity-Uid.is-1) c.eq.ensures.gives
+belongs-returns-in-Entity-Uid t c = rw (← c.kind.ensures, ← c.kind-2.ensures, c.in-Entity-Uid.is-0, c.in-Entity-Uid.is-1, ← c.deref.ensures) c.eq.ensures.gives
 
 pub belongs-returns-in-Set-Set : goal.belongs-returns-in-Set-Set
 unfolding is_member
-belongs-returns-in-Set-Set t c = rw (← c.kind.ensures, ← c.kind-2.ensures, c.in-Set-Set.is-0, c.in-Set-Set.is-1, list_of-members_of, ← c.deref.ensures, ← c.members.ensures.members) c.all_belong.ensures
+belongs-returns-in-Set-Set t c = rw (← c.kind.ensures, ← c.kind-2.ensures, c.in-Set-Set.is-0, c.in-Set-Set.is-1, list_of-members_of, ← c.deref-in-Set-Set.ensures, ← c.members.ensures.members) c.all_belong.ensures
 
 pub belongs-returns-in-Record-Record : goal.belongs-returns-in-Record-Record
 unfolding is_member

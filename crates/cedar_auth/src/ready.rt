@@ -69,12 +69,12 @@ impl Ready {
     /// The policies, ready to answer requests over the entities that the bytes denote by the schema (Cedar
     /// documentation, entities JSON). A refusal hands the policies back: with 1 where memory was refused, and else with
     /// 401, 402 or 501 to 509 only where that fault is in the bytes.
-    pub fn new(alloc: Global, validated: Validated, entities: &[u8]) -> Result<Ready, NotReady>
+    pub fn new(alloc: Global, validated: Validated, entities: Vec<u8>) -> Result<Ready, NotReady>
         ensures holds { IfOk result (λ r. (r.schema ≡ validated.schema) × (r.policies ≡ validated.policies)) }
         ensures settings { IfOk result (λ r. r.settings ≡ validated.settings) }
-        ensures denotes { IfOk result (λ r. BytesDenote validated.schema entities.now r.world) }
+        ensures denotes { IfOk result (λ r. BytesDenote validated.schema entities.items r.world) }
         ensures conforms { IfOk result (λ r. Conforms r.schema r.world) }
-        ensures refused { IfErr result (λ e. e.fault ≢ OutOfMemory → BytesHaveFault validated.schema entities.now e.fault) }
+        ensures refused { IfErr result (λ e. e.fault ≢ OutOfMemory → BytesHaveFault validated.schema entities.items e.fault) }
         ensures handed_back { IfErr result (λ e. e.validated ≡ validated) }
     {
         let store = match read_entities(alloc, validated.schema(), entities) {

@@ -4,7 +4,7 @@ use crate::world::{Asked, ENTITIES, ready, request, validated};
 use cedar_auth::{NotReady, Ready};
 use cedar_policies::Decision;
 use cedar_value::Request;
-use std::alloc::Global;
+use std::alloc::{AllocError, Global};
 use std::process::Abort;
 use std::test::Fail;
 
@@ -29,22 +29,24 @@ const REFUSED: [(&[u8], u16); 12] = [
 ];
 
 /// Whether the two policies are handed back, and are ready with entities that conform.
-fn are_handed_back(alloc: Global, refused: NotReady) -> bool {
+fn are_handed_back(alloc: Global, refused: NotReady) -> Result<bool, AllocError> {
     let count = refused.validated.policies().count();
-    match Ready::new(alloc, refused.validated, ENTITIES) {
+    let entities = Vec::from_slice(alloc, ENTITIES)?;
+    match Ready::new(alloc, refused.validated, entities) {
         Ok(ready) => {
             drop(ready);
-            count == 2
+            Ok(count == 2)
         }
         Err(refused) => {
             drop(refused);
-            false
+            Ok(false)
         }
     }
 }
 
 /// The number by which the entities are refused, where the policies are handed back.
 fn number_of(alloc: Global, entities: &[u8]) -> Result<Option<u16>, Fail> {
+    let entities = Vec::from_slice(alloc, entities)?;
     let validated = validated(alloc, TWO_POLICIES)?;
     match Ready::new(alloc, validated, entities) {
         Ok(ready) => {
@@ -53,7 +55,7 @@ fn number_of(alloc: Global, entities: &[u8]) -> Result<Option<u16>, Fail> {
         }
         Err(refused) => {
             let number = refused.fault.number();
-            Ok(are_handed_back(alloc, refused).then_some(number))
+            Ok(are_handed_back(alloc, refused)?.then_some(number))
         }
     }
 }

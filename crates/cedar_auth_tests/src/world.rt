@@ -63,6 +63,7 @@ pub fn ready_with_any_decimal(
     policies: &str,
     entities: &[u8],
 ) -> Result<Ready, Fail> {
+    let entities = Vec::from_slice(alloc, entities)?;
     let validated = validated_with_any_decimal(alloc, policies)?;
     match Ready::new(alloc, validated, entities) {
         Ok(ready) => Ok(ready),
@@ -75,7 +76,8 @@ pub fn ready_with_any_decimal(
 
 /// The policies, ready to answer over the entities.
 pub fn ready(alloc: Global, policies: &str) -> Result<Ready, Fail> {
-    match Ready::new(alloc, validated(alloc, policies)?, ENTITIES) {
+    let entities = Vec::from_slice(alloc, ENTITIES)?;
+    match Ready::new(alloc, validated(alloc, policies)?, entities) {
         Ok(ready) => Ok(ready),
         Err(refused) => {
             drop(refused);

@@ -35,6 +35,9 @@ module _ (s : SchemaTree) (first : World) (all : Option Items) where
   pub coming_start : (told : BTreeSet Uid) → IsEmpty told → ComingProgress s first all all first told
   coming_start told e = record { behind_read = λ ds. ds; is_all = mapped_same all; progress = λ ds. start s first ds told e }
 
+  pub coming_as : (rest more : Option Items) (w : World) (told : BTreeSet Uid) → rest ≡ more → ComingProgress s first all rest w told → ComingProgress s first all more w told
+  coming_as rest more w told e p = subst (λ (o : Option Items). ComingProgress s first all o w told) e p
+
   module _ (rest : Option Items) (w : World) (told : BTreeSet Uid) (p : ComingProgress s first all rest w told) where
     pub coming_end : rest ≡ Some no_items → IsComingRead s first all w
     coming_end e = (p.behind_read no_items, p.is_all ∙ ap (option_map p.behind_read) e, end s first (p.behind_read no_items) w told (p.progress no_items))

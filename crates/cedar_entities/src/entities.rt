@@ -7,26 +7,27 @@ ghost use Rattle.cedar_entities.specs.Private.Parts.{HasStoreFault};
 ghost use Rattle.cedar_entities.specs.Private.Progress.{AreRead};
 ghost use Rattle.cedar_json.specs.JsonTree.{json_of};
 ghost use Rattle.cedar_schema.specs.Conformance.{Conforms};
+ghost use Rattle.cedar_schema.specs.Declarations.{action_entities as declared_actions};
 ghost use Rattle.cedar_store.specs.Entities.{AreUidsDistinct, IsAcyclic};
 
 use crate::actions::action_entities;
 use crate::laws::denoted_worlds_conform;
-use crate::list::read_list;
+use crate::list::{read_list, read_objects};
 use cedar_data::ConformFault;
 use cedar_json::read_json;
-use cedar_reader::JsonReader;
+use cedar_reader::{JsonReader, ObjectReader};
 use cedar_schema::Schema;
 use cedar_store::{Entity, Store, StoreFault};
 use std::alloc::Global;
 
 /// The store of the entities that the bytes write, with the schema's actions before them (Cedar
 /// documentation, entities and context in JSON). Refused with 1 for want of memory, and else with 401,
-/// 402 or 501 to 509 only where that fault is in the bytes. Takes time by the number of values and of
+/// 402 or 501 to 509 only where that fault is in the bytes. The bytes are let go as they are read. Takes time by the number of values and of
 /// pairs of an entity and what lies above it, and for each entry look-ups in the schema by search.
-pub fn read_entities(alloc: Global, schema: &Schema, bytes: &[u8]) -> Result<Store, ConformFault>
-    ensures denotes { IfOk result (BytesDenote schema.now bytes.now) }
+pub fn read_entities(alloc: Global, schema: &Schema, bytes: Vec<u8>) -> Result<Store, ConformFault>
+    ensures denotes { IfOk result (BytesDenote schema.now bytes.items) }
     ensures conforms { IfOk result (Conforms schema.now) }
-    ensures refused { IfErr result (λ f. f ≢ OutOfMemory → BytesHaveFault schema.now bytes.now f) }
+    ensures refused { IfErr result (λ f. f ≢ OutOfMemory → BytesHaveFault schema.now bytes.items f) }
 {
     // Laws, which do nothing.
     schema.well_formedness();
@@ -35,13 +36,32 @@ pub fn read_entities(alloc: Global, schema: &Schema, bytes: &[u8]) -> Result<Sto
     build_store(alloc, entities)
 }
 
-// The schema's actions and the entities of the bytes. What the JSON was read with is let go before the store is built.
-fn entities_of(alloc: Global, schema: &Schema, bytes: &[u8]) -> Result<Vec<Entity>, ConformFault>
+// The schema's actions and the entities of the bytes, which are let go as they are read. What the JSON was read with is let
+// go before the store is built.
+fn entities_of(alloc: Global, schema: &Schema, bytes: Vec<u8>) -> Result<Vec<Entity>, ConformFault>
+    ensures { MatchResult result
+        (λ v. AreRead schema.now bytes.items v.items)
+        (λ f. f ≢ OutOfMemory → BytesHaveFault schema.now bytes.items f) }
+{
+    let actions = action_entities(alloc, schema)?;
+    match ObjectReader::open(alloc, bytes) {
+        Ok(mut objects) => read_objects(alloc, schema, &mut objects, actions),
+        Err(bytes) => read_items(alloc, schema, &bytes, actions),
+    }
+}
+
+// The same of bytes that stand whole while they are read, behind the schema's actions.
+fn read_items(
+    alloc: Global,
+    schema: &Schema,
+    bytes: &[u8],
+    actions: Vec<Entity>,
+) -> Result<Vec<Entity>, ConformFault>
+    requires { actions.items ≡ declared_actions schema.now }
     ensures { MatchResult result
         (λ v. AreRead schema.now bytes.now v.items)
         (λ f. f ≢ OutOfMemory → BytesHaveFault schema.now bytes.now f) }
 {
-    let actions = action_entities(alloc, schema)?;
     let mut reader = JsonReader::new(alloc);
     match reader.items(bytes)? {
         Some(mut items) => read_list(alloc, schema, &mut items, actions),

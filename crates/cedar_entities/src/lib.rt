@@ -20,6 +20,7 @@ mod judging;
 mod keys;
 mod laws;
 mod list;
+mod objects;
 mod written;
 
 pub use entities::read_entities;

@@ -20,7 +20,7 @@ fn check(rt: &impl Abort, alloc: Global, schema: &str, rows: &[(u16, &str)]) -> 
 
 /// By the schema of documents: attributes, and what an entry is.
 #[rattlefmt::skip]
-const ENTRIES: [(u16, &str); 67] = [
+const ENTRIES: [(u16, &str); 81] = [
     // The list.
     (0, "[]"),
     (0, " [ ] "),
@@ -41,6 +41,21 @@ const ENTRIES: [(u16, &str); 67] = [
     (501, "[{}]]"),
     (501, "[{},1e999]"),
     (501, "{},"),
+    // Objects, and what stands between and behind them.
+    (0, r#"[{"uid":{"type":"Team","id":"t"}},{"uid":{"type":"Team","id":"u"}}]"#),
+    (0, r#" [ {"uid":{"type":"Team","id":"t"}} , {"uid":{"type":"Team","id":"u"}} ] "#),
+    (0, r#"[{"uid":{"type":"Team","id":"}"}},{"uid":{"type":"Team","id":"\"}]"}}]"#),
+    (501, r#"[{"uid":{"type":"Team","id":"t"}} {"uid":{"type":"Team","id":"u"}}]"#),
+    (501, r#"[{"uid":{"type":"Team","id":"t"}},{"uid":{"type":"Team","id":"u"}}"#),
+    (501, r#"[{"uid":{"type":"Team","id":"t"}},{"uid":{"type":"Team","id":"u"}},]"#),
+    (501, r#"[{"uid":{"type":"Team","id":"t"}},{"uid":{"type":"Team","id":"u"}}]]"#),
+    (501, r#"[{"uid":{"type":"Team","id":"t"}}},{"uid":{"type":"Team","id":"u"}}]"#),
+    (501, r#"[{"uid":{"type":"Team","id":"t"}},{"uid":{"type":"Team","id":"u"}}}]"#),
+    (501, r#"[{"uid":{"type":"Team","id":"t"}}:{"uid":{"type":"Team","id":"u"}}]"#),
+    (501, r#"[{"uid":{"type":"Team","id":"t"}},{"uid":{"type":"Team","id":"u}}]"#),
+    (502, r#"[{"uid":{"type":"Team","id":"t"}},1]"#),
+    (502, r#"[{"uid":{"type":"Team","id":"t"}},[{"uid":{"type":"Team","id":"u"}}]]"#),
+    (502, r#"[1,{"uid":{"type":"Team","id":"t"}}]"#),
     // The keys of an entry.
     (502, "[{}]"),
     (0, r#"[{"uid":{"type":"Team","id":"t"}}]"#),

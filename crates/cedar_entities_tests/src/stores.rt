@@ -37,8 +37,9 @@ fn uid(alloc: Global, ty: &str, id: &str) -> Result<Uid, AllocError> {
 }
 
 fn read(alloc: Global, schema: &str, text: &str) -> Result<Store, Fail> {
+    let bytes = Vec::from_slice(alloc, text.as_bytes())?;
     let schema = Schema::read(alloc, schema.as_bytes())?;
-    let store = read_entities(alloc, &schema, text.as_bytes())?;
+    let store = read_entities(alloc, &schema, bytes)?;
     Ok(store)
 }
 
@@ -148,6 +149,28 @@ fn people(rt: HostRuntime) -> Result<(), Fail> {
             ("User", "ann", "Team", "t", true),
             ("User", "bob", "Team", "t", false),
         ],
+    };
+    check_store(&rt, rt.alloc(), store, rows)?;
+    Ok(())
+}
+
+// Brackets, quotes and backslashes in ids, which end no entry: `}`, `"}]` and a backslash before a quote's end.
+const BRACKETS: &str = r#"[ {"uid":{"type":"User","id":"}"},"attrs":{"age":1}} ,
+ {"uid":{"type":"User","id":"\"}]"},"attrs":{"age":2}},{"uid":{"type":"User","id":"\\"},"attrs":{"age":3}},
+ {"uid":{"type":"User","id":"\u007d\u005D"},"attrs":{"age":4}} ]"#;
+
+#[test]
+fn brackets_in_strings_end_no_entry(rt: HostRuntime) -> Result<(), Fail> {
+    let store = read(rt.alloc(), DOCUMENTS, BRACKETS)?;
+    let rows = Rows {
+        sizes: &[("User", "u", None)],
+        longs: &[
+            ("User", "}", "age", 1),
+            ("User", "\"}]", "age", 2),
+            ("User", "\\", "age", 3),
+            ("User", "}]", "age", 4),
+        ],
+        below: &[],
     };
     check_store(&rt, rt.alloc(), store, rows)?;
     Ok(())
@@ -270,8 +293,9 @@ fn names(fault: &ConformFault, id: &str) -> bool {
 
 // Whether the text is refused so, by the schema of groups.
 fn is_refused(alloc: Global, text: &str, id: &str) -> Result<bool, Fail> {
+    let bytes = Vec::from_slice(alloc, text.as_bytes())?;
     let schema = Schema::read(alloc, GROUPS.as_bytes())?;
-    let answer = read_entities(alloc, &schema, text.as_bytes());
+    let answer = read_entities(alloc, &schema, bytes);
     let is_named = match &answer {
         Ok(_) => false,
         Err(fault) => names(fault, id),

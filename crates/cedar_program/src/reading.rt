@@ -114,7 +114,7 @@ pub fn read_ready<F: Files>(alloc: Global, files: &F, validated: Validated) -> R
     ensures device { IsErrOf result Unread.Device → F.holds files.now Role.Entities ≡ None }
 {
     let bytes = read_file(alloc, files, Role::Entities)?;
-    match Ready::new(alloc, validated, &bytes) {
+    match Ready::new(alloc, validated, bytes) {
         Ok(ready) => Ok(ready),
         Err(NotReady { fault, .. }) => Err(refusal_of(&fault)),
     }

@@ -1,2 +1,10 @@
+mod Bytes
 mod Coming
+mod Digits
+mod FirstItem
+mod Followed
+mod Joined
+mod Punctuated
 mod Reading
+mod Strings
+mod Words

@@ -1,6 +1,7 @@
 //! The items of a JSON text that is a list, one after another.
 ghost use Rattle.std.specs.Prelude.{◌≡◌, ◌<◌, length, Some, None, IfOk, IsSome, IsTrue, MatchOption, MatchResult, OnSome, is_some, option_and_then, option_map};
 ghost use Rattle.std.specs.Bool.{MatchBool};
+ghost use Rattle.json.specs.Lex.{tokens};
 ghost use Rattle.serde_json.specs.Data.{array, no_items, item};
 ghost use Rattle.serde_json.specs.Find.{as_array};
 ghost use Rattle.serde_json.specs.Read.{read as tree_of_text};
@@ -16,8 +17,8 @@ use serde_json::Value;
 use std::alloc::{AllocError, Global};
 use std::marker::Model;
 
-// How deep arrays and objects may nest in an item: the list itself is one of a text's 127 levels.
-const ITEM_DEPTH: usize = 126;
+/// How deep arrays and objects may nest in an item: the list itself is one of a text's 127 levels.
+pub(crate) const ITEM_DEPTH: usize = 126;
 
 /// The items of a JSON text that is a list, one after another, so that the tree of one can be let go before the next is read
 /// (RFC 8259, section 5). Contracts see the tokens that are to come.
@@ -52,6 +53,18 @@ impl<'r> ItemReader<'r> {
         } else {
             Ok(None)
         }
+    }
+
+    /// The items that the text begins with, as if their list's bracket had been passed. Takes memory by the length of the text.
+    pub(crate) fn over(
+        text: &'r str,
+        scratch: &'r mut Scratch,
+    ) -> Result<ItemReader<'r>, AllocError>
+        ensures { IfOk result (λ items. items ≡ tokens text.now) }
+    {
+        Ok(ItemReader {
+            reader: Reader::new(text, scratch)?,
+        })
     }
 
     /// The next item's tree, and None where the list ended and the text with it. Refused as Invalid where what is to come are

@@ -2,6 +2,6 @@ use Rattle.cedar_entities.proofs.StoreLemmas.{list_answers}
 use Rattle.cedar_reader.specs.Items.{to_come}
 use Rattle.cedar_entities.proofs.entities.entities_of.Goals as goal
 
-pub returns-in-Some : goal.returns-in-Some
-returns-in-Some c =
-    list_answers c.args.schema.now c.args.bytes.now (λ v. v.items) c.in_ok-actions.actions.items (to_come c.in-Some.items) c.read_list.result (rw c.in-Some.is at c.in_ok-items.ensures) c.in_ok-actions.ensures c.read_list.ensures
+pub returns-in-Ok : goal.returns-in-Ok
+returns-in-Ok c =
+    list_answers c.args.schema.now c.args.bytes.items (λ v. v.items) c.in_ok-actions.actions.items (to_come c.in-Ok.objects) c.read_objects.result c.in-Ok.ensures c.in_ok-actions.ensures c.read_objects.ensures

@@ -1,26 +1,6 @@
-use Rattle.std.proofs.lemmas.Result.{err_from_is_err_and}
-use Rattle.cedar_entities.proofs.ComingLemmas.{coming_start, coming_end, coming_refused, coming_entered, coming_twice_refused}
+use Rattle.cedar_entities.proofs.ComingLemmas.{coming_start}
 use Rattle.cedar_reader.specs.Items.{to_come}
 use Rattle.cedar_entities.proofs.list.read_list.Goals as goal
 
-pub walk-init : goal.walk-init
-walk-init c = coming_start c.args.schema.now c.args.first.items (to_come c.args.items.now) c.new-repeated.result c.new-repeated.ensures.empty
-
-pub returns-in_err-entry : goal.returns-in_err-entry
-returns-in_err-entry c =
-    let p = err_from_is_err_and c.from_residual.result c.from_residual.ensures.1 in
-    rw (p.1, p.2) (coming_refused c.args.schema.now c.args.first.items (to_come c.args.items.now) (to_come c.walk.items) c.walk.entities.items c.walk.repeated c.walk.invariant _ c.in_err-entry.ensures.entry)
-
-pub returns-in-Err : goal.returns-in-Err
-returns-in-Err c =
-    coming_twice_refused c.args.schema.now c.args.first.items (to_come c.args.items.now) (to_come c.walk.items) c.walk.entities.items c.walk.repeated c.walk.invariant (to_come c.next_entry.new.items) c.in-Some.entry (rw c.in-Some.is at c.in_ok-entry.ensures.entry)
-    c.in-Err.fault c.after_fault.result c.in-Err.ensures c.after_fault.ensures
-
-pub walk-preserved : goal.walk-preserved
-walk-preserved c =
-    coming_entered c.args.schema.now c.args.first.items (to_come c.args.items.now) (to_come c.walk.items) c.walk.entities.items c.walk.repeated c.walk.invariant (to_come c.next_entry.new.items) c.in-Some.entry (rw c.in-Some.is at c.in_ok-entry.ensures.entry)
-    c.enter.new.entities.items c.enter.new.repeated c.in_default-enter.ensures
-
 pub returns : goal.returns
-returns c =
-    coming_end c.args.schema.now c.args.first.items (to_come c.args.items.now) (to_come c.walk.items) c.walk.entities.items c.walk.repeated c.walk.invariant (rw c.in_default.is at c.in_ok-entry.ensures.entry)
+returns c = c.read_rest.ensures c.args.first.items (to_come c.args.items.now) (coming_start c.args.schema.now c.args.first.items (to_come c.args.items.now) c.new.result c.new.ensures.empty)

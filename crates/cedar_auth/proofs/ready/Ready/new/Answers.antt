@@ -17,4 +17,4 @@ invariant_of-result c =
 
 pub returns-in-Err-clause-refused : goal.returns-in-Err-clause-refused
 returns-in-Err-clause-refused c =
-    subst (λ (s : SchemaTree). c.in-Err.fault ≢ OutOfMemory → BytesHaveFault s c.args.entities.now c.in-Err.fault) c.schema.ensures.value c.in-Err.ensures.refused
+    subst (λ (s : SchemaTree). c.in-Err.fault ≢ OutOfMemory → BytesHaveFault s c.args.entities.items c.in-Err.fault) c.schema.ensures.value c.in-Err.ensures.refused

@@ -1,5 +1,5 @@
 //! Rows that are read and that grow.
-ghost use Rattle.std.specs.Prelude.{◌≡◌, ℕ, ◌<◌, ◌≤◌, ◌*◌, ◌||◌, length, nat_eq, slice_index, vec_len, OnOk};
+ghost use Rattle.std.specs.Prelude.{◌≡◌, ℕ, ◌<◌, ◌≤◌, ◌*◌, ◌||◌, length, nat_eq, slice_index, vec_len, OnErr, OnOk};
 ghost use Rattle.cedar_bits.specs.Bits.{has_bit};
 
 use std::alloc::AllocError;
@@ -22,18 +22,20 @@ pub fn set_bit(words: &mut [u64], n: usize)
     words[n / 64] |= 1 << (n % 64);
 }
 
-/// Sets bit n, for which the row grows where it is too short.
+/// Sets bit n, for which the row grows where it is too short. Refused where memory runs out; the row is then as it was.
 pub fn insert_bit(row: &mut Vec<u64>, n: usize) -> Result<(), AllocError>
-    ensures { OnOk result ((m : ℕ) → has_bit row.new.items m ≡ (has_bit row.old.items m || nat_eq n m)) }
+    ensures set { OnOk result ((m : ℕ) → has_bit row.new.items m ≡ (has_bit row.old.items m || nat_eq n m)) }
+    ensures refused { OnErr result (row.new.items ≡ row.old.items) }
 {
     grow(row, n / 64 + 1)?;
     row[n / 64] |= 1 << (n % 64);
     Ok(())
 }
 
-/// Sets each bit that is set in the other row.
+/// Sets each bit that is set in the other row. Refused where memory runs out; the row is then as it was.
 pub fn join(row: &mut Vec<u64>, other: &[u64]) -> Result<(), AllocError>
-    ensures { OnOk result ((m : ℕ) → has_bit row.new.items m ≡ (has_bit row.old.items m || has_bit other.now m)) }
+    ensures joined { OnOk result ((m : ℕ) → has_bit row.new.items m ≡ (has_bit row.old.items m || has_bit other.now m)) }
+    ensures refused { OnErr result (row.new.items ≡ row.old.items) }
 {
     grow(row, other.len())?;
     for place in 0..other.len() {
@@ -46,6 +48,7 @@ pub fn join(row: &mut Vec<u64>, other: &[u64]) -> Result<(), AllocError>
 fn grow(row: &mut Vec<u64>, len: usize) -> Result<(), AllocError>
     ensures long { OnOk result (len ≤ vec_len row.new) }
     ensures same { OnOk result ((k : ℕ) → slice_index row.new.items k ≡ slice_index row.old.items k) }
+    ensures refused { OnErr result (row.new.items ≡ row.old.items) }
 {
     if row.len() < len {
         row.reserve_exact(len - row.len())?;

@@ -2,3 +2,4 @@ pub mod DecimalOf
 pub mod Decimals
 pub mod Matching
 pub mod Private
+pub mod SamePattern

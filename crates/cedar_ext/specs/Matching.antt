@@ -14,7 +14,7 @@ abbrev pub IsMatch : List Element → List ℕ → Type 0
 IsMatch [] cs = cs ≡ []
 IsMatch (e ∷ es) cs = (piece rest : List ℕ) × (cs ≡ piece ++ rest) × IsPiece e piece × IsMatch es rest
 
--- Whether a test holds of the characters, or of what is left behind some of the first ones (a step of `is_match`).
+-- Whether a test holds of the characters, or of what is left after some of the first ones: a step of `is_match` (own).
 abbrev pub on_some_rest : (List ℕ → Bool) → List ℕ → Bool
 on_some_rest test [] = test []
 on_some_rest test (c ∷ cs) = test (c ∷ cs) || on_some_rest test cs

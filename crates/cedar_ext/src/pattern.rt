@@ -69,7 +69,8 @@ impl Pattern {
 
 impl PartialEq for Pattern {
     ghost use Rattle.std.specs.Cmp.{partial_equiv_from_equiv};
-    ghost use Rattle.cedar_ext.specs.Private.SamePattern.{pattern_equivalence, same_pattern};
+    ghost use Rattle.cedar_ext.specs.Private.SamePattern.{pattern_equivalence};
+    ghost use Rattle.cedar_ext.specs.SamePattern.{same_pattern};
 
     ghost eq = { same_pattern };
 

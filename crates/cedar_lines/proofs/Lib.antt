@@ -1,4 +1,5 @@
 pub mod Cuts
+pub mod Firsts
 pub mod Served
 pub mod Steps
 pub mod Whole

@@ -1,12 +1,15 @@
 //! Why tokens make no tree.
 use std::alloc::{AllocError, AllocFailed};
+use thiserror::Error;
 
 /// Why tokens make no tree.
-#[derive(Clone, Copy, Debug, Drop, PartialEq, Eq)]
+#[derive(Clone, Copy, Debug, PartialEq, Eq, Error)]
 pub enum TreeFault {
     /// Memory was refused.
+    #[error("out of memory")]
     OutOfMemory,
-    /// They are no JSON, or nest deeper than 127, or a number is beyond a float's range.
+    /// They are not a JSON text, or nest deeper than 127, or a number is beyond a float's range.
+    #[error("not a JSON text")]
     Invalid,
 }
 

@@ -1,19 +1,24 @@
 -- The uids whose bits a row has, in a list that gains them.
-use Rattle.std.proofs.Common.{◌≡◌, ◌↔◌, ℕ, ◌+◌, ◌<◌, ◌≤◌, ◌⊎◌, inl, inr, ⊎_elim, Bool, true, false, cond, Bor, List, [], ◌∷◌, ◌++◌, length, get_or, Option, None, Some, IsTrue, refl, sym, ap, subst, ◌∙◌, arith, Contains, nat_lt, lt-ltb}
-use Rattle.std.specs.List.{IsDistinct, position, position_or_len, slice_get}
+use Rattle.std.proofs.Common.{◌≡◌, ◌≢◌, ◌↔◌, take, ℕ, ◌+◌, ◌<◌, ◌≤◌, ◌⊎◌, inl, inr, ⊎_elim, Bool, true, false, cond, Bor, List, [], ◌∷◌, ◌++◌, length, get_or, Option, None, Some, IsTrue, refl, sym, ap, subst, ◌∙◌, arith, Contains, nat_lt, lt-ltb}
+use Rattle.std.specs.List.{AllPairs, IsDistinct, position, position_or_len, slice_get}
 use Rattle.std.proofs.lemmas.Bool.{cases_lt}
-use Rattle.std.proofs.lemmas.List.Elements.{Contains-append_left, Contains-push, Contains-push_cases}
-use Rattle.std.proofs.lemmas.List.Quantifiers.{position-Some}
+use Rattle.std.proofs.lemmas.List.{append-nil, append_assoc}
+use Rattle.std.proofs.Math.Seq.{take-append_seam}
+use Rattle.std.proofs.lemmas.List.Elements.{Contains-append_left, Contains-get_or, Contains-push, Contains-push_cases}
+use Rattle.std.proofs.lemmas.List.Quantifiers.{all_pairs_push, position-Some}
 use Rattle.std.proofs.lemmas.List.Sums.{position_or_len_is}
 use Rattle.std.proofs.lemmas.Map.Keys.{apart_from_distinct}
 use Rattle.std.proofs.lemmas.Option.{get_or_from_slice_get, same_Some, slice_get_within, slice_get-get_or}
 use Rattle.cedar_bits.specs.Bits.{has_bit, IsNextBit}
 use Rattle.cedar_closure.specs.Private.Lent.{lent}
+use Rattle.cedar_closure.proofs.Listed.{nowhere}
+use Rattle.cedar_closure.proofs.Searching.{lent-push}
 use Rattle.cedar_value.specs.Datum.{same_uid}
 use Rattle.cedar_value.specs.Private.Equality.{same_uid-Decides}
 use Rattle.cedar_value.specs.World.{World, Below}
 use Rattle.cedar_value.specs.declared.uid.Uid.{Uid}
 use Rattle.cedar_store.specs.Ancestors.{AddsAncestors}
+use Rattle.cedar_store.specs.Private.Gained.{AddsMembers}
 use Rattle.cedar_store.specs.Private.Kept.{AreAncestors, bit_told, in_row}
 
 by_bool : (b : Bool) → (b ≡ true → ⊥) → b ≡ false
@@ -41,12 +46,24 @@ position_here keys i u distinct read =
 abbrev pub IsToldBelow : List Uid → List ℕ → ℕ → Uid → Type 0
 IsToldBelow keys row bound v = (k : ℕ) × (k < bound) × (position (same_uid v) keys ≡ Some k) × (has_bit row k ≡ true)
 
--- a list has gained the uids of the row's bits below the bound
-abbrev pub HasGained : List Uid → List ℕ → ℕ → List Uid → List Uid → Type 0
-HasGained keys row bound begun now = (v : Uid) → Contains now v ↔ (Contains begun v ⊎ IsToldBelow keys row bound v)
+-- a list has gained the uids of the row's bits below the bound, each once
+pub record HasGained (keys : List Uid) (row : List ℕ) (bound : ℕ) (begun now : List (Bor Uid)) : Type 0 where
+  pub added : List (Bor Uid)
+  pub appended : now ≡ begun ++ added
+  pub once : AllPairs (λ u v. u ≢ v) (lent added)
+  pub told : (v : Uid) → Contains (lent added) v ↔ IsToldBelow keys row bound v
 
-pub HasGained-none : (keys : List Uid) (row : List ℕ) (us : List Uid) → HasGained keys row 0 us us
-HasGained-none keys row us v = (λ m. inl m, λ m. ⊎_elim (λ was. was) (λ (told : IsToldBelow keys row 0 v). let less = told.1 in absurd (omega arith)) m)
+-- what has gained uids begins as it was
+pub HasGained-begun : (keys : List Uid) (row : List ℕ) (bound : ℕ) (begun now : List (Bor Uid)) → HasGained keys row bound begun now → take (length begun) now ≡ begun
+HasGained-begun keys row bound begun now gained = ap (take (length begun)) gained.appended ∙ take-append_seam begun gained.added
+
+pub HasGained-none : (keys : List Uid) (row : List ℕ) (us : List (Bor Uid)) → HasGained keys row 0 us us
+HasGained-none keys row us = record {
+  added = [];
+  appended = sym (append-nil us);
+  once = λ i j d less within. absurd (omega arith);
+  told = λ v. (λ m. absurd (nowhere v m), λ (told : IsToldBelow keys row 0 v). let less = told.1 in absurd (omega arith));
+}
 
 module _ (keys : List Uid) (row : List ℕ) (next number : ℕ) (u : Uid) (distinct : IsDistinct same_uid keys) (found : IsNextBit row next number) (read : slice_get keys number ≡ Some u) where
   told_more : (v : Uid) → IsToldBelow keys row next v → IsToldBelow keys row (number + 1) v
@@ -69,17 +86,32 @@ module _ (keys : List Uid) (row : List ℕ) (next number : ℕ) (u : Uid) (disti
         ]
       ]
 
-  pub HasGained-more : (begun old new : List Uid) → HasGained keys row next begun old → new ≡ old ++ u ∷ [] → HasGained keys row (number + 1) begun new
-  HasGained-more begun old new gained is v = (
-    λ m. elim (Contains-push_cases old u v (subst (λ us. Contains us v) is m)) [
-      | inl before ↦ ⊎_elim (λ was. inl was) (λ told. inr (told_more v told)) ((gained v).0 before)
-      | inr last ↦ inr (told_here v last)
-    ],
-    λ m. subst (λ us. Contains us v) (sym is) (⊎_elim
-        (λ was. Contains-append_left old (u ∷ []) v ((gained v).1 (inl was)))
-        (λ told. ⊎_elim (λ before. Contains-append_left old (u ∷ []) v ((gained v).1 (inr before))) (λ same. subst (Contains (old ++ u ∷ [])) same (Contains-push old u)) (told_last v told))
-        m),
-  )
+  told_apart : (us : List Uid) → ((v : Uid) → Contains us v ↔ IsToldBelow keys row next v) → (k : ℕ) (d : Uid) → k < length us → get_or us k d ≢ u
+  told_apart us told k d within same =
+      let before = (told u).0 (subst (Contains us) same (Contains-get_or us k d within)) in
+      let here = position_here keys number u distinct read in
+      let less = before.1 in
+      let order = found.0 in
+      let is : before.0 ≡ number = same_Some before.0 number (sym before.2 ∙ here) in
+      absurd (omega arith)
+
+  pub HasGained-more : (begun old new : List (Bor Uid)) (b : Bor Uid) → b.now ≡ u → HasGained keys row next begun old → new ≡ old ++ b ∷ [] → HasGained keys row (number + 1) begun new
+  HasGained-more begun old new b named gained is =
+      let last : lent (gained.added ++ b ∷ []) ≡ lent gained.added ++ u ∷ [] = lent-push (gained.added ++ b ∷ []) gained.added b refl ∙ ap (λ v. lent gained.added ++ v ∷ []) named in record {
+        added = gained.added ++ b ∷ [];
+        appended = is ∙ ap (λ us. us ++ b ∷ []) gained.appended ∙ append_assoc begun gained.added (b ∷ []);
+        once = subst (AllPairs (λ v w. v ≢ w)) (sym last) (all_pairs_push (λ v w. v ≢ w) (lent gained.added) u gained.once (told_apart (lent gained.added) gained.told));
+        told = λ v. (
+          λ m. elim (Contains-push_cases (lent gained.added) u v (subst (λ us. Contains us v) last m)) [
+            | inl before ↦ told_more v ((gained.told v).0 before)
+            | inr here ↦ told_here v here
+          ],
+          λ m. subst (λ us. Contains us v) (sym last) (⊎_elim
+              (λ before. Contains-append_left (lent gained.added) (u ∷ []) v ((gained.told v).1 before))
+              (λ same. subst (Contains (lent gained.added ++ u ∷ [])) same (Contains-push (lent gained.added) u))
+              (told_last v m)),
+        );
+      }
 
 -- the number of a uid whose bit the row has
 number_told : (row : List ℕ) (o : Option ℕ) → bit_told row o ≡ true → (k : ℕ) × (o ≡ Some k) × (has_bit row k ≡ true)
@@ -87,15 +119,20 @@ number_told row None h = cc
 number_told row (Some k) h = (k, refl, h)
 
 -- the row has no bit more
-pub HasGained-all : (keys : List Uid) (row : List ℕ) (bound : ℕ) (begun now : List Uid) → HasGained keys row bound begun now → ((k : ℕ) → bound ≤ k → k < length keys → has_bit row k ≡ false)
-    → (v : Uid) → Contains now v ↔ (Contains begun v ⊎ IsTrue (in_row keys row v))
-HasGained-all keys row bound begun now gained none v = (
-  λ m. ⊎_elim (λ was. inl was) (λ (told : IsToldBelow keys row bound v). inr (ap (bit_told row) told.2 ∙ told.3)) ((gained v).0 m),
-  λ m. ⊎_elim (λ was. (gained v).1 (inl was)) (λ (h : in_row keys row v ≡ true). (gained v).1 (inr (told h))) m,
-)
+pub HasGained-all : (keys : List Uid) (row : List ℕ) (bound : ℕ) (begun now : List (Bor Uid)) → HasGained keys row bound begun now → ((k : ℕ) → bound ≤ k → k < length keys → has_bit row k ≡ false)
+    → AddsMembers keys row begun now
+HasGained-all keys row bound begun now gained none = record {
+  added = gained.added;
+  appended = gained.appended;
+  once = gained.once;
+  told = λ v. (
+    λ m. let told = (gained.told v).0 m in ap (bit_told row) told.2 ∙ told.3,
+    λ (h : in_row keys row v ≡ true). (gained.told v).1 (told v h),
+  );
+}
   where
-    told : in_row keys row v ≡ true → IsToldBelow keys row bound v
-    told h =
+    told : (v : Uid) → in_row keys row v ≡ true → IsToldBelow keys row bound v
+    told v h =
         let number = number_told row (position (same_uid v) keys) h in
         elim (cases_lt number.0 bound) [
           | inl below ↦ (number.0, below, number.1, number.2)
@@ -106,12 +143,18 @@ HasGained-all keys row bound begun now gained none v = (
 
 -- ---- what a store says of it
 
-module _ (w : World) (low : Uid) (old new : List (Bor Uid)) where
-  pub AddsAncestors-row : (test : Uid → Bool) → AreAncestors w low test → ((v : Uid) → Contains (lent new) v ↔ (Contains (lent old) v ⊎ IsTrue (test v))) → AddsAncestors w low old new
-  AddsAncestors-row test above gained v = (
-    λ m. ⊎_elim (λ was. inl was) (λ (h : IsTrue (test v)). inr ((above v).0 h)) ((gained v).0 m),
-    λ m. (gained v).1 (⊎_elim (λ was. inl was) (λ (b : Below w low v). inr ((above v).1 b)) m),
-  )
+pub AddsAncestors-row : (w : World) (low : Uid) (keys : List Uid) (row : List ℕ) (old new : List (Bor Uid)) → AreAncestors w low (in_row keys row) → AddsMembers keys row old new → AddsAncestors w low old new
+AddsAncestors-row w low keys row old new above gained = record {
+  added = gained.added;
+  appended = gained.appended;
+  once = gained.once;
+  above = λ v. (λ m. (above v).0 ((gained.told v).0 m), λ b. (gained.told v).1 ((above v).1 b));
+}
 
 pub AddsAncestors-nothing : (w : World) (low : Uid) (us : List (Bor Uid)) → ((v : Uid) → ¬ Below w low v) → AddsAncestors w low us us
-AddsAncestors-nothing w low us none v = (λ m. inl m, λ m. ⊎_elim (λ was. was) (λ (b : Below w low v). absurd (none v b)) m)
+AddsAncestors-nothing w low us none = record {
+  added = [];
+  appended = sym (append-nil us);
+  once = λ i j d less within. absurd (omega arith);
+  above = λ v. (λ m. absurd (nowhere v m), λ b. absurd (none v b));
+}

@@ -7,7 +7,8 @@ use Rattle.cedar_closure.specs.Closure.{LeadsTo, one_link, more_links}
 use Rattle.cedar_closure.proofs.Listed.{here, there, nowhere}
 use Rattle.cedar_closure.proofs.Searching.{IsSearching}
 use Rattle.cedar_value.specs.Datum.{same_uid}
-use Rattle.cedar_value.specs.World.{EntityTree, World, entry_of, parents_of, IsParent}
+use Rattle.cedar_value.specs.World.{EntityTree, World, entry_of, parents_of}
+use Rattle.cedar_value.specs.Private.Parents.{IsParent}
 use Rattle.cedar_value.specs.declared.uid.Uid.{Uid}
 use Rattle.cedar_store.specs.Private.Kept.{AreNumbered, IsNumbered, KeepsNumbers}
 

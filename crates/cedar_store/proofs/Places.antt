@@ -8,7 +8,8 @@ use Rattle.std.proofs.lemmas.Option.{same_Some, slice_get-map, slice_get-get_or,
 use Rattle.std.proofs.lemmas.List.{take_more, map-append, length-map, length-take-le}
 use Rattle.cedar_value.specs.Datum.{same_uid}
 use Rattle.cedar_value.specs.Private.Equality.{same_uid-Decides}
-use Rattle.cedar_value.specs.World.{EntityTree, World, entry_of, has_entity, IsParent}
+use Rattle.cedar_value.specs.World.{EntityTree, World, entry_of, has_entity}
+use Rattle.cedar_value.specs.Private.Parents.{IsParent}
 use Rattle.cedar_value.specs.declared.uid.Uid.{Uid}
 use Rattle.cedar_store.specs.Entities.{uids_of, StandsTwice, AreUidsDistinct}
 use Rattle.cedar_store.specs.Private.Kept.{ArePlaces}

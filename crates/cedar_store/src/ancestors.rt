@@ -1,7 +1,6 @@
 //! The uids of a row's bits.
-ghost use Rattle.std.specs.Prelude.{◌↔◌, ◌⊎◌, Contains, IsTrue, OnOk};
-ghost use Rattle.cedar_closure.specs.Private.Lent.{lent};
-ghost use Rattle.cedar_store.specs.Private.Kept.{in_row};
+ghost use Rattle.std.specs.Prelude.{◌≡◌, OnErr, OnOk};
+ghost use Rattle.cedar_store.specs.Private.Gained.{AddsMembers};
 
 use crate::numbers::Numbers;
 use crate::row::Row;
@@ -10,22 +9,26 @@ use cedar_value::Uid;
 use std::alloc::AllocError;
 
 /// Appends each uid whose number's bit the row has, in the order of the numbers. It takes memory only
-/// where the list has to grow.
+/// where the list has to grow, and leaves the list as it was where that is refused.
 pub(crate) fn push_members<'s>(
     numbers: &'s Numbers,
     row: &Row,
     found: &mut Vec<&'s Uid>,
 ) -> Result<(), AllocError>
-    ensures { OnOk result ((u : Uid) → Contains (lent found.new.items) u
-        ↔ (Contains (lent found.old.items) u ⊎ IsTrue (in_row numbers.now.keys row.now u))) }
+    ensures adds { OnOk result (AddsMembers numbers.now.keys row.now found.old.items found.new.items) }
+    ensures refused { OnErr result (found.new.items ≡ found.old.items) }
 {
+    let begun = found.len();
     let uids = numbers.as_slice();
     let mut next = 0;
     'members: while let Some(number) = next_bit(row.words(), next) {
         let Some(uid) = uids.get(number) else {
             return Ok(());
         };
-        found.push(uid)?;
+        if found.push(uid).is_err() {
+            found.truncate(begun);
+            return Err(AllocError);
+        }
         next = number + 1;
     }
     Ok(())

@@ -1,5 +1,5 @@
 //! The entity store.
-ghost use Rattle.std.specs.Prelude.{◌≡◌, IfOk, IfErr, OnOk};
+ghost use Rattle.std.specs.Prelude.{◌≡◌, IfOk, IfErr, OnErr, OnOk};
 ghost use Rattle.cedar_store.specs.Ancestors.{AddsAncestors};
 ghost use Rattle.cedar_store.specs.Entities.{AreUidsDistinct, IsAcyclic};
 ghost use Rattle.cedar_store.specs.Faults.{IsThere};
@@ -69,13 +69,13 @@ impl Store {
         })
     }
 
-    /// Appends every uid that `low` is below (Cedar language reference, hierarchy), in the order in which
-    /// they are first named as a parent. What the store lacks is below nothing. Refused for want of memory
-    /// alone, which it takes only where the list has to grow; what it appended before then stays.
+    /// Appends each uid that `low` is below, once (Cedar language reference, hierarchy). What the store lacks is below
+    /// nothing. Refused where memory runs out, which it takes only where the list has to grow; the list is then as it was.
     ///
     /// Time goes by the words of the row of `low` and by the number of uids that are appended.
     pub fn ancestors<'s>(&'s self, low: &Uid, found: &mut Vec<&'s Uid>) -> Result<(), AllocError>
-        ensures { OnOk result (AddsAncestors self.now low.now found.old.items found.new.items) }
+        ensures adds { OnOk result (AddsAncestors self.now low.now found.old.items found.new.items) }
+        ensures refused { OnErr result (found.new.items ≡ found.old.items) }
     {
         match known_row(&self.table, &self.rows, low) {
             Some(row) => push_members(&self.numbers, row, found),

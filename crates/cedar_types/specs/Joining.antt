@@ -10,29 +10,30 @@ join_truths True True = True
 join_truths False False = False
 join_truths _ _ = Any
 
--- An answer, where the test is true.
+-- An answer, where the test is true (own).
 abbrev pub only_if : {A : Type 0} → Bool → Option A → Option A
 only_if true r = r
 only_if false r = None
 
--- Whether two Booleans are the same.
+-- Whether two Booleans are the same (own).
 abbrev pub same_bool : Bool → Bool → Bool
 same_bool true true = true
 same_bool false false = true
 same_bool _ _ = false
 
--- An attribute before others, where there are both.
+-- An attribute before others, where there are both (own).
 abbrev pub joined_attribute : List ℕ → Bool → Option TypeTree → Option Attributes → Option Attributes
 joined_attribute k r (Some t) (Some rest) = Some (attribute k r t rest)
 joined_attribute k r (Some t) None = None
 joined_attribute k r None rest = None
 
--- Nothing, where nothing is left.
+-- Nothing, where nothing is left (own).
 abbrev pub no_more : Attributes → Option Attributes
 no_more no_attributes = Some no_attributes
 no_more (attribute k r t rest) = None
 
--- An attribute that is joined with the first of others, where both have one name and one requiredness.
+-- An attribute that is joined with the first of others, where both have one name and one requiredness (cedar-spec, Lean:
+-- Cedar.Validation, least upper bounds of the strict mode).
 abbrev pub with_first : List ℕ → Bool → (TypeTree → Option TypeTree) → (Attributes → Option Attributes) → Attributes → Option Attributes
 with_first k r f rest no_attributes = None
 with_first k r f rest (attribute l q u b) = only_if (bytes_eq k l && same_bool r q) (joined_attribute k r (f u) (rest b))

@@ -29,12 +29,12 @@ mutual
     join_none : JoinAttributes no_attributes no_attributes no_attributes
     join_attribute : {k : List ℕ} {r : Bool} {t u v : TypeTree} {a b d : Attributes} → Join t u v → JoinAttributes a b d → JoinAttributes (attribute k r t a) (attribute k r u b) (attribute k r v d)
 
--- The function `join` computes the relation.
+-- The function `join` computes the relation (own).
 abbrev pub JoinIsComputed : Type 0
 JoinIsComputed = (a b d : TypeTree) → Join a b d ↔ (join a b ≡ Some d)
 
--- What three record types declare at one name: none of them anything, or all of them an attribute, of the same
--- requiredness, with types that join.
+-- What three record types declare at one name: none of them anything, or all of them an attribute, of the same requiredness,
+-- with types that join (Cedar documentation, strict validation).
 abbrev pub JoinsAt : Option Attribute → Option Attribute → Option Attribute → Type 0
 JoinsAt None None None = Unit {0}
 JoinsAt (Some x) (Some y) (Some z) = (y.required ≡ x.required) × (z.required ≡ x.required) × Join x.ty y.ty z.ty

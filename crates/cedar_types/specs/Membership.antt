@@ -64,12 +64,12 @@ abbrev pub MayStand : Bool → (Datum → Type 0) → Option Datum → Type 0
 MayStand required P (Some v) = P v
 MayStand required P None = required ≡ false
 
--- Nothing stands there.
+-- Nothing stands there (own).
 abbrev pub IsAbsent : Option Datum → Type 0
 IsAbsent None = Unit {0}
 IsAbsent (Some v) = ⊥
 
--- The one statement or the other.
+-- The one statement or the other (own).
 abbrev pub Choose : Bool → Type 0 → Type 0 → Type 0
 Choose true A B = A
 Choose false A B = B

@@ -19,24 +19,24 @@ unfoldable mutual
   Ascends (record_of a) = IsStrictlySortedBy text_cmp (names_of a) × AllAscend a
   Ascends decimal = Unit {0}
 
-  -- it is so of the types of all attributes
+  -- The types of all attributes ascend so, at every depth (own).
   pub AllAscend : Attributes → Type 0
   AllAscend no_attributes = Unit {0}
   AllAscend (attribute k r t rest) = Ascends t × AllAscend rest
 
--- The attributes with one more at its place, where it takes the place of one of its name.
+-- The attributes with one more at its place; one of its name that was there before gives way (own).
 abbrev pub with_attribute : List ℕ → Bool → TypeTree → Attributes → Attributes
 with_attribute k r t no_attributes = attribute k r t no_attributes
 with_attribute k r t (attribute l q u rest) = match_ordering (text_cmp k l) (attribute k r t (attribute l q u rest)) (attribute k r t rest) (attribute l q u (with_attribute k r t rest))
 
--- The names of the attributes ascend strictly by their bytes.
+-- The names of the attributes ascend strictly by their bytes (own).
 abbrev pub AreNamesAscending : List Attribute → Type 0
 AreNamesAscending as' = IsStrictlySortedBy text_cmp (map (λ a. a.name) as')
 
--- No name stands twice.
+-- No name is there twice (own).
 abbrev pub AreNamesDistinct : List Attribute → Type 0
 AreNamesDistinct as' = AllPairs (λ k l. k ≢ l) (map (λ a. a.name) as')
 
--- The record type has exactly the attributes of the list, put in order.
+-- The record type has exactly the attributes of the list, put in order (own).
 abbrev pub IsRecordOf : List Attribute → Attributes → Type 0
 IsRecordOf as' r = (sorted : List Attribute) × IsPermutation as' sorted × AreNamesAscending sorted × (r ≡ attributes_of sorted)

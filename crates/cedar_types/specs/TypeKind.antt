@@ -5,12 +5,12 @@ use Rattle.cedar_types.specs.declared.attribute.Attribute.{Attribute}
 use Rattle.cedar_types.specs.declared.types.TypeKind.{TypeKind}
 use Rattle.cedar_types.specs.declared.types.TypeKind.TheVariants.{Boolean, Long, String, Entity, Set, Record, Decimal}
 
--- The attributes of a list.
+-- The attributes of a list, in its order (own).
 abbrev pub attributes_of : List Attribute → Attributes
 attributes_of [] = no_attributes
 attributes_of (a ∷ rest) = attribute a.name a.required a.ty (attributes_of rest)
 
--- The type that a kind stands for: of each kind its own form.
+-- The type that a kind is the outermost form of (own).
 abbrev pub type_of : TypeKind → TypeTree
 type_of (Boolean t) = boolean t
 type_of Long = long

@@ -14,12 +14,13 @@ mutual
     record_of : Attributes → TypeTree
     decimal : TypeTree
 
-  -- the attributes of a record, one after the other: its name, whether it is required, its type
+  -- The attributes of a record, one after the other: of each its name, whether it is required, and its type (Cedar
+  -- documentation, JSON schema format: Record).
   pub data Attributes : Type 0 where
     no_attributes : Attributes
     attribute : List ℕ → Bool → TypeTree → Attributes → Attributes
 
--- The names of the attributes.
+-- The names of the attributes, in order (own).
 abbrev pub names_of : Attributes → List (List ℕ)
 names_of no_attributes = []
 names_of (attribute k r t rest) = k ∷ names_of rest

@@ -8,7 +8,8 @@ use Rattle.cedar_closure.proofs.Listed.{here, there, nowhere}
 use Rattle.cedar_closure.specs.Closure.{AreListed, leads}
 use Rattle.cedar_value.specs.Datum.{same_uid}
 use Rattle.cedar_value.specs.Private.Equality.{same_uid-Decides}
-use Rattle.cedar_value.specs.World.{EntityTree, World, entry_of, parents_of, IsParent, Below, below}
+use Rattle.cedar_value.specs.World.{EntityTree, World, entry_of, parents_of, Below, below}
+use Rattle.cedar_value.specs.Private.Parents.{IsParent}
 use Rattle.cedar_value.specs.declared.uid.Uid.{Uid}
 
 uids : World → List Uid

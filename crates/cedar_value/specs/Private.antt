@@ -7,5 +7,6 @@ pub mod Hashed
 pub mod KindFalls
 pub mod Laws
 pub mod Lists
+pub mod Parents
 pub mod Same
 pub mod Weight

@@ -1,6 +1,6 @@
 -- Worlds of entities, and what lies above an entity (Cedar language reference, entities and hierarchy;
 -- cedar-spec, Lean: Cedar.Spec.Entities).
-use Rattle.std.specs.Prelude.{ℕ, Bool, false, List, [], ◌∷◌, length, Option, Some, None, is_some, unwrap_or, Contains, if◌then◌else◌}
+use Rattle.std.specs.Prelude.{ℕ, Bool, false, List, [], ◌∷◌, length, Option, Some, None, is_some, unwrap_or, if◌then◌else◌}
 use Rattle.std.specs.Option.{option_map}
 use Rattle.std.specs.List.{list_any}
 pub use Rattle.cedar_closure.specs.Closure.{LeadsTo}
@@ -36,10 +36,6 @@ attributes_of w u = option_map (λ e. e.attributes) (entry_of w u)
 -- Its direct parents, and none where the world lacks it (Cedar language reference, hierarchy).
 abbrev pub parents_of : World → Uid → List Uid
 parents_of w u = unwrap_or (option_map (λ e. e.parents) (entry_of w u)) []
-
--- One link leads from the one up to the other (Cedar language reference, hierarchy).
-abbrev pub IsParent : World → Uid → Uid → Type 0
-IsParent w u v = Contains (parents_of w u) v
 
 -- The one is below the other: a chain of one or more links leads up, each to a direct parent (Cedar language reference,
 -- `in`).

@@ -1,20 +1,11 @@
--- The test of equality of two patterns.
+-- The test of equality of two patterns is exact.
 use Rattle.std.specs.Prelude.{◌≡◌, Bool, true, false, ◌&&◌, nat_eq, List, [], ◌∷◌, refl}
 use Rattle.std.proofs.Common.{ap, eqb-true, eq-eqb}
 use Rattle.std.specs.Bool.{Decides}
 use Rattle.std.specs.Cmp.{IsEquivalence, decided}
 use Rattle.cedar_ext.specs.declared.pattern.Element.{Element}
 use Rattle.cedar_ext.specs.declared.pattern.Element.TheVariants.{Character, Star}
-
-abbrev pub same_element : Element → Element → Bool
-same_element (Character c) (Character d) = nat_eq c d
-same_element Star Star = true
-same_element _ _ = false
-
-abbrev pub same_pattern : List Element → List Element → Bool
-same_pattern [] [] = true
-same_pattern (e ∷ es) (f ∷ fs) = same_element e f && same_pattern es fs
-same_pattern _ _ = false
+pub use Rattle.cedar_ext.specs.SamePattern.{same_element, same_pattern}
 
 pub same_element-Decides : (e f : Element) → Decides (same_element e f) (e ≡ f)
 same_element-Decides (Character c) (Character d) = (λ h. ap Character (eqb-true c d h), λ p. let q : c ≡ d = cc in eq-eqb c d q)

@@ -5,8 +5,9 @@ use crate::sink::{Sink, WriteFailed};
 use std::io::Write;
 use std::marker::Model;
 
-/// Writes to a writer of `std`. What reaches it is not known, its failures are counted. It doesn't flush: what the
-/// writer keeps back waits there. Contracts see how often a write failed.
+/// Writes to a writer of `std`, and counts its failures. What it wrote is what the writer says that it holds; of a file or
+/// a terminal that is not known. It doesn't flush: what the writer keeps back waits there. Contracts see the writer, and
+/// how often a write failed.
 #[derive(Drop)]
 pub struct StdSink<W> {
     writer: W,
@@ -14,17 +15,18 @@ pub struct StdSink<W> {
 }
 
 impl<W> Model for StdSink<W> {
-    ghost use Rattle.std.specs.Prelude.{ℕ};
+    ghost use Rattle.cedar_lines.specs.Counted.{WrittenTo};
 
-    ghost Value = { ℕ };
+    ghost Value = { WrittenTo W };
 
-    ghost view = { λ s. s.failed_writes };
+    ghost view = { λ s. record { writer = s.writer; failures = s.failed_writes } };
 }
 
 impl<W: Write> StdSink<W> {
     /// A sink over the writer.
     pub fn new(writer: W) -> StdSink<W>
-        ensures { result ≡ 0 }
+        ensures writer { result.writer ≡ writer }
+        ensures none { result.failures ≡ 0 }
     {
         StdSink {
             writer,
@@ -34,7 +36,9 @@ impl<W: Write> StdSink<W> {
 }
 
 impl<W: Write> Sink for StdSink<W> {
-    ghost failed = { λ failures. failures };
+    ghost written = { λ s. W.contents s.writer };
+
+    ghost failed = { λ s. s.failures };
 
     fn write(&mut self, bytes: &[u8]) -> Result<usize, WriteFailed> {
         if bytes.is_empty() {

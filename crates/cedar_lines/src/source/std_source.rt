@@ -8,8 +8,9 @@ use std::marker::Model;
 /// So many bytes a [`StdSource`] gives at most.
 const MOST_BYTES: u64 = 9223372036854775807;
 
-/// Reads from a reader of `std`. Its bytes are not known, its failures are counted. Contracts see how many bytes it
-/// can still give and how often a read failed.
+/// Reads from a reader of `std`, and counts its failures. What it has left is the first of what the reader says that it
+/// still has; of a file or a terminal that is not known. Contracts see the reader, how many bytes it can still give at
+/// most, and how often a read failed.
 #[derive(Drop)]
 pub struct StdSource<R> {
     reader: R,
@@ -20,14 +21,15 @@ pub struct StdSource<R> {
 impl<R> Model for StdSource<R> {
     ghost use Rattle.cedar_lines.specs.Counted.{Given};
 
-    ghost Value = { Given };
+    ghost Value = { Given R };
 
-    ghost view = { λ s. record { can_give = s.can_give; failures = s.failed_reads } };
+    ghost view = { λ s. record { reader = s.reader; can_give = s.can_give; failures = s.failed_reads } };
 }
 
 impl<R: Read> StdSource<R> {
     /// A source that gives 9,223,372,036,854,775,807 bytes of the reader at most, and then the end of the input.
     pub fn new(reader: R) -> StdSource<R>
+        ensures reader { result.reader ≡ reader }
         ensures whole { result.can_give ≡ 2 ^ 63 - 1 }
         ensures none { result.failures ≡ 0 }
     {
@@ -40,6 +42,10 @@ impl<R: Read> StdSource<R> {
 }
 
 impl<R: Read> Source for StdSource<R> {
+    ghost use Rattle.cedar_lines.specs.Counted.{first_of};
+
+    ghost left = { λ s. first_of s.can_give (R.remaining s.reader) };
+
     ghost can_give = { λ s. s.can_give };
 
     ghost failed = { λ s. s.failures };

@@ -7,7 +7,8 @@ use Rattle.cedar_bits.specs.Bits.{has_bit}
 use Rattle.cedar_closure.specs.Closure.{IsClosure}
 use Rattle.cedar_value.specs.Datum.{Datum, uid, same_uid}
 use Rattle.cedar_value.specs.Order.{uid_cmp}
-use Rattle.cedar_value.specs.World.{EntityTree, World, IsParent, parents_of}
+use Rattle.cedar_value.specs.World.{EntityTree, World, parents_of}
+use Rattle.cedar_value.specs.Private.Parents.{IsParent}
 use Rattle.cedar_value.specs.declared.uid.Uid.{Uid}
 use Rattle.cedar_store.specs.Entities.{uids_of}
 

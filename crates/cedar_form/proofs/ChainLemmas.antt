@@ -5,9 +5,9 @@ use Rattle.cedar_form.specs.declared.form.Form.{the_lemmas}
 use Rattle.cedar_form.specs.declared.form.Form.TheVariants.{Common}
 use Rattle.cedar_form.specs.declared.schema_fault.SchemaFault.TheVariants.{UnknownType, CommonCycle}
 use Rattle.cedar_form.specs.Forms.{FormTree, common_form}
-use Rattle.cedar_form.specs.Private.FormView.{form_of}
+use Rattle.cedar_form.specs.FormView.{form_of}
 use Rattle.cedar_form.specs.Expansion.{Table, form_nodes, form_height, form_type, form_faults, faults_behind, common_nodes, common_height, common_type, cycle_faults, nodes, height}
-use Rattle.cedar_form.specs.Private.Measures.{Leads, stays, goes, AreEnds}
+use Rattle.cedar_form.specs.Ends.{Leads, stays, goes, AreEnds}
 use Rattle.cedar_form.specs.Private.Behind.{StandsBehind, IsNothing, LeadsTooFar}
 
 -- one place more is followed

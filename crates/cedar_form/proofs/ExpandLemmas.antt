@@ -9,14 +9,15 @@ use Rattle.cedar_form.specs.declared.schema_fault.SchemaFault.TheVariants.{TooLa
 use Rattle.cedar_form.specs.declared.form.FormField.{FormField}
 use Rattle.cedar_form.specs.declared.form.Form.{the_lemmas}
 use Rattle.cedar_types.specs.declared.attribute.Attribute.{Attribute}
-use Rattle.cedar_form.specs.Private.Faults.{Told}
+use Rattle.cedar_form.specs.Faults.{Told}
 use Rattle.cedar_form.specs.Forms.{FormTree, FormRows, form_row}
-use Rattle.cedar_form.specs.Private.FormView.{form_of, field_of, fields_view}
+use Rattle.cedar_form.specs.FormView.{form_of}
+use Rattle.cedar_form.specs.Private.FieldView.{field_of, fields_view}
 use Rattle.cedar_types.specs.Ordered.{with_attribute}
 use Rattle.cedar_types.specs.Types.{TypeTree, Attributes, no_attributes}
 use Rattle.cedar_form.specs.Expansion.{Table, form_nodes, form_height, form_type, form_faults, rows_type, rows_nodes, rows_height, rows_faults, with_row, nodes, height, expanded, limit_faults, typed}
 use Rattle.cedar_form.specs.Private.Measures.{IsOver, Leaves}
-use Rattle.cedar_form.specs.Private.TableView.{Expands}
+use Rattle.cedar_form.specs.TableView.{Expands}
 use Rattle.cedar_form.proofs.FormLemmas.{told_first, told_then, told_here}
 
 -- how deep a form itself nests

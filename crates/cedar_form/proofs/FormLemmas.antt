@@ -12,10 +12,11 @@ use Rattle.cedar_form.specs.declared.schema_fault.SchemaFault.TheVariants.{Shape
 use Rattle.cedar_form.specs.declared.form.Form.{Form, the_lemmas}
 use Rattle.cedar_form.specs.declared.form.Form.TheVariants.{Record}
 use Rattle.cedar_form.specs.declared.form.FormField.{FormField}
-use Rattle.cedar_form.specs.Private.Faults.{Told}
+use Rattle.cedar_form.specs.Faults.{Told}
 use Rattle.cedar_form.specs.Forms.{record_form, no_form_rows, form_row}
-use Rattle.cedar_form.specs.Private.FormView.{FieldTree, form_of, field_of, fields_view}
-use Rattle.cedar_form.specs.Private.Reads.{Reads}
+use Rattle.cedar_form.specs.FormView.{FieldTree, form_of}
+use Rattle.cedar_form.specs.Private.FieldView.{field_of, fields_view}
+use Rattle.cedar_form.specs.Reads.{Reads}
 use Rattle.cedar_form.specs.Reading.{Scope, Read, RowsRead, bad, type_read, read_at, rows_at, rows_read, all_rows, of_type, text_at, key_faults, unknown_keys, may_have, kind_named, of_kind, with_faults, no_rows_read, required_faults, is_required}
 
 picked : {A B : Type 0} (f : A → B) (o : Ordering) (a b : Option A) (c d : Option B) → c ≡ option_map f a → d ≡ option_map f b → match_ordering o c d c ≡ option_map f (match_ordering o a b a)

@@ -4,7 +4,7 @@ use Rattle.serde_json.specs.Data.{Data, Items, no_items, item}
 use Rattle.serde_json.specs.View.{view, items_view}
 use Rattle.serde_json.specs.declared.value.Value.{Value}
 use Rattle.cedar_form.specs.declared.schema_fault.SchemaFault.{SchemaFault}
-use Rattle.cedar_form.specs.Private.Faults.{Told}
+use Rattle.cedar_form.specs.Faults.{Told}
 use Rattle.cedar_form.specs.Lists.{ListRead, each_read}
 use Rattle.cedar_form.proofs.FormLemmas.{told_first}
 use Rattle.cedar_form.proofs.Lookups.{drop_here}

@@ -6,7 +6,7 @@ use Rattle.serde_json.specs.View.{members_view}
 use Rattle.serde_json.proofs.Views.{Entry}
 use Rattle.cedar_form.specs.declared.schema_fault.SchemaFault.{SchemaFault}
 use Rattle.cedar_form.specs.declared.schema_fault.SchemaFault.TheVariants.{Shape}
-use Rattle.cedar_form.specs.Private.Faults.{Told}
+use Rattle.cedar_form.specs.Faults.{Told}
 use Rattle.cedar_form.specs.Forms.{FormTree}
 use Rattle.cedar_types.specs.Types.{TypeTree}
 use Rattle.cedar_form.specs.Naming.{fault_if}

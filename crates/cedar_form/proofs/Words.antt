@@ -6,7 +6,7 @@ use Rattle.cedar_value.specs.Names.{IsName, words_from, is_name}
 use Rattle.cedar_value.proofs.NameWords.{is_name-Decides}
 use Rattle.cedar_value.proofs.Paths.{IsCut}
 use Rattle.cedar_form.specs.declared.schema_fault.SchemaFault.TheVariants.{Shape, ReservedName}
-use Rattle.cedar_form.specs.Private.Faults.{Told}
+use Rattle.cedar_form.specs.Faults.{Told}
 use Rattle.cedar_form.specs.Naming.{is_reserved as has_reserved, text_faults, fault_if}
 use Rattle.cedar_form.proofs.FormLemmas.{told_here, told_then}
 

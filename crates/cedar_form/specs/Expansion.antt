@@ -8,7 +8,7 @@ use Rattle.cedar_types.specs.Types.{TypeTree, boolean, long, string, entity, set
 use Rattle.cedar_types.specs.Ordered.{with_attribute}
 use Rattle.cedar_form.specs.Forms.{FormTree, no_form, boolean_form, long_form, string_form, decimal_form, entity_form, set_form, record_form, common_form, FormRows, no_form_rows, form_row}
 
--- The common types by their places, as they are written.
+-- The common types by their places, as they are written (Cedar documentation, JSON schema format: common types).
 abbrev pub Table : Type 0
 Table = List FormTree
 
@@ -49,7 +49,7 @@ abbrev mutual
   rows_height names no_form_rows = 0
   rows_height names (form_row k r f rs) = max (form_height names f) (rows_height names rs)
 
--- An attribute more, where both its type and the attributes before it are there.
+-- An attribute more, where both its type and the attributes before it are there (own).
 abbrev pub with_row : List ℕ → Bool → Option TypeTree → Option Attributes → Option Attributes
 with_row k r (Some t) (Some before) = Some (with_attribute k r t before)
 with_row k r (Some t) None = None
@@ -69,12 +69,13 @@ abbrev mutual
   form_type names (record_form rs) = option_map record_of (rows_type names (Some no_attributes) rs)
   form_type names (common_form n) = names n
 
-  -- the attributes of these rows, after those that are before
+  -- The attributes of these rows, added to those before them (Cedar documentation, JSON schema format: Record).
   pub rows_type : (ℕ → Option TypeTree) → Option Attributes → FormRows → Option Attributes
   rows_type names before no_form_rows = before
   rows_type names before (form_row k r f rs) = rows_type names (with_row k r (form_type names f) before) rs
 
--- The faults of the common types that a form names.
+-- The faults of the common types that a form names, where `names` says those of each (Cedar documentation, JSON schema
+-- format: common types).
 abbrev mutual
   pub form_faults : (ℕ → List SchemaFault) → FormTree → List SchemaFault
   form_faults names no_form = []
@@ -87,7 +88,8 @@ abbrev mutual
   form_faults names (record_form rs) = rows_faults names rs
   form_faults names (common_form n) = names n
 
-  -- those that the types of all attributes name
+  -- The faults of the common types that the types of all attributes name (Cedar documentation, JSON schema format: common
+  -- types).
   pub rows_faults : (ℕ → List SchemaFault) → FormRows → List SchemaFault
   rows_faults names no_form_rows = []
   rows_faults names (form_row k r f rs) = form_faults names f ++ rows_faults names rs
@@ -99,22 +101,25 @@ unfoldable pub common_nodes : Table → ℕ → ℕ → ℕ
 common_nodes t zero k = 1
 common_nodes t (suc n) k = unwrap_or (option_map (form_nodes (common_nodes t n)) (slice_get t k)) 1
 
--- The height of a common type.
+-- The height of a common type; what is not there counts one (own).
 unfoldable pub common_height : Table → ℕ → ℕ → ℕ
 common_height t zero k = 1
 common_height t (suc n) k = unwrap_or (option_map (form_height (common_height t n)) (slice_get t k)) 1
 
--- The type of a common type, none where its names lead on without end.
+-- The type of a common type, none where its names lead on without end (Cedar documentation, JSON schema format: common
+-- types).
 unfoldable pub common_type : Table → ℕ → ℕ → Option TypeTree
 common_type t zero k = None
 common_type t (suc n) k = option_and_then (form_type (common_type t n)) (slice_get t k)
 
--- What stands behind a name: without a form it is not declared.
+-- The faults of what a name is of: without a form it is not declared, 303 (Cedar documentation, JSON schema format: common
+-- types).
 abbrev pub faults_behind : (FormTree → List SchemaFault) → Option FormTree → List SchemaFault
 faults_behind f None = UnknownType ∷ []
 faults_behind f (Some g) = f g
 
--- The faults of a common type: one name more than may be followed is a cycle.
+-- The faults of a common type: one name more than may be followed is a cycle, 304 (Cedar documentation, JSON schema format:
+-- common types; own).
 unfoldable pub cycle_faults : Table → ℕ → ℕ → List SchemaFault
 cycle_faults t zero k = CommonCycle ∷ []
 cycle_faults t (suc n) k = faults_behind (form_faults (cycle_faults t n)) (slice_get t k)
@@ -123,16 +128,16 @@ cycle_faults t (suc n) k = faults_behind (form_faults (cycle_faults t n)) (slice
 abbrev pub nodes : Table → ℕ → FormTree → ℕ
 nodes t n = form_nodes (common_nodes t n)
 
--- The height of a form with its common types expanded.
+-- The height of a form with its common types expanded (own).
 abbrev pub height : Table → ℕ → FormTree → ℕ
 height t n = form_height (common_height t n)
 
--- What expanding gives: a type, unless a part is none, and the faults that are there.
+-- What expanding gives: a type, unless a part is none, and the faults that are there (own).
 pub record Expanded : Type 0 where
   pub ty : Option TypeTree
   pub faults : List SchemaFault
 
--- A form expanded, with at most n names followed in a chain.
+-- A form expanded, with at most n names followed in a chain (own).
 abbrev pub expanded : Table → ℕ → FormTree → Expanded
 expanded t n f = record { ty = form_type (common_type t n) f; faults = form_faults (cycle_faults t n) f }
 
@@ -140,6 +145,6 @@ expanded t n f = record { ty = form_type (common_type t n) f; faults = form_faul
 abbrev pub limit_faults : Table → FormTree → List SchemaFault
 limit_faults t f = if nat_le (nodes t (length t) f) 10000 && nat_le (height t (length t) f) 100 then [] else TooLarge ∷ []
 
--- What a form says as a type: at most as many names in a chain as there are common types.
+-- What a form says as a type: at most as many names in a chain as there are common types (own).
 unfoldable pub typed : Table → FormTree → Expanded
 typed t f = record { ty = (expanded t (length t) f).ty; faults = limit_faults t f ++ (expanded t (length t) f).faults }

@@ -12,7 +12,8 @@ mutual
     record_form : FormRows → FormTree
     common_form : ℕ → FormTree  -- a declared common type, by its place
 
-  -- the attributes of a record as they are written
+  -- The attributes of a record as they are written, one after the other: of each its name, whether it is required, and its
+  -- type (Cedar documentation, JSON schema format: Record).
   pub data FormRows : Type 0 where
     no_form_rows : FormRows
     form_row : List ℕ → Bool → FormTree → FormRows → FormRows

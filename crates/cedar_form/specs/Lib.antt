@@ -1,9 +1,17 @@
+pub mod Ends
 pub mod Entries
+pub mod EntryView
 pub mod Expansion
+pub mod Faults
+pub mod FormView
 pub mod Forms
 pub mod Lists
+pub mod LookedUp
 pub mod Naming
 pub mod Numbers
 pub mod Private
 pub mod Reading
+pub mod Reads
+pub mod ReadsLists
 pub mod Shapes
+pub mod TableView

@@ -9,22 +9,22 @@ use Rattle.cedar_form.specs.declared.schema_fault.SchemaFault.TheVariants.{Shape
 use Rattle.cedar_form.specs.Naming.{resolved, name_faults}
 use Rattle.cedar_form.specs.Reading.{Scope}
 
--- What a list says, item by item, and the faults that are there.
+-- What a list says, item by item, and the faults that are there (own).
 pub record ListRead (A : Type 0) : Type 0 where
   pub items : List A
   pub faults : List SchemaFault
 
--- What the items of a list say, one after the other.
+-- What the items of a list say, one after the other (own).
 unfoldable pub each_read : {A : Type 0} → (Data → ListRead A) → Items → ListRead A
 each_read f no_items = record { items = []; faults = [] }
 each_read f (item d ds) = record { items = (f d).items ++ (each_read f ds).items; faults = (f d).faults ++ (each_read f ds).faults }
 
--- What a JSON says that has to be a list.
+-- What a JSON says that has to be a list: another one is 302 (Cedar documentation, JSON schema format).
 abbrev pub list_in : {A : Type 0} → (Data → ListRead A) → Option Items → ListRead A
 list_in f None = record { items = []; faults = Shape ∷ [] }
 list_in f (Some ds) = each_read f ds
 
--- The list at a key; `missing` is the fault of one that is not there.
+-- The list at a key; `missing` is the fault of one that is not there (own).
 abbrev pub list_at : {A : Type 0} → (Data → ListRead A) → List SchemaFault → Option Data → ListRead A
 list_at f missing None = record { items = []; faults = missing }
 list_at f missing (Some d) = list_in f (as_array d)
@@ -34,7 +34,7 @@ abbrev pub some_name : List (List ℕ) → List ℕ → Option (List ℕ) → Li
 some_name declared namespace None = record { items = []; faults = Shape ∷ [] }
 some_name declared namespace (Some s) = record { items = unwrap_or (option_map (λ n. n.0 ∷ []) (resolved declared namespace s)) []; faults = name_faults declared namespace s }
 
--- The declared name that an item of a list stands for.
+-- The declared name that an item of a list stands for (Cedar documentation, JSON schema format: namespaces).
 abbrev pub name_read : List (List ℕ) → List ℕ → Data → ListRead (List ℕ)
 name_read declared namespace d = some_name declared namespace (as_str d)
 
@@ -42,7 +42,7 @@ name_read declared namespace d = some_name declared namespace (as_str d)
 abbrev pub names_at : Scope → List SchemaFault → Option Data → ListRead (List ℕ)
 names_at sc = list_at (name_read sc.entities sc.namespace)
 
--- The names in ascending order, each once.
+-- The names, put into a list in ascending order, each once (own).
 abbrev pub set_onto : List (List ℕ) → List (List ℕ) → List (List ℕ)
 set_onto done [] = done
 set_onto done (n ∷ names) = set_onto (insert_key text_cmp done n) names

@@ -13,24 +13,24 @@ is_reserved s = list_any (λ word. bytes_eq word (codes "__cedar")) (words_from 
 unfoldable pub qualified : List ℕ → List ℕ → List ℕ
 qualified namespace name = if length namespace == 0 then name else namespace ++ codes "::" ++ name
 
--- The place of a name among names, where they are counted from i.
+-- The place of a name among names, where they are counted from i (own).
 abbrev pub place_from : ℕ → List ℕ → List (List ℕ) → Option ℕ
 place_from i name [] = None
 place_from i name (n ∷ names) = if bytes_eq n name then Some i else place_from (suc i) name names
 
--- The place of a name among names, from 0.
+-- The place of a name among names, from 0 (own).
 abbrev pub place_of : List (List ℕ) → List ℕ → Option ℕ
 place_of names name = place_from 0 name names
 
--- A declared name with its place.
+-- A declared name with its place (own).
 abbrev pub Declared : Type 0
 Declared = List ℕ × ℕ
 
--- A name with its place, where it is declared.
+-- A name with its place, where it is declared (own).
 abbrev pub listed : List (List ℕ) → List ℕ → Option Declared
 listed names name = option_map (λ place. (name, place)) (place_of names name)
 
--- The one, or else the other.
+-- The one, or else the other (own).
 abbrev pub or_else : {A : Type 0} → Option A → Option A → Option A
 or_else (Some x) o = Some x
 or_else None o = o
@@ -41,15 +41,17 @@ unfoldable pub resolved : List (List ℕ) → List ℕ → List ℕ → Option D
 resolved names namespace name =
     if list_any (nat_eq 58) name then listed names name else or_else (listed names (qualified namespace name)) (listed names name)
 
--- The fault, where the test is true.
+-- One fault, where the test is true, and else none (own).
 abbrev pub fault_if : Bool → SchemaFault → List SchemaFault
 fault_if true e = e ∷ []
 fault_if false e = []
 
--- A name has to be one, 302, and may have no reserved word, 306.
+-- The faults of a text that has to be a name: 302 where it is none, 306 where it has a reserved word (Cedar documentation,
+-- JSON schema format: reserved names).
 unfoldable pub text_faults : List ℕ → List SchemaFault
 text_faults s = fault_if (is_reserved s) ReservedName ++ fault_if (not (is_name s)) Shape
 
--- A name that stands for something has to be declared besides: 303.
+-- The faults of a name that has to be declared besides: 303 where it is not (Cedar documentation, JSON schema format:
+-- namespaces).
 unfoldable pub name_faults : List (List ℕ) → List ℕ → List ℕ → List SchemaFault
 name_faults names namespace s = text_faults s ++ fault_if (not (is_some (resolved names namespace s))) UnknownType

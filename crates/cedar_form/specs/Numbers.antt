@@ -3,7 +3,7 @@ use Rattle.std.specs.Prelude.{ℕ}
 use Rattle.cedar_form.specs.declared.schema_fault.SchemaFault.{SchemaFault}
 use Rattle.cedar_form.specs.declared.schema_fault.SchemaFault.TheVariants.{OutOfMemory, Json, Shape, UnknownType, CommonCycle, ActionCycle, ReservedName, OpenRecord, Unspecified, TooLarge}
 
--- The number of each refusal (docs/REFUSALS.md).
+-- The number of each refusal, as docs/REFUSALS.md lists them (own).
 abbrev pub number_of : SchemaFault → ℕ
 number_of OutOfMemory = 1
 number_of Json = 301

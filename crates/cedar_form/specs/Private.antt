@@ -1,10 +1,6 @@
--- What only proofs and private contracts use.
+-- What proofs, models and private contracts of this crate use.
 pub mod Behind
-pub mod EntryView
-pub mod Faults
-pub mod FormView
+pub mod FieldView
 pub mod Measures
 pub mod Places
-pub mod Reads
-pub mod ReadsLists
-pub mod TableView
+pub mod ReadsField

@@ -11,31 +11,34 @@ use Rattle.cedar_form.specs.declared.form.kind.Kind.TheVariants.{Boolean, Long, 
 use Rattle.cedar_form.specs.Naming.{Declared, resolved, text_faults, name_faults}
 use Rattle.cedar_form.specs.Forms.{FormTree, no_form, boolean_form, long_form, string_form, decimal_form, entity_form, set_form, record_form, common_form, FormRows, no_form_rows, form_row}
 
--- What the JSON of a type says: its form, and the faults that are there.
+-- What the JSON of a type says: its form, and the faults that are there (Cedar documentation, JSON schema format: attribute
+-- types).
 pub record Read : Type 0 where
   pub form : FormTree
   pub faults : List SchemaFault
 
--- What the JSON of attributes says: their rows, and the faults that are there.
+-- What the JSON of attributes says: their rows, and the faults that are there (Cedar documentation, JSON schema format:
+-- Record).
 pub record RowsRead : Type 0 where
   pub rows : FormRows
   pub faults : List SchemaFault
 
--- Where a type stands: its namespace, and the names that are declared in the schema.
+-- Where a type is written: its namespace, and the names that are declared in the schema (Cedar documentation, JSON schema
+-- format: namespaces).
 pub record Scope : Type 0 where
   pub namespace : List ℕ
   pub entities : List (List ℕ)
   pub commons : List (List ℕ)
 
--- A form without faults.
+-- A form without faults (own).
 abbrev pub fine : FormTree → Read
 fine f = record { form = f; faults = [] }
 
--- No form, and a fault.
+-- No form, and a fault (own).
 abbrev pub bad : SchemaFault → Read
 bad e = record { form = no_form; faults = e ∷ [] }
 
--- The faults of an object itself, before those inside it.
+-- What is read of an object, with the faults of the object itself before those inside it (own).
 abbrev pub with_faults : List SchemaFault → Read → Read
 with_faults es r = record { form = r.form; faults = es ++ r.faults }
 
@@ -57,29 +60,30 @@ allowed Entity k = bytes_eq k (codes "type") || bytes_eq k (codes "name")
 allowed Extension k = bytes_eq k (codes "type") || bytes_eq k (codes "name")
 allowed _ k = bytes_eq k (codes "type")
 
--- An attribute may have one key more, `required`.
+-- Which keys a type or an attribute of a kind may have: an attribute may have one key more, `required` (Cedar documentation,
+-- JSON schema format: Record).
 abbrev pub may_have : Kind → Bool → List ℕ → Bool
 may_have kind attribute k = allowed kind k || (attribute && bytes_eq k (codes "required"))
 
--- A fault, 302, for each key that may not stand there.
+-- A fault, 302, for each key that may not be there (Cedar documentation, JSON schema format).
 abbrev pub key_faults : (List ℕ → Bool) → Members → List SchemaFault
 key_faults may no_members = []
 key_faults may (member k d ms) = (if may k then [] else Shape ∷ []) ++ key_faults may ms
 
--- The form of a name, none of one that is not declared.
+-- The form of a name, none of one that is not declared (own).
 abbrev pub made : (Declared → FormTree) → Option Declared → FormTree
 made make None = no_form
 made make (Some n) = make n
 
--- What a name says: the form that it stands for.
+-- What a name says: the form that it stands for (Cedar documentation, JSON schema format: namespaces).
 abbrev pub form_named : (Declared → FormTree) → List (List ℕ) → List ℕ → List ℕ → Read
 form_named make names namespace s = record { form = made make (resolved names namespace s); faults = name_faults names namespace s }
 
--- The text at a key.
+-- The string at a key (own).
 abbrev pub text_at : List ℕ → Data → Option (List ℕ)
 text_at k d = option_and_then as_str (get k d)
 
--- What has to be there: without it there is a fault, 302.
+-- What is read of a part that has to be there: without it there is a fault, 302 (Cedar documentation, JSON schema format).
 abbrev pub needed : {A : Type 0} → (A → Read) → Option A → Read
 needed f None = bad Shape
 needed f (Some x) = f x
@@ -92,7 +96,7 @@ entity_read sc o = needed (form_named (λ n. entity_form n.0) sc.entities sc.nam
 abbrev pub extension_named : List ℕ → Read
 extension_named s = if bytes_eq s (codes "decimal") then fine decimal_form else record { form = no_form; faults = text_faults s ++ UnknownType ∷ [] }
 
--- An extension type, by its name.
+-- An extension type, by its name: without one there is a fault, 302 (Cedar documentation, JSON schema format: Extension).
 abbrev pub extension_read : Option (List ℕ) → Read
 extension_read o = needed extension_named o
 
@@ -120,7 +124,8 @@ abbrev pub record_of : Option RowsRead → Read
 record_of None = fine (record_form no_form_rows)
 record_of (Some r) = record { form = record_form r.rows; faults = r.faults }
 
--- What the JSON of a type of a kind says, with what its element and its attributes say.
+-- What the JSON of a type of a kind says, with what its element and its attributes say (Cedar documentation, JSON schema
+-- format: attribute types).
 abbrev pub of_kind : Scope → Data → List ℕ → Kind → Option Read → Option RowsRead → Read
 of_kind sc d s Boolean el rs = fine boolean_form
 of_kind sc d s Long el rs = fine long_form
@@ -131,16 +136,17 @@ of_kind sc d s Entity el rs = entity_read sc (text_at (codes "name") d)
 of_kind sc d s Extension el rs = extension_read (text_at (codes "name") d)
 of_kind sc d s Common el rs = common_read sc s
 
--- The faults of the keys of an object.
+-- The faults of the keys of an object (Cedar documentation, JSON schema format).
 abbrev pub unknown_keys : (List ℕ → Bool) → Data → List SchemaFault
 unknown_keys may d = unwrap_or (option_map (key_faults may) (as_object d)) []
 
--- What an object says as a type: one without the text `type` is 302.
+-- What an object says as a type: one without a string at `type` is 302 (Cedar documentation, JSON schema format: attribute
+-- types).
 abbrev pub of_type : Scope → Bool → Data → Option Read → Option RowsRead → Option (List ℕ) → Read
 of_type sc attribute d el rs None = bad Shape
 of_type sc attribute d el rs (Some s) = with_faults (unknown_keys (may_have (kind_named s) attribute) d) (of_kind sc d s (kind_named s) el rs)
 
--- No attributes.
+-- No attributes (own).
 abbrev pub no_rows_read : RowsRead
 no_rows_read = record { rows = no_form_rows; faults = [] }
 
@@ -149,7 +155,7 @@ abbrev pub is_required : Option Data → Bool
 is_required (Some (boolean false)) = false
 is_required _ = true
 
--- `required` has to be a Boolean.
+-- The fault of `required`, which has to be a Boolean where it is there (Cedar documentation, JSON schema format: Record).
 abbrev pub required_faults : Option Data → List SchemaFault
 required_faults None = []
 required_faults (Some null) = Shape ∷ []
@@ -159,12 +165,12 @@ required_faults (Some (string s)) = Shape ∷ []
 required_faults (Some (array ds)) = Shape ∷ []
 required_faults (Some (object ms)) = Shape ∷ []
 
--- An attribute before others.
+-- An attribute, followed by others (Cedar documentation, JSON schema format: Record).
 abbrev pub row_then : List ℕ → Option Data → Read → RowsRead → RowsRead
 row_then k required r rest = record { rows = form_row k (is_required required) r.form rest.rows; faults = required_faults required ++ r.faults ++ rest.faults }
 
 -- ---- all levels
--- What a JSON says as a type, or as an attribute.
+-- What a JSON says as a type, or as an attribute (Cedar documentation, JSON schema format: attribute types).
 unfoldable mutual
   pub type_read : Scope → Bool → Data → Read
   type_read sc a null = bad Shape
@@ -174,17 +180,19 @@ unfoldable mutual
   type_read sc a (array ds) = bad Shape
   type_read sc a (object ms) = of_type sc a (object ms) (read_at sc (codes "element") ms) (rows_at sc (codes "attributes") ms) (text_at (codes "type") (object ms))
 
-  -- what stands at a key of an object, read as a type
+  -- What is at a key of an object, read as a type: of a key that is there twice the first counts (Cedar documentation, JSON
+  -- schema format: Set).
   pub read_at : Scope → List ℕ → Members → Option Read
   read_at sc k no_members = None
   read_at sc k (member l d ms) = match_ordering (slice_cmp nat_cmp k l) (read_at sc k ms) (Some (type_read sc false d)) (read_at sc k ms)
 
-  -- what stands at a key of an object, read as attributes
+  -- What is at a key of an object, read as attributes: of a key that is there twice the first counts (Cedar documentation,
+  -- JSON schema format: Record).
   pub rows_at : Scope → List ℕ → Members → Option RowsRead
   rows_at sc k no_members = None
   rows_at sc k (member l d ms) = match_ordering (slice_cmp nat_cmp k l) (rows_at sc k ms) (Some (rows_read sc d)) (rows_at sc k ms)
 
-  -- a record's attributes
+  -- What a JSON says as the attributes of a record: it has to be an object (Cedar documentation, JSON schema format: Record).
   pub rows_read : Scope → Data → RowsRead
   rows_read sc null = record { rows = no_form_rows; faults = Shape ∷ [] }
   rows_read sc (boolean b) = record { rows = no_form_rows; faults = Shape ∷ [] }
@@ -193,6 +201,7 @@ unfoldable mutual
   rows_read sc (array ds) = record { rows = no_form_rows; faults = Shape ∷ [] }
   rows_read sc (object ms) = all_rows sc ms
 
+  -- What the members of an object say as attributes, one after the other (Cedar documentation, JSON schema format: Record).
   pub all_rows : Scope → Members → RowsRead
   all_rows sc no_members = no_rows_read
   all_rows sc (member k d ms) = row_then k (get (codes "required") d) (type_read sc true d) (all_rows sc ms)

@@ -14,12 +14,12 @@ abbrev pub is_record : TypeTree → Bool
 is_record (record_of a) = true
 is_record _ = false
 
--- Whether it is a type, and no record.
+-- Whether it is a type, and no record (Cedar documentation, JSON schema format).
 abbrev pub is_no_record : Option TypeTree → Bool
 is_no_record None = false
 is_no_record (Some t) = not (is_record t)
 
--- The type that is there; where there is none, a fault is, and nothing rests on what stands here.
+-- The type that is there; without one there is a fault, and what is given in its place counts for nothing (own).
 abbrev pub record_or_empty : Option TypeTree → TypeTree
 record_or_empty None = record_of no_attributes
 record_or_empty (Some t) = t
@@ -33,13 +33,13 @@ record_type sc t (Some d) = record {
   faults = (type_read sc false d).faults ++ ((typed t (type_read sc false d).form).faults ++ fault_if (is_no_record (typed t (type_read sc false d).form).ty) Shape);
 }
 
--- Whether it is no object, or one with members.
+-- Whether it is no object, or one with members (own).
 abbrev pub holds_members : Option Members → Bool
 holds_members None = true
 holds_members (Some no_members) = false
 holds_members (Some (member k d ms)) = true
 
--- Where it is there, it has to be an object without members (Cedar documentation, JSON schema format: attributes of actions, tags).
+-- Where it is there, it has to be an object without members (Cedar documentation, JSON schema format: attributes of actions).
 abbrev pub empty_faults : Option Data → List SchemaFault
 empty_faults None = []
 empty_faults (Some d) = fault_if (holds_members (as_object d)) Shape

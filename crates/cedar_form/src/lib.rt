@@ -24,6 +24,7 @@
 
 mod form;
 mod json;
+mod laws;
 mod schema_fault;
 
 pub use form::chains::ends_of;
@@ -40,4 +41,5 @@ pub use json::names_list::{read_names_at, set_of};
 pub use json::naming::{has_colon, qualified, read_name};
 pub use json::part::{Part, check_part, present};
 pub use json::scope::Scope;
+pub use laws::members_are_looked_up;
 pub use schema_fault::SchemaFault;

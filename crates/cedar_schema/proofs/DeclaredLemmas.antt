@@ -7,7 +7,7 @@ use Rattle.std.proofs.lemmas.Map.Views.{All-values-insert_entry, All-keys-insert
 use Rattle.std.specs.BTreeMap.{insert_entry, is_at}
 use Rattle.std.specs.BTreeSet.{insert_key}
 use Rattle.std.specs.Cmp.{IsTotalOrder}
-use Rattle.std.specs.List.{list_any}
+use Rattle.std.specs.List.{list_any, AllByRecursion}
 use Rattle.std.specs.List.Sorted.{IsStrictlySortedBy}
 use Rattle.std.specs.Map.{keys_of, values_of, lookup}
 use Rattle.std.specs.Ordering.{match_ordering}
@@ -29,12 +29,15 @@ use Rattle.cedar_schema.specs.SchemaTree.{SchemaTree, EntityTypeTree, ActionTree
 use Rattle.cedar_schema.specs.Schemas.{Setting, schema_in, add_entity, add_action, entity_faults, one_action_faults, scope_in, uids_onto}
 use Rattle.cedar_closure.specs.Closure.{one_link, more_links}
 use Rattle.cedar_schema.specs.Descents.{ActionDescends}
+use Rattle.cedar_schema.specs.Private.NamedForms.{FormNames}
 use Rattle.cedar_schema.specs.Private.SettingView.{IsSettingOf}
-use Rattle.cedar_schema.specs.WellFormed.{IsOrderedRecord, AreMembersDeclared, IsWellFormed}
+use Rattle.cedar_schema.specs.WellFormed.{IsOrderedRecord, AreMembersDeclared, AreActionContextsOrdered, AreContextsOrdered, NamesOnly, IsWellFormed}
 use Rattle.cedar_schema.proofs.ExpandedOrder.{shape_ordered, context_ordered}
 use Rattle.cedar_schema.specs.Private.Linked.{actions_listed}
 use Rattle.cedar_schema.proofs.InsertedKeys.{here, there, all_keys, kept_key, new_key, sorted_more}
 use Rattle.cedar_schema.proofs.NameEnds.{no_first, no_second, is_no_action}
+use Rattle.cedar_schema.proofs.NamedTypes.{names_more, shape_named, context_named}
+use Rattle.cedar_schema.proofs.ResolvedNames.{IsOf, resolved_in}
 
 -- ---- entries that go into a map one by one
 
@@ -154,34 +157,6 @@ parents_in s e = list_in s.uids e.namespace (unless_null (get (codes "memberOf")
 abbrev AppliesToTypes : List (List ℕ) → ActionTree → Type 0
 AppliesToTypes types a = (IsStrictlySortedBy text_cmp a.principals × All (Contains types) a.principals) × (IsStrictlySortedBy text_cmp a.resources × All (Contains types) a.resources)
 
-placed : (names : List (List ℕ)) (i : ℕ) (name : List ℕ) → IfSome (option_map (λ place. (name, place)) (place_from i name names)) (λ (n : List ℕ × ℕ). Contains names n.0)
-placed [] i name = tt
-placed (n ∷ names) i name = at (bytes_eq n name) refl (placed names (suc i) name)
-  where
-    more : (o : Option ℕ) → IfSome (option_map (λ place. (name, place)) o) (λ (m : List ℕ × ℕ). Contains names m.0) → IfSome (option_map (λ place. (name, place)) o) (λ (m : List ℕ × ℕ). Contains (n ∷ names) m.0)
-    more None h = tt
-    more (Some p) h = there n names name h
-
-    at : (b : Bool) → bytes_eq n name ≡ b → IfSome (option_map (λ place. (name, place)) (place_from (suc i) name names)) (λ (m : List ℕ × ℕ). Contains names m.0)
-        → IfSome (option_map (λ place. (name, place)) (cond b (Some i) (place_from (suc i) name names))) (λ (m : List ℕ × ℕ). Contains (n ∷ names) m.0)
-    at true e h = subst (λ (x : List ℕ). Contains (n ∷ names) x) ((bytes_eq-Decides n name).0 e) (here n names)
-    at false e h = more (place_from (suc i) name names) h
-
-abbrev IsOf : List (List ℕ) → List ℕ × ℕ → Type 0
-IsOf names n = Contains names n.0
-
-one_of : (names : List (List ℕ)) (o p : Option (List ℕ × ℕ)) → IfSome o (IsOf names) → IfSome p (IsOf names) → IfSome (or_else o p) (IsOf names)
-one_of names None p h g = g
-one_of names (Some n) p h g = h
-
-resolved_in : (names : List (List ℕ)) (namespace name : List ℕ) → IfSome (resolved names namespace name) (IsOf names)
-unfolding resolved
-resolved_in names namespace name = at (list_any (nat_eq 58) name)
-  where
-    at : (b : Bool) → IfSome (cond b (listed names name) (or_else (listed names (qualified namespace name)) (listed names name))) (IsOf names)
-    at true = placed names 0 name
-    at false = one_of names (listed names (qualified namespace name)) (listed names name) (placed names 0 (qualified namespace name)) (placed names 0 name)
-
 item_in : (names : List (List ℕ)) (o : Option (List ℕ × ℕ)) → IfSome o (IsOf names) → All (Contains names) (unwrap_or (option_map (λ n. n.0 ∷ []) o) [])
 item_in names None h = All-nil (Contains names)
 item_in names (Some n) h = All-cons (Contains names) n.0 [] h (All-nil (Contains names))
@@ -257,6 +232,27 @@ module _ (s : Setting) where
     read_applies sc None same = ((none_sorted, All-nil (Contains types_of)), (none_sorted, All-nil (Contains types_of)))
     read_applies sc (Some d) same = (list_applies sc (unspecified d) (get (codes "principalTypes") d) same, list_applies sc (unspecified d) (get (codes "resourceTypes") d) same)
 
+    typed_parents : (e : EntryTree) → All (Contains types_of) (entity_type_of (scope_in s e) s.table e).parents
+    unfolding entity_type_of
+    typed_parents e = All-weaker (Contains s.entities) (Contains types_of) is_type (names_at (scope_in s e) [] (get (codes "memberOfTypes") e.body)).items (names_at_in (scope_in s e) [] (get (codes "memberOfTypes") e.body))
+
+    pub all_parents_typed : (xs : List EntryTree) → All (λ e. All (Contains types_of) (entity_type_of (scope_in s e) s.table e).parents) xs
+    all_parents_typed [] = All-nil (λ (e : EntryTree). All (Contains types_of) (entity_type_of (scope_in s e) s.table e).parents)
+    all_parents_typed (x ∷ xs) = All-cons (λ (e : EntryTree). All (Contains types_of) (entity_type_of (scope_in s e) s.table e).parents) x xs (typed_parents x) (all_parents_typed xs)
+
+    module _ (forms : AllByRecursion (FormNames s.entities) s.table) where
+      pub shapes_named : (xs : List EntryTree) → All (λ e. NamesOnly types_of (entity_type_of (scope_in s e) s.table e).shape) xs
+      shapes_named [] = All-nil (λ (e : EntryTree). NamesOnly types_of (entity_type_of (scope_in s e) s.table e).shape)
+      shapes_named (x ∷ xs) =
+          All-cons (λ (e : EntryTree). NamesOnly types_of (entity_type_of (scope_in s e) s.table e).shape) x xs
+          (names_more s.entities types_of is_type (entity_type_of (scope_in s x) s.table x).shape (shape_named (scope_in s x) s.table forms x)) (shapes_named xs)
+
+      pub contexts_named : (xs : List EntryTree) → All (λ e. NamesOnly types_of (action_of (scope_in s e) s.table s.uids e).context) xs
+      contexts_named [] = All-nil (λ (e : EntryTree). NamesOnly types_of (action_of (scope_in s e) s.table s.uids e).context)
+      contexts_named (x ∷ xs) =
+          All-cons (λ (e : EntryTree). NamesOnly types_of (action_of (scope_in s e) s.table s.uids e).context) x xs
+          (names_more s.entities types_of is_type (action_of (scope_in s x) s.table s.uids x).context (context_named (scope_in s x) s.table forms s.uids x)) (contexts_named xs)
+
     applied : (e : EntryTree) → AppliesToTypes types_of (action_of (scope_in s e) s.table s.uids e)
     unfolding action_of
     applied e = read_applies (scope_in s e) (unless_null (get (codes "appliesTo") e.body)) refl
@@ -304,6 +300,9 @@ environments_ascend (x ∷ xs) h =
     All-append (λ (e : Environment). IsOrderedRecord e.context) (with_principals x.0 x.1 (x.1).principals) (environments_of xs) (principals_ascend x.0 x.1 (All-head (λ (a : ActionTree). IsOrderedRecord a.context) x.1 (values_of xs) h) (x.1).principals)
     (environments_ascend xs (All-tail (λ (a : ActionTree). IsOrderedRecord a.context) x.1 (values_of xs) h))
 
+pub contexts_ordered : (s : SchemaTree) → AreActionContextsOrdered s → AreContextsOrdered s
+contexts_ordered s h = environments_ascend s.actions h
+
 -- ---- the whole
 
 named : (s : Setting) (e : EntryTree) → entity_faults s e ≡ [] → IsTypeName (qualified e.namespace e.key)
@@ -333,12 +332,16 @@ all_well_formed s es as' of fine right =
       apart = types_apart (keys_of (each_onto (add_entity s) [] es)) (keys_of (each_onto (add_action s) [] as'))
           (keys_onto text_cmp name shape IsTypeName es [] (All-nil IsTypeName) (All-weaker (λ e. entity_faults s e ≡ []) (λ e. IsTypeName (name e)) (named s) es (each_fine (entity_faults s) es fine)))
           (keys_onto uid_cmp uid_of act HasActionType as' [] (All-nil HasActionType) (called as'));
+      entity_parents = values_onto text_cmp name shape (λ e. All (Contains types) e.parents) es [] (All-nil (λ (e : EntityTypeTree). All (Contains types) e.parents)) (all_parents_typed s es of.names es);
       members = subst (λ us. All (λ (a : ActionTree). All (Contains us) a.parents) (values_of (each_onto (add_action s) [] as'))) same
           (values_onto uid_cmp uid_of act (λ a. All (Contains s.uids) a.parents) as' [] (All-nil (λ (a : ActionTree). All (Contains s.uids) a.parents)) (all_parents_in s as'));
       shapes = values_onto text_cmp name shape (λ e. IsOrderedRecord e.shape) es [] (All-nil (λ (e : EntityTypeTree). IsOrderedRecord e.shape)) (All-weaker (λ e. entity_faults s e ≡ []) (λ e. IsOrderedRecord (shape e).shape) (λ e h. shape_ordered (scope_in s e) s.table e h) es (each_fine (entity_faults s) es fine));
-      contexts = environments_ascend (each_onto (add_action s) [] as') contexts;
       lists = values_onto uid_cmp uid_of act (AppliesToTypes types) as' [] (All-nil (AppliesToTypes types)) (all_apply s es of.names as');
       action_contexts = contexts;
+      types_declared = (
+        values_onto text_cmp name shape (λ e. NamesOnly types e.shape) es [] (All-nil (λ (e : EntityTypeTree). NamesOnly types e.shape)) (shapes_named s es of.names of.forms es),
+        values_onto uid_cmp uid_of act (λ a. NamesOnly types a.context) as' [] (All-nil (λ (a : ActionTree). NamesOnly types a.context)) (contexts_named s es of.names of.forms as'),
+      );
     }
 
 pub declared_well_formed : (s : Setting) (es as' : List EntryTree) (en : List (List ℕ × EntityTypeTree)) (ac : List (Uid × ActionTree)) → IsSettingOf s es as'

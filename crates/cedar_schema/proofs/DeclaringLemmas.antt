@@ -7,7 +7,7 @@ use Rattle.cedar_form.specs.declared.schema_fault.SchemaFault.{SchemaFault}
 use Rattle.cedar_form.specs.declared.schema_fault.SchemaFault.TheVariants.{Unspecified}
 use Rattle.cedar_form.specs.declared.json.part.Part.TheVariants.{EntityType, Action, AppliesTo}
 use Rattle.cedar_schema.specs.declared.schema.action.AppliesTo.{AppliesTo as CodeApplies}
-use Rattle.cedar_form.specs.Private.Faults.{Told}
+use Rattle.cedar_form.specs.Faults.{Told}
 use Rattle.cedar_types.specs.Types.{TypeTree}
 use Rattle.cedar_form.specs.Entries.{EntryTree, part_faults, faults_of_keys, entity_key_faults, unless_null}
 use Rattle.cedar_form.specs.Naming.{fault_if}
@@ -34,23 +34,18 @@ module _ (sc : Scope) (t : Table) (e : EntryTree) where
 
   pub entity_shape : (o : Option Data) (f : SchemaFault) → o ≡ get (codes "shape") e.body → Told ((record_type sc t o).faults) f → Told (entity_type_faults sc t e) f
   unfolding entity_type_faults
-  entity_shape o f is h = told_then (entity_key_faults e.key) _ f (told_then (part_faults EntityType e.body) _ f (told_then ((names_at sc [] (get (codes "memberOfTypes") e.body)).faults) _ f (told_first ((record_type sc t (get (codes "shape") e.body)).faults) _ f (subst (λ (x : Option Data). Told ((record_type sc t x).faults) f) is h))))
+  entity_shape o f is h = told_then (entity_key_faults e.key) _ f (told_then (part_faults EntityType e.body) _ f (told_then ((names_at sc [] (get (codes "memberOfTypes") e.body)).faults) _ f (subst (λ (x : Option Data). Told ((record_type sc t x).faults) f) is h)))
 
-  pub entity_tags : (o : Option Data) (f : SchemaFault) → o ≡ get (codes "tags") e.body → Told (empty_faults o) f → Told (entity_type_faults sc t e) f
-  unfolding entity_type_faults
-  entity_tags o f is h = told_then (entity_key_faults e.key) _ f (told_then (part_faults EntityType e.body) _ f (told_then ((names_at sc [] (get (codes "memberOfTypes") e.body)).faults) _ f (told_then ((record_type sc t (get (codes "shape") e.body)).faults) _ f ((subst (λ (x : Option Data). Told (empty_faults x) f) is h)))))
-
-  pub entity_fine : (m s g : Option Data) (parents : List (List ℕ)) (shape : TypeTree) → m ≡ get (codes "memberOfTypes") e.body → s ≡ get (codes "shape") e.body → g ≡ get (codes "tags") e.body
-      → entity_key_faults e.key ≡ [] → part_faults EntityType e.body ≡ [] → ((names_at sc [] m).faults ≡ []) × (parents ≡ (names_at sc [] m).items) → ((record_type sc t s).faults ≡ []) × (Some shape ≡ (record_type sc t s).ty) → empty_faults g ≡ []
+  pub entity_fine : (m s : Option Data) (parents : List (List ℕ)) (shape : TypeTree) → m ≡ get (codes "memberOfTypes") e.body → s ≡ get (codes "shape") e.body
+      → entity_key_faults e.key ≡ [] → part_faults EntityType e.body ≡ [] → ((names_at sc [] m).faults ≡ []) × (parents ≡ (names_at sc [] m).items) → ((record_type sc t s).faults ≡ []) × (Some shape ≡ (record_type sc t s).ty)
       → (entity_type_faults sc t e ≡ []) × (record { parents = parents; shape = shape } ≡ entity_type_of sc t e)
   unfolding entity_type_faults entity_type_of
-  entity_fine m s g parents shape mi si gi key part names made tags =
+  entity_fine m s parents shape mi si key part names made =
       let n = ap (λ (x : Option Data). (names_at sc [] x).faults) (sym mi) ∙ names.0 in
       let r = ap (λ (x : Option Data). (record_type sc t x).faults) (sym si) ∙ made.0 in
-      let w = ap empty_faults (sym gi) ∙ tags in
       let p = names.1 ∙ ap (λ (x : Option Data). (names_at sc [] x).items) mi in
       let q = ap record_or_empty (made.1 ∙ ap (λ (x : Option Data). (record_type sc t x).ty) si) in
-      ((λ i. key i ++ (part i ++ (n i ++ (r i ++ w i)))), (λ i. record { parents = p i; shape = q i }))
+      ((λ i. key i ++ (part i ++ (n i ++ r i))), (λ i. record { parents = p i; shape = q i }))
 
 module _ (sc : Scope) (t : Table) (d : Data) where
   pub applies_part : (f : SchemaFault) → Told (part_faults AppliesTo d) f → Told ((applies_read sc t (Some d)).faults) f

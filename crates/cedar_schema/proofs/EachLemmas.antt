@@ -2,9 +2,9 @@
 use Rattle.std.proofs.Common.{◌≡◌, ℕ, ◌+◌, ◌<◌, List, [], ◌∷◌, ◌++◌, drop, length, get_or, refl, sym, ap, ◌∙◌, subst}
 use Rattle.cedar_form.specs.declared.schema_fault.SchemaFault.{SchemaFault}
 use Rattle.cedar_form.specs.declared.json.entry.Entry.{Entry}
-use Rattle.cedar_form.specs.Private.Faults.{Told}
+use Rattle.cedar_form.specs.Faults.{Told}
 use Rattle.cedar_schema.specs.Each.{each_faults, each_onto}
-use Rattle.cedar_form.specs.Private.EntryView.{entries_view, entry_of}
+use Rattle.cedar_form.specs.EntryView.{entries_view, entry_of}
 use Rattle.cedar_form.proofs.FormLemmas.{told_first}
 use Rattle.cedar_form.proofs.Lookups.{drop_here}
 

@@ -90,7 +90,7 @@ module _ (sc : Scope) (t : Table) where
 
   shape_is : (e : EntryTree) → entity_type_faults sc t e ≡ [] → is_record (entity_type_of sc t e).shape ≡ true
   unfolding entity_type_faults entity_type_of
-  shape_is e h = record_is (get (codes "shape") e.body) (no_first _ _ (no_second (names_at sc [] (get (codes "memberOfTypes") e.body)).faults _ (no_second (part_faults EntityType e.body) _ (no_second (entity_key_faults e.key) _ h))))
+  shape_is e h = record_is (get (codes "shape") e.body) (no_second (names_at sc [] (get (codes "memberOfTypes") e.body)).faults _ (no_second (part_faults EntityType e.body) _ (no_second (entity_key_faults e.key) _ h)))
 
   applied_is : (o : Option Data) → (applies_read sc t o).faults ≡ [] → is_record (applies_read sc t o).context ≡ true
   unfolding applies_read

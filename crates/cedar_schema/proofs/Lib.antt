@@ -1,12 +1,17 @@
 pub mod AnswerLemmas
+pub mod CycleLemmas
 pub mod DeclaredLemmas
 pub mod DeclaredTests
 pub mod DeclaringLemmas
 pub mod EachLemmas
 pub mod EnvironmentLemmas
+pub mod EnvironmentOrder
 pub mod ExpandedOrder
 pub mod InsertedKeys
 pub mod Joins
 pub mod NameEnds
+pub mod NamedTypes
 pub mod Numbered
+pub mod ResolvedNames
 pub mod TypeLemmas
+pub mod WrittenLemmas

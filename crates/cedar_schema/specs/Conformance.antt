@@ -42,6 +42,6 @@ pub record FitsIn (s : SchemaTree) (env : Environment) (q : Request) : Type 0 wh
 abbrev pub Fits : SchemaTree → Request → Type 0
 Fits s q = (env : Environment) × FitsIn s env q
 
--- Each schema has a world that conforms: that of its actions alone.
+-- Each schema has a world that conforms: that of its actions alone (own).
 abbrev pub ActionsConform : Type 0
 ActionsConform = (s : SchemaTree) → Conforms s (action_entities s)

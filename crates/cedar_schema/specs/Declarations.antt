@@ -6,7 +6,6 @@ use Rattle.std.specs.Map.{keys_of}
 use Rattle.std.specs.Str.{bytes_eq}
 use Rattle.cedar_closure.specs.Closure.{leads}
 use Rattle.cedar_value.specs.Datum.{same_uid}
-use Rattle.cedar_value.specs.Names.{words_from}
 use Rattle.cedar_value.specs.World.{World, EntityTree, Below}
 use Rattle.cedar_value.specs.declared.uid.Uid.{Uid}
 use Rattle.cedar_schema.specs.Descents.{ActionDescends, TypeDescends}
@@ -24,16 +23,6 @@ IsAction s u = Contains (keys_of s.actions) u
 abbrev pub IsActionType : SchemaTree → List ℕ → Type 0
 IsActionType s n = (u : Uid) × IsAction s u × (u.ty ≡ n)
 
--- The last of some words behind one, which is the last where there is none (Cedar language reference, entity types and
--- namespaces).
-abbrev pub last_from : List ℕ → List (List ℕ) → List ℕ
-last_from word [] = word
-last_from word (next ∷ words) = last_from next words
-
--- The last part of a name: its last word (Cedar language reference, entity types and namespaces).
-abbrev pub last_part : List ℕ → List ℕ
-last_part name = last_from [] (words_from [] name)
-
 -- ---- tests
 
 -- Whether it is a declared entity type (Cedar documentation, JSON schema format: entityTypes).
@@ -44,7 +33,7 @@ is_entity_type s n = is_some (shape_of s n)
 abbrev pub is_action : SchemaTree → Uid → Bool
 is_action s u = list_any (λ v. same_uid v u) (keys_of s.actions)
 
--- Whether it is the type of a declared action.
+-- Whether it is the type of a declared action (own).
 abbrev pub is_action_type : SchemaTree → List ℕ → Bool
 is_action_type s n = list_any (λ v. bytes_eq v.ty n) (keys_of s.actions)
 
@@ -63,15 +52,15 @@ abbrev pub all_parents : List (Uid × ActionTree) → List Uid
 all_parents [] = []
 all_parents (a ∷ rest) = a.1.parents ++ all_parents rest
 
--- Whether the action is below some action of the type.
+-- Whether the action is below some action of the type (own).
 abbrev pub is_below_of : SchemaTree → Uid → List ℕ → Bool
 is_below_of s u n = list_any (λ v. bytes_eq v.ty n && action_below s u v) (all_parents s.actions)
 
--- Whether some action of the one type is below some action of the other.
+-- Whether some action of the one type is below some action of the other (own).
 abbrev pub action_type_below : SchemaTree → List ℕ → List ℕ → Bool
 action_type_below s m n = list_any (λ u. bytes_eq u.ty m && is_below_of s u n) (keys_of s.actions)
 
--- Whether the one type descends from the other.
+-- Whether the one type descends from the other (own).
 abbrev pub type_below : SchemaTree → List ℕ → List ℕ → Bool
 type_below s m n = entity_type_below s m n || action_type_below s m n
 
@@ -103,6 +92,6 @@ ActionDescentsAreDecided = (s : SchemaTree) (u v : Uid) → Decides (action_belo
 abbrev pub TypeDescentsAreDecided : Type 0
 TypeDescentsAreDecided = (s : SchemaTree) (m n : List ℕ) → Decides (type_below s m n) (TypeDescends s m n)
 
--- In the world of the actions what is above an action is what it descends from.
+-- In the world of the actions what is above an action is what it descends from (own).
 abbrev pub ChainsOfActions : Type 0
 ChainsOfActions = (s : SchemaTree) (u v : Uid) → Below (action_entities s) u v ↔ ActionDescends s u v

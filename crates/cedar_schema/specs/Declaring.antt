@@ -25,11 +25,12 @@ use Rattle.cedar_schema.specs.SchemaTree.{EntityTypeTree, ActionTree}
 unfoldable pub entity_type_of : Scope → Table → EntryTree → EntityTypeTree
 entity_type_of sc t e = record { parents = (names_at sc [] (get (codes "memberOfTypes") e.body)).items; shape = record_or_empty (record_type sc t (get (codes "shape") e.body)).ty }
 
--- The faults of the entry of an entity type: of its key, its keys, its parents, its shape and its tags.
+-- The faults of the entry of an entity type: of its key, its keys, its parents and its shape (Cedar documentation, JSON
+-- schema format: entityTypes).
 unfoldable pub entity_type_faults : Scope → Table → EntryTree → List SchemaFault
 entity_type_faults sc t e =
     entity_key_faults e.key ++ (part_faults EntityType e.body ++ ((names_at sc [] (get (codes "memberOfTypes") e.body)).faults
-    ++ ((record_type sc t (get (codes "shape") e.body)).faults ++ empty_faults (get (codes "tags") e.body))))
+    ++ (record_type sc t (get (codes "shape") e.body)).faults))
 
 -- ---- actions
 
@@ -41,11 +42,11 @@ action_type namespace = qualified namespace (codes "Action")
 abbrev pub uid_of : EntryTree → Uid
 uid_of e = record { ty = action_type e.namespace; id = e.key }
 
--- A uid, where it is in the list.
+-- A uid, where it is in the list (own).
 abbrev pub listed_uid : List Uid → Uid → Option Uid
 listed_uid uids u = if list_any (is_at (uid_cmp u)) uids then Some u else None
 
--- The uid of a type and an id.
+-- The uid of a type and an id (own).
 abbrev pub with_type : List ℕ → List ℕ → Uid
 with_type id ty = record { ty = ty; id = id }
 
@@ -55,12 +56,12 @@ unfoldable pub typed_uid : List Uid → List ℕ → List ℕ → List ℕ → O
 typed_uid uids namespace ty id =
     if list_any (nat_eq 58) ty then listed_uid uids (with_type id ty) else or_else (listed_uid uids (with_type id (qualified namespace ty))) (listed_uid uids (with_type id ty))
 
--- The uid that was found; an undeclared one is 303.
+-- The uid that was found; an undeclared one is 303 (Cedar documentation, JSON schema format: memberOf).
 abbrev pub found_uid : List SchemaFault → Option Uid → ListRead Uid
 found_uid faults None = record { items = []; faults = faults ++ UnknownType ∷ [] }
 found_uid faults (Some u) = record { items = u ∷ []; faults = faults }
 
--- The member of an id and a type; a type that is no text is 302.
+-- The member of an id and a type; a type that is no string is 302 (Cedar documentation, JSON schema format: memberOf).
 abbrev pub by_type : List Uid → List ℕ → List ℕ → Option (List ℕ) → ListRead Uid
 by_type uids namespace id None = record { items = []; faults = Shape ∷ [] }
 by_type uids namespace id (Some ty) = found_uid (text_faults ty) (typed_uid uids namespace ty id)
@@ -70,7 +71,7 @@ abbrev pub by_id : List Uid → List ℕ → List ℕ → Option Data → ListRe
 by_id uids namespace id None = found_uid [] (listed_uid uids (with_type id (action_type namespace)))
 by_id uids namespace id (Some d) = by_type uids namespace id (as_str d)
 
--- The member of an object with an id; one without an id is 302.
+-- The member of an object with an id; one without an id is 302 (Cedar documentation, JSON schema format: memberOf).
 abbrev pub by_member : List Uid → List ℕ → Data → Option (List ℕ) → ListRead Uid
 by_member uids namespace d None = record { items = []; faults = Shape ∷ [] }
 by_member uids namespace d (Some id) = by_id uids namespace id (get (codes "type") d)
@@ -82,7 +83,8 @@ member_read uids namespace d = record {
   faults = part_faults Member d ++ (by_member uids namespace d (text_at (codes "id") d)).faults;
 }
 
--- What an action applies to.
+-- What an `appliesTo` says: the types of principals and of resources, the type of the context, and the faults that are there
+-- (Cedar documentation, JSON schema format: appliesTo).
 pub record Applies : Type 0 where
   pub principals : List (List ℕ)
   pub resources : List (List ℕ)
@@ -113,7 +115,8 @@ action_of sc t uids e = record {
   context = (applies_read sc t (unless_null (get (codes "appliesTo") e.body))).context;
 }
 
--- The faults of the entry of an action: of its keys, its members, its `appliesTo` and its attributes.
+-- The faults of the entry of an action: of its keys, its members, its `appliesTo` and its attributes (Cedar documentation,
+-- JSON schema format: actions).
 unfoldable pub action_faults : Scope → Table → List Uid → EntryTree → List SchemaFault
 action_faults sc t uids e =
     part_faults Action e.body ++ ((list_at (member_read uids sc.namespace) [] (unless_null (get (codes "memberOf") e.body))).faults

@@ -10,13 +10,15 @@ use Rattle.cedar_schema.specs.Descents.{ActionDescends}
 use Rattle.cedar_schema.specs.SchemaTree.{SchemaTree}
 use Rattle.cedar_schema.specs.Schemas.{schema_of, written_faults}
 
--- The schema is this one, and there is no fault: none written, and no action above itself.
+-- The schema is this one, and there is no fault: none written, and no action above itself (Cedar documentation, JSON schema
+-- format; own).
 pub record IsFine (faults : List SchemaFault) (tree s : SchemaTree) : Type 0 where
   pub fine : faults ≡ []
   pub acyclic : (u : Uid) → ¬ ActionDescends tree u u
   pub is : s ≡ tree
 
--- The fault is there: it is written, or it is 305 and some action is above itself.
+-- The fault is there: it is written, or it is 305 and some action is above itself (Cedar documentation, JSON schema format;
+-- own).
 abbrev pub IsThere : List SchemaFault → SchemaTree → SchemaFault → Type 0
 IsThere faults tree e = Contains faults e ⊎ ((e ≡ ActionCycle) × ((u : Uid) × ActionDescends tree u u))
 
@@ -24,7 +26,7 @@ IsThere faults tree e = Contains faults e ⊎ ((e ≡ ActionCycle) × ((u : Uid)
 abbrev pub Denotes : Data → SchemaTree → Type 0
 Denotes d s = MatchOption (as_object d) ⊥ (λ root. IsFine (written_faults root) (schema_of root) s)
 
--- A JSON is refused with a fault that is there; what is no object with 302.
+-- A JSON is refused with a fault that is there; what is no object with 302 (Cedar documentation, JSON schema format; own).
 abbrev pub IsRefusedWith : Data → SchemaFault → Type 0
 IsRefusedWith d e = MatchOption (as_object d) (e ≡ Shape) (λ root. IsThere (written_faults root) (schema_of root) e)
 
@@ -32,6 +34,6 @@ IsRefusedWith d e = MatchOption (as_object d) (e ≡ Shape) (λ root. IsThere (w
 abbrev pub BytesDenote : List ℕ → SchemaTree → Type 0
 BytesDenote bytes s = MatchOption (json_of bytes) ⊥ (λ d. Denotes d s)
 
--- A refusal but want of memory names a fault that is there: 301 where the bytes are no JSON.
+-- A refusal other than out of memory names a fault that is there: 301 where the bytes are no JSON (own).
 abbrev pub BytesAreRefusedWith : List ℕ → SchemaFault → Type 0
 BytesAreRefusedWith bytes e = MatchOption (json_of bytes) (e ≡ Json) (λ d. IsRefusedWith d e)

@@ -1,4 +1,5 @@
 pub mod Conformance
+pub mod Cycles
 pub mod Declarations
 pub mod Declaring
 pub mod Denotes
@@ -8,3 +9,4 @@ pub mod Private
 pub mod SchemaTree
 pub mod Schemas
 pub mod WellFormed
+pub mod Written

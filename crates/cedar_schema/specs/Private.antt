@@ -1,7 +1,8 @@
--- What only proofs and private contracts use.
+-- What proofs, models and private contracts of this crate use.
 pub mod Answers
 pub mod Kept
 pub mod KeptSchema
 pub mod Linked
+pub mod NamedForms
 pub mod ReadsApplies
 pub mod SettingView

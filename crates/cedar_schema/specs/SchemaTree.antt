@@ -26,21 +26,22 @@ pub record SchemaTree : Type 0 where
   pub entities : List (List ℕ × EntityTypeTree)
   pub actions : List (Uid × ActionTree)
 
--- The direct parents of an entity type, none of one that is not declared.
+-- The direct parents of an entity type, none of one that is not declared (Cedar documentation, JSON schema format:
+-- memberOfTypes).
 abbrev pub parents_of_type : List (List ℕ × EntityTypeTree) → List ℕ → List (List ℕ)
 parents_of_type entities n = unwrap_or (option_map (λ e. e.parents) (lookup (is_at (text_cmp n)) entities)) []
 
--- The direct parents of an action, none of one that is not declared.
+-- The direct parents of an action, none of one that is not declared (Cedar documentation, JSON schema format: memberOf).
 abbrev pub parents_of_action : List (Uid × ActionTree) → Uid → List Uid
 parents_of_action actions u = unwrap_or (option_map (λ a. a.parents) (lookup (is_at (uid_cmp u)) actions)) []
 
 -- ---- the environments: an action with a type of principals and a type of resources, ascending in this order
 
--- The environments of an action with a type of principals.
+-- The environments of an action with a type of principals (Cedar documentation, JSON schema format: appliesTo).
 abbrev pub with_resources : Uid → List ℕ → TypeTree → List (List ℕ) → List Environment
 with_resources u p context = map (λ r. record { action = u; principal = p; resource = r; context = context })
 
--- The environments of an action with these types of principals.
+-- The environments of an action with these types of principals (Cedar documentation, JSON schema format: appliesTo).
 abbrev pub with_principals : Uid → ActionTree → List (List ℕ) → List Environment
 with_principals u a [] = []
 with_principals u a (p ∷ ps) = with_resources u p a.context a.resources ++ with_principals u a ps
@@ -51,7 +52,7 @@ abbrev pub environments_of : List (Uid × ActionTree) → List Environment
 environments_of [] = []
 environments_of (x ∷ xs) = with_principals x.0 x.1 x.1.principals ++ environments_of xs
 
--- What a schema declares of an action.
+-- What a schema declares of an action, none where it is not declared (Cedar documentation, JSON schema format: actions).
 abbrev pub action_at : SchemaTree → Uid → Option ActionTree
 action_at s u = lookup (is_at (uid_cmp u)) s.actions
 
@@ -59,16 +60,17 @@ action_at s u = lookup (is_at (uid_cmp u)) s.actions
 abbrev pub shape_of : SchemaTree → List ℕ → Option TypeTree
 shape_of s n = option_map (λ e. e.shape) (lookup (is_at (text_cmp n)) s.entities)
 
--- An environment is that of an action with a type of principals and a type of resources.
+-- An environment is that of an action with a type of principals and a type of resources (Cedar documentation, JSON schema
+-- format: appliesTo).
 pub record IsEnvironmentOf (e : Environment) (action : Uid) (principal resource : List ℕ) : Type 0 where
   pub action_is : e.action ≡ action
   pub principal_is : e.principal ≡ principal
   pub resource_is : e.resource ≡ resource
 
--- The actions have no environment with these types.
+-- The actions have no environment with these types (Cedar documentation, JSON schema format: appliesTo).
 abbrev pub HasNoEnvironment : List (Uid × ActionTree) → Uid → List ℕ → List ℕ → Type 0
 HasNoEnvironment actions u p r = (e : Environment) → Contains (environments_of actions) e → ¬ IsEnvironmentOf e u p r
 
--- The actions have the environment with these types and this context.
+-- The actions have the environment with these types and this context (Cedar documentation, JSON schema format: appliesTo).
 abbrev pub HasEnvironment : List (Uid × ActionTree) → Uid → List ℕ → List ℕ → TypeTree → Type 0
 HasEnvironment actions u p r t = Contains (environments_of actions) (record { action = u; principal = p; resource = r; context = t })

@@ -16,63 +16,65 @@ use Rattle.cedar_schema.specs.Declaring.{uid_of, entity_type_of, entity_type_fau
 use Rattle.cedar_schema.specs.SchemaTree.{EntityTypeTree, ActionTree, SchemaTree}
 
 -- What is declared: the names of the entity types and of the common types, these as they are written, and the uids of the
--- actions, ascending.
+-- actions, ascending (Cedar documentation, JSON schema format: namespaces).
 pub record Setting : Type 0 where
   pub entities : List (List ℕ)
   pub commons : List (List ℕ)
   pub table : Table
   pub uids : List Uid
 
--- A namespace among what is declared.
+-- A namespace among what is declared (Cedar documentation, JSON schema format: namespaces).
 abbrev pub scope_at : List (List ℕ) → List (List ℕ) → List ℕ → Scope
 scope_at entities commons namespace = record { namespace = namespace; entities = entities; commons = commons }
 
--- The namespace of an entry among what is declared.
+-- The namespace of an entry among what is declared (Cedar documentation, JSON schema format: namespaces).
 abbrev pub scope_in : Setting → EntryTree → Scope
 scope_in s e = scope_at s.entities s.commons e.namespace
 
 -- ---- common types
 
--- The common types as they are written.
+-- The common types as they are written (Cedar documentation, JSON schema format: commonTypes).
 abbrev pub forms_of : List (List ℕ) → List (List ℕ) → List EntryTree → Table
 forms_of entities commons = map (λ e. (type_read (scope_at entities commons e.namespace) false e.body).form)
 
--- The faults of a common type as it is written: of its key, and of its type.
+-- The faults of a common type as it is written: of its key, and of its type (Cedar documentation, JSON schema format:
+-- commonTypes).
 abbrev pub common_faults : List (List ℕ) → List (List ℕ) → EntryTree → List SchemaFault
 common_faults entities commons e = common_key_faults e.key ++ (type_read (scope_at entities commons e.namespace) false e.body).faults
 
--- Each common type has to be within the limits, and not to lead back to itself: 309, 304.
+-- The faults of a common type as it is expanded: it has to be within the limits, 309, and may not lead back to itself, 304
+-- (Cedar documentation, JSON schema format: commonTypes; own).
 abbrev pub expansion_faults : Table → FormTree → List SchemaFault
 expansion_faults t f = (typed t f).faults
 
 -- ---- entity types, by their names in ascending order
 
--- An entity type more, at its name.
+-- The entity types with that of one entry more, at its name (Cedar documentation, JSON schema format: entityTypes).
 abbrev pub add_entity : Setting → List (List ℕ × EntityTypeTree) → EntryTree → List (List ℕ × EntityTypeTree)
 add_entity s done e = insert_entry text_cmp done (qualified e.namespace e.key) (entity_type_of (scope_in s e) s.table e)
 
--- The faults of an entry of `entityTypes`.
+-- The faults of an entry of `entityTypes` (Cedar documentation, JSON schema format: entityTypes).
 abbrev pub entity_faults : Setting → EntryTree → List SchemaFault
 entity_faults s e = entity_type_faults (scope_in s e) s.table e
 
 -- ---- actions, by their uids in ascending order
 
--- The uids of the actions, ascending, each once.
+-- The uids of the actions, put into a list in ascending order, each once (own).
 abbrev pub uids_onto : List Uid → List EntryTree → List Uid
 uids_onto done [] = done
 uids_onto done (e ∷ es) = uids_onto (insert_key uid_cmp done (uid_of e)) es
 
--- An action more, at its uid.
+-- The actions with that of one entry more, at its uid (Cedar documentation, JSON schema format: actions).
 abbrev pub add_action : Setting → List (Uid × ActionTree) → EntryTree → List (Uid × ActionTree)
 add_action s done e = insert_entry uid_cmp done (uid_of e) (action_of (scope_in s e) s.table s.uids e)
 
--- The faults of an entry of `actions`.
+-- The faults of an entry of `actions` (Cedar documentation, JSON schema format: actions).
 abbrev pub one_action_faults : Setting → EntryTree → List SchemaFault
 one_action_faults s e = action_faults (scope_in s e) s.table s.uids e
 
 -- ---- the whole
 
--- The entries of the three kinds of sections.
+-- The entries of the three kinds of sections (Cedar documentation, JSON schema format: namespaces).
 pub record Sections : Type 0 where
   pub commons : List EntryTree
   pub entities : List EntryTree
@@ -82,7 +84,7 @@ pub record Sections : Type 0 where
 abbrev pub sections_of : Members → Sections
 sections_of root = record { commons = entries (codes "commonTypes") root; entities = entries (codes "entityTypes") root; actions = entries (codes "actions") root }
 
--- What the entries declare by name.
+-- What the entries declare by name (Cedar documentation, JSON schema format: namespaces).
 abbrev pub setting_of : Sections → Setting
 setting_of x = record {
   entities = whole_names x.entities;
@@ -91,15 +93,16 @@ setting_of x = record {
   uids = uids_onto [] x.actions;
 }
 
--- The schema that the entries declare: entity types by their names and actions by their uids, both ascending.
+-- The schema that the entries declare: entity types by their names and actions by their uids, both ascending (Cedar
+-- documentation, JSON schema format).
 unfoldable pub schema_in : Setting → List EntryTree → List EntryTree → SchemaTree
 schema_in s entities actions = record { entities = each_onto (add_entity s) [] entities; actions = each_onto (add_action s) [] actions }
 
--- The faults of expansions, of entity types and of actions.
+-- The faults of expansions, of entity types and of actions (Cedar documentation, JSON schema format).
 unfoldable pub setting_faults : Setting → List EntryTree → List EntryTree → List SchemaFault
 setting_faults s entities actions = each_faults (expansion_faults s.table) s.table ++ (each_faults (entity_faults s) entities ++ each_faults (one_action_faults s) actions)
 
--- The faults of all entries.
+-- The faults of all entries (Cedar documentation, JSON schema format).
 unfoldable pub sections_faults : Sections → List SchemaFault
 sections_faults x = each_faults (common_faults (whole_names x.entities) (whole_names x.commons)) x.commons ++ setting_faults (setting_of x) x.entities x.actions
 
@@ -107,6 +110,6 @@ sections_faults x = each_faults (common_faults (whole_names x.entities) (whole_n
 abbrev pub schema_of : Members → SchemaTree
 schema_of root = schema_in (setting_of (sections_of root)) (sections_of root).entities (sections_of root).actions
 
--- The faults of the object, but for cycles of actions.
+-- The faults of the object, but for cycles of actions (Cedar documentation, JSON schema format).
 unfoldable pub written_faults : Members → List SchemaFault
 written_faults root = root_faults root ++ sections_faults (sections_of root)

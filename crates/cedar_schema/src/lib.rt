@@ -20,5 +20,5 @@ pub use cedar_types::{
     Attribute, RecordType, Truth, Type, TypeKind, join, join_is_the_relation,
     members_of_joined_types,
 };
-pub use laws::{actions_conform, tests_of_schemas_decide};
+pub use laws::{actions_conform, cycles_are_found, schemas_are_written, tests_of_schemas_decide};
 pub use schema::{Action, Environment, Schema};

@@ -6,7 +6,7 @@ ghost use Rattle.cedar_schema.specs.Denotes.{BytesAreRefusedWith, BytesDenote};
 ghost use Rattle.cedar_schema.specs.Private.Answers.{Answers};
 ghost use Rattle.cedar_schema.specs.Descents.{ActionDescends, ActionTypeDescends, EntityTypeDescends, TypeDescends};
 ghost use Rattle.cedar_schema.specs.SchemaTree.{HasEnvironment, HasNoEnvironment, action_at, environments_of, shape_of};
-ghost use Rattle.cedar_schema.specs.WellFormed.{AreActionContextsOrdered, AreContextsOrdered, AreListsDeclared, AreMembersDeclared, AreShapesOrdered, AreTypesApart, IsHierarchy, IsListedInOrder, IsWellFormed};
+ghost use Rattle.cedar_schema.specs.WellFormed.{AreActionContextsOrdered, AreContextsOrdered, AreEnvironmentsInOrder, AreListsDeclared, AreMembersDeclared, AreParentsDeclared, AreShapesOrdered, AreTypesApart, AreTypesDeclared, IsHierarchy, IsListedInOrder, IsWellFormed};
 
 mod action;
 mod ancestors;
@@ -106,12 +106,16 @@ impl Schema {
     }
 
     /// What every schema keeps, on which the soundness of typing rests: its entity types and actions
-    /// are listed in ascending order, no action's type is an entity type, the members of actions are
-    /// declared, what lies above an action is declared and never the action itself, and shapes and
-    /// contexts are types of records in which the keys of each record ascend (cedar-spec, Lean:
-    /// Cedar.Validation, well-formed schemas). It is a law of schemas, and does nothing.
+    /// are listed in ascending order, and so are the environments, each once; no action's type is an
+    /// entity type; the types that an entity type is a direct member of, those in shapes and contexts,
+    /// those that an action applies to and the members of actions are declared; what lies above an action is declared and
+    /// never the action itself; and shapes and contexts are types of records in which the keys of each
+    /// record ascend (cedar-spec, Lean: Cedar.Validation, well-formed schemas). It is a law of schemas,
+    /// and does nothing.
     pub fn well_formedness(&self)
         ensures in_order { IsListedInOrder self.now }
+        ensures environments { AreEnvironmentsInOrder self.now }
+        ensures entity_parents { AreParentsDeclared self.now }
         ensures apart { AreTypesApart self.now }
         ensures members { AreMembersDeclared self.now }
         ensures hierarchy { IsHierarchy self.now }
@@ -119,6 +123,7 @@ impl Schema {
         ensures contexts { AreContextsOrdered self.now }
         ensures lists { AreListsDeclared self.now }
         ensures action_contexts { AreActionContextsOrdered self.now }
+        ensures types_declared { AreTypesDeclared self.now }
     {
         let _kept = &self.entities;
     }

@@ -5,7 +5,7 @@ use Rattle.cedar_form.specs.declared.schema_fault.SchemaFault.TheVariants.{Unkno
 use Rattle.cedar_form.specs.declared.form.table.Behind.{Behind as CodeBehind}
 use Rattle.cedar_form.specs.declared.form.table.Behind.TheVariants.{Form, Nothing, Cycle}
 use Rattle.cedar_form.specs.Forms.{FormTree}
-use Rattle.cedar_form.specs.Private.FormView.{form_of}
+use Rattle.cedar_form.specs.FormView.{form_of}
 use Rattle.cedar_form.specs.Expansion.{Table, common_nodes, common_height, common_type, cycle_faults, form_type, form_faults, nodes, height}
 
 -- with n names to follow the common type says what f says with m

@@ -1,9 +1,9 @@
 //! Where chains of common types lead each of which is but the name of the next. A chain may be as long
 //! as the schema, so it is followed without recursion, in time by the logarithm of its length.
 ghost use Rattle.std.specs.Prelude.{◌≡◌, IfOk};
-ghost use Rattle.cedar_form.specs.Private.Measures.{AreEnds, Leads};
+ghost use Rattle.cedar_form.specs.Ends.{AreEnds, Leads};
 ghost use Rattle.cedar_form.specs.Expansion.{Table as Forms};
-ghost use Rattle.cedar_form.specs.Private.TableView.{table_of};
+ghost use Rattle.cedar_form.specs.TableView.{table_of};
 
 use crate::form::Form;
 use crate::form::table::end_of;

@@ -1,9 +1,11 @@
 //! What a form would make is counted before it is made.
 ghost use Rattle.std.specs.Prelude.{◌≡◌, []};
-ghost use Rattle.cedar_form.specs.Private.FormView.{form_of, fields_view};
+ghost use Rattle.cedar_form.specs.FormView.{form_of};
+ghost use Rattle.cedar_form.specs.Private.FieldView.{fields_view};
 ghost use Rattle.cedar_form.specs.Expansion.{nodes, height, expanded, rows_nodes, rows_height, rows_faults, common_nodes, common_height, cycle_faults};
-ghost use Rattle.cedar_form.specs.Private.Measures.{AreEnds, Leaves};
-ghost use Rattle.cedar_form.specs.Private.TableView.{table_of};
+ghost use Rattle.cedar_form.specs.Ends.{AreEnds};
+ghost use Rattle.cedar_form.specs.Private.Measures.{Leaves};
+ghost use Rattle.cedar_form.specs.TableView.{table_of};
 
 use crate::form::table::{Behind, Table};
 use crate::form::{Form, FormField};

@@ -2,9 +2,11 @@
 ghost use Rattle.std.specs.Prelude.{◌≡◌, ◌++◌, [], true, false, map, string_bytes, MatchResult, option_map, codes, Some};
 ghost use Rattle.serde_json.specs.View.{view, members_view};
 ghost use Rattle.serde_json.specs.Find.{get};
-ghost use Rattle.cedar_form.specs.Private.Faults.{Told};
-ghost use Rattle.cedar_form.specs.Private.FormView.{form_of, fields_view};
-ghost use Rattle.cedar_form.specs.Private.Reads.{Reads, ReadsField, scope_of};
+ghost use Rattle.cedar_form.specs.Faults.{Told};
+ghost use Rattle.cedar_form.specs.FormView.{form_of};
+ghost use Rattle.cedar_form.specs.Private.FieldView.{fields_view};
+ghost use Rattle.cedar_form.specs.Reads.{Reads, scope_of};
+ghost use Rattle.cedar_form.specs.Private.ReadsField.{ReadsField};
 ghost use Rattle.cedar_form.specs.Reading.{may_have, key_faults, text_at, entity_read, common_read, extension_read, closed_faults, required_faults, is_required, type_read, rows_read, all_rows, of_kind, set_of, record_of, needed, with_faults};
 
 use crate::form::kind::{Kind, kind_named, may_have};

@@ -1,10 +1,10 @@
 //! Shapes and contexts: types that expand to records.
 ghost use Rattle.std.specs.Prelude.{◌≡◌, [], MatchResult, Some, None, option_map};
 ghost use Rattle.serde_json.specs.View.{view};
-ghost use Rattle.cedar_form.specs.Private.Faults.{Told};
-ghost use Rattle.cedar_form.specs.Private.Reads.{scope_of};
-ghost use Rattle.cedar_form.specs.Private.Measures.{AreEnds};
-ghost use Rattle.cedar_form.specs.Private.TableView.{table_of, Expands};
+ghost use Rattle.cedar_form.specs.Faults.{Told};
+ghost use Rattle.cedar_form.specs.Reads.{scope_of};
+ghost use Rattle.cedar_form.specs.Ends.{AreEnds};
+ghost use Rattle.cedar_form.specs.TableView.{table_of, Expands};
 ghost use Rattle.cedar_form.specs.Shapes.{record_type, is_record, empty_faults};
 
 use crate::form::expansion::build;

@@ -1,9 +1,9 @@
 //! Common types by their places.
 ghost use Rattle.std.specs.Prelude.{◌≡◌};
 ghost use Rattle.cedar_form.specs.Private.Behind.{IsBehind};
-ghost use Rattle.cedar_form.specs.Private.Measures.{AreEnds, Leads};
+ghost use Rattle.cedar_form.specs.Ends.{AreEnds, Leads};
 ghost use Rattle.cedar_form.specs.Expansion.{Table as Forms};
-ghost use Rattle.cedar_form.specs.Private.TableView.{table_of};
+ghost use Rattle.cedar_form.specs.TableView.{table_of};
 
 use crate::form::Form;
 

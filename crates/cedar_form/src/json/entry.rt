@@ -2,9 +2,9 @@
 ghost use Rattle.std.specs.Prelude.{◌≡◌, ◌++◌, [], map, IfOk, OnOk, MatchResult, Some, None, option_map, string_bytes};
 ghost use Rattle.serde_json.specs.View.{view, members_view};
 ghost use Rattle.serde_json.specs.Find.{get, as_object};
-ghost use Rattle.cedar_form.specs.Private.Faults.{Told};
+ghost use Rattle.cedar_form.specs.Faults.{Told};
 ghost use Rattle.cedar_form.specs.Entries.{entries, entries_in, section, whole_names, namespace_faults, space_faults, root_faults, object_faults, key_text_faults, entity_key_faults, common_key_faults};
-ghost use Rattle.cedar_form.specs.Private.EntryView.{entries_view, entry_of};
+ghost use Rattle.cedar_form.specs.EntryView.{entries_view, entry_of};
 
 use crate::form::kind::{Kind, kind_named};
 use crate::json::naming::{has_colon, qualified, read_name};

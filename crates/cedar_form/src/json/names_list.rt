@@ -3,8 +3,8 @@ ghost use Rattle.std.specs.Prelude.{◌≡◌, ◌∷◌, [], IfOk, Some, None, 
 ghost use Rattle.std.specs.Option.{option_to_list};
 ghost use Rattle.serde_json.specs.View.{view, items_view};
 ghost use Rattle.cedar_form.specs.Lists.{name_read, each_read, names_at, set_onto};
-ghost use Rattle.cedar_form.specs.Private.ReadsLists.{ReadsList, ReadsItem};
-ghost use Rattle.cedar_form.specs.Private.Reads.{scope_of};
+ghost use Rattle.cedar_form.specs.ReadsLists.{ReadsList, ReadsItem};
+ghost use Rattle.cedar_form.specs.Reads.{scope_of};
 
 use crate::json::naming::read_declared;
 use crate::json::scope::Scope;

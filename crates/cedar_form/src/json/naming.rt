@@ -1,7 +1,7 @@
 //! Names in a schema, and what they stand for.
 ghost use Rattle.std.specs.Prelude.{◌≡◌, ◌++◌, [], nat_eq, codes, Some, IfOk, MatchResult, string_bytes};
 ghost use Rattle.std.specs.List.{list_any};
-ghost use Rattle.cedar_form.specs.Private.Faults.{Told};
+ghost use Rattle.cedar_form.specs.Faults.{Told};
 ghost use Rattle.cedar_form.specs.Naming.{is_reserved, listed, qualified, resolved, text_faults, name_faults};
 
 use crate::json::name_table::NameTable;

@@ -2,7 +2,7 @@
 ghost use Rattle.std.specs.Prelude.{◌≡◌, [], MatchResult, Some, option_map};
 ghost use Rattle.serde_json.specs.View.{view, members_view};
 ghost use Rattle.serde_json.specs.Find.{get, as_object};
-ghost use Rattle.cedar_form.specs.Private.Faults.{Told};
+ghost use Rattle.cedar_form.specs.Faults.{Told};
 ghost use Rattle.cedar_form.specs.Reading.{key_faults};
 ghost use Rattle.cedar_form.specs.Entries.{belongs, part_faults, unless_null};
 
@@ -30,7 +30,7 @@ fn belongs(part: Part, key: &str) -> bool
 {
     match part {
         Part::Namespace => key == "entityTypes" || key == "actions" || key == "commonTypes",
-        Part::EntityType => key == "memberOfTypes" || key == "shape" || key == "tags",
+        Part::EntityType => key == "memberOfTypes" || key == "shape",
         Part::Action => key == "memberOf" || key == "appliesTo" || key == "attributes",
         Part::AppliesTo => key == "principalTypes" || key == "resourceTypes" || key == "context",
         Part::Member => key == "id" || key == "type",

@@ -1,11 +1,11 @@
 //! Actions.
 ghost use Rattle.std.specs.Prelude.{◌≡◌, ◌↔◌, Contains, IsTrue, [], map, codes, IfOk, MatchResult, Some, None, option_map};
 ghost use Rattle.serde_json.specs.View.{view};
-ghost use Rattle.cedar_form.specs.Private.Faults.{Told};
-ghost use Rattle.cedar_form.specs.Private.Reads.{scope_of};
-ghost use Rattle.cedar_form.specs.Private.Measures.{AreEnds};
-ghost use Rattle.cedar_form.specs.Private.TableView.{table_of};
-ghost use Rattle.cedar_form.specs.Private.EntryView.{entry_of};
+ghost use Rattle.cedar_form.specs.Faults.{Told};
+ghost use Rattle.cedar_form.specs.Reads.{scope_of};
+ghost use Rattle.cedar_form.specs.Ends.{AreEnds};
+ghost use Rattle.cedar_form.specs.TableView.{table_of};
+ghost use Rattle.cedar_form.specs.EntryView.{entry_of};
 ghost use Rattle.cedar_schema.specs.Declaring.{applies_read, action_of, action_faults};
 ghost use Rattle.cedar_schema.specs.Private.ReadsApplies.{ReadsApplies};
 

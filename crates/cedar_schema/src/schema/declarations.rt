@@ -1,12 +1,12 @@
 //! What a schema's entries declare, entry by entry.
 ghost use Rattle.std.specs.Prelude.{◌≡◌, [], false, MatchResult};
-ghost use Rattle.cedar_form.specs.Private.Faults.{Told};
+ghost use Rattle.cedar_form.specs.Faults.{Told};
 ghost use Rattle.cedar_form.specs.Reading.{type_read};
-ghost use Rattle.cedar_form.specs.Private.FormView.{form_of};
-ghost use Rattle.cedar_form.specs.Private.Measures.{AreEnds};
-ghost use Rattle.cedar_form.specs.Private.TableView.{table_of};
+ghost use Rattle.cedar_form.specs.FormView.{form_of};
+ghost use Rattle.cedar_form.specs.Ends.{AreEnds};
+ghost use Rattle.cedar_form.specs.TableView.{table_of};
 ghost use Rattle.cedar_schema.specs.Each.{each_faults, each_onto};
-ghost use Rattle.cedar_form.specs.Private.EntryView.{entries_view, entry_of};
+ghost use Rattle.cedar_form.specs.EntryView.{entries_view, entry_of};
 ghost use Rattle.cedar_schema.specs.Schemas.{add_action, add_entity, common_faults, entity_faults, expansion_faults, forms_of, one_action_faults, scope_at, scope_in};
 ghost use Rattle.cedar_schema.specs.Declaring.{action_of, entity_type_of};
 ghost use Rattle.cedar_schema.specs.Private.SettingView.{setting_view};

@@ -1,15 +1,15 @@
 //! Entity types.
 ghost use Rattle.std.specs.Prelude.{◌≡◌, [], MatchResult};
-ghost use Rattle.cedar_form.specs.Private.Faults.{Told};
-ghost use Rattle.cedar_form.specs.Private.Reads.{scope_of};
-ghost use Rattle.cedar_form.specs.Private.Measures.{AreEnds};
-ghost use Rattle.cedar_form.specs.Private.TableView.{table_of};
-ghost use Rattle.cedar_form.specs.Private.EntryView.{entry_of};
+ghost use Rattle.cedar_form.specs.Faults.{Told};
+ghost use Rattle.cedar_form.specs.Reads.{scope_of};
+ghost use Rattle.cedar_form.specs.Ends.{AreEnds};
+ghost use Rattle.cedar_form.specs.TableView.{table_of};
+ghost use Rattle.cedar_form.specs.EntryView.{entry_of};
 ghost use Rattle.cedar_schema.specs.Declaring.{entity_type_of, entity_type_faults};
 
 use cedar_form::{
-    Entry, Part, SchemaFault, Scope, Table, check_empty, check_entity_key, check_part,
-    read_names_at, read_record_type,
+    Entry, Part, SchemaFault, Scope, Table, check_entity_key, check_part, read_names_at,
+    read_record_type,
 };
 use cedar_types::Type;
 use cedar_value::Name;
@@ -52,6 +52,5 @@ pub(crate) fn read_entity_type(
     check_part(Part::EntityType, entry.body)?;
     let parents = read_names_at(alloc, scope, entry.body.get("memberOfTypes"), None)?;
     let shape = read_record_type(alloc, scope, table, entry.body.get("shape"))?;
-    check_empty(entry.body.get("tags"))?;
     Ok(EntityType { parents, shape })
 }

@@ -5,10 +5,10 @@ ghost use Rattle.cedar_form.specs.declared.schema_fault.SchemaFault.TheVariants.
 ghost use Rattle.cedar_schema.specs.Denotes.{Denotes, IsRefusedWith};
 ghost use Rattle.cedar_schema.specs.Private.Answers.{Answers};
 ghost use Rattle.cedar_form.specs.Entries.{whole_names};
-ghost use Rattle.cedar_form.specs.Private.EntryView.{entries_view};
-ghost use Rattle.cedar_form.specs.Private.Measures.{AreEnds};
+ghost use Rattle.cedar_form.specs.EntryView.{entries_view};
+ghost use Rattle.cedar_form.specs.Ends.{AreEnds};
 ghost use Rattle.cedar_schema.specs.Private.SettingView.{IsSettingOf, setting_view, sections_view};
-ghost use Rattle.cedar_form.specs.Private.TableView.{table_of};
+ghost use Rattle.cedar_form.specs.TableView.{table_of};
 ghost use Rattle.cedar_schema.specs.Schemas.{schema_in, schema_of, sections_faults, setting_faults, setting_of, written_faults};
 
 use crate::schema::Schema;

@@ -1,6 +1,6 @@
 use Rattle.std.proofs.Common.{◌≡◌, length}
 use Rattle.cedar_form.specs.Expansion.{Table}
-use Rattle.cedar_form.specs.Private.Measures.{AreEnds}
+use Rattle.cedar_form.specs.Ends.{AreEnds}
 use Rattle.cedar_form.proofs.form.chains.doubled.Given as goal
 
 abbrev pub invariant-loop-place : goal.invariant-loop-place

@@ -1,7 +1,7 @@
 use Rattle.std.proofs.Common.{Some, sym, ap, ◌∙◌, subst, ℕ}
-use Rattle.cedar_form.specs.Private.FormView.{form_of}
-use Rattle.cedar_form.specs.Private.Measures.{Leads, stays}
-use Rattle.cedar_form.specs.Private.TableView.{table_of}
+use Rattle.cedar_form.specs.FormView.{form_of}
+use Rattle.cedar_form.specs.Ends.{Leads, stays}
+use Rattle.cedar_form.specs.TableView.{table_of}
 use Rattle.cedar_form.proofs.ChainLemmas.{leads_one, form_of-Common}
 use Rattle.cedar_form.proofs.Lookups.{got}
 use Rattle.cedar_form.proofs.form.chains.first_end.Goals as goal

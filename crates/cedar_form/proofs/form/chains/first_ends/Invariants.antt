@@ -1,6 +1,6 @@
 use Rattle.std.proofs.Common.{◌≡◌, length}
-use Rattle.cedar_form.specs.Private.Measures.{AreEnds}
-use Rattle.cedar_form.specs.Private.TableView.{table_of}
+use Rattle.cedar_form.specs.Ends.{AreEnds}
+use Rattle.cedar_form.specs.TableView.{table_of}
 use Rattle.cedar_form.proofs.form.chains.first_ends.Given as goal
 
 abbrev pub invariant-loop-place : goal.invariant-loop-place

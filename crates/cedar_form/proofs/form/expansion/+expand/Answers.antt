@@ -1,7 +1,7 @@
 use Rattle.std.proofs.Common.{◌<◌, drop, length, arith, ◌∙◌, drop_of_length-le}
 use Rattle.std.proofs.lemmas.Result.{err_from_is_err_and}
-use Rattle.cedar_form.specs.Private.FormView.{form_of}
-use Rattle.cedar_form.specs.Private.TableView.{table_of}
+use Rattle.cedar_form.specs.FormView.{form_of}
+use Rattle.cedar_form.specs.TableView.{table_of}
 use Rattle.cedar_form.specs.Expansion.{common_type, cycle_faults}
 use Rattle.cedar_form.proofs.ExpandLemmas.{most_at, name_less, own_form_here, attribute_made, attribute_refused, made_all, rows_clean}
 use Rattle.cedar_form.proofs.form.expansion.+expand.Goals as goal

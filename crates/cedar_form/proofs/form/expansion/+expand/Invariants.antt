@@ -1,7 +1,8 @@
 use Rattle.std.proofs.Common.{◌≡◌, ◌+◌, ◌*◌, drop, Some}
 use Rattle.cedar_types.specs.Types.{no_attributes}
-use Rattle.cedar_form.specs.Private.FormView.{form_of, fields_view}
-use Rattle.cedar_form.specs.Private.TableView.{table_of}
+use Rattle.cedar_form.specs.FormView.{form_of}
+use Rattle.cedar_form.specs.Private.FieldView.{fields_view}
+use Rattle.cedar_form.specs.TableView.{table_of}
 use Rattle.cedar_form.specs.Expansion.{rows_type, rows_faults, common_type, cycle_faults}
 use Rattle.cedar_form.proofs.ExpandLemmas.{own, own_rows, most}
 use Rattle.cedar_form.proofs.form.expansion.+expand.Given as goal

@@ -1,8 +1,8 @@
 use Rattle.std.proofs.Common.{length}
 use Rattle.std.proofs.lemmas.List.{length-map}
 use Rattle.std.proofs.lemmas.Result.{err_from_is_err_and}
-use Rattle.cedar_form.specs.Private.FormView.{form_of}
-use Rattle.cedar_form.specs.Private.TableView.{table_of}
+use Rattle.cedar_form.specs.FormView.{form_of}
+use Rattle.cedar_form.specs.TableView.{table_of}
 use Rattle.cedar_form.proofs.ExpandLemmas.{judged_fine, judged_over}
 use Rattle.cedar_form.proofs.form.expansion.judge.Goals as goal
 

@@ -1,7 +1,7 @@
 use Rattle.std.proofs.Common.{◌<◌, length, arith, ◌∙◌}
 use Rattle.std.proofs.lemmas.Result.{err_from_is_err_and}
-use Rattle.cedar_form.specs.Private.FormView.{form_of}
-use Rattle.cedar_form.specs.Private.TableView.{table_of}
+use Rattle.cedar_form.specs.FormView.{form_of}
+use Rattle.cedar_form.specs.TableView.{table_of}
 use Rattle.cedar_form.specs.Expansion.{common_nodes, common_height, cycle_faults}
 use Rattle.cedar_form.proofs.ExpandLemmas.{most_at, name_less, own_form_here, nodes_here, height_here, over_row, rows_clean, rows_has}
 use Rattle.cedar_form.proofs.form.measure.+measure.Goals as goal

@@ -1,6 +1,7 @@
 use Rattle.std.proofs.Common.{◌≡◌, ◌+◌, ◌*◌, ◌≤◌, max, drop}
-use Rattle.cedar_form.specs.Private.FormView.{form_of, fields_view}
-use Rattle.cedar_form.specs.Private.TableView.{table_of}
+use Rattle.cedar_form.specs.FormView.{form_of}
+use Rattle.cedar_form.specs.Private.FieldView.{fields_view}
+use Rattle.cedar_form.specs.TableView.{table_of}
 use Rattle.cedar_form.specs.Expansion.{rows_nodes, rows_height, rows_faults, common_nodes, common_height, cycle_faults}
 use Rattle.cedar_form.proofs.ExpandLemmas.{own, own_rows, most}
 use Rattle.cedar_form.proofs.form.measure.+measure.Given as goal

@@ -7,8 +7,8 @@ use Rattle.cedar_form.specs.declared.form.FormField.{FormField}
 use Rattle.cedar_form.specs.Reading.{all_rows, key_faults, may_have, of_kind, type_read, rows_read}
 use Rattle.cedar_form.specs.declared.form.kind.Kind.{Kind}
 use Rattle.serde_json.specs.Find.{get}
-use Rattle.cedar_form.specs.Private.Reads.{Reads, scope_of}
-use Rattle.cedar_form.specs.Private.Faults.{Told}
+use Rattle.cedar_form.specs.Reads.{Reads, scope_of}
+use Rattle.cedar_form.specs.Faults.{Told}
 use Rattle.cedar_form.proofs.FormLemmas.{after, depth_get, depth_among, type_refused, type_reads, type_no_object, type_no_text, rows_no_object, rows_are, field_read, field_refused, fields_end, form_of-Record}
 use Rattle.cedar_form.proofs.form.reading.+read.Goals as goal
 

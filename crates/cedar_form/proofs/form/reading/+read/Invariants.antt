@@ -3,7 +3,7 @@ use Rattle.serde_json.specs.Data.{depth, members_depth}
 use Rattle.serde_json.specs.View.{view, members_view}
 use Rattle.serde_json.proofs.Views.{Entry}
 use Rattle.cedar_form.specs.Reading.{all_rows}
-use Rattle.cedar_form.specs.Private.Reads.{scope_of}
+use Rattle.cedar_form.specs.Reads.{scope_of}
 use Rattle.cedar_form.proofs.FormLemmas.{after}
 use Rattle.cedar_form.proofs.form.reading.+read.Given as goal
 

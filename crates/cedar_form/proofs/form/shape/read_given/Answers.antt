@@ -1,8 +1,8 @@
 use Rattle.std.proofs.lemmas.Result.{err_from_is_err_and}
 use Rattle.serde_json.specs.View.{view}
-use Rattle.cedar_form.specs.Private.Reads.{scope_of}
-use Rattle.cedar_form.specs.Private.FormView.{form_of}
-use Rattle.cedar_form.specs.Private.TableView.{table_of}
+use Rattle.cedar_form.specs.Reads.{scope_of}
+use Rattle.cedar_form.specs.FormView.{form_of}
+use Rattle.cedar_form.specs.TableView.{table_of}
 use Rattle.cedar_form.proofs.ShapeLemmas.{shape_form, shape_type, shape_kind, shape_fine}
 use Rattle.cedar_form.proofs.form.shape.read_given.Goals as goal
 

@@ -1,4 +1,4 @@
-use Rattle.cedar_form.specs.Private.Measures.{stays}
+use Rattle.cedar_form.specs.Ends.{stays}
 use Rattle.cedar_form.proofs.form.table.end_of.Goals as goal
 
 pub returns-in-None : goal.returns-in-None

@@ -2,7 +2,7 @@ use Rattle.std.proofs.Common.{◌≡◌, ◌∷◌, ◌++◌, List, sym, ap, sub
 use Rattle.serde_json.specs.View.{members_view}
 use Rattle.serde_json.proofs.Views.{Entry}
 use Rattle.cedar_form.specs.Entries.{EntryTree, entries}
-use Rattle.cedar_form.specs.Private.EntryView.{entries_view}
+use Rattle.cedar_form.specs.EntryView.{entries_view}
 use Rattle.cedar_form.proofs.json.entry.entries_of.Goals as goal
 
 pub loop-namespace-preserved : goal.loop-namespace-preserved

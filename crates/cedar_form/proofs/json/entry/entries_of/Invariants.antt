@@ -1,7 +1,7 @@
 use Rattle.std.proofs.Common.{◌≡◌, ◌++◌}
 use Rattle.serde_json.specs.View.{members_view}
 use Rattle.cedar_form.specs.Entries.{entries}
-use Rattle.cedar_form.specs.Private.EntryView.{entries_view}
+use Rattle.cedar_form.specs.EntryView.{entries_view}
 use Rattle.cedar_form.proofs.json.entry.entries_of.Given as goal
 
 abbrev pub invariant-loop-namespace : goal.invariant-loop-namespace

@@ -1,6 +1,6 @@
 use Rattle.std.proofs.Common.{◌≡◌, take}
 use Rattle.cedar_form.specs.Entries.{whole_names}
-use Rattle.cedar_form.specs.Private.EntryView.{entries_view}
+use Rattle.cedar_form.specs.EntryView.{entries_view}
 use Rattle.cedar_form.proofs.json.entry.names_of.Given as goal
 
 abbrev pub invariant-loop-entry : goal.invariant-loop-entry

@@ -1,7 +1,7 @@
 use Rattle.std.proofs.Common.{◌≡◌, ◌++◌}
 use Rattle.serde_json.specs.View.{members_view}
 use Rattle.cedar_form.specs.Entries.{entries_in}
-use Rattle.cedar_form.specs.Private.EntryView.{entries_view}
+use Rattle.cedar_form.specs.EntryView.{entries_view}
 use Rattle.cedar_form.proofs.json.entry.push_entries.Given as goal
 
 abbrev pub invariant-loop-key : goal.invariant-loop-key

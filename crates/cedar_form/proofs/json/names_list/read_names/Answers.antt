@@ -2,7 +2,7 @@ use Rattle.std.proofs.Common.{◌+◌, ◌<◌, drop, length, drop_of_length-le,
 use Rattle.std.proofs.lemmas.Result.{err_from_is_err_and}
 use Rattle.serde_json.specs.View.{view, items_view}
 use Rattle.cedar_form.specs.Lists.{name_read}
-use Rattle.cedar_form.specs.Private.Reads.{scope_of}
+use Rattle.cedar_form.specs.Reads.{scope_of}
 use Rattle.cedar_form.proofs.ListLemmas.{reading_start, items_here, reading_more, reading_refused, reading_end}
 use Rattle.cedar_form.proofs.json.names_list.read_names.Goals as goal
 

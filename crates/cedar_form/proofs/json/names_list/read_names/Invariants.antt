@@ -1,7 +1,7 @@
 use Rattle.std.proofs.Common.{drop}
 use Rattle.serde_json.specs.View.{items_view}
 use Rattle.cedar_form.specs.Lists.{name_read}
-use Rattle.cedar_form.specs.Private.Reads.{scope_of}
+use Rattle.cedar_form.specs.Reads.{scope_of}
 use Rattle.cedar_form.proofs.ListLemmas.{IsReading}
 use Rattle.cedar_form.proofs.json.names_list.read_names.Given as goal
 

@@ -1,9 +1,9 @@
 use Rattle.std.proofs.Common.{◌≡◌, [], sym, subst, ◌+◌, ◌<◌, drop, length, drop_of_length-le, arith, ap}
 use Rattle.std.proofs.lemmas.Result.{err_from_is_err_and}
 use Rattle.cedar_form.specs.declared.form.Form.{Form}
-use Rattle.cedar_form.specs.Private.Faults.{Told}
-use Rattle.cedar_form.specs.Private.FormView.{form_of}
-use Rattle.cedar_form.specs.Private.TableView.{table_of}
+use Rattle.cedar_form.specs.Faults.{Told}
+use Rattle.cedar_form.specs.FormView.{form_of}
+use Rattle.cedar_form.specs.TableView.{table_of}
 use Rattle.cedar_schema.specs.Schemas.{expansion_faults}
 use Rattle.cedar_schema.proofs.EachLemmas.{faults_more, faults_refused, faults_end}
 use Rattle.cedar_form.proofs.Lookups.{drop_here}

@@ -1,8 +1,8 @@
 use Rattle.std.proofs.lemmas.Result.{err_from_is_err_and}
-use Rattle.cedar_form.specs.Private.Reads.{scope_of}
-use Rattle.cedar_form.specs.Private.TableView.{table_of}
-use Rattle.cedar_form.specs.Private.EntryView.{entry_of}
-use Rattle.cedar_schema.proofs.DeclaringLemmas.{entity_key, entity_part, entity_members, entity_shape, entity_tags, entity_fine}
+use Rattle.cedar_form.specs.Reads.{scope_of}
+use Rattle.cedar_form.specs.TableView.{table_of}
+use Rattle.cedar_form.specs.EntryView.{entry_of}
+use Rattle.cedar_schema.proofs.DeclaringLemmas.{entity_key, entity_part, entity_members, entity_shape, entity_fine}
 use Rattle.cedar_schema.proofs.schema.entity_type.read_entity_type.Goals as goal
 
 pub returns-in_err-check_entity_key : goal.returns-in_err-check_entity_key
@@ -25,11 +25,6 @@ returns-in_err-shape c =
     let p = err_from_is_err_and c.from_residual-in_err-shape.result c.from_residual-in_err-shape.ensures.1 in
     rw (p.1, p.2) (entity_shape (scope_of c.args.scope.now) (table_of c.args.table.forms.now) (entry_of c.args.entry) _ _ c.get-2.ensures c.in_err-shape.ensures)
 
-pub returns-in_err-check_empty : goal.returns-in_err-check_empty
-returns-in_err-check_empty c =
-    let p = err_from_is_err_and c.from_residual-in_err-check_empty.result c.from_residual-in_err-check_empty.ensures.1 in
-    rw (p.1, p.2) (entity_tags (scope_of c.args.scope.now) (table_of c.args.table.forms.now) (entry_of c.args.entry) _ _ c.get-3.ensures c.in_err-check_empty.ensures)
-
 pub returns : goal.returns
 returns c =
-    entity_fine (scope_of c.args.scope.now) (table_of c.args.table.forms.now) (entry_of c.args.entry) _ _ _ c.in_ok-parents.parents.items c.in_ok-shape.shape c.get.ensures c.get-2.ensures c.get-3.ensures c.in_ok-check_entity_key.ensures c.in_ok-check_part.ensures c.in_ok-parents.ensures c.in_ok-shape.ensures c.in_ok-check_empty.ensures
+    entity_fine (scope_of c.args.scope.now) (table_of c.args.table.forms.now) (entry_of c.args.entry) _ _ c.in_ok-parents.parents.items c.in_ok-shape.shape c.get.ensures c.get-2.ensures c.in_ok-check_entity_key.ensures c.in_ok-check_part.ensures c.in_ok-parents.ensures c.in_ok-shape.ensures

@@ -1,8 +1,13 @@
 use Rattle.std.proofs.lemmas.Result.{err_from_is_err_and}
-use Rattle.std.proofs.Common.{ap, ◌∙◌}
+use Rattle.std.proofs.Common.{List, ap, sym, subst, ◌∙◌}
+use Rattle.std.specs.List.{AllByRecursion}
+use Rattle.cedar_form.specs.Forms.{FormTree}
+use Rattle.cedar_form.specs.EntryView.{entries_view}
 use Rattle.cedar_schema.specs.Private.SettingView.{sections_view}
-use Rattle.cedar_form.specs.Private.TableView.{table_of}
+use Rattle.cedar_form.specs.TableView.{table_of}
+use Rattle.cedar_schema.specs.Private.NamedForms.{FormNames}
 use Rattle.cedar_schema.proofs.AnswerLemmas.{sections_forms, sections_all}
+use Rattle.cedar_schema.proofs.NamedTypes.{forms_named}
 use Rattle.cedar_schema.proofs.schema.reading.read_sections.Goals as goal
 
 pub returns-in_err-forms : goal.returns-in_err-forms
@@ -17,4 +22,9 @@ returns c =
     (c.in_ok-forms.ensures.0, ap table_of c.deref-2.ensures.value ∙ c.in_ok-forms.ensures.1) c.in_ok-uids.ensures c.read_setting.ensures
 
 pub read_setting-requires-clause-setting : goal.read_setting-requires-clause-setting
-read_setting-requires-clause-setting c = record { names = c.in_ok-entity_names.ensures; uids = c.in_ok-uids.ensures }
+read_setting-requires-clause-setting c = record {
+  names = c.in_ok-entity_names.ensures;
+  uids = c.in_ok-uids.ensures;
+  forms = subst (λ (t : List FormTree). AllByRecursion (FormNames c.in_ok-entity_names.entity_names) t) (sym (ap table_of c.deref-2.ensures.value ∙ c.in_ok-forms.ensures.1))
+      (forms_named c.in_ok-entity_names.entity_names c.in_ok-common_names.common_names (entries_view c.args.commons.now));
+}

@@ -1,6 +1,6 @@
 use Rattle.std.proofs.Common.{◌≡◌, ◌+◌, ◌-◌, suc, arith}
-use Rattle.cedar_form.specs.Private.FormView.{form_of}
-use Rattle.cedar_form.specs.Private.TableView.{table_of}
+use Rattle.cedar_form.specs.FormView.{form_of}
+use Rattle.cedar_form.specs.TableView.{table_of}
 use Rattle.cedar_form.proofs.ChainLemmas.{stands_behind, is_nothing, leads_too_far}
 use Rattle.cedar_form.proofs.Lookups.{got, got_none}
 use Rattle.cedar_form.proofs.form.table.Table.behind.Goals as goal

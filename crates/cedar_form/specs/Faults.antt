@@ -3,6 +3,6 @@ use Rattle.std.specs.Prelude.{◌≢◌, List, Contains}
 use Rattle.cedar_form.specs.declared.schema_fault.SchemaFault.{SchemaFault}
 use Rattle.cedar_form.specs.declared.schema_fault.SchemaFault.TheVariants.{OutOfMemory}
 
--- a refusal other than want of memory is one of the faults that are there
+-- A refusal other than out of memory is one of the faults that are there (own).
 abbrev pub Told : List SchemaFault → SchemaFault → Type 0
 Told fs e = e ≢ OutOfMemory → Contains fs e

@@ -1,0 +1,46 @@
+-- What is in the schema that an object of namespaces denotes, entry by entry.
+use Rattle.std.specs.Prelude.{◌≡◌, ◌≢◌, ◌↔◌, ℕ, List, [], map, codes, AllPairs, Contains}
+use Rattle.serde_json.specs.Data.{Members}
+use Rattle.cedar_value.specs.declared.uid.Uid.{Uid}
+use Rattle.cedar_form.specs.Naming.{qualified}
+use Rattle.cedar_form.specs.Entries.{EntryTree, entries, whole_names}
+use Rattle.cedar_form.specs.Lists.{set_onto}
+use Rattle.cedar_schema.specs.Declaring.{uid_of, entity_type_of, action_of}
+use Rattle.cedar_schema.specs.SchemaTree.{EntityTypeTree, ActionTree}
+use Rattle.cedar_schema.specs.Schemas.{sections_of, setting_of, scope_in, schema_of, uids_onto}
+
+-- Some entry of a section `entityTypes` has this whole name, and says this of the entity type (Cedar documentation, JSON
+-- schema format: entityTypes).
+pub record IsWrittenType (root : Members) (n : List ℕ) (t : EntityTypeTree) : Type 0 where
+  pub entry : EntryTree
+  pub written : Contains (entries (codes "entityTypes") root) entry
+  pub name : n ≡ qualified entry.namespace entry.key
+  pub content : t ≡ entity_type_of (scope_in (setting_of (sections_of root)) entry) (setting_of (sections_of root)).table entry
+
+-- Some entry of a section `actions` has this uid, and says this of the action (Cedar documentation, JSON schema format: actions).
+pub record IsWrittenAction (root : Members) (u : Uid) (a : ActionTree) : Type 0 where
+  pub entry : EntryTree
+  pub written : Contains (entries (codes "actions") root) entry
+  pub uid : u ≡ uid_of entry
+  pub content : a ≡ action_of (scope_in (setting_of (sections_of root)) entry) (setting_of (sections_of root)).table (setting_of (sections_of root)).uids entry
+
+-- Each entity type of the schema is written, and each that is written is one of the schema where no name is written twice
+-- (own).
+abbrev pub TypesAreWritten : Type 0
+TypesAreWritten = (root : Members) (n : List ℕ) (t : EntityTypeTree)
+    → (Contains (schema_of root).entities (n, t) → IsWrittenType root n t)
+    × (AllPairs (λ m k. m ≢ k) (whole_names (entries (codes "entityTypes") root)) → IsWrittenType root n t → Contains (schema_of root).entities (n, t))
+
+-- Each action of the schema is written, and each that is written is one of the schema where no uid is written twice (own).
+abbrev pub ActionsAreWritten : Type 0
+ActionsAreWritten = (root : Members) (u : Uid) (a : ActionTree)
+    → (Contains (schema_of root).actions (u, a) → IsWrittenAction root u a)
+    × (AllPairs (λ v w. v ≢ w) (map uid_of (entries (codes "actions") root)) → IsWrittenAction root u a → Contains (schema_of root).actions (u, a))
+
+-- A list of names that is put in order has the names that it had, and no others (own).
+abbrev pub NamesAreKept : Type 0
+NamesAreKept = (names : List (List ℕ)) (n : List ℕ) → Contains (set_onto [] names) n ↔ Contains names n
+
+-- The uids of declared actions are those of the entries of `actions` (own).
+abbrev pub UidsAreKept : Type 0
+UidsAreKept = (es : List EntryTree) (u : Uid) → Contains (uids_onto [] es) u ↔ Contains (map uid_of es) u

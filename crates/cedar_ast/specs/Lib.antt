@@ -7,3 +7,4 @@ pub mod Operators
 pub mod Private
 pub mod RecordFault
 pub mod Replacement
+pub mod SameExpression

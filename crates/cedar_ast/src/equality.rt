@@ -7,7 +7,8 @@ use cedar_value::SharedText;
 
 impl PartialEq for Expr {
     ghost use Rattle.std.specs.Cmp.{partial_equiv_from_equiv};
-    ghost use Rattle.cedar_ast.specs.Private.SameExpression.{expression_equivalence, same_expression};
+    ghost use Rattle.cedar_ast.specs.Private.SameExpression.{expression_equivalence};
+    ghost use Rattle.cedar_ast.specs.SameExpression.{same_expression};
 
     ghost eq = { same_expression };
 

@@ -46,7 +46,8 @@ impl UnaryOperator {
 
 impl PartialEq for UnaryOperator {
     ghost use Rattle.std.specs.Cmp.{partial_equiv_from_equiv};
-    ghost use Rattle.cedar_ast.specs.Private.SameExpression.{same_unary, unary_equivalence};
+    ghost use Rattle.cedar_ast.specs.Private.SameExpression.{unary_equivalence};
+    ghost use Rattle.cedar_ast.specs.SameExpression.{same_unary};
 
     ghost eq = { same_unary };
 

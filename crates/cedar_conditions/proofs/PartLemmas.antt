@@ -224,24 +224,9 @@ called_other (Some op) [] n = refl
 called_other (Some op) (x ∷ []) n = absurd (n refl)
 called_other (Some op) (x ∷ y ∷ xs) n = refl
 
-pub applied_none : (op : BinaryOperator) (a : Expression) (xs : List Expression) → (length xs ≡ 1 → ⊥) → applied (Some (Binary op)) a (e.expressions_of xs) ≡ a
-applied_none op a [] n = refl
-applied_none op a (x ∷ []) n = absurd (n refl)
-applied_none op a (x ∷ y ∷ xs) n = refl
-
-pub empty_none : (a : Expression) (xs : List Expression) → (length xs ≡ 0 → ⊥) → applied (Some IsEmpty) a (e.expressions_of xs) ≡ a
-empty_none a [] n = absurd (n refl)
-empty_none a (x ∷ xs) n = refl
-
 pub empty_all : (a : Expression) (xs : List Expression) → length xs ≡ 0 → applied (Some IsEmpty) a (e.expressions_of xs) ≡ e.unary operator.IsEmpty a
 empty_all a [] n = refl
 empty_all a (x ∷ xs) n = absurd (omega arith)
-
-pub called_none : (o : Option UnaryOperator) (xs : List Expression) → (length xs ≡ 1 → ⊥) → called o (e.expressions_of xs) ≡ e.literal (boolean false)
-called_none None xs n = refl
-called_none (Some op) [] n = refl
-called_none (Some op) (x ∷ []) n = absurd (n refl)
-called_none (Some op) (x ∷ y ∷ xs) n = refl
 
 -- ---- sizes
 

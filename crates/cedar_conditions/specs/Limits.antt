@@ -1,4 +1,4 @@
--- What a statement must keep beside the grammar: side conditions, and the limits of its condition.
+-- What an expression must keep beside the grammar: side conditions, and the limits of a condition (own).
 use Rattle.std.specs.Prelude.{ℕ, suc, ◌+◌, ◌<◌, ◌≤◌, ◌^◌, ◌≡◌, max, List, [], ◌∷◌, Option, Some, None, IsSome, option_map}
 use Rattle.cedar_ast.specs.Expression as e
 use Rattle.cedar_ast.specs.Expression.{Expression, Expressions, Entries}
@@ -14,64 +14,69 @@ use Rattle.cedar_conditions.specs.Meaning.{function_of, method_of}
 
 -- ---- side conditions
 
--- A string outside a pattern stands for a text: it has no `\*`.
+-- A string outside a pattern stands for a text, so it has no `\*` (Cedar language reference, operators: like).
 abbrev pub Stands : SideCondition → Content → Type 0
 Stands Strings c = IsSome c
 Stands _ c = Unit {0}
 
--- A number is at most 9223372036854775807; behind a sign it may be one more.
+-- A number is at most 9223372036854775807 (Cedar language reference, data types: Long).
 abbrev pub Fits : SideCondition → ℕ → Type 0
 Fits Numbers n = n < 2 ^ 63
 Fits _ n = Unit {0}
 
+-- A number after a minus sign is at most 9223372036854775808 (Cedar language reference, data types: Long).
 abbrev pub FitsNegative : SideCondition → ℕ → Type 0
 FitsNegative Numbers n = n ≤ 2 ^ 63
 FitsNegative _ n = Unit {0}
 
--- There is a function or method of the name.
+-- There is a function or a method of the name (Cedar language reference, functions).
 abbrev pub IsKnown : {A : Type 0} → SideCondition → Option A → Type 0
 IsKnown Names o = IsSome o
 IsKnown _ o = Unit {0}
 
+-- How many arguments there are (own).
 abbrev pub count_of : Members → ℕ
 count_of no_members = 0
 count_of (member a ms) = suc (count_of ms)
 
--- how many arguments a method has
+-- How many arguments a method takes: `isEmpty` none, each other one (Cedar language reference, functions).
 abbrev pub arity_of : Method → ℕ
 arity_of IsEmpty = 0
 arity_of (Binary op) = 1
 
--- how many arguments the function of a name has, and the method of a name, if there is one
+-- How many arguments the function of a name takes, if there is such a function (Cedar language reference, functions).
 abbrev pub function_arity : List ℕ → Option ℕ
 function_arity name = option_map (λ op. 1) (function_of name)
 
+-- How many arguments the method of a name takes, if there is such a method (Cedar language reference, functions).
 abbrev pub method_arity : List ℕ → Option ℕ
 method_arity name = option_map arity_of (method_of name)
 
--- A function or method that there is has as many arguments as it takes; of one that there is not nothing is said.
+-- A function or a method has as many arguments as it takes, where there is one of its name (Cedar language reference,
+-- functions).
 abbrev pub HasArity : SideCondition → Option ℕ → Members → Type 0
 HasArity Counts (Some n) ms = count_of ms ≡ n
 HasArity _ arity ms = Unit {0}
 
--- The keys of a record, in order: those that stand for texts. What stands for no text is no key.
+-- The keys of a record that stand for texts, in order (Cedar language reference, data types: Record).
 abbrev pub keys_in : Fields → List (List ℕ)
 keys_in no_fields = []
 keys_in (field None a fs) = keys_in fs
 keys_in (field (Some key) a fs) = key ∷ keys_in fs
 
--- No key of a record stands twice.
+-- No two keys of a record are equal (Cedar language reference, data types: Record).
 abbrev pub HasDistinctKeys : SideCondition → Fields → Type 0
 HasDistinctKeys Keys fs = AreDistinct (keys_in fs)
 HasDistinctKeys _ fs = Unit {0}
 
--- No slot stands in a condition.
+-- There is no slot in a condition (Cedar language reference, policy templates).
 abbrev pub HasNoSlot : SideCondition → Type 0
 HasNoSlot Slots = ⊥
 HasNoSlot _ = Unit {0}
 
 -- An expression keeps a side condition where each part of it does.
 abbrev mutual
+  -- An expression keeps a side condition where each part of it does (own).
   pub Keeps : SideCondition → Written → Type 0
   Keeps c (truth b) = Unit {0}
   Keeps c (number n) = Fits c n
@@ -94,43 +99,47 @@ abbrev mutual
   Keeps c (record_of fs) = HasDistinctKeys c fs × KeepFields c fs
   Keeps c (call name ms) = IsKnown c (function_of name) × HasArity c (function_arity name) ms × KeepMembers c ms
 
+  -- The links of a chain keep a side condition where each of them does (own).
   pub KeepLinks : SideCondition → Links → Type 0
   KeepLinks c no_links = Unit {0}
   KeepLinks c (operand sign a ls) = Keeps c a × KeepLinks c ls
   KeepLinks c (attribute s ls) = Stands c s × KeepLinks c ls
   KeepLinks c (method name ms ls) = (IsKnown c (method_of name) × HasArity c (method_arity name) ms × KeepMembers c ms) × KeepLinks c ls
 
+  -- Members or arguments keep a side condition where each of them does (own).
   pub KeepMembers : SideCondition → Members → Type 0
   KeepMembers c no_members = Unit {0}
   KeepMembers c (member a ms) = Keeps c a × KeepMembers c ms
 
+  -- The entries of a record keep a side condition where each key and each value does (own).
   pub KeepFields : SideCondition → Fields → Type 0
   KeepFields c no_fields = Unit {0}
   KeepFields c (field key a fs) = (Stands c key × Keeps c a) × KeepFields c fs
 
 -- ---- sizes
 
+-- The size of no tree (own).
 abbrev pub nothing : Size
 nothing = record { nodes = 0; height = 0 }
 
--- two trees beside one another
+-- The size of two trees beside one another: the sum of their nodes and the greater height (own).
 abbrev pub both : Size → Size → Size
 both a b = record { nodes = a.nodes + b.nodes; height = max a.height b.height }
 
--- one node with a tree below it
+-- The size of one node with a tree below it (own).
 abbrev pub above : Size → Size
 above a = record { nodes = suc a.nodes; height = suc a.height }
 
--- one node with nothing below it
+-- The size of one node with nothing below it (own).
 abbrev pub leaf : Size
 leaf = record { nodes = 1; height = 1 }
 
--- one node with two trees below it
+-- The size of one node with two trees below it (own).
 abbrev pub above_both : Size → Size → Size
 above_both a b = record { nodes = suc (a.nodes + b.nodes); height = suc (max a.height b.height) }
 
 abbrev mutual
-  -- how many nodes a tree has, and how many stand on its longest way down
+  -- The size of an expression: how many nodes its tree has, and how many are on its longest way down (own).
   pub size_of : Expression → Size
   size_of (e.literal d) = leaf
   size_of (e.variable x) = leaf
@@ -142,16 +151,20 @@ abbrev mutual
   size_of (e.set_with es) = above (size_of_all es)
   size_of (e.record_with es) = above (size_of_entries es)
 
+  -- The size of the members of a set beside one another (own).
   pub size_of_all : Expressions → Size
   size_of_all e.no_more = nothing
   size_of_all (e.and_then a es) = both (size_of a) (size_of_all es)
 
+  -- The size of the values of a record beside one another (own).
   pub size_of_entries : Entries → Size
   size_of_entries e.no_entries = nothing
   size_of_entries (e.entry key a es) = both (size_of a) (size_of_entries es)
 
+-- The greatest height of a condition (own).
 abbrev pub max_height : ℕ
 max_height = 2000
 
+-- The greatest count of nodes of a condition (own).
 abbrev pub max_nodes : ℕ
 max_nodes = 100000

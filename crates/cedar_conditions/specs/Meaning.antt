@@ -1,4 +1,4 @@
--- The expression that is written (Cedar language reference, grammar, operators).
+-- The expression that is written (Cedar language reference, grammar; operators).
 use Rattle.std.specs.Prelude.{false, ℕ, pos, neg_ℤ, List, [], ◌∷◌, Option, Some, None, codes, if◌then◌else◌}
 use Rattle.std.specs.Str.{bytes_eq}
 use Rattle.cedar_value.specs.Datum as datum
@@ -17,7 +17,7 @@ use Rattle.cedar_tokens.specs.Content.{text_of}
 use Rattle.cedar_tokens.specs.Names.{to_uid}
 use Rattle.cedar_written.specs.Written.{Written, truth, number, negative, text, entity, variable, slot, group, not, negated, relation, has, like, is, is_in, chain, choice, set, record_of, call, Links, no_links, operand, attribute, method, Members, no_members, member, Fields, no_fields, field}
 
--- two operands with this sign between them
+-- The expression of two operands with this sign between them (Cedar language reference, operators).
 abbrev pub linked : ChainSign → Expression → Expression → Expression
 linked chain_sign.Or a b = e.or a b
 linked chain_sign.And a b = e.and a b
@@ -25,7 +25,7 @@ linked chain_sign.Plus a b = e.binary operator.Add a b
 linked chain_sign.Minus a b = e.binary operator.Subtract a b
 linked chain_sign.Times a b = e.binary operator.Multiply a b
 
--- `!=`, `>` and `>=` deny `==`, `<=` and `<`.
+-- The expression of a relation: `!=`, `>` and `>=` deny `==`, `<=` and `<` (Cedar language reference, operators).
 abbrev pub related : RelationSign → Expression → Expression → Expression
 related relation_sign.Less a b = e.binary operator.Less a b
 related relation_sign.LessEqual a b = e.binary operator.LessEqual a b
@@ -35,11 +35,11 @@ related relation_sign.Equal a b = e.binary operator.Equal a b
 related relation_sign.NotEqual a b = e.unary Not (e.binary operator.Equal a b)
 related relation_sign.In a b = e.binary operator.In a b
 
--- the function of this name
+-- The operator of the function of this name (Cedar language reference, functions).
 abbrev pub function_of : List ℕ → Option UnaryOperator
 function_of name = if bytes_eq name (codes "decimal") then Some Decimal else None
 
--- the method of this name
+-- What the method of this name does (Cedar language reference, functions).
 abbrev pub method_of : List ℕ → Option Method
 method_of name =
     if bytes_eq name (codes "contains") then Some (m.Binary operator.Contains)
@@ -51,28 +51,33 @@ method_of name =
     else (if bytes_eq name (codes "greaterThanOrEqual") then Some (m.Binary operator.DecimalGreaterEqual)
     else (if bytes_eq name (codes "isEmpty") then Some m.IsEmpty else None)))))))
 
--- a function of one argument; what has no such function or other arguments is refused
+-- The call of a function of one argument; a call without a function of the name or with other arguments is refused, and this is
+-- not its meaning (Cedar language reference, functions).
 abbrev pub called : Option UnaryOperator → Expressions → Expression
 called (Some op) (e.and_then a e.no_more) = e.unary op a
 called _ _ = e.literal (datum.boolean false)
 
--- a method of one argument, or of none; what has no such method or other arguments is refused
+-- A method of one argument or of none; a method that there is not or that has other arguments is refused, and this is not its
+-- meaning (Cedar language reference, functions).
 abbrev pub applied : Option Method → Expression → Expressions → Expression
 applied (Some (m.Binary op)) left (e.and_then a e.no_more) = e.binary op left a
 applied (Some m.IsEmpty) left e.no_more = e.unary IsEmpty left
 applied _ left _ = left
 
--- What is asked so far, and what the next attribute is asked of: each further one is asked of the one before it.
+-- What was asked so far and then, for each further attribute, whether the place so far has it; the next place is that attribute
+-- (Cedar language reference, operators: has).
 abbrev pub asked_from : (asked place : Expression) → List (List ℕ) → Expression
 asked_from asked place [] = asked
 asked_from asked place (a ∷ more) = asked_from (e.and asked (e.unary (Has a) place)) (e.unary (Get a) place) more
 
--- `x has a.b.c` is `(x has a && x.a has b) && x.a.b has c`.
+-- What `has` asks: `x has a.b.c` is `(x has a && x.a has b) && x.a.b has c` (Cedar language reference, operators: has).
 abbrev pub asked_of : Expression → (first : List ℕ) → (more : List (List ℕ)) → Expression
 asked_of x a more = asked_from (e.unary (Has a) x) (e.unary (Get a) x) more
 
 -- Brackets are gone; chains group to the left; `x is T in e` asks both of x. A slot stands in no accepted expression.
 abbrev mutual
+  -- The expression that is written: brackets are gone, chains group to the left, `x is T in e` asks both of x; a slot is
+  -- refused, so its meaning says nothing (Cedar language reference, operators).
   pub to_expression : Written → Expression
   to_expression (truth b) = e.literal (datum.boolean b)
   to_expression (number n) = e.literal (datum.long (pos n))
@@ -95,17 +100,19 @@ abbrev mutual
   to_expression (record_of fs) = e.record_with (to_entries fs)
   to_expression (call name ms) = called (function_of name) (to_expressions ms)
 
-  -- what stands to the left, and the links behind it
+  -- The expression to the left with each link after it, from left to right (Cedar language reference, operators).
   pub grouped : Expression → Links → Expression
   grouped left no_links = left
   grouped left (operand sign a ls) = grouped (linked sign left (to_expression a)) ls
   grouped left (attribute c ls) = grouped (e.unary (Get (text_of c)) left) ls
   grouped left (method name ms ls) = grouped (applied (method_of name) left (to_expressions ms)) ls
 
+  -- The expressions of members or arguments, in order (Cedar language reference, data types: Set).
   pub to_expressions : Members → Expressions
   to_expressions no_members = e.no_more
   to_expressions (member a ms) = e.and_then (to_expression a) (to_expressions ms)
 
+  -- The keys and the expressions of the entries of a record, in order (Cedar language reference, data types: Record).
   pub to_entries : Fields → Entries
   to_entries no_fields = e.no_entries
   to_entries (field key a fs) = e.entry (text_of key) (to_expression a) (to_entries fs)

@@ -1,4 +1,4 @@
--- What a statement must keep beside the grammar: side conditions, and the limits of its condition.
+-- What a statement must keep beside the grammar: side conditions, and the limits of its condition (own).
 use Rattle.std.specs.Prelude.{◌≡◌, ◌<◌, ◌≤◌, List, [], ◌∷◌, map}
 use Rattle.cedar_policies.specs.Condition.{condition_of}
 use Rattle.cedar_ast.specs.Keys.{AreDistinct}
@@ -22,15 +22,17 @@ use Rattle.cedar_written.specs.StatementTree.{StatementTree}
 use Rattle.cedar_conditions.specs.StatementMeaning.{to_policy}
 use Rattle.cedar_conditions.specs.Limits.{Stands, Keeps, size_of, max_height, max_nodes}
 
--- A slot stands in the scope of its own variable.
+-- A slot is in the scope of its own variable (Cedar language reference, policy templates).
 abbrev pub IsOwn : SideCondition → Variable → Variable → Type 0
 IsOwn Slots x y = x ≡ y
 IsOwn _ x y = Unit {0}
 
+-- What the scope of a variable refers to keeps a side condition (own).
 abbrev pub KeepsReference : SideCondition → Variable → Reference → Type 0
 KeepsReference c x (reference.Entity u) = Stands c u.id
 KeepsReference c x (reference.Slot at y) = IsOwn c x y
 
+-- The scope of the principal or the resource keeps a side condition (own).
 abbrev pub KeepsEntityScope : SideCondition → Variable → WrittenEntityScope → Type 0
 KeepsEntityScope c x written.Any = Unit {0}
 KeepsEntityScope c x (written.Equal q) = KeepsReference c x q
@@ -38,30 +40,34 @@ KeepsEntityScope c x (written.In q) = KeepsReference c x q
 KeepsEntityScope c x (written.Is ty) = Unit {0}
 KeepsEntityScope c x (written.IsIn ty q) = KeepsReference c x q
 
+-- Uids keep a side condition where each of them does (own).
 abbrev pub KeepUids : SideCondition → List WrittenUid → Type 0
 KeepUids c [] = Unit {0}
 KeepUids c (u ∷ us) = Stands c u.id × KeepUids c us
 
+-- The scope of the action keeps a side condition (own).
 abbrev pub KeepsActionScope : SideCondition → WrittenActionScope → Type 0
 KeepsActionScope c written_action.Any = Unit {0}
 KeepsActionScope c (written_action.Equal u) = Stands c u.id
 KeepsActionScope c (written_action.In u) = Stands c u.id
 KeepsActionScope c (written_action.InSet us) = KeepUids c us
 
--- No annotation stands twice.
+-- No two annotations of a statement have the same name (Cedar language reference, annotations).
 abbrev pub HasDistinctNames : SideCondition → List WrittenAnnotation → Type 0
 HasDistinctNames Annotations notes = AreDistinct (map (λ a. a.name) notes)
 HasDistinctNames _ notes = Unit {0}
 
+-- The values of annotations keep a side condition where each of them does (own).
 abbrev pub KeepAnnotations : SideCondition → List WrittenAnnotation → Type 0
 KeepAnnotations c [] = Unit {0}
 KeepAnnotations c (a ∷ notes) = Stands c a.value × KeepAnnotations c notes
 
+-- The conditions of a statement keep a side condition where the expression of each does (own).
 abbrev pub KeepConditions : SideCondition → List WrittenCondition → Type 0
 KeepConditions c [] = Unit {0}
 KeepConditions c (q ∷ qs) = Keeps c q.body × KeepConditions c qs
 
--- what a statement keeps
+-- A statement keeps a side condition where its annotations, its scope and its conditions do (own).
 pub record KeepsStatement (c : SideCondition) (s : StatementTree) : Type 0 where
   pub names : HasDistinctNames c s.annotations
   pub annotations : KeepAnnotations c s.annotations
@@ -70,16 +76,17 @@ pub record KeepsStatement (c : SideCondition) (s : StatementTree) : Type 0 where
   pub resource : KeepsEntityScope c Resource s.scope.resource
   pub conditions : KeepConditions c s.conditions
 
--- the size of the condition of the statement's policy
+-- The size of the condition of the policy that a statement is: of its scope and all of its conditions as one expression (own).
 unfoldable pub condition_size : StatementTree → Size
 condition_size s = size_of (condition_of (to_policy [] s))
 
+-- A statement is within the limits: it keeps each side condition, and its condition is neither too high nor too large (own).
 pub record IsWithinLimits (s : StatementTree) : Type 0 where
   pub keeps : (c : SideCondition) → KeepsStatement c s
   pub low : (condition_size s).height ≤ max_height
   pub small : (condition_size s).nodes ≤ max_nodes
 
--- What a refused statement breaks. Want of memory says nothing of a statement.
+-- A refused statement breaks the side condition or the limit of its refusal; out of memory says nothing of it (own).
 abbrev pub Breaks : StatementTree → ParseFault → Type 0
 Breaks s f.OutOfMemory = Unit {0}
 Breaks s (f.EscapedStar at) = KeepsStatement Strings s → ⊥

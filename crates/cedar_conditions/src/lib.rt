@@ -2,8 +2,11 @@
 //! (Cedar language reference, grammar).
 //!
 //! ```
-//! let written = statement(alloc, &mut cursor)?;
-//! judge(alloc, &written)?;
+//! let source = "permit(principal, action, resource) when { principal.isEmpty(1) };";
+//! let tokens = spelled_tokens(rt.alloc(), source)?;
+//! let mut cursor = tokens.cursor(source.len());
+//! let written = statement(rt.alloc(), &mut cursor)?;
+//! assert!(rt; matches!(judge(rt.alloc(), &written), Err(ParseFault::Arity(_))));
 //! ```
 //!
 //! The expression that is written stands in `specs/Meaning.antt`, the policy or template that a statement is in

@@ -10,7 +10,7 @@ use Rattle.cedar_written.specs.Written.{Written}
 use Rattle.cedar_expressions.specs.Grammar as g
 use Rattle.cedar_tokens.specs.Names.{Rule, Takes, Text, Key, Path, Entity}
 use Rattle.cedar_expressions.specs.Grammar.{Opens, Series, Entry, Primary, Suffixes, Member, Signed, Unary, Operands, Chain, or_sign, and_sign, sum_sign, product_sign, relation_sign_of, Products, Sums, Relation, Ands, Ors, Expression, Nested}
-use Rattle.cedar_tokens.specs.Private.Reading.{same_kind, sees, kind_at, sign_at}
+use Rattle.cedar_tokens.specs.Reading.{same_kind, sees, kind_at, sign_at}
 
 abbrev pub bind : TokenKind → ℕ
 bind k.OrOr = 1

@@ -19,9 +19,9 @@ use Rattle.cedar_written.specs.WrittenKind.{fields_of}
 use Rattle.cedar_expressions.specs.Grammar as g
 use Rattle.cedar_tokens.specs.Names.{Rule, Takes, Text, Path, Entity}
 use Rattle.cedar_expressions.specs.Grammar.{Opens, Series, Arguments, Entry, Further, Asked, variable_of, slot_of, Primary, Suffixes, Member, Signed, Unary, Operands, chained, Chain, or_sign, and_sign, sum_sign, product_sign, relation_sign_of, Products, Sums, Relation, Ands, Ors, Expression, Nested}
-use Rattle.cedar_expressions.specs.Private.Reading as r
-use Rattle.cedar_tokens.specs.Private.Reading.{TooDeep, Outcome, Parser, and_then, same_kind, sees, expect, sign_at, on_some, next}
-use Rattle.cedar_expressions.specs.Private.Reading.{links_from, chain, nested}
+use Rattle.cedar_expressions.specs.Reading as r
+use Rattle.cedar_tokens.specs.Reading.{TooDeep, Outcome, Parser, and_then, same_kind, sees, expect, sign_at, on_some, next}
+use Rattle.cedar_expressions.specs.Reading.{links_from, chain, nested}
 use Rattle.cedar_tokens.proofs.Outcomes.{Answers, given, deep, answers_then, answers_by}
 use Rattle.cedar_expressions.proofs.StepLemmas.{answers_flat}
 use Rattle.cedar_expressions.proofs.Moves as m

@@ -15,9 +15,9 @@ use Rattle.cedar_expressions.specs.Nesting.{opens, closes}
 use Rattle.cedar_expressions.specs.Grammar as g
 use Rattle.cedar_tokens.specs.Names.{Rule, Takes, Text, Key, Path, Entity}
 use Rattle.cedar_expressions.specs.Grammar.{Opens, Series, Arguments, Entry, Further, Asked, variable_of, slot_of, Primary, Suffixes, Member, Signed, Unary, Operands, chained, Chain, or_sign, and_sign, sum_sign, product_sign, relation_sign_of, Products, Sums, Relation, Ands, Ors, Expression, Nested}
-use Rattle.cedar_expressions.specs.Private.Reading as r
-use Rattle.cedar_tokens.specs.Private.Reading.{TooDeep, Outcome, Parser, and_then, sees, expect, sign_at, next}
-use Rattle.cedar_expressions.specs.Private.Reading.{links_from, chain, nested}
+use Rattle.cedar_expressions.specs.Reading as r
+use Rattle.cedar_tokens.specs.Reading.{TooDeep, Outcome, Parser, and_then, sees, expect, sign_at, next}
+use Rattle.cedar_expressions.specs.Reading.{links_from, chain, nested}
 use Rattle.cedar_tokens.proofs.NamesSound.{sees_takes, expect_takes, text_reads, key_reads, path_reads, uid_of_reads}
 use Rattle.cedar_tokens.proofs.Outcomes.{Meets, meets_then, meets_as, if_meets, some_meets}
 use Rattle.cedar_expressions.proofs.StepLemmas.{meets_flat}

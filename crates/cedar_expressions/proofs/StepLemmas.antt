@@ -1,7 +1,7 @@
 -- Steps in a row that stand inside one step, as steps beside it.
 use Rattle.std.proofs.Common.{Ok, Err}
 use Rattle.cedar_tokens.specs.Marks.{Marks}
-use Rattle.cedar_tokens.specs.Private.Reading.{Syntax, TooDeep, Outcome, and_then}
+use Rattle.cedar_tokens.specs.Reading.{Syntax, TooDeep, Outcome, and_then}
 use Rattle.cedar_tokens.proofs.Outcomes.{Meets, Answers}
 
 pub meets_flat : {A B C : Type 0} (S : C → Marks → Type 0) (D : Type 0) (x : Outcome A) (f : A → Marks → Outcome B) (g : B → Marks → Outcome C)

@@ -1,3 +1,4 @@
 pub mod Grammar
 pub mod Nesting
+pub mod Reading
 pub mod Private

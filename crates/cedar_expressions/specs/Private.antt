@@ -1,4 +1,3 @@
--- What proofs and private contracts speak of, and no public clause.
-pub mod Reading
+-- What proofs, models and private contracts speak of: nothing here is cited by a contract of a function that another crate calls.
 pub mod Nests
 pub mod Operands

@@ -1,7 +1,7 @@
 //! What is asked behind `has`, read from tokens.
 ghost use Rattle.std.specs.Prelude.{◌≡◌, ◌++◌, ◌∷◌, [], OnOk};
-ghost use Rattle.cedar_expressions.specs.Private.Reading as spec;
-ghost use Rattle.cedar_tokens.specs.Private.Contract.{Reads, ReadsItems};
+ghost use Rattle.cedar_expressions.specs.Reading as spec;
+ghost use Rattle.cedar_tokens.specs.Contract.{Reads, ReadsItems};
 
 use cedar_text::TokenKind;
 use cedar_tokens::{Content, Cursor, ParseFault, text};
@@ -10,7 +10,7 @@ use cedar_written::AttributePath;
 use std::alloc::{AllocError, Global};
 
 /// What stands behind `has` (Cedar language reference, operators: has).
-#[tactic(auto, unfolding(crate::specs::Private::Reading::attributes))]
+#[tactic(auto, unfolding(crate::specs::Reading::attributes))]
 pub fn attributes(alloc: Global, tokens: &mut Cursor<'_>) -> Result<AttributePath, ParseFault>
     ensures { Reads (spec.attributes tokens.old) result tokens.new }
 {
@@ -25,7 +25,7 @@ pub fn attributes(alloc: Global, tokens: &mut Cursor<'_>) -> Result<AttributePat
 }
 
 // Points, each with the identifier behind it.
-#[tactic(auto, unfolding(crate::specs::Private::Reading::further))]
+#[tactic(auto, unfolding(crate::specs::Reading::further))]
 fn further(alloc: Global, tokens: &mut Cursor<'_>) -> Result<Vec<Text>, ParseFault>
     ensures { ReadsItems (spec.further tokens.old) result tokens.new }
 {

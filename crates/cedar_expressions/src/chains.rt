@@ -2,10 +2,10 @@
 ghost use Rattle.std.specs.Prelude.{◌≡◌, List, IfOk};
 ghost use Rattle.cedar_expressions.specs.Grammar as grammar;
 ghost use Rattle.cedar_written.specs.declared.written.Link.{Link};
-ghost use Rattle.cedar_expressions.specs.Private.Reading as reading;
+ghost use Rattle.cedar_expressions.specs.Reading as reading;
 ghost use Rattle.cedar_tokens.specs.Marks.{Marks};
-ghost use Rattle.cedar_tokens.specs.Private.Reading.{Outcome};
-ghost use Rattle.cedar_tokens.specs.Private.Contract.{Reads, ReadsItems};
+ghost use Rattle.cedar_tokens.specs.Reading.{Outcome};
+ghost use Rattle.cedar_tokens.specs.Contract.{Reads, ReadsItems};
 
 use cedar_tokens::ParseFault;
 use cedar_written::{Link, Written, WrittenKind};

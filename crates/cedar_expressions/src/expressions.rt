@@ -1,7 +1,7 @@
 //! The levels of expressions. What reads an expression in brackets is a parameter, so that each level is proved by itself.
 ghost use Rattle.std.specs.Prelude.{◌≡◌};
-ghost use Rattle.cedar_expressions.specs.Private.Reading as spec;
-ghost use Rattle.cedar_tokens.specs.Private.Contract.{Reads, ReadsItems};
+ghost use Rattle.cedar_expressions.specs.Reading as spec;
+ghost use Rattle.cedar_tokens.specs.Contract.{Reads, ReadsItems};
 ghost use Rattle.cedar_expressions.specs.Private.Nests.{Nests};
 ghost use Rattle.cedar_expressions.specs.Private.Operands.{Operands};
 
@@ -38,7 +38,7 @@ impl<F: Fn(Global, &mut Cursor<'_>, u8) -> Result<Written, ParseFault>> Expressi
     }
 
     // Goes past a token that opens, where one more may be open.
-    #[tactic(auto, unfolding(crate::specs::Private::Reading::open_one))]
+    #[tactic(auto, unfolding(crate::specs::Reading::open_one))]
     fn open_one(&self, tokens: &mut Cursor<'_>) -> Result<(), ParseFault>
         ensures { Reads (spec.open_one self.now.depth tokens.old) result tokens.new }
     {
@@ -90,7 +90,7 @@ impl<F: Fn(Global, &mut Cursor<'_>, u8) -> Result<Written, ParseFault>> Expressi
         Ok(found)
     }
 
-    #[tactic(auto, unfolding(crate::specs::Private::Reading::ors))]
+    #[tactic(auto, unfolding(crate::specs::Reading::ors))]
     fn ors(&self, tokens: &mut Cursor<'_>) -> Result<Written, ParseFault>
         requires { Nests self.now.depth (F.pre self.now.inner) (F.post self.now.inner) }
         ensures { Reads (spec.ors self.now.depth (spec.nested self.now.depth) tokens.old) result tokens.new }
@@ -98,7 +98,7 @@ impl<F: Fn(Global, &mut Cursor<'_>, u8) -> Result<Written, ParseFault>> Expressi
         self.chain(tokens, ChainLevel::Or, Expressions::ands)
     }
 
-    #[tactic(auto, unfolding(crate::specs::Private::Reading::ands))]
+    #[tactic(auto, unfolding(crate::specs::Reading::ands))]
     fn ands(&self, tokens: &mut Cursor<'_>) -> Result<Written, ParseFault>
         requires { Nests self.now.depth (F.pre self.now.inner) (F.post self.now.inner) }
         ensures { Reads (spec.ands self.now.depth (spec.nested self.now.depth) tokens.old) result tokens.new }
@@ -106,7 +106,7 @@ impl<F: Fn(Global, &mut Cursor<'_>, u8) -> Result<Written, ParseFault>> Expressi
         self.chain(tokens, ChainLevel::And, Expressions::relation)
     }
 
-    #[tactic(auto, unfolding(crate::specs::Private::Reading::relation))]
+    #[tactic(auto, unfolding(crate::specs::Reading::relation))]
     fn relation(&self, tokens: &mut Cursor<'_>) -> Result<Written, ParseFault>
         requires { Nests self.now.depth (F.pre self.now.inner) (F.post self.now.inner) }
         ensures { Reads (spec.relation self.now.depth (spec.nested self.now.depth) tokens.old) result tokens.new }
@@ -116,7 +116,7 @@ impl<F: Fn(Global, &mut Cursor<'_>, u8) -> Result<Written, ParseFault>> Expressi
     }
 
     // What stands behind the left operand.
-    #[tactic(auto, unfolding(crate::specs::Private::Reading::relation_from))]
+    #[tactic(auto, unfolding(crate::specs::Reading::relation_from))]
     fn relation_from(&self, tokens: &mut Cursor<'_>, left: Written) -> Result<Written, ParseFault>
         requires { Nests self.now.depth (F.pre self.now.inner) (F.post self.now.inner) }
         ensures { Reads (spec.relation_from self.now.depth (spec.nested self.now.depth) left tokens.old) result tokens.new }
@@ -137,7 +137,7 @@ impl<F: Fn(Global, &mut Cursor<'_>, u8) -> Result<Written, ParseFault>> Expressi
     }
 
     // What stands behind `is`.
-    #[tactic(auto, unfolding(crate::specs::Private::Reading::typed))]
+    #[tactic(auto, unfolding(crate::specs::Reading::typed))]
     fn typed(&self, tokens: &mut Cursor<'_>, left: Written) -> Result<Written, ParseFault>
         requires { Nests self.now.depth (F.pre self.now.inner) (F.post self.now.inner) }
         ensures { Reads (spec.typed self.now.depth (spec.nested self.now.depth) left tokens.old) result tokens.new }
@@ -152,7 +152,7 @@ impl<F: Fn(Global, &mut Cursor<'_>, u8) -> Result<Written, ParseFault>> Expressi
     }
 
     // What stands behind `is` and the type.
-    #[tactic(auto, unfolding(crate::specs::Private::Reading::of_type))]
+    #[tactic(auto, unfolding(crate::specs::Reading::of_type))]
     fn of_type(
         &self,
         tokens: &mut Cursor<'_>,
@@ -177,7 +177,7 @@ impl<F: Fn(Global, &mut Cursor<'_>, u8) -> Result<Written, ParseFault>> Expressi
     }
 
     // A second operand behind its sign, if one comes.
-    #[tactic(auto, unfolding(crate::specs::Private::Reading::related))]
+    #[tactic(auto, unfolding(crate::specs::Reading::related))]
     fn related(&self, tokens: &mut Cursor<'_>, left: Written) -> Result<Written, ParseFault>
         requires { Nests self.now.depth (F.pre self.now.inner) (F.post self.now.inner) }
         ensures { Reads (spec.related self.now.depth (spec.nested self.now.depth) left tokens.old) result tokens.new }
@@ -195,7 +195,7 @@ impl<F: Fn(Global, &mut Cursor<'_>, u8) -> Result<Written, ParseFault>> Expressi
         }
     }
 
-    #[tactic(auto, unfolding(crate::specs::Private::Reading::sums))]
+    #[tactic(auto, unfolding(crate::specs::Reading::sums))]
     fn sums(&self, tokens: &mut Cursor<'_>) -> Result<Written, ParseFault>
         requires { Nests self.now.depth (F.pre self.now.inner) (F.post self.now.inner) }
         ensures { Reads (spec.sums self.now.depth (spec.nested self.now.depth) tokens.old) result tokens.new }
@@ -203,7 +203,7 @@ impl<F: Fn(Global, &mut Cursor<'_>, u8) -> Result<Written, ParseFault>> Expressi
         self.chain(tokens, ChainLevel::Sum, Expressions::products)
     }
 
-    #[tactic(auto, unfolding(crate::specs::Private::Reading::products))]
+    #[tactic(auto, unfolding(crate::specs::Reading::products))]
     fn products(&self, tokens: &mut Cursor<'_>) -> Result<Written, ParseFault>
         requires { Nests self.now.depth (F.pre self.now.inner) (F.post self.now.inner) }
         ensures { Reads (spec.products self.now.depth (spec.nested self.now.depth) tokens.old) result tokens.new }
@@ -211,7 +211,7 @@ impl<F: Fn(Global, &mut Cursor<'_>, u8) -> Result<Written, ParseFault>> Expressi
         self.chain(tokens, ChainLevel::Product, Expressions::unary)
     }
 
-    #[tactic(auto, unfolding(crate::specs::Private::Reading::unary))]
+    #[tactic(auto, unfolding(crate::specs::Reading::unary))]
     fn unary(&self, tokens: &mut Cursor<'_>) -> Result<Written, ParseFault>
         requires { Nests self.now.depth (F.pre self.now.inner) (F.post self.now.inner) }
         ensures { Reads (spec.unary self.now.depth (spec.nested self.now.depth) tokens.old) result tokens.new }
@@ -223,7 +223,7 @@ impl<F: Fn(Global, &mut Cursor<'_>, u8) -> Result<Written, ParseFault>> Expressi
     }
 
     // Up to `most` of `!`, and then a member.
-    #[tactic(auto, unfolding(crate::specs::Private::Reading::nots))]
+    #[tactic(auto, unfolding(crate::specs::Reading::nots))]
     fn nots(&self, tokens: &mut Cursor<'_>, most: u8) -> Result<Written, ParseFault>
         requires { Nests self.now.depth (F.pre self.now.inner) (F.post self.now.inner) }
         ensures { Reads (spec.nots self.now.depth (spec.nested self.now.depth) most tokens.old) result tokens.new }
@@ -240,7 +240,7 @@ impl<F: Fn(Global, &mut Cursor<'_>, u8) -> Result<Written, ParseFault>> Expressi
     }
 
     // Up to `most` of `-`, and then a member.
-    #[tactic(auto, unfolding(crate::specs::Private::Reading::minuses))]
+    #[tactic(auto, unfolding(crate::specs::Reading::minuses))]
     fn minuses(&self, tokens: &mut Cursor<'_>, most: u8) -> Result<Written, ParseFault>
         requires { Nests self.now.depth (F.pre self.now.inner) (F.post self.now.inner) }
         ensures { Reads (spec.minuses self.now.depth (spec.nested self.now.depth) most tokens.old) result tokens.new }
@@ -256,7 +256,7 @@ impl<F: Fn(Global, &mut Cursor<'_>, u8) -> Result<Written, ParseFault>> Expressi
         Ok(minus(self.alloc, operand)?)
     }
 
-    #[tactic(auto, unfolding(crate::specs::Private::Reading::member))]
+    #[tactic(auto, unfolding(crate::specs::Reading::member))]
     fn member(&self, tokens: &mut Cursor<'_>) -> Result<Written, ParseFault>
         requires { Nests self.now.depth (F.pre self.now.inner) (F.post self.now.inner) }
         ensures { Reads (spec.member self.now.depth (spec.nested self.now.depth) tokens.old) result tokens.new }
@@ -281,7 +281,7 @@ impl<F: Fn(Global, &mut Cursor<'_>, u8) -> Result<Written, ParseFault>> Expressi
         Ok(found)
     }
 
-    #[tactic(auto, unfolding(crate::specs::Private::Reading::suffix))]
+    #[tactic(auto, unfolding(crate::specs::Reading::suffix))]
     fn suffix(&self, tokens: &mut Cursor<'_>) -> Result<Link, ParseFault>
         requires { Nests self.now.depth (F.pre self.now.inner) (F.post self.now.inner) }
         ensures { Reads (spec.suffix self.now.depth (spec.nested self.now.depth) tokens.old) result tokens.new }
@@ -294,7 +294,7 @@ impl<F: Fn(Global, &mut Cursor<'_>, u8) -> Result<Written, ParseFault>> Expressi
     }
 
     // What stands behind a dot.
-    #[tactic(auto, unfolding(crate::specs::Private::Reading::dotted))]
+    #[tactic(auto, unfolding(crate::specs::Reading::dotted))]
     fn dotted(&self, tokens: &mut Cursor<'_>) -> Result<Link, ParseFault>
         requires { Nests self.now.depth (F.pre self.now.inner) (F.post self.now.inner) }
         ensures { Reads (spec.dotted self.now.depth (spec.nested self.now.depth) tokens.old) result tokens.new }
@@ -315,7 +315,7 @@ impl<F: Fn(Global, &mut Cursor<'_>, u8) -> Result<Written, ParseFault>> Expressi
     }
 
     // A text in square brackets.
-    #[tactic(auto, unfolding(crate::specs::Private::Reading::indexed))]
+    #[tactic(auto, unfolding(crate::specs::Reading::indexed))]
     fn indexed(&self, tokens: &mut Cursor<'_>) -> Result<Link, ParseFault>
         requires { Nests self.now.depth (F.pre self.now.inner) (F.post self.now.inner) }
         ensures { Reads (spec.indexed self.now.depth tokens.old) result tokens.new }
@@ -331,7 +331,7 @@ impl<F: Fn(Global, &mut Cursor<'_>, u8) -> Result<Written, ParseFault>> Expressi
         }
     }
 
-    #[tactic(auto, unfolding(crate::specs::Private::Reading::primary, cedar_tokens::specs::Private::Reading::first))]
+    #[tactic(auto, unfolding(crate::specs::Reading::primary, cedar_tokens::specs::Reading::first))]
     fn primary(&self, tokens: &mut Cursor<'_>) -> Result<Written, ParseFault>
         requires { Nests self.now.depth (F.pre self.now.inner) (F.post self.now.inner) }
         ensures { Reads (spec.primary self.now.depth (spec.nested self.now.depth) tokens.old) result tokens.new }
@@ -366,7 +366,7 @@ impl<F: Fn(Global, &mut Cursor<'_>, u8) -> Result<Written, ParseFault>> Expressi
     }
 
     // A call, a uid, or a variable.
-    #[tactic(auto, unfolding(crate::specs::Private::Reading::named))]
+    #[tactic(auto, unfolding(crate::specs::Reading::named))]
     fn named(&self, tokens: &mut Cursor<'_>) -> Result<Written, ParseFault>
         requires { Nests self.now.depth (F.pre self.now.inner) (F.post self.now.inner) }
         ensures { Reads (spec.named self.now.depth (spec.nested self.now.depth) tokens.old) result tokens.new }
@@ -378,7 +378,7 @@ impl<F: Fn(Global, &mut Cursor<'_>, u8) -> Result<Written, ParseFault>> Expressi
     }
 
     // A call, or a uid.
-    #[tactic(auto, unfolding(crate::specs::Private::Reading::with_path))]
+    #[tactic(auto, unfolding(crate::specs::Reading::with_path))]
     fn with_path(&self, tokens: &mut Cursor<'_>) -> Result<Written, ParseFault>
         requires { Nests self.now.depth (F.pre self.now.inner) (F.post self.now.inner) }
         ensures { Reads (spec.with_path self.now.depth (spec.nested self.now.depth) tokens.old) result tokens.new }
@@ -394,7 +394,7 @@ impl<F: Fn(Global, &mut Cursor<'_>, u8) -> Result<Written, ParseFault>> Expressi
     }
 
     // The arguments behind a name.
-    #[tactic(auto, unfolding(crate::specs::Private::Reading::called))]
+    #[tactic(auto, unfolding(crate::specs::Reading::called))]
     fn called(&self, tokens: &mut Cursor<'_>) -> Result<Vec<Written>, ParseFault>
         requires { Nests self.now.depth (F.pre self.now.inner) (F.post self.now.inner) }
         ensures { ReadsItems (spec.called self.now.depth (spec.nested self.now.depth) tokens.old) result tokens.new }
@@ -403,7 +403,7 @@ impl<F: Fn(Global, &mut Cursor<'_>, u8) -> Result<Written, ParseFault>> Expressi
         self.arguments(tokens, TokenKind::RightParen)
     }
 
-    #[tactic(auto, unfolding(crate::specs::Private::Reading::group))]
+    #[tactic(auto, unfolding(crate::specs::Reading::group))]
     fn group(&self, tokens: &mut Cursor<'_>) -> Result<Written, ParseFault>
         requires { Nests self.now.depth (F.pre self.now.inner) (F.post self.now.inner) }
         ensures { Reads (spec.group self.now.depth (spec.nested self.now.depth) tokens.old) result tokens.new }
@@ -419,7 +419,7 @@ impl<F: Fn(Global, &mut Cursor<'_>, u8) -> Result<Written, ParseFault>> Expressi
         }
     }
 
-    #[tactic(auto, unfolding(crate::specs::Private::Reading::set))]
+    #[tactic(auto, unfolding(crate::specs::Reading::set))]
     fn set(&self, tokens: &mut Cursor<'_>) -> Result<Written, ParseFault>
         requires { Nests self.now.depth (F.pre self.now.inner) (F.post self.now.inner) }
         ensures { Reads (spec.set self.now.depth (spec.nested self.now.depth) tokens.old) result tokens.new }
@@ -429,7 +429,7 @@ impl<F: Fn(Global, &mut Cursor<'_>, u8) -> Result<Written, ParseFault>> Expressi
         Ok(Written::new(WrittenKind::Set(Series::new(members))))
     }
 
-    #[tactic(auto, unfolding(crate::specs::Private::Reading::record_of))]
+    #[tactic(auto, unfolding(crate::specs::Reading::record_of))]
     fn record_of(&self, tokens: &mut Cursor<'_>) -> Result<Written, ParseFault>
         requires { Nests self.now.depth (F.pre self.now.inner) (F.post self.now.inner) }
         ensures { Reads (spec.record_of self.now.depth (spec.nested self.now.depth) tokens.old) result tokens.new }
@@ -440,7 +440,7 @@ impl<F: Fn(Global, &mut Cursor<'_>, u8) -> Result<Written, ParseFault>> Expressi
     }
 
     // Expressions with commas between them, and the sign that closes them.
-    #[tactic(auto, unfolding(crate::specs::Private::Reading::arguments))]
+    #[tactic(auto, unfolding(crate::specs::Reading::arguments))]
     fn arguments(
         &self,
         tokens: &mut Cursor<'_>,
@@ -477,7 +477,7 @@ impl<F: Fn(Global, &mut Cursor<'_>, u8) -> Result<Written, ParseFault>> Expressi
     }
 
     // Entries with commas between them, and the brace that closes them.
-    #[tactic(auto, unfolding(crate::specs::Private::Reading::arguments))]
+    #[tactic(auto, unfolding(crate::specs::Reading::arguments))]
     fn fields(&self, tokens: &mut Cursor<'_>) -> Result<Vec<Field>, ParseFault>
         requires { Nests self.now.depth (F.pre self.now.inner) (F.post self.now.inner) }
         ensures { ReadsItems (spec.arguments (spec.entry (spec.nested self.now.depth)) TokenKind.RightBrace tokens.old) result tokens.new }
@@ -509,7 +509,7 @@ impl<F: Fn(Global, &mut Cursor<'_>, u8) -> Result<Written, ParseFault>> Expressi
         Ok(found)
     }
 
-    #[tactic(auto, unfolding(crate::specs::Private::Reading::entry))]
+    #[tactic(auto, unfolding(crate::specs::Reading::entry))]
     fn entry(&self, tokens: &mut Cursor<'_>) -> Result<Field, ParseFault>
         requires { Nests self.now.depth (F.pre self.now.inner) (F.post self.now.inner) }
         ensures { Reads (spec.entry (spec.nested self.now.depth) tokens.old) result tokens.new }
@@ -520,7 +520,7 @@ impl<F: Fn(Global, &mut Cursor<'_>, u8) -> Result<Written, ParseFault>> Expressi
         Ok(Field { key, value })
     }
 
-    #[tactic(auto, unfolding(crate::specs::Private::Reading::choice))]
+    #[tactic(auto, unfolding(crate::specs::Reading::choice))]
     fn choice(&self, tokens: &mut Cursor<'_>) -> Result<Written, ParseFault>
         requires { Nests self.now.depth (F.pre self.now.inner) (F.post self.now.inner) }
         ensures { Reads (spec.choice self.now.depth (spec.nested self.now.depth) tokens.old) result tokens.new }
@@ -537,7 +537,7 @@ impl<F: Fn(Global, &mut Cursor<'_>, u8) -> Result<Written, ParseFault>> Expressi
     }
 
     // What stands behind `then`.
-    #[tactic(auto, unfolding(crate::specs::Private::Reading::branches))]
+    #[tactic(auto, unfolding(crate::specs::Reading::branches))]
     fn branches(&self, tokens: &mut Cursor<'_>, condition: Written) -> Result<Written, ParseFault>
         requires { Nests self.now.depth (F.pre self.now.inner) (F.post self.now.inner) }
         ensures { Reads (spec.branches self.now.depth (spec.nested self.now.depth) condition tokens.old) result tokens.new }
@@ -552,7 +552,7 @@ impl<F: Fn(Global, &mut Cursor<'_>, u8) -> Result<Written, ParseFault>> Expressi
     }
 
     // What stands before `else`, which is taken too.
-    #[tactic(auto, unfolding(crate::specs::Private::Reading::before_else))]
+    #[tactic(auto, unfolding(crate::specs::Reading::before_else))]
     fn before_else(&self, tokens: &mut Cursor<'_>) -> Result<Written, ParseFault>
         requires { Nests self.now.depth (F.pre self.now.inner) (F.post self.now.inner) }
         ensures { Reads (spec.before_else self.now.depth (spec.nested self.now.depth) tokens.old) result tokens.new }
@@ -568,7 +568,7 @@ impl<F: Fn(Global, &mut Cursor<'_>, u8) -> Result<Written, ParseFault>> Expressi
     }
 
     // What stands behind `else`.
-    #[tactic(auto, unfolding(crate::specs::Private::Reading::behind_else))]
+    #[tactic(auto, unfolding(crate::specs::Reading::behind_else))]
     fn behind_else(
         &self,
         tokens: &mut Cursor<'_>,
@@ -588,7 +588,7 @@ impl<F: Fn(Global, &mut Cursor<'_>, u8) -> Result<Written, ParseFault>> Expressi
         }
     }
 
-    #[tactic(auto, unfolding(crate::specs::Private::Reading::expression))]
+    #[tactic(auto, unfolding(crate::specs::Reading::expression))]
     fn expression(&self, tokens: &mut Cursor<'_>) -> Result<Written, ParseFault>
         requires { Nests self.now.depth (F.pre self.now.inner) (F.post self.now.inner) }
         ensures { Reads (spec.expression self.now.depth (spec.nested self.now.depth) tokens.old) result tokens.new }
@@ -601,7 +601,7 @@ impl<F: Fn(Global, &mut Cursor<'_>, u8) -> Result<Written, ParseFault>> Expressi
 }
 
 // What stands behind `has`.
-#[tactic(auto, unfolding(crate::specs::Private::Reading::asked))]
+#[tactic(auto, unfolding(crate::specs::Reading::asked))]
 fn asked(alloc: Global, tokens: &mut Cursor<'_>, left: Written) -> Result<Written, ParseFault>
     ensures { Reads (spec.asked left tokens.old) result tokens.new }
 {
@@ -615,7 +615,7 @@ fn asked(alloc: Global, tokens: &mut Cursor<'_>, left: Written) -> Result<Writte
 }
 
 // What stands behind `like`.
-#[tactic(auto, unfolding(crate::specs::Private::Reading::matched))]
+#[tactic(auto, unfolding(crate::specs::Reading::matched))]
 fn matched(alloc: Global, tokens: &mut Cursor<'_>, left: Written) -> Result<Written, ParseFault>
     ensures { Reads (spec.matched left tokens.old) result tokens.new }
 {
@@ -629,7 +629,7 @@ fn matched(alloc: Global, tokens: &mut Cursor<'_>, left: Written) -> Result<Writ
 }
 
 // A pattern.
-#[tactic(auto, unfolding(crate::specs::Private::Reading::pattern))]
+#[tactic(auto, unfolding(crate::specs::Reading::pattern))]
 fn pattern(alloc: Global, tokens: &mut Cursor<'_>) -> Result<Pattern, ParseFault>
     ensures { Reads (spec.pattern tokens.old) result tokens.new }
 {
@@ -652,7 +652,7 @@ fn begins_path(tokens: &Cursor<'_>) -> bool
 }
 
 // A word that names a part of the request. Another word may begin a path, so the fault stands behind it.
-#[tactic(auto, unfolding(crate::specs::Private::Reading::variable))]
+#[tactic(auto, unfolding(crate::specs::Reading::variable))]
 fn variable(tokens: &mut Cursor<'_>) -> Result<Written, ParseFault>
     ensures { Reads (spec.variable tokens.old) result tokens.new }
 {
@@ -664,7 +664,7 @@ fn variable(tokens: &mut Cursor<'_>) -> Result<Written, ParseFault>
 }
 
 // `?principal` or `?resource`
-#[tactic(auto, unfolding(crate::specs::Private::Reading::slot))]
+#[tactic(auto, unfolding(crate::specs::Reading::slot))]
 fn slot(tokens: &mut Cursor<'_>) -> Result<Written, ParseFault>
     ensures { Reads (spec.slot tokens.old) result tokens.new }
 {

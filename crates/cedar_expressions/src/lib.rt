@@ -1,14 +1,15 @@
 //! The grammar of expressions of the Cedar policy language, and their reading from tokens (Cedar language reference, grammar).
 //!
 //! ```
-//! let tokens = spelled_tokens(alloc, source)?;
+//! let source = "1 + 2";
+//! let tokens = spelled_tokens(rt.alloc(), source)?;
 //! let mut cursor = tokens.cursor(source.len());
-//! let written = nested(alloc, &mut cursor, 101)?;
-//! assert!(matches!(written.kind(), WrittenKind::Chain(_, _)));
+//! let written = nested(rt.alloc(), &mut cursor, 101)?;
+//! assert!(rt; matches!(written.kind(), WrittenKind::Chain(_, _)));
 //! ```
 //!
-//! The grammar stands in `specs/Grammar.antt`, level by level. The tree as written is that of cedar_written; statements are read
-//! in cedar_grammar.
+//! The grammar is defined in `specs/Grammar.antt`, level by level, and what a reading gives in `specs/Reading.antt`. The tree as
+//! written is that of cedar_written; statements are read in cedar_grammar.
 #![tactic(auto)]
 
 mod attributes;

@@ -1,7 +1,7 @@
 //! Which tokens are signs, and which words are variables.
 ghost use Rattle.std.specs.Prelude.{◌≡◌, option_and_then};
 ghost use Rattle.cedar_expressions.specs.Grammar as grammar;
-ghost use Rattle.cedar_expressions.specs.Private.Reading as reading;
+ghost use Rattle.cedar_expressions.specs.Reading as reading;
 
 use crate::chain_level::ChainLevel;
 use cedar_ast::Variable;

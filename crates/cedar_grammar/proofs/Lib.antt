@@ -3,3 +3,4 @@ pub mod StatementsSound
 pub mod StatementsComplete
 pub mod StatementClauses
 pub mod EarlierReadings
+pub mod EarlierPaths

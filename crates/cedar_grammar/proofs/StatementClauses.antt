@@ -4,13 +4,13 @@ use Rattle.std.specs.Prelude.{IfOk, IfErr}
 use Rattle.cedar_tokens.specs.Marks.{Marks}
 use Rattle.cedar_tokens.specs.declared.parse_fault.ParseFault.{ParseFault}
 use Rattle.cedar_tokens.specs.declared.parse_fault.ParseFault.TheVariants as f
-use Rattle.cedar_tokens.specs.Private.Contract.{Reads, Refuses}
-use Rattle.cedar_tokens.specs.Private.Reading.{TooDeep}
+use Rattle.cedar_tokens.specs.Contract.{Reads, Refuses}
+use Rattle.cedar_tokens.specs.Reading.{TooDeep}
 use Rattle.cedar_tokens.proofs.Outcomes.{Meets}
 use Rattle.cedar_written.specs.StatementTree.{StatementTree}
 use Rattle.cedar_grammar.specs.Statements.{Statement}
 use Rattle.cedar_grammar.specs.StatementText.{IsStatement, HasStatement, HasStatementFault}
-use Rattle.cedar_grammar.specs.Private.StatementReading as r
+use Rattle.cedar_grammar.specs.StatementReading as r
 use Rattle.cedar_expressions.proofs.Moves.{IsOver, over_deep}
 use Rattle.cedar_grammar.proofs.StatementsSound.{statement_is, statement_reads}
 use Rattle.cedar_grammar.proofs.StatementsComplete.{statement_same, statement_none, statement_too_deep}

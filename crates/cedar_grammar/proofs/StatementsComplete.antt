@@ -29,9 +29,9 @@ use Rattle.cedar_grammar.specs.Statements as g
 use Rattle.cedar_tokens.specs.Names.{is_word_kind}
 use Rattle.cedar_grammar.specs.Statements.{Annotation, Annotations, Word, References, EntityScopes, ActionScopes, Scopes, Block, Conditions, Statement, effect_of, condition_kind_of}
 use Rattle.cedar_tokens.specs.Marks.{start_of}
-use Rattle.cedar_tokens.specs.Private.Reading.{Syntax, TooDeep, Outcome, and_then, on_some, same_kind, sees, next, first, expect, entity}
-use Rattle.cedar_expressions.specs.Private.Reading.{arguments, nested}
-use Rattle.cedar_grammar.specs.Private.StatementReading as r
+use Rattle.cedar_tokens.specs.Reading.{Syntax, TooDeep, Outcome, and_then, on_some, same_kind, sees, next, first, expect, entity}
+use Rattle.cedar_expressions.specs.Reading.{arguments, nested}
+use Rattle.cedar_grammar.specs.StatementReading as r
 use Rattle.cedar_tokens.proofs.Outcomes.{Answers, given, deep, answers_then, answers_by}
 use Rattle.cedar_expressions.proofs.StepLemmas.{answers_flat}
 use Rattle.cedar_expressions.proofs.Moves.{shorter, takes_moves, entity_moves}

@@ -18,14 +18,14 @@ use Rattle.cedar_written.specs.StatementTree.{StatementTree}
 use Rattle.cedar_expressions.specs.Grammar as h
 use Rattle.cedar_tokens.specs.Names.{Takes, Text, Path, Entity}
 use Rattle.cedar_expressions.specs.Grammar.{Series, Arguments, slot_of, Nested}
-use Rattle.cedar_expressions.specs.Private.Reading as q
+use Rattle.cedar_expressions.specs.Reading as q
 use Rattle.cedar_grammar.specs.Statements as g
 use Rattle.cedar_tokens.specs.Names.{is_word_kind}
 use Rattle.cedar_grammar.specs.Statements.{Annotation, Annotations, Word, References, EntityScopes, ActionScopes, Scopes, Block, Conditions, Statement, effect_of, condition_kind_of}
 use Rattle.cedar_tokens.specs.Marks.{start_of}
-use Rattle.cedar_tokens.specs.Private.Reading.{Syntax, on_some, same_kind, sees, next, first, expect, text, path, entity}
-use Rattle.cedar_expressions.specs.Private.Reading.{arguments, nested}
-use Rattle.cedar_grammar.specs.Private.StatementReading as r
+use Rattle.cedar_tokens.specs.Reading.{Syntax, on_some, same_kind, sees, next, first, expect, text, path, entity}
+use Rattle.cedar_expressions.specs.Reading.{arguments, nested}
+use Rattle.cedar_grammar.specs.StatementReading as r
 use Rattle.cedar_tokens.proofs.Outcomes.{Meets, meets_then, meets_as, if_meets, some_meets}
 use Rattle.cedar_expressions.proofs.StepLemmas.{meets_flat}
 use Rattle.cedar_expressions.proofs.Moves.{level_then, IsOver, over_after, takes_moves}

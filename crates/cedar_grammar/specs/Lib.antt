@@ -1,4 +1,4 @@
 pub mod Statements
 pub mod Earlier
 pub mod StatementText
-pub mod Private
+pub mod StatementReading

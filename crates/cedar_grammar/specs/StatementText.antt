@@ -1,4 +1,4 @@
--- What reading a statement answers (Cedar language reference, grammar; policies).
+-- What a statement is, and why tokens begin with none (Cedar language reference, grammar: Policy).
 use Rattle.std.specs.Prelude.{◌≡◌, ℕ, suc, Result, Ok, Err}
 use Rattle.cedar_tokens.specs.Marks.{Marks}
 use Rattle.cedar_tokens.specs.declared.parse_fault.ParseFault.{ParseFault}
@@ -7,22 +7,23 @@ use Rattle.cedar_expressions.specs.Nesting.{IsDeep}
 use Rattle.cedar_written.specs.StatementTree.{StatementTree}
 use Rattle.cedar_grammar.specs.Statements.{Statement}
 
--- how many brackets and `if`s may be open at one place inside a condition
+-- How many brackets and `if`s may be open at one place inside a condition (own).
 abbrev pub max_open : ℕ
 max_open = 100
 
--- The tokens from ts up to us are this statement, which nests no deeper than that.
+-- The tokens from ts up to us are this statement, which nests no deeper than the limit (Cedar language reference, grammar:
+-- Policy; own in the limit).
 abbrev pub IsStatement : Marks → StatementTree → Marks → Type 0
 IsStatement ts s us = Statement (suc max_open) ts s us
 
--- the answer is this statement and what is left are these tokens, or memory ran out
+-- The answer is this statement and these tokens are left, or memory ran out (own).
 abbrev pub HasStatement : StatementTree → Marks → Result StatementTree ParseFault → Marks → Type 0
 HasStatement s us (Ok found) left = (found ≡ s) × (left ≡ us)
 HasStatement s us (Err f.OutOfMemory) left = Unit {0}
 HasStatement s us (Err _) left = ⊥
 
--- What a refusal says of the tokens from ts on: they begin with no statement, or more brackets open than may. Want of memory says
--- nothing of them.
+-- The tokens are refused since they begin with no statement, or since more brackets open than may; out of memory says nothing
+-- of them (own).
 abbrev pub HasStatementFault : Marks → ParseFault → Type 0
 HasStatementFault ts f.OutOfMemory = Unit {0}
 HasStatementFault ts (f.Syntax at) = (d : ℕ) (s : StatementTree) (us : Marks) → Statement d ts s us → ⊥

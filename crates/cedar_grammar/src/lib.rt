@@ -1,14 +1,15 @@
 //! The grammar of Cedar policies: statements as they are written, read from tokens (Cedar language reference, grammar).
 //!
 //! ```
-//! let tokens = spelled_tokens(alloc, source)?;
+//! let source = "permit(principal, action, resource);";
+//! let tokens = spelled_tokens(rt.alloc(), source)?;
 //! let mut cursor = tokens.cursor(source.len());
-//! let written = statement(alloc, &mut cursor)?;
-//! assert_eq!(written.effect, Effect::Permit);
+//! let written = statement(rt.alloc(), &mut cursor)?;
+//! assert_eq!(rt; written.effect, Effect::Permit);
 //! ```
 //!
-//! The grammar of statements stands in `specs/Statements.antt`, that of expressions in cedar_expressions, the tree as written in
-//! cedar_written.
+//! The grammar of statements is defined in `specs/Statements.antt`, that of expressions in cedar_expressions, the tree as written
+//! in cedar_written.
 #![tactic(auto)]
 
 mod scopes;

@@ -1,9 +1,9 @@
 //! Scopes, read from tokens.
 ghost use Rattle.std.specs.Prelude.{◌≡◌, ◌++◌, ◌∷◌, [], OnOk};
 ghost use Rattle.cedar_text.specs.declared.token_kind.TokenKind.TheVariants as kind;
-ghost use Rattle.cedar_expressions.specs.Private.Reading as reading;
-ghost use Rattle.cedar_grammar.specs.Private.StatementReading as spec;
-ghost use Rattle.cedar_tokens.specs.Private.Contract.{Reads, ReadsItems};
+ghost use Rattle.cedar_expressions.specs.Reading as reading;
+ghost use Rattle.cedar_grammar.specs.StatementReading as spec;
+ghost use Rattle.cedar_tokens.specs.Contract.{Reads, ReadsItems};
 
 use cedar_expressions::slot_of;
 use cedar_text::TokenKind;
@@ -12,7 +12,7 @@ use cedar_written::{Reference, WrittenActionScope, WrittenEntityScope, WrittenSc
 use std::alloc::{AllocError, Global};
 
 /// What stands between the round brackets of a statement, with them (Cedar language reference, grammar: scope).
-#[tactic(auto, unfolding(crate::specs::Private::StatementReading::scope))]
+#[tactic(auto, unfolding(crate::specs::StatementReading::scope))]
 pub fn scope(alloc: Global, tokens: &mut Cursor<'_>) -> Result<WrittenScope, ParseFault>
     ensures { Reads (spec.scope tokens.old) result tokens.new }
 {
@@ -28,7 +28,7 @@ pub fn scope(alloc: Global, tokens: &mut Cursor<'_>) -> Result<WrittenScope, Par
 }
 
 // The scope from the action on.
-#[tactic(auto, unfolding(crate::specs::Private::StatementReading::behind_principal))]
+#[tactic(auto, unfolding(crate::specs::StatementReading::behind_principal))]
 fn behind_principal(
     alloc: Global,
     tokens: &mut Cursor<'_>,
@@ -46,7 +46,7 @@ fn behind_principal(
 }
 
 // The scope from behind the action on.
-#[tactic(auto, unfolding(crate::specs::Private::StatementReading::behind_action))]
+#[tactic(auto, unfolding(crate::specs::StatementReading::behind_action))]
 fn behind_action(
     alloc: Global,
     tokens: &mut Cursor<'_>,
@@ -70,7 +70,7 @@ fn behind_action(
 }
 
 // The resource behind its comma, with the bracket that closes the scope.
-#[tactic(auto, unfolding(crate::specs::Private::StatementReading::resource))]
+#[tactic(auto, unfolding(crate::specs::StatementReading::resource))]
 fn resource(alloc: Global, tokens: &mut Cursor<'_>) -> Result<WrittenEntityScope, ParseFault>
     ensures { Reads (spec.resource tokens.old) result tokens.new }
 {
@@ -85,7 +85,7 @@ fn resource(alloc: Global, tokens: &mut Cursor<'_>) -> Result<WrittenEntityScope
     }
 }
 
-#[tactic(auto, unfolding(crate::specs::Private::StatementReading::principal_or_resource))]
+#[tactic(auto, unfolding(crate::specs::StatementReading::principal_or_resource))]
 fn principal_or_resource(
     alloc: Global,
     tokens: &mut Cursor<'_>,
@@ -98,7 +98,7 @@ fn principal_or_resource(
 }
 
 // What stands behind the variable.
-#[tactic(auto, unfolding(crate::specs::Private::StatementReading::asked))]
+#[tactic(auto, unfolding(crate::specs::StatementReading::asked))]
 fn asked(alloc: Global, tokens: &mut Cursor<'_>) -> Result<WrittenEntityScope, ParseFault>
     ensures { Reads (spec.asked tokens.old) result tokens.new }
 {
@@ -120,7 +120,7 @@ fn asked(alloc: Global, tokens: &mut Cursor<'_>) -> Result<WrittenEntityScope, P
 }
 
 // What stands behind `is`.
-#[tactic(auto, unfolding(crate::specs::Private::StatementReading::typed))]
+#[tactic(auto, unfolding(crate::specs::StatementReading::typed))]
 fn typed(alloc: Global, tokens: &mut Cursor<'_>) -> Result<WrittenEntityScope, ParseFault>
     ensures { Reads (spec.typed tokens.old) result tokens.new }
 {
@@ -135,7 +135,7 @@ fn typed(alloc: Global, tokens: &mut Cursor<'_>) -> Result<WrittenEntityScope, P
 }
 
 // An entity, or a slot.
-#[tactic(auto, unfolding(crate::specs::Private::StatementReading::referred))]
+#[tactic(auto, unfolding(crate::specs::StatementReading::referred))]
 fn referred(alloc: Global, tokens: &mut Cursor<'_>) -> Result<Reference, ParseFault>
     ensures { Reads (spec.referred tokens.old) result tokens.new }
 {
@@ -146,7 +146,7 @@ fn referred(alloc: Global, tokens: &mut Cursor<'_>) -> Result<Reference, ParseFa
     Ok(Reference::Entity(uid))
 }
 
-#[tactic(auto, unfolding(crate::specs::Private::StatementReading::slot))]
+#[tactic(auto, unfolding(crate::specs::StatementReading::slot))]
 fn slot(tokens: &mut Cursor<'_>) -> Result<Reference, ParseFault>
     ensures { Reads (spec.slot tokens.old) result tokens.new }
 {
@@ -157,7 +157,7 @@ fn slot(tokens: &mut Cursor<'_>) -> Result<Reference, ParseFault>
     Ok(Reference::Slot(token.start(), variable))
 }
 
-#[tactic(auto, unfolding(crate::specs::Private::StatementReading::action))]
+#[tactic(auto, unfolding(crate::specs::StatementReading::action))]
 fn action(alloc: Global, tokens: &mut Cursor<'_>) -> Result<WrittenActionScope, ParseFault>
     ensures { Reads (spec.action tokens.old) result tokens.new }
 {
@@ -175,7 +175,7 @@ fn action(alloc: Global, tokens: &mut Cursor<'_>) -> Result<WrittenActionScope, 
 }
 
 // An entity, or several in square brackets.
-#[tactic(auto, unfolding(crate::specs::Private::StatementReading::entities))]
+#[tactic(auto, unfolding(crate::specs::StatementReading::entities))]
 fn entities(alloc: Global, tokens: &mut Cursor<'_>) -> Result<WrittenActionScope, ParseFault>
     ensures { Reads (spec.entities tokens.old) result tokens.new }
 {
@@ -189,7 +189,7 @@ fn entities(alloc: Global, tokens: &mut Cursor<'_>) -> Result<WrittenActionScope
 }
 
 // Entities with commas between them, and the bracket that closes them.
-#[tactic(auto, unfolding(cedar_expressions::specs::Private::Reading::arguments))]
+#[tactic(auto, unfolding(cedar_expressions::specs::Reading::arguments))]
 fn list(alloc: Global, tokens: &mut Cursor<'_>) -> Result<Vec<WrittenUid>, ParseFault>
     ensures { ReadsItems (reading.arguments reading.entity kind.RightBracket tokens.old) result tokens.new }
 {
@@ -228,7 +228,7 @@ fn push(uids: &mut Vec<WrittenUid>, uid: WrittenUid) -> Result<(), AllocError>
 }
 
 // This word.
-#[tactic(auto, unfolding(crate::specs::Private::StatementReading::word))]
+#[tactic(auto, unfolding(crate::specs::StatementReading::word))]
 fn word(tokens: &mut Cursor<'_>, name: &str) -> Result<(), ParseFault>
     ensures { Reads (spec.word name.now tokens.old) result tokens.new }
 {

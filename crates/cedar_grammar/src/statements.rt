@@ -4,8 +4,8 @@ ghost use Rattle.cedar_grammar.specs.Statements as grammar;
 ghost use Rattle.cedar_written.specs.StatementTree.{StatementTree};
 ghost use Rattle.cedar_grammar.specs.StatementText.{IsStatement, HasStatement, HasStatementFault};
 ghost use Rattle.cedar_tokens.specs.Marks.{Marks};
-ghost use Rattle.cedar_grammar.specs.Private.StatementReading as spec;
-ghost use Rattle.cedar_tokens.specs.Private.Contract.{Reads, ReadsItems};
+ghost use Rattle.cedar_grammar.specs.StatementReading as spec;
+ghost use Rattle.cedar_tokens.specs.Contract.{Reads, ReadsItems};
 
 use crate::scopes::scope;
 use cedar_expressions::nested;
@@ -35,7 +35,7 @@ pub fn statement(alloc: Global, tokens: &mut Cursor<'_>) -> Result<WrittenStatem
     read_statement(alloc, tokens)
 }
 
-#[tactic(auto, unfolding(crate::specs::Private::StatementReading::statement))]
+#[tactic(auto, unfolding(crate::specs::StatementReading::statement))]
 fn read_statement(alloc: Global, tokens: &mut Cursor<'_>) -> Result<WrittenStatement, ParseFault>
     ensures { Reads (spec.statement 101 tokens.old) result tokens.new }
 {
@@ -49,7 +49,7 @@ fn read_statement(alloc: Global, tokens: &mut Cursor<'_>) -> Result<WrittenState
 }
 
 // The statement from the scope on.
-#[tactic(auto, unfolding(crate::specs::Private::StatementReading::behind_effect))]
+#[tactic(auto, unfolding(crate::specs::StatementReading::behind_effect))]
 fn behind_effect(
     alloc: Global,
     tokens: &mut Cursor<'_>,
@@ -76,7 +76,7 @@ fn behind_effect(
 }
 
 // The conditions, and the sign that ends the statement.
-#[tactic(auto, unfolding(crate::specs::Private::StatementReading::ending))]
+#[tactic(auto, unfolding(crate::specs::StatementReading::ending))]
 fn ending(alloc: Global, tokens: &mut Cursor<'_>) -> Result<Vec<WrittenCondition>, ParseFault>
     ensures { ReadsItems (spec.ending 101 tokens.old) result tokens.new }
 {
@@ -85,7 +85,7 @@ fn ending(alloc: Global, tokens: &mut Cursor<'_>) -> Result<Vec<WrittenCondition
     Ok(conditions)
 }
 
-#[tactic(auto, unfolding(crate::specs::Private::StatementReading::annotations))]
+#[tactic(auto, unfolding(crate::specs::StatementReading::annotations))]
 fn annotations(alloc: Global, tokens: &mut Cursor<'_>) -> Result<Vec<WrittenAnnotation>, ParseFault>
     ensures { ReadsItems (spec.annotations tokens.old) result tokens.new }
 {
@@ -100,7 +100,7 @@ fn annotations(alloc: Global, tokens: &mut Cursor<'_>) -> Result<Vec<WrittenAnno
     Ok(found)
 }
 
-#[tactic(auto, unfolding(crate::specs::Private::StatementReading::annotation))]
+#[tactic(auto, unfolding(crate::specs::StatementReading::annotation))]
 fn annotation(alloc: Global, tokens: &mut Cursor<'_>) -> Result<WrittenAnnotation, ParseFault>
     ensures { Reads (spec.annotation tokens.old) result tokens.new }
 {
@@ -134,7 +134,7 @@ fn effect_of(word: &str) -> Option<Effect>
     }
 }
 
-#[tactic(auto, unfolding(crate::specs::Private::StatementReading::conditions))]
+#[tactic(auto, unfolding(crate::specs::StatementReading::conditions))]
 fn conditions(alloc: Global, tokens: &mut Cursor<'_>) -> Result<Vec<WrittenCondition>, ParseFault>
     ensures { ReadsItems (spec.conditions 101 tokens.old) result tokens.new }
 {
@@ -151,7 +151,7 @@ fn conditions(alloc: Global, tokens: &mut Cursor<'_>) -> Result<Vec<WrittenCondi
 }
 
 // The kind of the condition that begins here.
-#[tactic(auto, unfolding(crate::specs::Private::StatementReading::condition_at))]
+#[tactic(auto, unfolding(crate::specs::StatementReading::condition_at))]
 fn condition_kind(tokens: &Cursor<'_>) -> Option<ConditionKind>
     ensures { result ≡ spec.condition_at tokens.now }
 {
@@ -185,7 +185,7 @@ fn push(
 }
 
 // An expression in braces.
-#[tactic(auto, unfolding(crate::specs::Private::StatementReading::block))]
+#[tactic(auto, unfolding(crate::specs::StatementReading::block))]
 fn block(alloc: Global, tokens: &mut Cursor<'_>) -> Result<Written, ParseFault>
     ensures { Reads (spec.block 101 tokens.old) result tokens.new }
 {

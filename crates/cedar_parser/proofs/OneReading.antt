@@ -4,11 +4,11 @@ use Rattle.cedar_policies.specs.PolicySetTree.{PolicySetTree, no_policies}
 use Rattle.cedar_text.specs.Lexeme.{Lexemes}
 use Rattle.cedar_text.specs.Tokens.{AreTokens}
 use Rattle.cedar_tokens.specs.Marks.{Marks, IsMarked}
-use Rattle.cedar_tokens.specs.Private.Reading.{Syntax, TooDeep, Outcome}
+use Rattle.cedar_tokens.specs.Reading.{Syntax, TooDeep, Outcome}
 use Rattle.cedar_tokens.proofs.MarkLemmas.{OneSpelling, all_same}
 use Rattle.cedar_grammar.specs.Statements.{Statement, Statements, end, next}
 use Rattle.cedar_written.specs.StatementTree.{StatementTree}
-use Rattle.cedar_grammar.specs.Private.StatementReading as r
+use Rattle.cedar_grammar.specs.StatementReading as r
 use Rattle.cedar_expressions.proofs.Moves.{shorter}
 use Rattle.cedar_grammar.proofs.StatementMoves.{statement_moves}
 use Rattle.cedar_grammar.proofs.StatementsComplete.{statement_same, statement_none, statement_too_deep}

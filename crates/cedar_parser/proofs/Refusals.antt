@@ -18,9 +18,9 @@ use Rattle.cedar_tokens.specs.Content.{Content, text_of}
 use Rattle.cedar_written.specs.declared.written_statement.WrittenAnnotation.{WrittenAnnotation}
 use Rattle.cedar_conditions.specs.StatementLimits.{KeepAnnotations, IsWithinLimits, Breaks}
 use Rattle.cedar_parser.specs.PolicyText.{ArePolicies, BreaksLimit, TokensFault, Answers}
-use Rattle.cedar_tokens.specs.Private.Reading.{Syntax, TooDeep}
-use Rattle.cedar_grammar.specs.Private.StatementReading as st
-use Rattle.cedar_tokens.specs.Private.Contract.{Refuses}
+use Rattle.cedar_tokens.specs.Reading.{Syntax, TooDeep}
+use Rattle.cedar_grammar.specs.StatementReading as st
+use Rattle.cedar_tokens.specs.Contract.{Refuses}
 use Rattle.cedar_parser.specs.Private.Entering.{RefusesEntry, RefusesAdd, RefusesWhere, refusal_for}
 use Rattle.cedar_tokens.proofs.Outcomes.{Meets}
 use Rattle.cedar_expressions.proofs.Moves.{shorter, IsOver, over_after, over_deep}

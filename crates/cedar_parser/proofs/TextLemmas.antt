@@ -21,7 +21,7 @@ use Rattle.cedar_grammar.specs.Statements.{Statement, Statements, end, next}
 use Rattle.cedar_written.specs.StatementTree.{StatementTree}
 use Rattle.cedar_conditions.specs.StatementMeaning.{has_slot, to_policy, to_template, statement_of, id_at, entered_from, ids_from}
 use Rattle.cedar_conditions.specs.StatementLimits.{IsWithinLimits}
-use Rattle.cedar_grammar.specs.Private.StatementReading as r
+use Rattle.cedar_grammar.specs.StatementReading as r
 use Rattle.cedar_tokens.proofs.MarkLemmas.{none_left}
 use Rattle.cedar_grammar.proofs.StatementsSound.{statement_is}
 use Rattle.cedar_grammar.proofs.StatementsComplete.{statement_same}

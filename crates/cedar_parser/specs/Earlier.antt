@@ -1,31 +1,27 @@
--- What a policy text was before `has` could have a path of attributes and before there was the method `isEmpty` (Cedar language reference, grammar).
-use Rattle.std.specs.Prelude.{◌≡◌, ℕ, suc, List, [], Option, Some, None, All, codes, IsSome, if◌then◌else◌}
+-- What a policy text was before `has` could have a path of attributes and before there was the method `isEmpty`. The side
+-- conditions on strings, numbers, keys, slots and annotations are those of today, which speak of neither (Cedar language
+-- reference, grammar).
+use Rattle.std.specs.Prelude.{◌≡◌, ℕ, suc, ◌≤◌, List, [], All, codes, IsSome, IsTrue}
 use Rattle.std.specs.Str.{bytes_eq}
-use Rattle.cedar_ast.specs.declared.operator.BinaryOperator.{BinaryOperator}
-use Rattle.cedar_ast.specs.declared.operator.BinaryOperator.TheVariants as operator
 use Rattle.cedar_ast.specs.Keys.{AreDistinct}
+use Rattle.cedar_policies.specs.Condition.{condition_of}
 use Rattle.cedar_policies.specs.PolicySetTree.{PolicySetTree, no_policies}
 use Rattle.cedar_tokens.specs.Marks.{Marks, IsMarked}
 use Rattle.cedar_written.specs.Written.{Written, group, not, negated, relation, has, like, is, is_in, chain, choice, set, record_of, call, Links, no_links, operand, attribute, method, Members, no_members, member, Fields, no_fields, field}
 use Rattle.cedar_written.specs.StatementTree.{StatementTree}
 use Rattle.cedar_grammar.specs.StatementText.{max_open}
 use Rattle.cedar_grammar.specs.Earlier.{EarlierStatements}
-use Rattle.cedar_conditions.specs.StatementMeaning.{entered_from, ids_from}
-use Rattle.cedar_conditions.specs.StatementLimits.{IsWithinLimits}
+use Rattle.cedar_conditions.specs.declared.side_condition.SideCondition.{SideCondition}
+use Rattle.cedar_conditions.specs.declared.side_condition.SideCondition.TheVariants.{Names, Counts}
+use Rattle.cedar_conditions.specs.declared.size.Size.{Size}
+use Rattle.cedar_conditions.specs.StatementMeaning.{ids_from}
+use Rattle.cedar_conditions.specs.StatementLimits.{KeepsStatement}
+use Rattle.cedar_conditions.specs.Limits.{count_of, size_of, max_height, max_nodes}
+use Rattle.cedar_parser.specs.EarlierMeaning.{earlier_method_of, earlier_policy, earlier_entered}
 
--- the methods that there were (Cedar language reference, operators and functions)
-abbrev pub earlier_method_of : List ℕ → Option BinaryOperator
-earlier_method_of name =
-    if bytes_eq name (codes "contains") then Some operator.Contains
-    else (if bytes_eq name (codes "containsAll") then Some operator.ContainsAll
-    else (if bytes_eq name (codes "containsAny") then Some operator.ContainsAny
-    else (if bytes_eq name (codes "lessThan") then Some operator.DecimalLess
-    else (if bytes_eq name (codes "lessThanOrEqual") then Some operator.DecimalLessEqual
-    else (if bytes_eq name (codes "greaterThan") then Some operator.DecimalGreater
-    else (if bytes_eq name (codes "greaterThanOrEqual") then Some operator.DecimalGreaterEqual else None))))))
-
--- Each method in an expression is one of them; one with another name was refused (own).
 abbrev mutual
+  -- Each function in an expression is `decimal`, each method is one of those that there were, and each of them has one argument
+  -- (Cedar language reference, functions).
   pub UsesEarlier : Written → Type 0
   UsesEarlier (group a) = UsesEarlier a
   UsesEarlier (not a) = UsesEarlier a
@@ -39,35 +35,51 @@ abbrev mutual
   UsesEarlier (choice c a b) = UsesEarlier c × UsesEarlier a × UsesEarlier b
   UsesEarlier (set ms) = MembersUseEarlier ms
   UsesEarlier (record_of fs) = FieldsUseEarlier fs
-  UsesEarlier (call name ms) = MembersUseEarlier ms
+  UsesEarlier (call name ms) = IsTrue (bytes_eq name (codes "decimal")) × (count_of ms ≡ 1) × MembersUseEarlier ms
   UsesEarlier _ = Unit {0}
 
+  -- The links of a chain use what there was (own).
   pub LinksUseEarlier : Links → Type 0
   LinksUseEarlier no_links = Unit {0}
   LinksUseEarlier (operand sign a ls) = UsesEarlier a × LinksUseEarlier ls
   LinksUseEarlier (attribute c ls) = LinksUseEarlier ls
-  LinksUseEarlier (method name ms ls) = IsSome (earlier_method_of name) × MembersUseEarlier ms × LinksUseEarlier ls
+  LinksUseEarlier (method name ms ls) = IsSome (earlier_method_of name) × (count_of ms ≡ 1) × MembersUseEarlier ms × LinksUseEarlier ls
 
+  -- Members or arguments use what there was (own).
   pub MembersUseEarlier : Members → Type 0
   MembersUseEarlier no_members = Unit {0}
   MembersUseEarlier (member a ms) = UsesEarlier a × MembersUseEarlier ms
 
+  -- The entries of a record use what there was (own).
   pub FieldsUseEarlier : Fields → Type 0
   FieldsUseEarlier no_fields = Unit {0}
   FieldsUseEarlier (field key a fs) = UsesEarlier a × FieldsUseEarlier fs
 
--- Each method in the conditions of a statement is one of them (own).
-abbrev pub StatementUsesEarlier : StatementTree → Type 0
-StatementUsesEarlier s = All (λ c. UsesEarlier c.body) s.conditions
+-- The side condition speaks neither of functions nor of methods (own).
+abbrev pub IsOfNoCall : SideCondition → Type 0
+IsOfNoCall Names = ⊥
+IsOfNoCall Counts = ⊥
+IsOfNoCall _ = Unit {0}
 
--- The text has tokens, which the earlier grammar reads as statements with no other methods, each within the limits and with
--- an id of its own, and this is the set of their policies (Cedar language reference, grammar; policies).
+-- The size of the condition that the policy of a statement had (own).
+abbrev pub earlier_size : StatementTree → Size
+earlier_size s = size_of (condition_of (earlier_policy [] s))
+
+-- A statement was within the limits: its conditions used what there was, it kept each side condition of no call, and its
+-- condition was neither too high nor too large (own).
+pub record WasWithinLimits (s : StatementTree) : Type 0 where
+  pub calls : All (λ c. UsesEarlier c.body) s.conditions
+  pub others : (c : SideCondition) → IsOfNoCall c → KeepsStatement c s
+  pub low : (earlier_size s).height ≤ max_height
+  pub small : (earlier_size s).nodes ≤ max_nodes
+
+-- The text has tokens, which the earlier grammar reads as statements, each of which was within the limits and had an id of its
+-- own, and this was the set of their policies and templates (Cedar language reference, grammar; policies).
 pub record IsEarlierPolicyText (source : List ℕ) (set : PolicySetTree) : Type 0 where
   pub tokens : Marks
   pub are_tokens : IsMarked source tokens
   pub statements : List StatementTree
   pub reading : EarlierStatements (suc max_open) tokens statements []
-  pub methods : All StatementUsesEarlier statements
-  pub limits : All IsWithinLimits statements
-  pub meaning : set ≡ entered_from no_policies 0 statements
+  pub limits : All WasWithinLimits statements
+  pub meaning : set ≡ earlier_entered no_policies 0 statements
   pub distinct : AreDistinct (ids_from 0 statements)

@@ -1,3 +1,4 @@
 pub mod PolicyText
+pub mod EarlierMeaning
 pub mod Earlier
 pub mod Private

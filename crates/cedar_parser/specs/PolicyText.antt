@@ -1,4 +1,4 @@
--- What a policy text is, and what a uid's text is (Cedar language reference, grammar; policies; entity identifiers).
+-- What a policy text is, and why a text is not one (Cedar language reference, grammar; policies).
 use Rattle.std.specs.Prelude.{◌≡◌, ℕ, suc, List, [], ◌∷◌, ◌++◌, length, Some, Result, Ok, Err, All, Contains}
 use Rattle.cedar_ast.specs.Keys.{AreDistinct}
 use Rattle.cedar_policies.specs.PolicySetTree.{PolicySetTree, no_policies}
@@ -13,7 +13,8 @@ use Rattle.cedar_expressions.specs.Nesting.{IsDeep}
 use Rattle.cedar_tokens.specs.declared.parse_fault.ParseFault.{ParseFault}
 use Rattle.cedar_tokens.specs.declared.parse_fault.ParseFault.TheVariants as f
 
--- The tokens from ts up to us are statements within the limits, each with an id of its own, and this is the set of them.
+-- The tokens from ts up to us are statements within the limits, each with an id of its own, and this is the set of their
+-- policies and templates (Cedar language reference, grammar; policies).
 pub record ArePolicies (ts us : Marks) (set : PolicySetTree) : Type 0 where
   pub statements : List StatementTree
   pub reading : Statements (suc max_open) ts statements us
@@ -21,7 +22,7 @@ pub record ArePolicies (ts us : Marks) (set : PolicySetTree) : Type 0 where
   pub meaning : set ≡ entered_from no_policies 0 statements
   pub distinct : AreDistinct (ids_from 0 statements)
 
--- The text has tokens, and this is the set of its policies and templates.
+-- The text has tokens, and this is the set of its policies and templates (Cedar language reference, grammar; policies).
 pub record IsPolicyText (source : List ℕ) (set : PolicySetTree) : Type 0 where
   pub tokens : Marks
   pub are_tokens : IsMarked source tokens
@@ -29,7 +30,7 @@ pub record IsPolicyText (source : List ℕ) (set : PolicySetTree) : Type 0 where
 
 -- ---- refusals
 
--- From ts on there are statements, the last of which breaks a side condition or a limit.
+-- From ts on there are statements, the last of which breaks the side condition or the limit of the refusal (own).
 pub record BreaksLimit (ts : Marks) (fault : ParseFault) : Type 0 where
   pub statements : List StatementTree
   pub last : StatementTree
@@ -37,8 +38,8 @@ pub record BreaksLimit (ts : Marks) (fault : ParseFault) : Type 0 where
   pub reading : Statements (suc max_open) ts (statements ++ last ∷ []) rest
   pub broken : Breaks last fault
 
--- From ts on there are statements, the last of which has the id of one before it. A statement whose annotation `id` stands
--- for no text has none.
+-- From ts on there are statements, the last of which has the id of one before it; a statement whose annotation `id` stands for
+-- no text has no id (own).
 pub record RepeatsId (ts : Marks) : Type 0 where
   pub statements : List StatementTree
   pub last : StatementTree
@@ -48,7 +49,7 @@ pub record RepeatsId (ts : Marks) : Type 0 where
   pub own : written_id (length statements) last ≡ Some id
   pub repeated : Contains (written_ids_from 0 statements) (Some id)
 
--- what a refusal says of the tokens of a policy text; want of memory says nothing of them
+-- The tokens of a policy text have the fault of the refusal; out of memory says nothing of them (own).
 abbrev pub TokensFault : Marks → ParseFault → Type 0
 TokensFault ts f.OutOfMemory = Unit {0}
 TokensFault ts (f.Text fault) = ⊥
@@ -57,13 +58,14 @@ TokensFault ts (f.TooDeep at) = IsDeep max_open ts
 TokensFault ts (f.DuplicateId at) = RepeatsId ts
 TokensFault ts fault = BreaksLimit ts fault
 
--- what a refusal says of a policy text: the text has no tokens, or its tokens have a fault
+-- A text is refused since it has no tokens, or since its tokens have the fault of the refusal; out of memory says nothing of it
+-- (own).
 abbrev pub HasFault : List ℕ → ParseFault → Type 0
 HasFault source f.OutOfMemory = Unit {0}
 HasFault source (f.Text fault) = LacksTokens source fault
 HasFault source fault = (ts : Marks) × IsMarked source ts × TokensFault ts fault
 
--- The answer is this set, or memory ran out.
+-- The answer is this set, or memory ran out (own).
 abbrev pub Answers : PolicySetTree → Result PolicySetTree ParseFault → Type 0
 Answers set (Ok found) = found ≡ set
 Answers set (Err f.OutOfMemory) = Unit {0}

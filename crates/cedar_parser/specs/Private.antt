@@ -1,2 +1,2 @@
--- What proofs and private contracts speak of, and no public clause.
+-- What proofs, models and private contracts speak of: nothing here is cited by a contract of a function that another crate calls.
 pub mod Entering

@@ -1,17 +1,17 @@
 //! The expression that is written.
-ghost use Rattle.std.specs.Prelude.{◌≡◌, ◌≢◌, ◌≤◌, ◌^◌, ◌++◌, ◌∷◌, [], IfOk, OnOk, MatchOption, Some, length, pos, neg_ℤ};
+ghost use Rattle.std.specs.Prelude.{◌≡◌, ◌≤◌, ◌^◌, ◌++◌, ◌∷◌, [], IfOk, OnOk, IsSome, Some, length, pos, neg_ℤ};
 ghost use Rattle.cedar_ast.specs.Expression.{expressions_of, entries_of, unary, binary, and, record_with};
 ghost use Rattle.cedar_ast.specs.Keys.{AreDistinct, keys_of};
 ghost use Rattle.cedar_ast.specs.declared.operator.UnaryOperator.TheVariants.{Not, Get, Is};
 ghost use Rattle.cedar_ast.specs.declared.operator.BinaryOperator.TheVariants.{In};
-ghost use Rattle.cedar_conditions.specs.declared.side_condition.SideCondition.TheVariants.{Strings, Numbers, Keys};
+ghost use Rattle.cedar_conditions.specs.declared.side_condition.SideCondition.TheVariants.{Strings, Numbers, Keys, Names, Counts, Slots};
 ghost use Rattle.cedar_written.specs.Written as tree;
 ghost use Rattle.cedar_written.specs.Written.{chain, members_of};
 ghost use Rattle.cedar_written.specs.WrittenKind.{links_of, fields_of};
 ghost use Rattle.cedar_conditions.specs.Meaning.{to_expression, to_expressions, to_entries, related, linked, called, applied, function_of, method_of};
 ghost use Rattle.cedar_conditions.specs.declared.functions.Method.TheVariants.{IsEmpty, Binary};
 ghost use Rattle.cedar_tokens.specs.Content.{text_of};
-ghost use Rattle.cedar_conditions.specs.Limits.{Keeps, KeepMembers, KeepFields};
+ghost use Rattle.cedar_conditions.specs.Limits.{Keeps, KeepMembers, KeepFields, arity_of};
 ghost use Rattle.cedar_conditions.specs.Private.Parts.{KeepLink, behind, pairs_of};
 
 use crate::asked::asked;
@@ -28,6 +28,9 @@ pub fn to_expression(alloc: Global, written: &Written) -> Result<Expr, AllocErro
     requires numbers { Keeps Numbers written.now }
     requires keys { Keeps Keys written.now }
     requires strings { Keeps Strings written.now }
+    requires names { Keeps Names written.now }
+    requires counts { Keeps Counts written.now }
+    requires slots { Keeps Slots written.now }
     ensures { IfOk result (λ e. e ≡ to_expression written.now) }
 {
     match written.kind() {
@@ -37,7 +40,7 @@ pub fn to_expression(alloc: Global, written: &Written) -> Result<Expr, AllocErro
         WrittenKind::Text(content) => Ok(Expr::literal(Value::string(content.to_text(alloc)?))),
         WrittenKind::Entity(uid) => Ok(Expr::literal(Value::uid(alloc, uid.to_uid(alloc)?)?)),
         WrittenKind::Variable(name) => Ok(Expr::variable(*name)),
-        WrittenKind::Slot(_, name) => Ok(Expr::variable(*name)),
+        WrittenKind::Slot(_, _) => unreachable!(),
         WrittenKind::Group(inside) => to_expression(alloc, inside),
         WrittenKind::Not(operand) => asked_of(alloc, UnaryOperator::Not, operand),
         WrittenKind::Negated(operand) => asked_of(alloc, UnaryOperator::Negate, operand),
@@ -78,6 +81,9 @@ fn asked_of(alloc: Global, operator: UnaryOperator, operand: &Written) -> Result
     requires numbers { Keeps Numbers operand.now }
     requires keys { Keeps Keys operand.now }
     requires strings { Keeps Strings operand.now }
+    requires names { Keeps Names operand.now }
+    requires counts { Keeps Counts operand.now }
+    requires slots { Keeps Slots operand.now }
     ensures { IfOk result (λ e. e ≡ unary operator (to_expression operand.now)) }
 {
     let operand = to_expression(alloc, operand)?;
@@ -89,6 +95,9 @@ fn is_in(alloc: Global, left: &Written, ty: &Name, right: &Written) -> Result<Ex
     requires numbers { Keeps Numbers (tree.is_in left.now ty.now right.now) }
     requires keys { Keeps Keys (tree.is_in left.now ty.now right.now) }
     requires strings { Keeps Strings (tree.is_in left.now ty.now right.now) }
+    requires names { Keeps Names (tree.is_in left.now ty.now right.now) }
+    requires counts { Keeps Counts (tree.is_in left.now ty.now right.now) }
+    requires slots { Keeps Slots (tree.is_in left.now ty.now right.now) }
     ensures { IfOk result (λ e. e ≡ to_expression (tree.is_in left.now ty.now right.now)) }
 {
     let asked = typed(alloc, to_expression(alloc, left)?, ty)?;
@@ -122,6 +131,9 @@ fn choice(
     requires numbers { Keeps Numbers (tree.choice condition.now if_true.now if_false.now) }
     requires keys { Keeps Keys (tree.choice condition.now if_true.now if_false.now) }
     requires strings { Keeps Strings (tree.choice condition.now if_true.now if_false.now) }
+    requires names { Keeps Names (tree.choice condition.now if_true.now if_false.now) }
+    requires counts { Keeps Counts (tree.choice condition.now if_true.now if_false.now) }
+    requires slots { Keeps Slots (tree.choice condition.now if_true.now if_false.now) }
     ensures { IfOk result (λ e. e ≡ to_expression (tree.choice condition.now if_true.now if_false.now)) }
 {
     let condition = to_expression(alloc, condition)?;
@@ -136,6 +148,9 @@ fn chain_expression(alloc: Global, first: &Written, links: &[Link]) -> Result<Ex
     requires numbers { Keeps Numbers (chain first.now (links_of links.now)) }
     requires keys { Keeps Keys (chain first.now (links_of links.now)) }
     requires strings { Keeps Strings (chain first.now (links_of links.now)) }
+    requires names { Keeps Names (chain first.now (links_of links.now)) }
+    requires counts { Keeps Counts (chain first.now (links_of links.now)) }
+    requires slots { Keeps Slots (chain first.now (links_of links.now)) }
     ensures { IfOk result (λ e. e ≡ to_expression (chain first.now (links_of links.now))) }
 {
     let mut left = to_expression(alloc, first)?;
@@ -151,6 +166,9 @@ fn link_expression(alloc: Global, left: Expr, link: &Link) -> Result<Expr, Alloc
     requires numbers { KeepLink Numbers link.now }
     requires keys { KeepLink Keys link.now }
     requires strings { KeepLink Strings link.now }
+    requires names { KeepLink Names link.now }
+    requires counts { KeepLink Counts link.now }
+    requires slots { KeepLink Slots link.now }
     ensures { IfOk result (λ e. e ≡ behind left link.now) }
 {
     match link {
@@ -160,8 +178,11 @@ fn link_expression(alloc: Global, left: Expr, link: &Link) -> Result<Expr, Alloc
         }
         Link::Attribute(key) => attribute(alloc, left, key),
         Link::Method(name, arguments) => {
+            let Some(method) = method_of(name.as_str()) else {
+                unreachable!()
+            };
             let arguments = expressions(alloc, arguments.items())?;
-            applied(alloc, method_of(name.as_str()), left, arguments)
+            applied(alloc, method, left, arguments)
         }
     }
 }
@@ -178,6 +199,9 @@ fn expressions(alloc: Global, members: &[Written]) -> Result<Vec<Expr>, AllocErr
     requires numbers { KeepMembers Numbers (members_of members.now) }
     requires keys { KeepMembers Keys (members_of members.now) }
     requires strings { KeepMembers Strings (members_of members.now) }
+    requires names { KeepMembers Names (members_of members.now) }
+    requires counts { KeepMembers Counts (members_of members.now) }
+    requires slots { KeepMembers Slots (members_of members.now) }
     ensures { IfOk result (λ v. expressions_of v.items ≡ to_expressions (members_of members.now)) }
 {
     let mut found = Vec::new(alloc);
@@ -201,6 +225,9 @@ fn to_record(alloc: Global, fields: &[Field]) -> Result<Expr, AllocError>
     requires numbers { Keeps Numbers (tree.record_of (fields_of fields.now)) }
     requires keys { Keeps Keys (tree.record_of (fields_of fields.now)) }
     requires strings { Keeps Strings (tree.record_of (fields_of fields.now)) }
+    requires names { Keeps Names (tree.record_of (fields_of fields.now)) }
+    requires counts { Keeps Counts (tree.record_of (fields_of fields.now)) }
+    requires slots { Keeps Slots (tree.record_of (fields_of fields.now)) }
     ensures { IfOk result (λ e. e ≡ to_expression (tree.record_of (fields_of fields.now))) }
 {
     let pairs = pairs(alloc, fields)?;
@@ -212,6 +239,9 @@ fn pairs(alloc: Global, fields: &[Field]) -> Result<Vec<(SharedText, Expr)>, All
     requires numbers { KeepFields Numbers (fields_of fields.now) }
     requires keys { KeepFields Keys (fields_of fields.now) }
     requires strings { KeepFields Strings (fields_of fields.now) }
+    requires names { KeepFields Names (fields_of fields.now) }
+    requires counts { KeepFields Counts (fields_of fields.now) }
+    requires slots { KeepFields Slots (fields_of fields.now) }
     ensures { IfOk result (λ v. v.items ≡ pairs_of fields.now) }
 {
     let mut found = Vec::new(alloc);
@@ -222,30 +252,29 @@ fn pairs(alloc: Global, fields: &[Field]) -> Result<Vec<(SharedText, Expr)>, All
     Ok(found)
 }
 
-// A method on what stands before it and its arguments.
+// A method on what stands before it and as many arguments as it takes.
 fn applied(
     alloc: Global,
-    method: Option<Method>,
+    method: Method,
     left: Expr,
     arguments: Vec<Expr>,
 ) -> Result<Expr, AllocError>
-    ensures { IfOk result (λ e. e ≡ applied method left (expressions_of arguments.items)) }
+    requires { length arguments.items ≡ arity_of method }
+    ensures { IfOk result (λ e. e ≡ applied (Some method) left (expressions_of arguments.items)) }
 {
     match method {
-        None => Ok(left),
-        Some(Method::IsEmpty) => is_empty(alloc, left, arguments),
-        Some(Method::Binary(operator)) => compared(alloc, operator, left, arguments),
+        Method::IsEmpty => is_empty(alloc, left, arguments),
+        Method::Binary(operator) => compared(alloc, operator, left, arguments),
     }
 }
 
-// Whether a set has no members, where there are no arguments.
-#[tactic(auto, using(cedar_conditions::proofs::PartLemmas::empty_none, cedar_conditions::proofs::PartLemmas::empty_all))]
+// Whether a set has no members; there are no arguments.
+#[tactic(auto, using(cedar_conditions::proofs::PartLemmas::empty_all))]
 fn is_empty(alloc: Global, left: Expr, arguments: Vec<Expr>) -> Result<Expr, AllocError>
+    requires { length arguments.items ≡ 0 }
     ensures { IfOk result (λ e. e ≡ applied (Some IsEmpty) left (expressions_of arguments.items)) }
 {
-    if !arguments.is_empty() {
-        return Ok(left);
-    }
+    drop(arguments);
     Expr::unary(alloc, UnaryOperator::IsEmpty, left)
 }
 
@@ -256,35 +285,35 @@ fn compared(
     left: Expr,
     arguments: Vec<Expr>,
 ) -> Result<Expr, AllocError>
+    requires { length arguments.items ≡ 1 }
     ensures { IfOk result (λ e. e ≡ applied (Some (Binary operator)) left (expressions_of arguments.items)) }
 {
-    let Some(argument) = sole(arguments) else {
-        return Ok(left);
-    };
+    let argument = sole(arguments);
     Expr::binary(alloc, operator, left, argument)
 }
 
 // A function of one argument.
 fn called(alloc: Global, name: &str, arguments: Vec<Expr>) -> Result<Expr, AllocError>
+    requires known { IsSome (function_of name.now) }
+    requires argument { length arguments.items ≡ 1 }
     ensures { IfOk result (λ e. e ≡ called (function_of name.now) (expressions_of arguments.items)) }
 {
     let Some(operator) = function_of(name) else {
-        return Ok(Expr::literal(Value::boolean(false)));
+        unreachable!()
     };
-    let Some(argument) = sole(arguments) else {
-        return Ok(Expr::literal(Value::boolean(false)));
-    };
+    let argument = sole(arguments);
     Expr::unary(alloc, operator, argument)
 }
 
-// The argument, where there is exactly one.
-fn sole(mut arguments: Vec<Expr>) -> Option<Expr>
-    ensures { MatchOption result (length arguments.items ≢ 1) (λ a. arguments.items ≡ a ∷ []) }
+// The one argument.
+fn sole(mut arguments: Vec<Expr>) -> Expr
+    requires { length arguments.items ≡ 1 }
+    ensures { arguments.items ≡ result ∷ [] }
 {
-    if arguments.len() != 1 {
-        return None;
-    }
-    arguments.pop()
+    let Some(argument) = arguments.pop() else {
+        unreachable!()
+    };
+    argument
 }
 
 // The record of these pairs.

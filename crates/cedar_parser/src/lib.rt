@@ -1,12 +1,12 @@
 //! The parser: policies and templates of the Cedar policy language, read from text (Cedar language reference, grammar).
 //!
 //! ```
-//! let set = parse(alloc, "permit(principal, action, resource) when { context.mfa };")?;
-//! assert_eq!(set.policies().len(), 1);
+//! let set = parse(rt.alloc(), "permit(principal, action, resource) when { context.mfa };")?;
+//! assert_eq!(rt; set.count(), 1);
 //! ```
 //!
-//! The grammar stands in cedar_grammar, the expression that is written and the policy or template that a statement is in
-//! cedar_conditions, with side conditions and limits. All of it together stands in `specs/PolicyText.antt`.
+//! The grammar is defined in cedar_grammar, the expression that is written and the policy or template that a statement is in
+//! cedar_conditions, with side conditions and limits. What a policy text is by all of it is said in `specs/PolicyText.antt`.
 #![tactic(auto)]
 
 mod asked;

@@ -13,7 +13,8 @@ ghost use Rattle.cedar_written.specs.Written.{Written, has};
 ghost use Rattle.cedar_tokens.specs.Content.{Content, text_of};
 ghost use Rattle.cedar_conditions.specs.declared.functions.Method.TheVariants.{Binary};
 ghost use Rattle.cedar_conditions.specs.Meaning.{to_expression, method_of};
-ghost use Rattle.cedar_parser.specs.Earlier.{IsEarlierPolicyText, earlier_method_of};
+ghost use Rattle.cedar_parser.specs.Earlier.{IsEarlierPolicyText};
+ghost use Rattle.cedar_parser.specs.EarlierMeaning.{earlier_method_of};
 
 use crate::policy::{id_of, to_statement};
 use cedar_conditions::judge;
@@ -58,7 +59,7 @@ pub fn one_policy_set()
 /// The law that each text which was read before `has` could have a path of attributes, and before there was the method
 /// `isEmpty`, is read as it was (Cedar language reference, grammar). It runs nothing.
 pub fn earlier_texts()
-    // The policies that such a text had are its policies.
+    // The policies that such a text had, by the grammar and by the meaning that there were, are its policies.
     ensures texts { (source : List ℕ) (set : PolicySetTree) → IsEarlierPolicyText source set → IsPolicyText source set }
     // `has` with one attribute asks for that one, as it did.
     ensures attributes { (operand : Written) (first : Content) → to_expression (has operand first []) ≡ unary (Has (text_of first)) (to_expression operand) }

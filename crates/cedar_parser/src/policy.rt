@@ -1,6 +1,6 @@
 //! The policy or template that a statement is.
-ghost use Rattle.std.specs.Prelude.{◌≡◌, ◌++◌, ◌∷◌, [], IfOk, OnOk, map, option_map};
-ghost use Rattle.cedar_conditions.specs.declared.side_condition.SideCondition.TheVariants.{Strings, Numbers, Keys};
+ghost use Rattle.std.specs.Prelude.{◌≡◌, ◌++◌, ◌∷◌, [], false, IfOk, OnOk, map, option_map};
+ghost use Rattle.cedar_conditions.specs.declared.side_condition.SideCondition.TheVariants.{Strings, Numbers, Keys, Names, Counts, Slots};
 ghost use Rattle.cedar_tokens.specs.Content.{text_of};
 ghost use Rattle.cedar_tokens.specs.Names.{to_uid};
 ghost use Rattle.cedar_conditions.specs.StatementMeaning.{to_entity, to_reference, to_entity_scope, to_template_entity_scope, to_action_scope, to_scope, to_template_scope, is_slot, asks_slot, has_slot, to_annotation, to_condition, to_policy, to_template, to_statement, id_in, id_at};
@@ -12,7 +12,7 @@ use cedar_policies::{
     Template, TemplateEntityScope, TemplateScope, Uids,
 };
 use cedar_tokens::WrittenUid;
-use cedar_value::{Name, Text, Uid};
+use cedar_value::{Text, Uid};
 use cedar_written::{
     Reference, WrittenActionScope, WrittenAnnotation, WrittenCondition, WrittenEntityScope,
     WrittenScope, WrittenStatement,
@@ -29,6 +29,9 @@ pub fn to_statement(
     requires numbers { KeepConditions Numbers statement.now.conditions }
     requires keys { KeepConditions Keys statement.now.conditions }
     requires strings { KeepConditions Strings statement.now.conditions }
+    requires names { KeepConditions Names statement.now.conditions }
+    requires counts { KeepConditions Counts statement.now.conditions }
+    requires slots { KeepConditions Slots statement.now.conditions }
     ensures { IfOk result (λ s. s ≡ to_statement id statement.now) }
 {
     if has_slot(&statement.scope) {
@@ -43,6 +46,10 @@ fn policy(alloc: Global, id: Text, statement: &WrittenStatement) -> Result<Polic
     requires numbers { KeepConditions Numbers statement.now.conditions }
     requires keys { KeepConditions Keys statement.now.conditions }
     requires strings { KeepConditions Strings statement.now.conditions }
+    requires names { KeepConditions Names statement.now.conditions }
+    requires counts { KeepConditions Counts statement.now.conditions }
+    requires slots { KeepConditions Slots statement.now.conditions }
+    requires no_slot { has_slot statement.now.scope ≡ false }
     ensures { IfOk result (λ p. p ≡ to_policy id statement.now) }
 {
     let annotations = annotations(alloc, &statement.annotations)?;
@@ -55,6 +62,9 @@ fn template(alloc: Global, id: Text, statement: &WrittenStatement) -> Result<Tem
     requires numbers { KeepConditions Numbers statement.now.conditions }
     requires keys { KeepConditions Keys statement.now.conditions }
     requires strings { KeepConditions Strings statement.now.conditions }
+    requires names { KeepConditions Names statement.now.conditions }
+    requires counts { KeepConditions Counts statement.now.conditions }
+    requires slots { KeepConditions Slots statement.now.conditions }
     ensures { IfOk result (λ t. t ≡ to_template id statement.now) }
 {
     let annotations = annotations(alloc, &statement.annotations)?;
@@ -91,6 +101,7 @@ fn is_slot(reference: &Reference) -> bool
 }
 
 fn scope(alloc: Global, scope: &WrittenScope) -> Result<Scope, AllocError>
+    requires { has_slot scope.now ≡ false }
     ensures { IfOk result (λ s. s ≡ to_scope scope.now) }
 {
     Ok(Scope {
@@ -111,6 +122,7 @@ fn template_scope(alloc: Global, scope: &WrittenScope) -> Result<TemplateScope, 
 }
 
 fn entity_scope(alloc: Global, scope: &WrittenEntityScope) -> Result<EntityScope, AllocError>
+    requires { asks_slot scope.now ≡ false }
     ensures { IfOk result (λ s. s ≡ to_entity_scope scope.now) }
 {
     match scope {
@@ -145,16 +157,14 @@ fn template_entity_scope(
     }
 }
 
-// An entity; a slot counts as a literal.
+// The entity that is referred to.
 fn referred(alloc: Global, reference: &Reference) -> Result<Uid, AllocError>
+    requires { is_slot reference.now ≡ false }
     ensures { IfOk result (λ u. u ≡ to_entity reference.now) }
 {
     match reference {
         Reference::Entity(uid) => uid.to_uid(alloc),
-        Reference::Slot(_, _) => Ok(Uid {
-            ty: Name::new(alloc, Text::new(String::new(alloc)))?,
-            id: Text::new(String::new(alloc)),
-        }),
+        Reference::Slot(_, _) => unreachable!(),
     }
 }
 
@@ -214,6 +224,9 @@ fn conditions(alloc: Global, written: &[WrittenCondition]) -> Result<Vec<Conditi
     requires numbers { KeepConditions Numbers written.now }
     requires keys { KeepConditions Keys written.now }
     requires strings { KeepConditions Strings written.now }
+    requires names { KeepConditions Names written.now }
+    requires counts { KeepConditions Counts written.now }
+    requires slots { KeepConditions Slots written.now }
     ensures { IfOk result (λ v. v.items ≡ map to_condition written.now) }
 {
     let mut found = Vec::new(alloc);

@@ -13,7 +13,7 @@ use Rattle.cedar_text.specs.Bytes.{is_letter, is_digit, is_word, ends_line, goes
 use Rattle.cedar_text.specs.Blanks.{IsBlank, white, comment}
 use Rattle.cedar_text.specs.Signs.{IsSign}
 use Rattle.cedar_text.specs.Tokens.{IsToken, word, number, string, slot, sign}
-use Rattle.cedar_text.specs.Lexing.{piece}
+use Rattle.cedar_text.specs.Private.Lexing.{piece}
 use Rattle.cedar_text.proofs.Signs.{sign_is}
 use Rattle.cedar_text.proofs.Pieces.{PieceIs, IsPiece, Fine, piece_fine, letter_bounds, digit_bounds}
 

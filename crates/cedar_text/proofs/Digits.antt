@@ -4,7 +4,7 @@ use Rattle.std.proofs.lemmas.Bool.{cond-false, and_right, cases_lt, ltb-false, l
 use Rattle.std.specs.Char.{IsScalar}
 use lib.Utf8.{scalar, scalar_cases}
 use Rattle.cedar_text.specs.Numbers.{decimal_from, hexadecimal_from, max_number}
-use Rattle.cedar_text.specs.Lexing.{capped_decimal_from, capped_hexadecimal_from}
+use Rattle.cedar_text.specs.Private.Lexing.{capped_decimal_from, capped_hexadecimal_from}
 
 capped_is : (bs : List ℕ) (n m : ℕ) → n ≡ min m (max_number + 1) → capped_decimal_from n bs ≡ min (decimal_from m bs) (max_number + 1)
 capped_is [] n m e = e

@@ -11,7 +11,7 @@ use Rattle.cedar_text.specs.declared.letter.Letter.TheVariants.{Character, Escap
 use Rattle.cedar_text.specs.Bytes.{is_hex, first}
 use Rattle.cedar_text.specs.Numbers.{hexadecimal_from}
 use Rattle.cedar_text.specs.Strings.{IsShort, line_feed, carriage_return, tab, backslash, null, apostrophe, quote, IsEscape, short, star, byte, character}
-use Rattle.cedar_text.specs.Lexing.{is_short, is_code, capped_hexadecimal_from, escape_len}
+use Rattle.cedar_text.specs.Private.Lexing.{is_short, is_code, capped_hexadecimal_from, escape_len}
 use Rattle.cedar_text.proofs.Runs.{run_of, IsRun, run_is, run_length}
 use Rattle.cedar_text.proofs.Digits.{scalar_capped}
 

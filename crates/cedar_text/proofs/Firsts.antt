@@ -11,9 +11,9 @@ use Rattle.cedar_text.specs.declared.letter.Letter.{Letter}
 use Rattle.cedar_text.specs.declared.letter.Letter.TheVariants.{Character, Star}
 use Rattle.cedar_text.specs.Bytes.{is_hex}
 use Rattle.cedar_text.specs.Strings.{IsShort, line_feed, carriage_return, tab, backslash, null, apostrophe, quote, IsEscape, short, star, byte, character}
-use Rattle.cedar_text.specs.Letters.{IsWritten, plain, bare_star, escaped, AreWritten, nothing, more, IsSpelled}
-use Rattle.cedar_text.specs.FirstLetter.{BeginsWith, StartsEscape, IsFirst, BeginsNone, StartsNoEscape, IsQuoted}
-use Rattle.cedar_text.specs.Lexing.{escape_len, escaped_letter}
+use Rattle.cedar_text.specs.Letters.{HasQuotes, IsWritten, plain, bare_star, escaped, AreWritten, nothing, more, IsSpelled}
+use Rattle.cedar_text.specs.Private.FirstLetter.{BeginsWith, StartsEscape, IsFirst, BeginsNone, StartsNoEscape}
+use Rattle.cedar_text.specs.Private.Lexing.{escape_len, escaped_letter}
 use Rattle.cedar_text.proofs.Escapes.{EscapeIs, escape_is}
 use Rattle.cedar_text.proofs.Boundaries.{EndsAscii, ends_more, after_ascii}
 use Rattle.cedar_text.proofs.Spelled.{letter_of, ascii_first, heads_differ, written_some, written_split, no_letters}
@@ -125,7 +125,7 @@ escape_none text h none front rest letter e w = clash front letter w (slashed �
 
 -- ---- the whole text
 
-pub inner_one : (text a b : List ℕ) → IsQuoted text a → IsQuoted text b → a ≡ b
+pub inner_one : (text a b : List ℕ) → HasQuotes text a → HasQuotes text b → a ≡ b
 inner_one text a b e f = append_cancel_right a b (34 ∷ []) (ap (drop 1) (sym e ∙ f))
 
 nothing_left : (left : List Letter) → AreWritten [] left → left ≡ []
@@ -139,19 +139,19 @@ no_bytes : (rest : List ℕ) → length rest ≤ 0 → rest ≡ []
 no_bytes [] e = refl
 no_bytes (b ∷ rest) e = absurd (omega arith)
 
-pub spelled_by : (text before rest : List ℕ) (found : List Letter) → IsQuoted text (before ++ rest) → AreWritten before found → length rest ≤ 0 → IsSpelled text found
+pub spelled_by : (text before rest : List ℕ) (found : List Letter) → HasQuotes text (before ++ rest) → AreWritten before found → length rest ≤ 0 → IsSpelled text found
 spelled_by text before rest found q a e =
     let none = no_bytes rest e in
     let same : before ++ rest ≡ before = ap (λ (xs : List ℕ). before ++ xs) none ∙ append-nil before in
-    (before, subst (IsQuoted text) same q, a)
+    (before, subst (HasQuotes text) same q, a)
 
-pub only_spelled : (text before rest : List ℕ) (found letters : List Letter) → IsQuoted text (before ++ rest) → AreWritten before found → length rest ≤ 0 → IsSpelled text letters → found ≡ letters
+pub only_spelled : (text before rest : List ℕ) (found letters : List Letter) → HasQuotes text (before ++ rest) → AreWritten before found → length rest ≤ 0 → IsSpelled text letters → found ≡ letters
 only_spelled text before rest found letters q a e s =
     let t = written_split before found rest s.0 letters a s.2 (inner_one text s.0 (before ++ rest) s.1 q) in
     let none = nothing_left t.0 (subst (λ (xs : List ℕ). AreWritten xs t.0) (no_bytes rest e) t.1) in
     sym (t.2 ∙ ap (λ (xs : List Letter). found ++ xs) none ∙ append-nil found)
 
-pub stuck : (text before rest : List ℕ) (found letters : List Letter) → IsQuoted text (before ++ rest) → AreWritten before found → 0 < length rest → BeginsNone rest → IsSpelled text letters → ⊥
+pub stuck : (text before rest : List ℕ) (found letters : List Letter) → HasQuotes text (before ++ rest) → AreWritten before found → 0 < length rest → BeginsNone rest → IsSpelled text letters → ⊥
 stuck text before rest found letters q a some none s =
     let t = written_split before found rest s.0 letters a s.2 (inner_one text s.0 (before ++ rest) s.1 q) in by rest t.0 t.1 none some
   where
@@ -160,9 +160,9 @@ stuck text before rest found letters q a some none s =
     by _ left (more {front = f} {rest = r} {letter = l} w a) none some = none f r l refl w
 
 pub one_spelling_by : (text : List ℕ) (letters others : List Letter) → IsSpelled text letters → IsSpelled text others → letters ≡ others
-one_spelling_by text letters others s t = only_spelled text s.0 [] letters others (subst (IsQuoted text) (sym (append-nil s.0)) s.1) s.2 (omega arith) t
+one_spelling_by text letters others s t = only_spelled text s.0 [] letters others (subst (HasQuotes text) (sym (append-nil s.0)) s.1) s.2 (omega arith) t
 
 -- one letter more
-pub quoted_on : (text before rest : List ℕ) (len : ℕ) → IsQuoted text (before ++ rest) → IsQuoted text ((before ++ take len rest) ++ drop len rest)
+pub quoted_on : (text before rest : List ℕ) (len : ℕ) → HasQuotes text (before ++ rest) → HasQuotes text ((before ++ take len rest) ++ drop len rest)
 quoted_on text before rest len q =
-    subst (IsQuoted text) (sym (append_assoc before (take len rest) (drop len rest) ∙ ap (λ (xs : List ℕ). before ++ xs) (take-append-drop len rest))) q
+    subst (HasQuotes text) (sym (append_assoc before (take len rest) (drop len rest) ∙ ap (λ (xs : List ℕ). before ++ xs) (take-append-drop len rest))) q

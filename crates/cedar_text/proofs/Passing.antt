@@ -2,8 +2,8 @@
 use Rattle.std.proofs.Common.{◌≡◌, refl, sym, ap, subst, ◌∙◌, ℕ, zero, suc, ◌+◌, ◌<◌, ◌≤◌, Bool, true, false, cond, eqb, List, [], ◌∷◌, length, get_or, drop, Option, Some, None, Result, Ok, Err, arith}
 use Rattle.std.proofs.lemmas.List.{at_drop_more, at_drop_all, drop-drop}
 use Rattle.cedar_text.specs.declared.text_fault.TextFault.{TextFault}
-use Rattle.cedar_text.specs.Lexing.{Refusal, UnclosedString, further, no_escape, escaped, escape_len, string_len}
-use Rattle.cedar_text.specs.Outcomes.{Refuses}
+use Rattle.cedar_text.specs.Private.Lexing.{Refusal, UnclosedString, further, no_escape, escaped, escape_len, string_len}
+use Rattle.cedar_text.specs.Private.Outcomes.{Refuses}
 
 further_zero : (r : Result ℕ Refusal) → r ≡ further 0 r
 further_zero (Ok m) = let e : m ≡ m + 0 = omega arith in ap (λ (k : ℕ). Ok k) e

@@ -14,7 +14,7 @@ use Rattle.cedar_text.specs.Numbers.{decimal_from, max_number}
 use Rattle.cedar_text.specs.Strings.{IsString}
 use Rattle.cedar_text.specs.Tokens.{IsToken, word, number, string, slot, sign}
 use Rattle.cedar_text.specs.Faults.{IsUnclosed, unclosed, IsBadEscape, bad, IsTooLarge, large}
-use Rattle.cedar_text.specs.Lexing.{Refusal, BadCharacter, UnclosedString, BadEscape, NumberTooLarge, is_white_pair, is_white_triple, white_len, string_len, capped_decimal_from, long_sign, short_sign, skipped, lexed, begins_comment, number_of, number_at, string_of, slot_of, sign_of, sign_at, piece}
+use Rattle.cedar_text.specs.Private.Lexing.{Refusal, BadCharacter, UnclosedString, BadEscape, NumberTooLarge, is_white_pair, is_white_triple, white_len, string_len, capped_decimal_from, long_sign, short_sign, skipped, lexed, begins_comment, number_of, number_at, string_of, slot_of, sign_of, sign_at, piece}
 use Rattle.cedar_text.proofs.Runs.{run_of, IsRun, run_is, run_length, run_first}
 use Rattle.cedar_text.proofs.Digits.{capped_small, capped_large, capped_again}
 use Rattle.cedar_text.proofs.Strings.{StringIs, string_is, string_again}

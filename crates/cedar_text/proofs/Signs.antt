@@ -6,7 +6,7 @@ use Rattle.cedar_text.specs.declared.token_kind.TokenKind.{TokenKind}
 use Rattle.cedar_text.specs.declared.token_kind.TokenKind.TheVariants as k
 use Rattle.cedar_text.specs.Bytes.{first}
 use Rattle.cedar_text.specs.Signs.{IsSign, IsLongest, double_colon, equal, not_equal, less_equal, greater_equal, and_and, or_or, at, left_paren, right_paren, left_brace, right_brace, left_bracket, right_bracket, comma, semicolon, dot, colon, less, greater, plus, minus, star, not}
-use Rattle.cedar_text.specs.Lexing.{long_sign, short_sign, sign_of, sign_at, lexed, piece}
+use Rattle.cedar_text.specs.Private.Lexing.{long_sign, short_sign, sign_of, sign_at, lexed, piece}
 
 -- ---- the tests as rows of a table
 

@@ -13,7 +13,7 @@ use Rattle.cedar_text.specs.Bytes.{is_hex}
 use Rattle.cedar_text.specs.Numbers.{hexadecimal_from}
 use Rattle.cedar_text.specs.Strings.{IsShort, line_feed, carriage_return, tab, backslash, null, apostrophe, quote, IsEscape, short, star, byte, character}
 use Rattle.cedar_text.specs.Letters.{IsWritten, plain, bare_star, escaped, AreWritten, nothing, more}
-use Rattle.cedar_text.specs.Lexing.{escape_len, capped_hexadecimal_from, code_letter, escaped_letter}
+use Rattle.cedar_text.specs.Private.Lexing.{escape_len, capped_hexadecimal_from, code_letter, escaped_letter}
 use Rattle.cedar_text.proofs.Runs.{run_of}
 use Rattle.cedar_text.proofs.Digits.{capped_scalar}
 use Rattle.cedar_text.proofs.Escapes.{escape_again}

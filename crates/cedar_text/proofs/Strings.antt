@@ -6,7 +6,7 @@ use Rattle.std.proofs.lemmas.List.{drop_at}
 use Rattle.cedar_text.specs.declared.letter.Letter.{Letter}
 use Rattle.cedar_text.specs.Bytes.{is_hex}
 use Rattle.cedar_text.specs.Strings.{IsEscape, short, star, byte, character, IsString, empty, plain, escape, IsOpen, nothing, lone, other, pair}
-use Rattle.cedar_text.specs.Lexing.{Refusal, BadCharacter, UnclosedString, BadEscape, NumberTooLarge, further, no_escape, escaped, escape_len, string_len}
+use Rattle.cedar_text.specs.Private.Lexing.{Refusal, BadCharacter, UnclosedString, BadEscape, NumberTooLarge, further, no_escape, escaped, escape_len, string_len}
 use Rattle.cedar_text.proofs.Escapes.{EscapeIs, escape_is, escape_again, no_escape_is}
 use Rattle.cedar_text.proofs.Passing.{passed, further_further}
 

@@ -8,7 +8,7 @@ use Rattle.cedar_text.specs.Bytes.{is_digit}
 use Rattle.cedar_text.specs.Numbers.{decimal_from, max_number, number_in}
 use Rattle.cedar_text.specs.Signs.{IsSign, double_colon, equal, not_equal, less_equal, greater_equal, and_and, or_or, at, left_paren, right_paren, left_brace, right_brace, left_bracket, right_bracket, comma, semicolon, dot, colon, less, greater, plus, minus, star, not}
 use Rattle.cedar_text.specs.Tokens.{IsToken, word, number, string, slot, sign}
-use Rattle.cedar_text.specs.Lexing.{piece}
+use Rattle.cedar_text.specs.Private.Lexing.{piece}
 use Rattle.cedar_text.proofs.Pieces.{IsPiece, Fine, piece_fine, letter_bounds}
 
 sign_number : (front : List ℕ) (kind : TokenKind) → IsSign front kind → 0 ≡ number_in front

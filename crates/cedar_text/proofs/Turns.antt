@@ -5,9 +5,9 @@ use Rattle.cedar_text.specs.declared.token_kind.TokenKind.{TokenKind}
 use Rattle.cedar_text.specs.declared.piece.Piece.{Piece}
 use Rattle.cedar_text.specs.declared.text_fault.TextFault.{TextFault}
 use Rattle.cedar_text.specs.declared.text_fault.TextFault.TheVariants as f
-use Rattle.cedar_text.specs.Outcomes.{Refuses}
+use Rattle.cedar_text.specs.Private.Outcomes.{Refuses}
 use Rattle.cedar_text.specs.Lexeme.{Lexeme, Lexemes}
-use Rattle.cedar_text.specs.Lexing.{Refusal, BadCharacter, UnclosedString, BadEscape, NumberTooLarge, found_with, piece, add, and_then, lex}
+use Rattle.cedar_text.specs.Private.Lexing.{Refusal, BadCharacter, UnclosedString, BadEscape, NumberTooLarge, found_with, piece, add, and_then, lex}
 
 abbrev pub with_front : Lexemes → Result Lexemes Refusal → Result Lexemes Refusal
 with_front front r = and_then r (λ ts. Ok (front ++ ts))

@@ -5,7 +5,7 @@ use Rattle.std.proofs.lemmas.Bool.{cond_both, cond-true, cond-false, and_parts, 
 use Rattle.std.proofs.lemmas.Str.{encode_ascii}
 use lib.Utf8.{encode, next}
 use Rattle.cedar_text.specs.Blanks.{IsWhite, control, space, next_line, no_break_space, ogham_space, typographic, line_separator, paragraph_separator, narrow_space, mathematical_space, ideographic_space}
-use Rattle.cedar_text.specs.Lexing.{is_white_pair, is_white_triple, white_len}
+use Rattle.cedar_text.specs.Private.Lexing.{is_white_pair, is_white_triple, white_len}
 
 pub between : (low b high : ℕ) → (leb low b && leb b high) ≡ true → (low ≤ b) × (b ≤ high)
 between low b high h = let q = and_parts (leb low b) (leb b high) h in (leb-true low b q.0, leb-true b high q.1)

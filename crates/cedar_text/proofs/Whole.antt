@@ -14,8 +14,8 @@ use Rattle.cedar_text.specs.Blanks.{IsWhite, IsBlank, white, comment}
 use Rattle.cedar_text.specs.Signs.{IsSign}
 use Rattle.cedar_text.specs.Tokens.{IsToken, word, number, string, slot, sign, AreTokens, IsCut, done, blank, token}
 use Rattle.cedar_text.specs.Faults.{IsBadCharacter, IsUnclosed, IsBadEscape, IsTooLarge, HasTokens, HasFault}
-use Rattle.cedar_text.specs.Outcomes.{Gives}
-use Rattle.cedar_text.specs.Lexing.{Refusal, BadCharacter, UnclosedString, BadEscape, NumberTooLarge, skipped, lexed, piece, add, and_then, lex}
+use Rattle.cedar_text.specs.Private.Outcomes.{Gives}
+use Rattle.cedar_text.specs.Private.Lexing.{Refusal, BadCharacter, UnclosedString, BadEscape, NumberTooLarge, skipped, lexed, piece, add, and_then, lex}
 use Rattle.cedar_text.proofs.White.{white_again}
 use Rattle.cedar_text.proofs.Signs.{sign_is}
 use Rattle.cedar_text.proofs.Pieces.{IsPiece, Fine, piece_fine, blank_again, token_again}

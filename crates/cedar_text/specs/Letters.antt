@@ -1,5 +1,5 @@
--- What a string token stands for (Cedar language reference, "Grammar": STR; "Operators": like).
--- Of the bytes, 34 is the quote, 92 the backslash, 42 the star.
+-- What a string token stands for; of the bytes, 34 is the quote, 92 the backslash, 42 the star (Cedar language reference,
+-- grammar: STR; operators: like).
 use Rattle.std.specs.Prelude.{◌≡◌, ◌≢◌, ℕ, Bool, true, false, if◌then◌else◌, List, [], ◌∷◌, ◌++◌, Option, Some, None, Result, Ok, Err, encode_utf8}
 use Rattle.std.specs.Char.{IsScalar}
 use Rattle.std.specs.Global.{Vec}
@@ -10,42 +10,46 @@ use Rattle.cedar_text.specs.declared.text_fault.TextFault.{TextFault}
 use Rattle.cedar_text.specs.declared.text_fault.TextFault.TheVariants as f
 use Rattle.cedar_text.specs.Strings.{IsEscape, IsString}
 
--- how a string writes one letter, in UTF-8
+-- A string writes this letter with these bytes of UTF-8: a character as it is, a bare star, or an escape (Cedar language
+-- reference, grammar: STR).
 pub data IsWritten : List ℕ → Letter → Type 0 where
   plain : {c : ℕ} → IsScalar c → c ≢ 34 → c ≢ 92 → c ≢ 42 → IsWritten (encode_utf8 c) (Character c)
   bare_star : IsWritten (42 ∷ []) Star
   escaped : {front : List ℕ} {letter : Letter} → IsEscape front letter → IsWritten (92 ∷ front) letter
 
+-- A string writes these letters, one after the other, with these bytes (Cedar language reference, grammar: STR).
 pub data AreWritten : List ℕ → List Letter → Type 0 where
   nothing : AreWritten [] []
   more : {front rest : List ℕ} {letter : Letter} {letters : List Letter} → IsWritten front letter → AreWritten rest letters → AreWritten (front ++ rest) (letter ∷ letters)
 
--- the text, with its quotes, writes these letters
+-- The text, which has quotes round it, writes these letters (Cedar language reference, grammar: STR).
 abbrev pub IsSpelled : List ℕ → List Letter → Type 0
 IsSpelled text letters = (inner : List ℕ) × (text ≡ 34 ∷ inner ++ 34 ∷ []) × AreWritten inner letters
 
--- whether a string may hold the letter
+-- Whether the letter may stand in a string that is not a pattern: each but the escape `\*` (Cedar language reference,
+-- operators: like).
 abbrev pub is_plain : Letter → Bool
 is_plain (Character c) = true
 is_plain Star = true
 is_plain EscapedStar = false
 
--- the character of a letter
+-- The character that a letter stands for in a text: that of a star is the star (Cedar language reference, grammar: STR).
 abbrev pub character_of : Letter → ℕ
 character_of (Character c) = c
 character_of Star = 42
 character_of EscapedStar = 42
 
--- the characters of letters, in UTF-8
+-- The characters of letters in UTF-8 (Cedar language reference, grammar: STR).
 abbrev pub utf8_of : List Letter → List ℕ
 utf8_of [] = []
 utf8_of (letter ∷ letters) = encode_utf8 (character_of letter) ++ utf8_of letters
 
--- the string that letters stand for, in UTF-8: those with an escape `\*` stand for none
+-- The text in UTF-8 that the letters of a string stand for: letters with an escape `\*` stand for none (Cedar language
+-- reference, operators: like).
 abbrev pub plain_text_of : List Letter → Option (List ℕ)
 plain_text_of letters = if list_all is_plain letters then Some (utf8_of letters) else None
 
--- the answer is these letters, or memory ran out
+-- The answer is these letters, or memory ran out (own).
 abbrev pub HasLetters : List Letter → Result (Vec Letter) TextFault → Type 0
 HasLetters letters (Ok v) = v.items ≡ letters
 HasLetters letters (Err f.OutOfMemory) = Unit {0}
@@ -54,11 +58,12 @@ HasLetters letters (Err (f.UnclosedString at)) = ⊥
 HasLetters letters (Err (f.BadEscape at)) = ⊥
 HasLetters letters (Err (f.NumberTooLarge at)) = ⊥
 
--- the text has quotes round this
+-- The text is this with a quote before and after it (Cedar language reference, grammar: STR).
 abbrev pub HasQuotes : List ℕ → List ℕ → Type 0
 HasQuotes text inner = text ≡ 34 ∷ inner ++ 34 ∷ []
 
--- Why a text writes no letters: it has no quotes round it, or what stands between them is no string. Want of memory says nothing of it.
+-- A text writes no letters since it has no quotes round it, or since what stands between them is not a string; a refusal for
+-- memory says nothing of the text (own).
 abbrev pub HasLettersFault : List ℕ → TextFault → Type 0
 HasLettersFault text f.OutOfMemory = Unit {0}
 HasLettersFault text (f.UnclosedString at) = (inner : List ℕ) → HasQuotes text inner → ⊥

@@ -9,6 +9,4 @@ pub mod Tokens
 pub mod Spans
 pub mod Faults
 pub mod Letters
-pub mod FirstLetter
-pub mod Lexing
-pub mod Outcomes
+pub mod Private

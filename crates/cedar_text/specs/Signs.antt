@@ -1,8 +1,9 @@
--- Signs (Cedar language reference, "Grammar" and "Operators").
+-- Signs (Cedar language reference, grammar; operators).
 use Rattle.std.specs.Prelude.{◌≡◌, ℕ, ◌≤◌, List, ◌++◌, length, codes}
 use Rattle.cedar_text.specs.declared.token_kind.TokenKind.{TokenKind}
 use Rattle.cedar_text.specs.declared.token_kind.TokenKind.TheVariants as k
 
+-- The text is a sign, and this is its kind (Cedar language reference, grammar; operators).
 pub data IsSign : List ℕ → TokenKind → Type 0 where
   double_colon : IsSign (codes "::") k.DoubleColon
   equal : IsSign (codes "==") k.Equal
@@ -29,6 +30,6 @@ pub data IsSign : List ℕ → TokenKind → Type 0 where
   star : IsSign (codes "*") k.Star
   not : IsSign (codes "!") k.Not
 
--- No longer sign begins where this one does.
+-- No longer sign begins where this one does: the sign is as long as the rest allows (Cedar language reference, grammar).
 abbrev pub IsLongest : List ℕ → List ℕ → Type 0
 IsLongest front rest = (other more : List ℕ) (kind : TokenKind) → IsSign other kind → front ++ rest ≡ other ++ more → length other ≤ length front

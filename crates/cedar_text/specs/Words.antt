@@ -1,10 +1,11 @@
--- Words: identifiers and reserved words (Cedar language reference, "Grammar": IDENT, RESERVED).
+-- Words: identifiers and reserved words (Cedar language reference, grammar: IDENT, RESERVED).
 use Rattle.std.specs.Prelude.{ℕ, if◌then◌else◌, List, codes}
 use Rattle.std.specs.Str.{bytes_eq}
 use Rattle.cedar_text.specs.declared.token_kind.TokenKind.{TokenKind}
 use Rattle.cedar_text.specs.declared.token_kind.TokenKind.TheVariants as k
 
--- the kind of a word
+-- The kind of a word: each reserved word has its own, any other word is an identifier (Cedar language reference, grammar:
+-- IDENT, RESERVED).
 abbrev pub word_kind : List ℕ → TokenKind
 word_kind w =
     if bytes_eq w (codes "true") then k.True

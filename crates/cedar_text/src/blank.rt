@@ -1,7 +1,7 @@
 //! White space.
 
 ghost use Rattle.std.specs.Prelude.{◌≡◌};
-ghost use Rattle.cedar_text.specs.Lexing as spec;
+ghost use Rattle.cedar_text.specs.Private.Lexing as spec;
 
 use crate::bytes::byte_at;
 

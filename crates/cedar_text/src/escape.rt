@@ -1,9 +1,9 @@
 //! Strings and their escapes.
 
 ghost use Rattle.std.specs.Prelude.{◌≡◌, ◌<◌, ◌≤◌, length, IfOk, IfSome};
-ghost use Rattle.cedar_text.specs.Lexing as spec;
+ghost use Rattle.cedar_text.specs.Private.Lexing as spec;
 ghost use lib.Utf8.{scalar};
-ghost use Rattle.cedar_text.specs.Outcomes.{Gives, Refuses};
+ghost use Rattle.cedar_text.specs.Private.Outcomes.{Gives, Refuses};
 
 use crate::bytes::{byte_at, digit_value, hex_len, is_hex};
 use crate::number::hexadecimal_value;
@@ -44,7 +44,7 @@ fn is_code(len: usize, bytes: &[u8]) -> bool
 }
 
 /// How many bytes the escape has that stands right behind a backslash.
-#[tactic(auto, unfolding(crate::specs::Lexing::escape_len))]
+#[tactic(auto, unfolding(crate::specs::Private::Lexing::escape_len))]
 pub fn escape_len(bytes: &[u8]) -> Option<usize>
     ensures value { result ≡ spec.escape_len bytes.now }
     ensures within { IfSome result (λ n. n ≤ length bytes.now) }

@@ -3,9 +3,9 @@
 ghost use Rattle.std.specs.Prelude.{◌≡◌, ◌<◌, ◌≤◌, length, take, drop, IfOk, IfErr, OnOk, IsSome, All, List, ℕ, ◌⊎◌};
 ghost use Rattle.std.specs.Str.{IsUtf8};
 ghost use Rattle.cedar_text.specs.Lexeme.{Lexemes, lexemes};
-ghost use Rattle.cedar_text.specs.Lexing as spec;
+ghost use Rattle.cedar_text.specs.Private.Lexing as spec;
 ghost use Rattle.cedar_text.specs.Numbers.{number_in};
-ghost use Rattle.cedar_text.specs.Outcomes.{Gives};
+ghost use Rattle.cedar_text.specs.Private.Outcomes.{Gives};
 ghost use Rattle.cedar_text.specs.Faults.{HasTokens, HasFault};
 ghost use Rattle.cedar_text.specs.Spans.{AreInOrder, IsSliceOf};
 ghost use Rattle.cedar_text.specs.Tokens.{AreTokens};

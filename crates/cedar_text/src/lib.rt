@@ -1,4 +1,11 @@
-//! The lexer: the tokens of a policy text (Cedar language reference, "Grammar").
+//! The lexer: the tokens of a policy text (Cedar language reference, grammar).
+//!
+//! ```
+//! let found = tokens(rt.alloc(), "resource.pages >= 18")?;
+//! assert_eq!(rt; found.len(), 5);
+//! ```
+//!
+//! What the tokens of a text are is said in `specs/Tokens.antt`, and what the letters of a string are in `specs/Letters.antt`.
 #![tactic(auto)]
 
 mod blank;

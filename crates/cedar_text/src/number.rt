@@ -1,7 +1,7 @@
 //! What digits are worth.
 
 ghost use Rattle.std.specs.Prelude.{◌≡◌, ◌≤◌};
-ghost use Rattle.cedar_text.specs.Lexing as spec;
+ghost use Rattle.cedar_text.specs.Private.Lexing as spec;
 
 use crate::bytes::digit_value;
 

@@ -1,8 +1,8 @@
 //! The first blank or token of a text.
 
 ghost use Rattle.std.specs.Prelude.{◌≡◌, ◌<◌, length, drop};
-ghost use Rattle.cedar_text.specs.Lexing as spec;
-ghost use Rattle.cedar_text.specs.Outcomes.{Gives};
+ghost use Rattle.cedar_text.specs.Private.Lexing as spec;
+ghost use Rattle.cedar_text.specs.Private.Outcomes.{Gives};
 
 use crate::blank::white_len;
 use crate::bytes::{byte_at, digits_len, is_digit, is_letter, line_len, word_len};
@@ -95,7 +95,7 @@ fn sign(bytes: &[u8], at: usize) -> Result<Piece, TextFault>
 }
 
 /// The blank or token that stands first, in a text of which this begins at `at`.
-#[tactic(auto, unfolding(crate::specs::Lexing::piece))]
+#[tactic(auto, unfolding(crate::specs::Private::Lexing::piece))]
 pub fn first_piece(bytes: &[u8], at: usize) -> Result<Piece, TextFault>
     requires { 0 < length bytes.now }
     ensures { Gives (λ p. p) (spec.piece bytes.now) result }

@@ -6,9 +6,9 @@ ghost use Rattle.std.specs.Char.{IsScalar};
 ghost use Rattle.std.specs.Str.{IsUtf8};
 ghost use Rattle.cedar_text.specs.declared.letter.Letter.{Letter as Letters};
 ghost use Rattle.cedar_text.specs.Strings.{IsString};
-ghost use Rattle.cedar_text.specs.Letters.{IsSpelled, HasLetters, HasLettersFault, plain_text_of};
-ghost use Rattle.cedar_text.specs.FirstLetter.{BeginsWith, BeginsNone, StartsEscape, StartsNoEscape, IsFirst, IsQuoted};
-ghost use Rattle.cedar_text.specs.Lexing as spec;
+ghost use Rattle.cedar_text.specs.Letters.{IsSpelled, HasQuotes, HasLetters, HasLettersFault, plain_text_of};
+ghost use Rattle.cedar_text.specs.Private.FirstLetter.{BeginsWith, BeginsNone, StartsEscape, StartsNoEscape, IsFirst};
+ghost use Rattle.cedar_text.specs.Private.Lexing as spec;
 
 use crate::bytes::{byte_at, hex_len};
 use crate::escape::escape_len;
@@ -47,7 +47,7 @@ fn code_letter(code: u32) -> Option<Letter>
 }
 
 /// The letter of an escape, of which these are the bytes behind the backslash.
-#[tactic(auto, unfolding(crate::specs::Lexing::escaped_letter))]
+#[tactic(auto, unfolding(crate::specs::Private::Lexing::escaped_letter))]
 fn escaped_letter(front: &[u8]) -> Option<Letter>
     requires { 0 < length front.now }
     ensures { result ≡ spec.escaped_letter front.now }
@@ -102,8 +102,8 @@ fn first_letter(text: &str) -> Option<(Letter, usize)>
 
 /// What stands between the quotes.
 fn between_quotes(text: &str) -> Option<&str>
-    ensures found { IfSome result (λ inner. IsQuoted text.now inner.now) }
-    ensures none { IfNone result ((inner : List ℕ) → IsQuoted text.now inner → ⊥) }
+    ensures found { IfSome result (λ inner. HasQuotes text.now inner.now) }
+    ensures none { IfNone result ((inner : List ℕ) → HasQuotes text.now inner → ⊥) }
     ensures utf8 { IfSome result (λ inner. IsUtf8 inner.now) }
 {
     let bytes = text.as_bytes();

@@ -10,8 +10,8 @@ use Rattle.cedar_tokens.specs.Content.{Content}
 use Rattle.cedar_tokens.specs.Marks.{Mark, Marks, content_of}
 use Rattle.cedar_tokens.specs.Names as g
 use Rattle.cedar_tokens.specs.Names.{Takes, Text, Key, Path, Entity}
-use Rattle.cedar_tokens.specs.Private.Reading as r
-use Rattle.cedar_tokens.specs.Private.Reading.{Syntax, Outcome, and_then, same_kind, sees, expect, next}
+use Rattle.cedar_tokens.specs.Reading as r
+use Rattle.cedar_tokens.specs.Reading.{Syntax, Outcome, and_then, same_kind, sees, expect, next}
 use Rattle.cedar_tokens.proofs.Outcomes.{Answers, answers_by}
 
 -- ---- tokens

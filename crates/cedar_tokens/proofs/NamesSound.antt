@@ -9,8 +9,8 @@ use Rattle.cedar_tokens.specs.declared.content.WrittenUid.{WrittenUid}
 use Rattle.cedar_tokens.specs.Marks.{Mark, Marks}
 use Rattle.cedar_tokens.specs.Names as g
 use Rattle.cedar_tokens.specs.Names.{Takes, Text, Key, Path, Entity}
-use Rattle.cedar_tokens.specs.Private.Reading as r
-use Rattle.cedar_tokens.specs.Private.Reading.{Syntax, same_kind, sees, expect, next}
+use Rattle.cedar_tokens.specs.Reading as r
+use Rattle.cedar_tokens.specs.Reading.{Syntax, same_kind, sees, expect, next}
 use Rattle.cedar_tokens.proofs.Outcomes.{Meets, meets_then, meets_as, if_meets}
 
 -- ---- tokens

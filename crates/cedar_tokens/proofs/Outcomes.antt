@@ -1,7 +1,7 @@
 -- What an outcome says, and how steps in a row say it.
 use Rattle.std.proofs.Common.{◌≡◌, refl, sym, subst, Ok, Err, Bool, true, false, cond, Option, Some, None}
 use Rattle.cedar_tokens.specs.Marks.{Marks}
-use Rattle.cedar_tokens.specs.Private.Reading.{Syntax, TooDeep, Outcome, and_then, on_some}
+use Rattle.cedar_tokens.specs.Reading.{Syntax, TooDeep, Outcome, and_then, on_some}
 
 -- The outcome is a with the tokens us left, or a nesting refusal, which comes only where P holds.
 pub data Answers {A : Type 0} (P : Type 0) : Outcome A → A → Marks → Type 0 where

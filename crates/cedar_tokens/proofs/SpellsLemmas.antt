@@ -12,7 +12,7 @@ use Rattle.cedar_text.specs.Lexeme.{Lexeme, Lexemes, lexeme, lexemes}
 use Rattle.cedar_tokens.specs.Marks.{HasLetters, AreMarks}
 use Rattle.cedar_tokens.specs.Private.Spells.{is_string, first_letters, other_letters, marks_with, Spells, none, string, other}
 use Rattle.cedar_text.specs.contracts.token_kind.TokenKind.{the_type}
-use Rattle.cedar_tokens.specs.Private.Reading.{sees, next}
+use Rattle.cedar_tokens.specs.Reading.{sees, next}
 use Rattle.cedar_tokens.proofs.MarkLemmas.{take_next}
 
 -- one more string

@@ -10,9 +10,9 @@ use Rattle.cedar_tokens.specs.UidText.{IsUidText, HasUidFault, AnswersUid}
 use Rattle.cedar_tokens.specs.declared.content.WrittenUid.{WrittenUid}
 use Rattle.cedar_tokens.specs.declared.parse_fault.ParseFault.{ParseFault}
 use Rattle.cedar_tokens.specs.declared.parse_fault.ParseFault.TheVariants as f
-use Rattle.cedar_tokens.specs.Private.Contract.{Refuses}
-use Rattle.cedar_tokens.specs.Private.Reading as r
-use Rattle.cedar_tokens.specs.Private.Reading.{Syntax, TooDeep, Outcome}
+use Rattle.cedar_tokens.specs.Contract.{Refuses}
+use Rattle.cedar_tokens.specs.Reading as r
+use Rattle.cedar_tokens.specs.Reading.{Syntax, TooDeep, Outcome}
 use Rattle.cedar_tokens.proofs.Outcomes.{Meets}
 use Rattle.cedar_tokens.proofs.NamesSound.{entity_reads}
 use Rattle.cedar_tokens.proofs.NamesComplete.{entity_yes}

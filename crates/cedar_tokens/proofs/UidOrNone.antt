@@ -18,8 +18,8 @@ use Rattle.cedar_tokens.specs.Marks.{Mark, Marks, mark_of, HasLetters, IsMark, A
 use Rattle.cedar_tokens.specs.Names.{Entity}
 use Rattle.cedar_tokens.specs.UidText.{IsUidText}
 use Rattle.cedar_tokens.specs.declared.content.WrittenUid.{WrittenUid}
-use Rattle.cedar_tokens.specs.Private.Reading as r
-use Rattle.cedar_tokens.specs.Private.Reading.{Syntax, TooDeep, Outcome}
+use Rattle.cedar_tokens.specs.Reading as r
+use Rattle.cedar_tokens.specs.Reading.{Syntax, TooDeep, Outcome}
 use Rattle.cedar_tokens.proofs.NamesSound.{entity_is}
 use Rattle.cedar_tokens.proofs.MarkLemmas.{OneSpelling, spelled_by, marks_same}
 use Rattle.cedar_tokens.proofs.UidLemmas.{IsText, uid_found, uid_same, uid_longer, uid_none, no_deep_uid}

@@ -4,4 +4,6 @@ pub mod Names
 pub mod Faults
 pub mod Spelling
 pub mod UidText
+pub mod Reading
+pub mod Contract
 pub mod Private

@@ -12,7 +12,7 @@ use Rattle.cedar_text.specs.Tokens.{AreTokens}
 use Rattle.cedar_tokens.specs.Content.{Content}
 use Rattle.cedar_tokens.specs.declared.spelled.Spelled.{Spelled}
 
--- a token, and the letters of a string
+-- A token with the letters that it writes, which a string alone has (Cedar language reference, grammar: STR).
 pub record Mark : Type 0 where
   pub kind : TokenKind
   pub start : ℕ
@@ -20,51 +20,57 @@ pub record Mark : Type 0 where
   pub number : ℕ
   pub letters : List Letter
 
+-- A list of tokens with their letters (own).
 abbrev pub Marks : Type 0
 Marks = List Mark
 
+-- The token of the lexer with these letters (own).
 abbrev pub mark_of : Lexeme → List Letter → Mark
 mark_of t ls = record { kind = t.kind; start = t.start; text = t.text; number = t.number; letters = ls }
 
--- what is seen of a token with its letters
+-- What contracts see of a token of the code with its letters (own).
 abbrev pub mark : Spelled → Mark
 mark s = mark_of (lexeme s.token.now) s.letters.now
 
--- A string writes these letters; other tokens have none.
+-- A string of this text writes these letters, and another token writes none (Cedar language reference, grammar: STR).
 abbrev pub HasLetters : TokenKind → List ℕ → List Letter → Type 0
 HasLetters k.String text ls = IsSpelled text ls
 HasLetters _ text ls = ls ≡ []
 
+-- The token with its letters is this token of the lexer, and its letters are those that it writes (own).
 abbrev pub IsMark : Lexeme → Mark → Type 0
 IsMark t m = (m ≡ mark_of t m.letters) × HasLetters t.kind t.text m.letters
 
--- these tokens, one by one
+-- The tokens with their letters are these tokens of the lexer, one by one (own).
 abbrev pub AreMarks : Lexemes → Marks → Type 0
 AreMarks [] [] = Unit {0}
 AreMarks [] (m ∷ ms) = ⊥
 AreMarks (t ∷ ts) [] = ⊥
 AreMarks (t ∷ ts) (m ∷ ms) = IsMark t m × AreMarks ts ms
 
--- the tokens of the text
+-- The text has these tokens with their letters (Cedar language reference, grammar).
 abbrev pub IsMarked : List ℕ → Marks → Type 0
 IsMarked source ms = (ts : Lexemes) × AreTokens source ts × AreMarks ts ms
 
--- where the first of these tokens begins
+-- The byte at which the first of these tokens begins, or 0 where there is none (own).
 abbrev pub start_of : Marks → ℕ
 start_of [] = 0
 start_of (t ∷ ts) = t.start
 
 -- ---- what letters stand for
 
--- the text of a string: one with the escape `\*` stands for none
+-- The text that a string with these letters stands for: one with the escape `\*` stands for none (Cedar language reference,
+-- grammar: STR).
 abbrev pub content_of : List Letter → Content
 content_of ls = plain_text_of ls
 
--- In a pattern a bare `*` is a star (Cedar language reference, operators: like).
+-- The element of a pattern that a letter stands for: a bare `*` is a star, and each other letter is its character (Cedar
+-- language reference, operators: like).
 abbrev pub element_of : Letter → Element
 element_of (letter.Character c) = element.Character c
 element_of letter.Star = element.Star
 element_of letter.EscapedStar = element.Character 42
 
+-- The pattern that a string with these letters stands for (Cedar language reference, operators: like).
 abbrev pub pattern_of : List Letter → List Element
 pattern_of ls = map element_of ls

@@ -1,5 +1,3 @@
--- What proofs and private contracts speak of, and no public clause.
-pub mod Reading
-pub mod Contract
+-- What proofs, models and private contracts speak of: nothing here is cited by a contract of a function that another crate calls.
 pub mod PlainUid
 pub mod Spells

@@ -5,13 +5,13 @@ use Rattle.cedar_tokens.specs.Marks.{Marks}
 use Rattle.cedar_tokens.specs.declared.parse_fault.ParseFault.{ParseFault}
 use Rattle.cedar_tokens.specs.declared.parse_fault.ParseFault.TheVariants as f
 
--- the answer is these tokens, or memory ran out
+-- The answer is these tokens, or memory ran out (own).
 abbrev pub HasMarks : Marks → Result Marks ParseFault → Type 0
 HasMarks ms (Ok found) = found ≡ ms
 HasMarks ms (Err f.OutOfMemory) = Unit {0}
 HasMarks ms (Err _) = ⊥
 
--- what a refusal says of a text: it has no tokens; want of memory says nothing of it
+-- A text is refused since it has no tokens, and the refusal is that of its fault; out of memory says nothing of it (own).
 abbrev pub HasMarksFault : List ℕ → ParseFault → Type 0
 HasMarksFault source f.OutOfMemory = Unit {0}
 HasMarksFault source (f.Text fault) = LacksTokens source fault

@@ -1,9 +1,9 @@
 //! The tokens that are left.
 ghost use Rattle.std.specs.Prelude.{◌≡◌, length, map, option_map};
 ghost use Rattle.cedar_tokens.specs.Private.Spells as spells;
-ghost use Rattle.cedar_tokens.specs.Private.Reading as spec;
-ghost use Rattle.cedar_tokens.specs.Private.Contract.{TakesToken};
-ghost use Rattle.cedar_tokens.specs.Private.Reading.{any_word};
+ghost use Rattle.cedar_tokens.specs.Reading as spec;
+ghost use Rattle.cedar_tokens.specs.Contract.{TakesToken};
+ghost use Rattle.cedar_tokens.specs.Reading.{any_word};
 ghost use Rattle.cedar_tokens.specs.Names.{is_word_kind};
 ghost use Rattle.cedar_text.specs.Lexeme.{lexeme, lexemes};
 ghost use Rattle.cedar_tokens.specs.Marks.{start_of, mark};
@@ -60,7 +60,7 @@ impl<'t> Cursor<'t> {
     }
 
     /// What the next token is.
-    #[tactic(auto, unfolding(crate::specs::Private::Reading::kind_at))]
+    #[tactic(auto, unfolding(crate::specs::Reading::kind_at))]
     pub fn kind(&self) -> Option<TokenKind>
         ensures { result ≡ spec.kind_at self.now }
     {
@@ -71,7 +71,7 @@ impl<'t> Cursor<'t> {
     }
 
     /// The next token.
-    #[tactic(auto, unfolding(crate::specs::Private::Reading::first))]
+    #[tactic(auto, unfolding(crate::specs::Reading::first))]
     pub fn peek(&self) -> Option<Spelled<'t>>
         ensures { option_map mark result ≡ spec.first self.now }
     {
@@ -82,7 +82,7 @@ impl<'t> Cursor<'t> {
     }
 
     /// Whether the next token is of this kind.
-    #[tactic(auto, unfolding(crate::specs::Private::Reading::sees))]
+    #[tactic(auto, unfolding(crate::specs::Reading::sees))]
     pub fn sees(&self, kind: TokenKind) -> bool
         ensures { result ≡ spec.sees kind self.now }
     {
@@ -93,7 +93,7 @@ impl<'t> Cursor<'t> {
     }
 
     /// Whether the token after the next is of this kind.
-    #[tactic(auto, unfolding(crate::specs::Private::Reading::sees, crate::specs::Private::Reading::next))]
+    #[tactic(auto, unfolding(crate::specs::Reading::sees, crate::specs::Reading::next))]
     pub fn sees_behind(&self, kind: TokenKind) -> bool
         ensures { result ≡ spec.sees kind (spec.next self.now) }
     {
@@ -104,7 +104,7 @@ impl<'t> Cursor<'t> {
     }
 
     /// Goes past the next token, if there is one.
-    #[tactic(auto, unfolding(crate::specs::Private::Reading::next))]
+    #[tactic(auto, unfolding(crate::specs::Reading::next))]
     pub fn skip(&mut self)
         ensures { self.new ≡ spec.next self.old }
     {
@@ -116,7 +116,7 @@ impl<'t> Cursor<'t> {
     }
 
     /// Goes past the next token, which is to be of this kind; another is no syntax.
-    #[tactic(auto, unfolding(crate::specs::Private::Reading::expect))]
+    #[tactic(auto, unfolding(crate::specs::Reading::expect))]
     pub fn expect(&mut self, kind: TokenKind) -> Result<Spelled<'t>, ParseFault>
         ensures { TakesToken (spec.expect kind self.old) result self.new }
     {
@@ -133,7 +133,7 @@ impl<'t> Cursor<'t> {
     }
 
     /// Goes past the next token, which is to be a word, reserved or not; another is no syntax.
-    #[tactic(auto, unfolding(crate::specs::Private::Reading::any_word))]
+    #[tactic(auto, unfolding(crate::specs::Reading::any_word))]
     pub fn any_word(&mut self) -> Result<Spelled<'t>, ParseFault>
         ensures { TakesToken (any_word self.old) result self.new }
     {

@@ -1,12 +1,12 @@
 //! Names, strings and uids of the Cedar policy language, read from tokens (Cedar language reference, grammar).
 //!
 //! ```
-//! let uid = read_uid(alloc, "Photos::Album::\"trip\"")?;
-//! assert_eq!(uid.ty.as_str(), "Photos::Album");
+//! let uid = read_uid(rt.alloc(), "Photos::Album::\"trip\"")?;
+//! assert_eq!(rt; uid.ty.as_str(), "Photos::Album");
 //! ```
 //!
-//! Tokens stand in `specs/Marks.antt`, the grammar of names in `specs/Names.antt`, and what the text of a uid is in
-//! `specs/UidText.antt`.
+//! Tokens are defined in `specs/Marks.antt`, the grammar of names in `specs/Names.antt`, what the text of a uid is in
+//! `specs/UidText.antt`, and what the functions that read from tokens give in `specs/Reading.antt`.
 #![tactic(auto)]
 
 mod content;

@@ -1,10 +1,10 @@
 //! Strings, paths and uids.
 ghost use Rattle.std.specs.Prelude.{◌≡◌, ◌++◌, OnOk, codes, string_bytes, true, List, ℕ, []};
-ghost use Rattle.cedar_tokens.specs.Private.Reading as spec;
+ghost use Rattle.cedar_tokens.specs.Reading as spec;
 ghost use Rattle.cedar_text.specs.Tokens.{IsToken};
 ghost use Rattle.cedar_text.specs.declared.token_kind.TokenKind.TheVariants.{Identifier};
 ghost use Rattle.cedar_value.specs.Names.{is_identifier};
-ghost use Rattle.cedar_tokens.specs.Private.Contract.{Reads};
+ghost use Rattle.cedar_tokens.specs.Contract.{Reads};
 
 use crate::content::{Content, WrittenUid};
 use crate::cursor::Cursor;
@@ -14,7 +14,7 @@ use cedar_value::{Name, Text};
 use std::alloc::{AllocError, Global};
 
 /// What a string stands for (Cedar language reference, grammar: `STR`).
-#[tactic(auto, unfolding(crate::specs::Private::Reading::text))]
+#[tactic(auto, unfolding(crate::specs::Reading::text))]
 pub fn text(alloc: Global, tokens: &mut Cursor<'_>) -> Result<Content, ParseFault>
     ensures { Reads (spec.text tokens.old) result tokens.new }
 {
@@ -22,8 +22,8 @@ pub fn text(alloc: Global, tokens: &mut Cursor<'_>) -> Result<Content, ParseFaul
     Ok(token.content(alloc)?)
 }
 
-/// A word, or what a string stands for (Cedar language reference, grammar: `RecInit`).
-#[tactic(auto, unfolding(crate::specs::Private::Reading::key))]
+/// A word, or what a string stands for (Cedar language reference, grammar: `RecInits`).
+#[tactic(auto, unfolding(crate::specs::Reading::key))]
 pub fn key(alloc: Global, tokens: &mut Cursor<'_>) -> Result<Content, ParseFault>
     ensures { Reads (spec.key tokens.old) result tokens.new }
 {
@@ -36,7 +36,7 @@ pub fn key(alloc: Global, tokens: &mut Cursor<'_>) -> Result<Content, ParseFault
 }
 
 /// The name of an entity type (Cedar language reference, grammar: `Path`).
-#[tactic(auto, unfolding(crate::specs::Private::Reading::path))]
+#[tactic(auto, unfolding(crate::specs::Reading::path))]
 pub fn path(alloc: Global, tokens: &mut Cursor<'_>) -> Result<Name, ParseFault>
     ensures { Reads (spec.path tokens.old) result tokens.new }
 {
@@ -70,7 +70,7 @@ fn lengthen(path: &mut String, word: &str) -> Result<(), AllocError>
 }
 
 /// A uid (Cedar language reference, grammar: `Entity`).
-#[tactic(auto, unfolding(crate::specs::Private::Reading::entity))]
+#[tactic(auto, unfolding(crate::specs::Reading::entity))]
 pub fn entity(alloc: Global, tokens: &mut Cursor<'_>) -> Result<WrittenUid, ParseFault>
     ensures { Reads (spec.entity tokens.old) result tokens.new }
 {
@@ -79,7 +79,7 @@ pub fn entity(alloc: Global, tokens: &mut Cursor<'_>) -> Result<WrittenUid, Pars
 }
 
 /// The uid of this type, of which the rest is left.
-#[tactic(auto, unfolding(crate::specs::Private::Reading::uid_of))]
+#[tactic(auto, unfolding(crate::specs::Reading::uid_of))]
 pub fn uid_of(alloc: Global, ty: Name, tokens: &mut Cursor<'_>) -> Result<WrittenUid, ParseFault>
     ensures { Reads (spec.uid_of ty tokens.old) result tokens.new }
 {

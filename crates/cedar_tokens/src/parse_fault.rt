@@ -36,8 +36,8 @@ pub enum ParseFault {
     /// 205: there is no function or method of the name there.
     #[error("there is no function or method of the name at {0}")]
     UnknownFunction(usize),
-    /// 206: the function or method there takes one argument.
-    #[error("the function or method at {0} takes one argument")]
+    /// 206: the function or method there takes another count of arguments: `isEmpty` none, each other one argument.
+    #[error("the function or method at {0} takes another count of arguments")]
     Arity(usize),
     /// 207: the slot there stands where none may.
     #[error("the slot at {0} stands where none may")]

@@ -1,11 +1,12 @@
--- A statement as it is written (Cedar language reference, policies).
+-- A statement as it is written (Cedar language reference, grammar: Policy).
 use Rattle.std.specs.Prelude.{ℕ, List}
 use Rattle.cedar_policies.specs.declared.effect.Effect.{Effect}
 use Rattle.cedar_written.specs.declared.written_statement.WrittenAnnotation.{WrittenAnnotation}
 use Rattle.cedar_written.specs.declared.written_statement.WrittenScope.{WrittenScope}
 use Rattle.cedar_written.specs.declared.written_statement.WrittenCondition.{WrittenCondition}
 
--- where its first token begins, its annotations in order, its effect, its scope, and its conditions in order
+-- A statement as it is written: the byte at which it begins, its annotations in order, its effect, its scope, and its
+-- conditions in order (Cedar language reference, grammar: Policy).
 pub record StatementTree : Type 0 where
   pub start : ℕ
   pub annotations : List WrittenAnnotation

@@ -2,8 +2,8 @@
 //!
 //! ```
 //! let flag = Written::new(WrittenKind::Truth(true));
-//! let denied = not(alloc, flag)?;
-//! assert!(matches!(denied.kind(), WrittenKind::Not(_)));
+//! let denied = not(rt.alloc(), flag)?;
+//! assert!(rt; matches!(denied.kind(), WrittenKind::Not(_)));
 //! ```
 //!
 //! The tree as written stands in `specs/Written.antt` and `specs/StatementTree.antt`. What is written by the grammar stands in

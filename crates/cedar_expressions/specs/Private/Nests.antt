@@ -5,8 +5,8 @@ use denote.Ref.{MutBor}
 use Rattle.cedar_tokens.specs.Marks.{Marks}
 use Rattle.cedar_written.specs.Written.{Written}
 use Rattle.cedar_tokens.specs.declared.parse_fault.ParseFault.{ParseFault}
-use Rattle.cedar_expressions.specs.Private.Reading.{nested}
-use Rattle.cedar_tokens.specs.Private.Contract.{Reads}
+use Rattle.cedar_expressions.specs.Reading.{nested}
+use Rattle.cedar_tokens.specs.Contract.{Reads}
 
 pub record Nests (depth : ℕ) (pre : Global → MutBor Marks → ℕ → Type 0)
     (post : Global → MutBor Marks → ℕ → Result Written ParseFault → MutBor Marks → Type 0) : Type 0 where

@@ -3,10 +3,10 @@ use Rattle.std.specs.Prelude.{ℕ, Result}
 use denote.Ref.{MutBor}
 use Rattle.cedar_tokens.specs.Marks.{Marks}
 use Rattle.cedar_tokens.specs.declared.parse_fault.ParseFault.{ParseFault}
-use Rattle.cedar_tokens.specs.Private.Contract.{Reads}
+use Rattle.cedar_tokens.specs.Contract.{Reads}
 use Rattle.cedar_expressions.specs.declared.chain_level.ChainLevel.{ChainLevel}
 use Rattle.cedar_written.specs.Written.{Written}
-use Rattle.cedar_expressions.specs.Private.Reading.{nested, operand_of}
+use Rattle.cedar_expressions.specs.Reading.{nested, operand_of}
 
 pub record Operands (depth : ℕ) (level : ChainLevel) (pre : MutBor Marks → Type 0) (post : MutBor Marks → Result Written ParseFault → MutBor Marks → Type 0) : Type 0 where
   pub callable : (old : MutBor Marks) → pre old

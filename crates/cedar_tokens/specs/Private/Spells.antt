@@ -6,7 +6,7 @@ use Rattle.cedar_text.specs.declared.token_kind.TokenKind.TheVariants as k
 use Rattle.cedar_text.specs.Letters.{IsSpelled}
 use Rattle.cedar_text.specs.Lexeme.{Lexeme, Lexemes}
 use Rattle.cedar_tokens.specs.Marks.{Mark, Marks, mark_of}
-use Rattle.cedar_tokens.specs.Private.Reading.{same_kind}
+use Rattle.cedar_tokens.specs.Reading.{same_kind}
 
 abbrev pub is_string : TokenKind → Bool
 is_string kind = same_kind kind k.String

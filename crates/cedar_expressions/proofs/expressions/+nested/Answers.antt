@@ -1,5 +1,5 @@
 use Rattle.std.proofs.Common.{arith}
-use Rattle.cedar_expressions.specs.Private.Reading as spec
+use Rattle.cedar_expressions.specs.Reading as spec
 use Rattle.cedar_tokens.proofs.Turns.{deeper, none_deep}
 use Rattle.cedar_expressions.proofs.expressions.+nested.Goals as goal
 

@@ -1,6 +1,6 @@
 use Rattle.std.proofs.Common.{rules, arith}
 use Rattle.std.proofs.lemmas.Grind.{common_steps}
-use Rattle.cedar_expressions.specs.Private.Reading as spec
+use Rattle.cedar_expressions.specs.Reading as spec
 use Rattle.cedar_tokens.proofs.Turns.{one_more, no_more}
 use Rattle.cedar_grammar.proofs.scopes.series.Goals as goal
 

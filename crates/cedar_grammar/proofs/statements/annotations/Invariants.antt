@@ -1,5 +1,5 @@
 use Rattle.std.proofs.Common.{◌≡◌, ◌-◌}
-use Rattle.cedar_grammar.specs.Private.StatementReading as spec
+use Rattle.cedar_grammar.specs.StatementReading as spec
 use Rattle.cedar_grammar.proofs.statements.annotations.Given as goal
 
 abbrev pub invariant-loop-turn : goal.invariant-loop-turn

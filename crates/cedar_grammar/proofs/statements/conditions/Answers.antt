@@ -1,6 +1,6 @@
 use Rattle.std.proofs.Common.{rules, arith}
 use Rattle.std.proofs.lemmas.Grind.{common_steps}
-use Rattle.cedar_grammar.specs.Private.StatementReading as spec
+use Rattle.cedar_grammar.specs.StatementReading as spec
 use Rattle.cedar_tokens.proofs.Turns.{one_more, no_more}
 use Rattle.cedar_grammar.proofs.statements.conditions.Goals as goal
 

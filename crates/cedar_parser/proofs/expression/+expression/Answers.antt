@@ -1,17 +1,23 @@
-use Rattle.std.proofs.Common.{◌≡◌, sym, ap, subst, ◌∙◌, ◌<◌, length, arith}
+use Rattle.std.proofs.Common.{◌≡◌, List, sym, ap, subst, ◌∙◌, ◌<◌, length, arith}
 use Rattle.std.specs.Prelude.{IfOk}
 use Rattle.cedar_ast.specs.Expression.{Expression, Entries, expressions_of, entries_of, record_with}
 use Rattle.cedar_ast.specs.Keys.{AreDistinct, keys_of}
-use Rattle.cedar_conditions.specs.declared.side_condition.SideCondition.TheVariants.{Strings, Numbers, Keys}
-use Rattle.cedar_conditions.specs.Meaning.{to_expression}
+use Rattle.cedar_conditions.specs.declared.side_condition.SideCondition.TheVariants.{Strings, Numbers, Keys, Names, Counts, Slots}
+use Rattle.cedar_written.specs.Written.{Written, members_of}
+use Rattle.cedar_written.specs.WrittenKind.{written_of}
+use Rattle.cedar_written.specs.declared.written.WrittenKind.{WrittenKind}
+use Rattle.cedar_conditions.specs.Meaning.{to_expression, to_expressions, function_of, method_of}
+use Rattle.cedar_conditions.specs.Limits.{Keeps}
+use Rattle.cedar_conditions.specs.Private.Parts.{KeepLink}
 use Rattle.cedar_conditions.proofs.PartLemmas.{link_lighter, member_lighter, field_lighter, links_here, members_here, fields_here, behind_all, expressions_next, keys_of_pairs, entries_of_pairs}
+use Rattle.cedar_parser.proofs.CallLemmas.{method_arguments, function_argument}
 use Rattle.cedar_parser.proofs.expression.+expression.Goals as goal
 
 pub chain_expression-link_expression-requires : goal.chain_expression-link_expression-requires
 chain_expression-link_expression-requires t c =
     let within : c.loop-link.link-index < length c.args.links.now = omega arith in (
       omega (arith, link_lighter c.args.links.now c.loop-link.link-index c.link-item.result within c.link-item.is, c.decreases),
-      ((links_here Numbers c.args.links.now c.loop-link.link-index c.link-item.result within c.link-item.is c.loop-link.invariant.numbers).0, ((links_here Keys c.args.links.now c.loop-link.link-index c.link-item.result within c.link-item.is c.loop-link.invariant.keys).0, (links_here Strings c.args.links.now c.loop-link.link-index c.link-item.result within c.link-item.is c.loop-link.invariant.strings).0)),
+      ((links_here Numbers c.args.links.now c.loop-link.link-index c.link-item.result within c.link-item.is c.loop-link.invariant.numbers).0, ((links_here Keys c.args.links.now c.loop-link.link-index c.link-item.result within c.link-item.is c.loop-link.invariant.keys).0, ((links_here Strings c.args.links.now c.loop-link.link-index c.link-item.result within c.link-item.is c.loop-link.invariant.strings).0, ((links_here Names c.args.links.now c.loop-link.link-index c.link-item.result within c.link-item.is c.loop-link.invariant.names).0, ((links_here Counts c.args.links.now c.loop-link.link-index c.link-item.result within c.link-item.is c.loop-link.invariant.counts).0, (links_here Slots c.args.links.now c.loop-link.link-index c.link-item.result within c.link-item.is c.loop-link.invariant.slots).0))))),
     )
 
 pub chain_expression-returns : goal.chain_expression-returns
@@ -21,7 +27,7 @@ pub expressions-to_expression-requires : goal.expressions-to_expression-requires
 expressions-to_expression-requires t c =
     let within : c.loop-member.member-index < length c.args.members.now = omega arith in (
       omega (arith, member_lighter c.args.members.now c.loop-member.member-index c.member-item.result within c.member-item.is, c.decreases),
-      ((members_here Numbers c.args.members.now c.loop-member.member-index c.member-item.result within c.member-item.is c.loop-member.invariant.numbers).0, ((members_here Keys c.args.members.now c.loop-member.member-index c.member-item.result within c.member-item.is c.loop-member.invariant.keys).0, (members_here Strings c.args.members.now c.loop-member.member-index c.member-item.result within c.member-item.is c.loop-member.invariant.strings).0)),
+      ((members_here Numbers c.args.members.now c.loop-member.member-index c.member-item.result within c.member-item.is c.loop-member.invariant.numbers).0, ((members_here Keys c.args.members.now c.loop-member.member-index c.member-item.result within c.member-item.is c.loop-member.invariant.keys).0, ((members_here Strings c.args.members.now c.loop-member.member-index c.member-item.result within c.member-item.is c.loop-member.invariant.strings).0, ((members_here Names c.args.members.now c.loop-member.member-index c.member-item.result within c.member-item.is c.loop-member.invariant.names).0, ((members_here Counts c.args.members.now c.loop-member.member-index c.member-item.result within c.member-item.is c.loop-member.invariant.counts).0, (members_here Slots c.args.members.now c.loop-member.member-index c.member-item.result within c.member-item.is c.loop-member.invariant.slots).0))))),
     )
 
 pub expressions-loop-member-preserved : goal.expressions-loop-member-preserved
@@ -33,13 +39,16 @@ expressions-loop-member-preserved t c =
       numbers = (members_here Numbers c.args.members.now c.loop-member.member-index c.member-item.result within c.member-item.is c.loop-member.invariant.numbers).1;
       keys = (members_here Keys c.args.members.now c.loop-member.member-index c.member-item.result within c.member-item.is c.loop-member.invariant.keys).1;
       strings = (members_here Strings c.args.members.now c.loop-member.member-index c.member-item.result within c.member-item.is c.loop-member.invariant.strings).1;
+      names = (members_here Names c.args.members.now c.loop-member.member-index c.member-item.result within c.member-item.is c.loop-member.invariant.names).1;
+      counts = (members_here Counts c.args.members.now c.loop-member.member-index c.member-item.result within c.member-item.is c.loop-member.invariant.counts).1;
+      slots = (members_here Slots c.args.members.now c.loop-member.member-index c.member-item.result within c.member-item.is c.loop-member.invariant.slots).1;
     }
 
 pub pairs-to_expression-requires : goal.pairs-to_expression-requires
 pairs-to_expression-requires t c =
     let within : c.loop-field.field-index < length c.args.fields.now = omega arith in (
       omega (arith, field_lighter c.args.fields.now c.loop-field.field-index c.field-item.result within c.field-item.is, c.decreases),
-      ((fields_here Numbers c.args.fields.now c.loop-field.field-index c.field-item.result within c.field-item.is c.loop-field.invariant.numbers).0.1, ((fields_here Keys c.args.fields.now c.loop-field.field-index c.field-item.result within c.field-item.is c.loop-field.invariant.keys).0.1, (fields_here Strings c.args.fields.now c.loop-field.field-index c.field-item.result within c.field-item.is c.loop-field.invariant.strings).0.1)),
+      ((fields_here Numbers c.args.fields.now c.loop-field.field-index c.field-item.result within c.field-item.is c.loop-field.invariant.numbers).0.1, ((fields_here Keys c.args.fields.now c.loop-field.field-index c.field-item.result within c.field-item.is c.loop-field.invariant.keys).0.1, ((fields_here Strings c.args.fields.now c.loop-field.field-index c.field-item.result within c.field-item.is c.loop-field.invariant.strings).0.1, ((fields_here Names c.args.fields.now c.loop-field.field-index c.field-item.result within c.field-item.is c.loop-field.invariant.names).0.1, ((fields_here Counts c.args.fields.now c.loop-field.field-index c.field-item.result within c.field-item.is c.loop-field.invariant.counts).0.1, (fields_here Slots c.args.fields.now c.loop-field.field-index c.field-item.result within c.field-item.is c.loop-field.invariant.slots).0.1))))),
     )
 
 pub to_record-record-requires : goal.to_record-record-requires
@@ -49,3 +58,17 @@ to_record-record-requires t c =
 pub to_record-returns : goal.to_record-returns
 to_record-returns t c =
     subst (λ (es : Entries). IfOk c.record.result (λ (x : Expression). x ≡ record_with es)) (ap entries_of c.in_ok-pairs.ensures ∙ entries_of_pairs c.args.fields.now) c.record.ensures
+
+pub link_expression-applied-requires : goal.link_expression-applied-requires
+link_expression-applied-requires t c =
+    method_arguments (method_of c.in-Method.name) c.in-Some.method (members_of c.in-Method.arguments) c.in_ok-arguments-in-Method.arguments.items
+    (ap method_of (sym c.as_str.ensures) ∙ sym c.method_of.ensures ∙ c.in-Some.is)
+    (subst (KeepLink Counts) c.in-Method.is c.requires.counts).1
+    (c.in_ok-arguments-in-Method.ensures ∙ ap (λ (xs : List Written). to_expressions (members_of xs)) c.items.ensures)
+
+pub to_expression-called-requires-clause-argument : goal.to_expression-called-requires-clause-argument
+to_expression-called-requires-clause-argument t c =
+    function_argument (function_of c.in-Call.name) (members_of c.in-Call.arguments) c.in_ok-arguments-in-Call.arguments.items
+    (subst (λ (k : WrittenKind). Keeps Names (written_of k)) c.in-Call.is (subst (Keeps Names) (sym c.kind.ensures) c.requires.names)).0
+    (subst (λ (k : WrittenKind). Keeps Counts (written_of k)) c.in-Call.is (subst (Keeps Counts) (sym c.kind.ensures) c.requires.counts)).1
+    (c.in_ok-arguments-in-Call.ensures ∙ ap (λ (xs : List Written). to_expressions (members_of xs)) c.items-in-Call.ensures)

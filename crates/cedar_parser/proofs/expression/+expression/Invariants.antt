@@ -1,6 +1,6 @@
 use Rattle.std.proofs.Common.{◌≡◌, suc, ◌+◌, ◌*◌, take, drop, fold}
 use Rattle.cedar_ast.specs.Expression.{expressions_of}
-use Rattle.cedar_conditions.specs.declared.side_condition.SideCondition.TheVariants.{Strings, Numbers, Keys}
+use Rattle.cedar_conditions.specs.declared.side_condition.SideCondition.TheVariants.{Strings, Numbers, Keys, Names, Counts, Slots}
 use Rattle.cedar_written.specs.WrittenKind.{links_of, fields_of}
 use Rattle.cedar_written.specs.Written.{parts, link_parts, member_parts, field_parts, members_of}
 use Rattle.cedar_conditions.specs.Meaning.{to_expression, to_expressions}
@@ -42,6 +42,9 @@ invariant-chain_expression-loop-link l = record {
   numbers : KeepLinks Numbers (links_of (drop l.link-index l.links));
   keys : KeepLinks Keys (links_of (drop l.link-index l.links));
   strings : KeepLinks Strings (links_of (drop l.link-index l.links));
+  names : KeepLinks Names (links_of (drop l.link-index l.links));
+  counts : KeepLinks Counts (links_of (drop l.link-index l.links));
+  slots : KeepLinks Slots (links_of (drop l.link-index l.links));
 }
 
 abbrev pub invariant-expressions-loop-member : goal.invariant-expressions-loop-member
@@ -50,6 +53,9 @@ invariant-expressions-loop-member l = record {
   numbers : KeepMembers Numbers (members_of (drop l.member-index l.members));
   keys : KeepMembers Keys (members_of (drop l.member-index l.members));
   strings : KeepMembers Strings (members_of (drop l.member-index l.members));
+  names : KeepMembers Names (members_of (drop l.member-index l.members));
+  counts : KeepMembers Counts (members_of (drop l.member-index l.members));
+  slots : KeepMembers Slots (members_of (drop l.member-index l.members));
 }
 
 abbrev pub invariant-pairs-loop-field : goal.invariant-pairs-loop-field
@@ -58,4 +64,7 @@ invariant-pairs-loop-field l = record {
   numbers : KeepFields Numbers (fields_of (drop l.field-index l.fields));
   keys : KeepFields Keys (fields_of (drop l.field-index l.fields));
   strings : KeepFields Strings (fields_of (drop l.field-index l.fields));
+  names : KeepFields Names (fields_of (drop l.field-index l.fields));
+  counts : KeepFields Counts (fields_of (drop l.field-index l.fields));
+  slots : KeepFields Slots (fields_of (drop l.field-index l.fields));
 }

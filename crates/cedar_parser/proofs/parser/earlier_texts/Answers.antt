@@ -1,5 +1,6 @@
 use Rattle.std.proofs.Common.{refl}
-use Rattle.cedar_parser.proofs.EarlierLemmas.{earlier_text, earlier_method}
+use Rattle.cedar_parser.proofs.EarlierMeanings.{earlier_method}
+use Rattle.cedar_parser.proofs.EarlierLemmas.{earlier_text}
 use Rattle.cedar_parser.proofs.parser.earlier_texts.Goals as goal
 
 pub returns-clause-texts : goal.returns-clause-texts

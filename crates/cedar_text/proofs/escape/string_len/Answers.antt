@@ -1,8 +1,8 @@
 use Rattle.std.proofs.Common.{rules, arith, ◌≡◌, ◌≤◌, length, ◌+◌, true, false, eqb, get_or, drop, Some, None, length-drop}
 use Rattle.std.proofs.lemmas.List.{take_rest}
 use Rattle.std.proofs.lemmas.Grind.{common_steps}
-use Rattle.cedar_text.specs.Lexing.{escape_len, no_escape}
-use Rattle.cedar_text.specs.Outcomes.{Refuses}
+use Rattle.cedar_text.specs.Private.Lexing.{escape_len, no_escape}
+use Rattle.cedar_text.specs.Private.Outcomes.{Refuses}
 use Rattle.cedar_text.proofs.Passing.{close_turn, plain_turn, escape_turn, refuse_turn, end_turn}
 use Rattle.cedar_text.proofs.escape.string_len.Goals as goal
 

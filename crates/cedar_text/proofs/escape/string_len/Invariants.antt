@@ -1,5 +1,5 @@
 use Rattle.std.proofs.Common.{◌≡◌, ◌≤◌, ◌-◌, length, drop}
-use Rattle.cedar_text.specs.Lexing.{further, string_len}
+use Rattle.cedar_text.specs.Private.Lexing.{further, string_len}
 use Rattle.cedar_text.proofs.escape.string_len.Given as goal
 
 abbrev pub invariant-loop-i : goal.invariant-loop-i

@@ -2,7 +2,7 @@ use Rattle.std.proofs.Common.{◌≡◌, ◌+◌, ◌-◌, length}
 use denote.Shadow.{shadow}
 use denote.Text.{Utf8}
 use Rattle.cedar_text.specs.Lexeme.{lexemes}
-use Rattle.cedar_text.specs.Lexing.{lex}
+use Rattle.cedar_text.specs.Private.Lexing.{lex}
 use Rattle.cedar_text.proofs.Turns.{with_front}
 use Rattle.cedar_text.proofs.lexer.lex.Given as goal
 

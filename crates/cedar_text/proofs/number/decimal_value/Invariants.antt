@@ -1,5 +1,5 @@
 use Rattle.std.proofs.Common.{◌≡◌, ◌≤◌, drop}
-use Rattle.cedar_text.specs.Lexing.{capped_decimal_from}
+use Rattle.cedar_text.specs.Private.Lexing.{capped_decimal_from}
 use Rattle.cedar_text.proofs.number.decimal_value.Given as goal
 
 abbrev pub invariant-loop-b : goal.invariant-loop-b

@@ -1,6 +1,6 @@
 use Rattle.std.proofs.Common.{rules, arith, ◌≡◌}
 use Rattle.std.proofs.lemmas.Grind.{common_steps}
-use Rattle.cedar_text.specs.Lexing.{piece, number_at, sign_at}
+use Rattle.cedar_text.specs.Private.Lexing.{piece, number_at, sign_at}
 use Rattle.cedar_text.proofs.piece.first_piece.Goals as goal
 
 pub returns-then-is_digit : goal.returns-then-is_digit

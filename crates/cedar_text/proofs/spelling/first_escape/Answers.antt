@@ -1,6 +1,6 @@
 use Rattle.std.proofs.Common.{rules, arith, ◌≡◌, take, Some, None}
 use Rattle.std.proofs.lemmas.Grind.{common_steps}
-use Rattle.cedar_text.specs.Lexing.{escape_len, escaped_letter}
+use Rattle.cedar_text.specs.Private.Lexing.{escape_len, escaped_letter}
 use Rattle.cedar_text.proofs.Escapes.{no_escape_is}
 use Rattle.cedar_text.proofs.Firsts.{escape_found, escape_known}
 use Rattle.cedar_text.proofs.spelling.first_escape.Goals as goal

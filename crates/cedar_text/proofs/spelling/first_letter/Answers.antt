@@ -1,7 +1,7 @@
 use Rattle.std.proofs.Common.{rules, arith, ◌≢◌, subst, drop}
 use Rattle.std.proofs.lemmas.Grind.{common_steps}
 use Rattle.std.proofs.lemmas.List.{take_rest}
-use Rattle.cedar_text.specs.FirstLetter.{BeginsWith, StartsEscape, StartsNoEscape}
+use Rattle.cedar_text.specs.Private.FirstLetter.{BeginsWith, StartsEscape, StartsNoEscape}
 use Rattle.cedar_text.proofs.Firsts.{quote_none, star_first, plain_first, escape_first, escape_none}
 use Rattle.cedar_text.proofs.spelling.first_letter.Goals as goal
 

@@ -1,6 +1,6 @@
 use Rattle.std.proofs.Common.{rules, arith, string_bytes}
 use Rattle.std.proofs.lemmas.Grind.{common_steps}
-use Rattle.cedar_tokens.specs.Private.Reading as spec
+use Rattle.cedar_tokens.specs.Reading as spec
 use Rattle.cedar_tokens.proofs.Turns.{one_more, no_more}
 use Rattle.cedar_tokens.proofs.names.path.Goals as goal
 

@@ -1,5 +1,5 @@
 use Rattle.std.proofs.Common.{◌≡◌, ◌-◌, string_bytes}
-use Rattle.cedar_tokens.specs.Private.Reading as spec
+use Rattle.cedar_tokens.specs.Reading as spec
 use Rattle.cedar_tokens.proofs.names.path.Given as goal
 
 abbrev pub invariant-loop-turn : goal.invariant-loop-turn

@@ -4,8 +4,8 @@ use Rattle.std.proofs.lemmas.Result.{err_from_is_err_and}
 use Rattle.cedar_value.specs.declared.uid.Uid.{Uid}
 use Rattle.cedar_tokens.specs.Marks.{Marks}
 use Rattle.cedar_tokens.specs.Names.{Entity}
-use Rattle.cedar_tokens.specs.Private.Reading.{entity}
-use Rattle.cedar_tokens.specs.Private.Contract.{Refuses}
+use Rattle.cedar_tokens.specs.Reading.{entity}
+use Rattle.cedar_tokens.specs.Contract.{Refuses}
 use Rattle.cedar_tokens.specs.UidText.{IsUidText}
 use Rattle.cedar_tokens.proofs.UidLemmas.{IsText, uid_found, uid_same, uid_refused, uid_fault, uid_longer, uid_star, unread_uid, unread_uid_fault}
 use Rattle.cedar_tokens.proofs.NamesSound.{entity_is}

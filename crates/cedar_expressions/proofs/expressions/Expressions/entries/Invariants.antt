@@ -1,5 +1,5 @@
 use Rattle.std.proofs.Common.{◌≡◌, ◌-◌}
-use Rattle.cedar_expressions.specs.Private.Reading as spec
+use Rattle.cedar_expressions.specs.Reading as spec
 use Rattle.cedar_expressions.proofs.expressions.Expressions.entries.Given as goal
 
 abbrev pub invariant-loop-turn : goal.invariant-loop-turn

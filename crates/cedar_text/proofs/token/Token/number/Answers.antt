@@ -2,7 +2,7 @@ use Rattle.std.proofs.Common.{◌≡◌, sym, ap, ◌∙◌, ◌+◌, min, true,
 use Rattle.std.proofs.lemmas.Bool.{cond-true}
 use Rattle.cedar_text.specs.Bytes.{is_digit, first}
 use Rattle.cedar_text.specs.Numbers.{decimal_from, max_number}
-use Rattle.cedar_text.specs.Lexing.{capped_decimal_from}
+use Rattle.cedar_text.specs.Private.Lexing.{capped_decimal_from}
 use Rattle.cedar_text.proofs.Digits.{capped_min}
 use Rattle.cedar_text.proofs.token.Token.number.Goals as goal
 

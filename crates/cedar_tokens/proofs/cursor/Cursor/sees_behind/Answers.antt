@@ -1,6 +1,6 @@
 use Rattle.std.proofs.Common.{ap, ◌∙◌}
 use Rattle.cedar_tokens.specs.Marks.{Marks}
-use Rattle.cedar_tokens.specs.Private.Reading as spec
+use Rattle.cedar_tokens.specs.Reading as spec
 use Rattle.cedar_tokens.proofs.SpellsLemmas.{none_behind}
 use Rattle.cedar_tokens.proofs.cursor.Cursor.sees_behind.Goals as goal
 

@@ -1,5 +1,5 @@
--- Private help for the proofs, cited by private contracts alone: the letter that stands first.
-use Rattle.std.specs.Prelude.{◌≡◌, ℕ, ◌<◌, ◌≤◌, List, ◌∷◌, [], ◌++◌, length, take, encode_utf8}
+-- The letter that stands first, as the private functions that read letters speak of it.
+use Rattle.std.specs.Prelude.{◌≡◌, ℕ, ◌<◌, ◌≤◌, List, ◌++◌, length, take, encode_utf8}
 use Rattle.std.specs.Str.{IsCharBoundary}
 use Rattle.cedar_text.specs.declared.letter.Letter.{Letter}
 use Rattle.cedar_text.specs.Strings.{IsEscape}
@@ -26,7 +26,3 @@ pub record IsFirst (text : List ℕ) (letter : Letter) (len : ℕ) : Type 0 wher
 -- the first bytes write no letter
 abbrev pub BeginsNone : List ℕ → Type 0
 BeginsNone text = (front rest : List ℕ) (letter : Letter) → text ≡ front ++ rest → IsWritten front letter → ⊥
-
--- the text has these quotes round it
-abbrev pub IsQuoted : List ℕ → List ℕ → Type 0
-IsQuoted text inner = text ≡ 34 ∷ inner ++ 34 ∷ []

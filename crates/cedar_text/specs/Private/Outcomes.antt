@@ -1,8 +1,8 @@
--- Private help for the proofs, cited by private contracts alone: what a function that cuts ensures, unless memory runs out.
+-- What a function that cuts ensures, unless memory runs out.
 use Rattle.std.specs.Prelude.{◌≡◌, Result, Ok, Err}
 use Rattle.cedar_text.specs.declared.text_fault.TextFault.{TextFault}
 use Rattle.cedar_text.specs.declared.text_fault.TextFault.TheVariants as f
-use Rattle.cedar_text.specs.Lexing.{Refusal, BadCharacter, UnclosedString, BadEscape, NumberTooLarge}
+use Rattle.cedar_text.specs.Private.Lexing.{Refusal, BadCharacter, UnclosedString, BadEscape, NumberTooLarge}
 
 -- The place of a fault isn't spoken of.
 abbrev pub Refuses : {A : Type 0} → Result A Refusal → TextFault → Type 0

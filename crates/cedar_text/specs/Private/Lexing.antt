@@ -1,4 +1,4 @@
--- Private help for the proofs, cited by private contracts alone: cutting from left to right, as the code does.
+-- Cutting from left to right, as the code does. What a text's tokens are is said by the grammar in `specs/Tokens.antt`.
 use Rattle.std.specs.Prelude.{ℕ, zero, suc, ◌+◌, ◌*◌, ◌-◌, min, Bool, ◌||◌, ◌&&◌, ◌==◌, nat_le, nat_lt, if◌then◌else◌, List, [], ◌∷◌, ◌++◌, take, drop, Option, Some, None, Result, Ok, Err, slice_index}
 use Rattle.std.specs.Char.{digit_value}
 use Rattle.std.specs.List.{prefix_len}
@@ -41,7 +41,7 @@ white_len bs =
 
 -- ---- strings
 
--- n r t \ 0 ' " *
+-- whether the byte alone is an escape after a backslash: n r t \ 0 ' " *
 abbrev pub is_short : ℕ → Bool
 is_short b = b == 110 || b == 114 || b == 116 || b == 92 || b == 48 || b == 39 || b == 34 || b == 42
 

@@ -1,2 +1,0 @@
--- What proofs and private contracts speak of, and no public clause.
-pub mod StatementReading

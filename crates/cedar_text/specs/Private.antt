@@ -1,0 +1,4 @@
+-- What proofs, models and private contracts speak of: nothing here is cited by a contract of a function that another crate calls.
+pub mod FirstLetter
+pub mod Lexing
+pub mod Outcomes

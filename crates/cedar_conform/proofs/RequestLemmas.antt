@@ -16,7 +16,7 @@ use Rattle.cedar_types.specs.Types.{TypeTree}
 use Rattle.cedar_schema.specs.Conformance.{Fits}
 use Rattle.cedar_schema.specs.Declarations.{IsAction}
 use Rattle.cedar_schema.specs.SchemaTree.{SchemaTree, environments_of, HasEnvironment}
-use Rattle.cedar_schema.specs.WellFormed.{AreListsDeclared}
+use Rattle.cedar_schema.specs.WellFormed.{AreListsDeclared, IsListedInOrder}
 use Rattle.cedar_data.specs.Belonging.{ReadValuesBelong}
 use Rattle.cedar_data.specs.Values.{value_read}
 use Rattle.cedar_data.specs.WrittenUids.{UidAt, WritesUid, WritesOneUid}
@@ -39,6 +39,13 @@ denoted_fits belong s d q h = (
     context = subst (Member h.context_type) (sym h.context) (belong h.context_type (context_of d) h.fine);
   },
 )
+
+pub denoted_line_fits : ReadValuesBelong → (s : SchemaTree) (line : List ℕ) (q : Request) → LineDenotes s line q → Fits s q
+denoted_line_fits belong s line q h = at (json_of line) h
+  where
+    at : (o : Option Data) → MatchOption o ⊥ (λ d. Denotes s d q) → Fits s q
+    at None h = absurd h
+    at (Some d) h = denoted_fits belong s d q h
 
 pub answer_fits : ReadValuesBelong → (s : SchemaTree) (d : Data) (result : Result Request ConformFault) → IsAnswer s d result → IfOk result (Fits s)
 answer_fits belong s d (Ok q) h = denoted_fits belong s d q h
@@ -68,9 +75,9 @@ fields_in _ = []
 one_record : (ps qs : List (List ℕ × Datum)) → record_of (fields_of ps) ≡ record_of (fields_of qs) → ps ≡ qs
 one_record ps qs e = sym (pairs_back ps) ∙ ap fields_in e ∙ pairs_back qs
 
-module _ (one : WritesOneUid) (s : SchemaTree) (up : IsStrictlySortedBy uid_cmp (keys_of s.actions)) (declared : AreListsDeclared s) (d : Data) where
-  one_request : (q r : Request) → Denotes s d q → Denotes s d r → q ≡ r
-  one_request q r h g =
+module _ (one : WritesOneUid) (s : SchemaTree) (up : IsStrictlySortedBy uid_cmp (keys_of s.actions)) where
+  same_request : (d : Data) (q r : Request) → Denotes s d q → Denotes s d r → q ≡ r
+  same_request d q r h g =
       let p = one_uid_at one (codes "principal") d q.principal r.principal h.names.principal_at g.names.principal_at in
       let a = one_uid_at one (codes "action") d q.action r.action h.names.action_at g.names.action_at in
       let b = one_uid_at one (codes "resource") d q.resource r.resource h.names.resource_at g.names.resource_at in
@@ -78,6 +85,14 @@ module _ (one : WritesOneUid) (s : SchemaTree) (up : IsStrictlySortedBy uid_cmp 
       let context = one_record q.context r.context (h.context ∙ ap (λ (x : TypeTree). (value_read x (context_of d)).value) t ∙ sym g.context) in
       λ i. record { principal = p i; action = a i; resource = b i; context = context i }
 
+pub one_line_request : WritesOneUid → (s : SchemaTree) (line : List ℕ) (q r : Request) → IsListedInOrder s → LineDenotes s line q → LineDenotes s line r → q ≡ r
+one_line_request one s line q r up h g = at (json_of line) h g
+  where
+    at : (o : Option Data) → MatchOption o ⊥ (λ d. Denotes s d q) → MatchOption o ⊥ (λ d. Denotes s d r) → q ≡ r
+    at None h g = absurd h
+    at (Some d) h g = same_request one s up.1 d q r h g
+
+module _ (one : WritesOneUid) (s : SchemaTree) (up : IsStrictlySortedBy uid_cmp (keys_of s.actions)) (declared : AreListsDeclared s) (d : Data) where
   no_uids_fault : (q : Request) → Denotes s d q → (f : ConformFault) → HasUidsFault s q.principal q.action q.resource f → ⊥
   no_uids_fault q h UnknownType (inl none) = principal_declared s declared _ h.applies none
   no_uids_fault q h UnknownType (inr none) = resource_declared s declared _ h.applies none
@@ -114,7 +129,7 @@ module _ (one : WritesOneUid) (s : SchemaTree) (up : IsStrictlySortedBy uid_cmp 
   not_refused q _ never = never (λ e. cc)
 
   only_answer : (q : Request) → Denotes s d q → (result : Result Request ConformFault) → IsAnswer s d result → AnswersRequest q result
-  only_answer q h (Ok found) g = one_request found q g h
+  only_answer q h (Ok found) g = same_request one s up d found q g h
   only_answer q h (Err f) g = not_refused q f (λ other. no_fault q h f (g other))
 
   pub only_of : (line : List ℕ) → Some d ≡ json_of line → (result : Result Request ConformFault) → IsAnswer s d result → (q : Request) → LineDenotes s line q → AnswersRequest q result

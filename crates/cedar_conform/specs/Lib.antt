@@ -1,3 +1,4 @@
+pub mod Exactness
 pub mod Links
 pub mod Private
 pub mod Requests

@@ -13,6 +13,7 @@
 
 mod context;
 mod fitting;
+mod laws;
 mod links;
 mod request;
 
@@ -21,5 +22,6 @@ pub use cedar_data::{
     read_values_belong, uid_of_object, written_uid,
 };
 pub use fitting::fits;
+pub use laws::{denoted_requests_fit, one_request};
 pub use links::read_links;
 pub use request::{read_request, read_request_with};

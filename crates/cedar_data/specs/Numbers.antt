@@ -3,7 +3,7 @@ use Rattle.std.specs.Prelude.{ℕ}
 use Rattle.cedar_data.specs.declared.conform_fault.ConformFault.{ConformFault}
 use Rattle.cedar_data.specs.declared.conform_fault.ConformFault.TheVariants.{OutOfMemory, DuplicateEntity, Cycle, Json, Shape, UnknownType, WrongType, MissingAttribute, ExtraAttribute, BadAncestor, ActionDiffers, NumberRange, NoSuchAction, ActionDoesNotApply}
 
--- The number of each refusal (docs/REFUSALS.md).
+-- The number of each refusal, as docs/REFUSALS.md lists them (own).
 abbrev pub number_of : ConformFault → ℕ
 number_of OutOfMemory = 1
 number_of (DuplicateEntity u) = 401

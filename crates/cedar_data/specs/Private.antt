@@ -1,3 +1,3 @@
--- What only proofs and private contracts use.
+-- What proofs and private contracts of this crate use.
 pub mod MemberTest
 pub mod UidTexts

@@ -21,7 +21,8 @@ use Rattle.cedar_value.specs.Datum.{same_uid}
 use Rattle.cedar_value.specs.Order.{text_cmp}
 use Rattle.cedar_value.specs.Private.Equality.{same_uid-Decides}
 use Rattle.cedar_value.specs.Private.Same.{text_same}
-use Rattle.cedar_value.specs.World.{World, EntityTree, entry_of, parents_of, IsParent, Below}
+use Rattle.cedar_value.specs.World.{World, EntityTree, entry_of, parents_of, Below}
+use Rattle.cedar_value.specs.Private.Parents.{IsParent}
 use Rattle.cedar_value.specs.declared.uid.Uid.{Uid}
 
 -- ---- two worlds, one after the other

@@ -21,10 +21,33 @@ use cedar_store::{Entity, Store, StoreFault};
 use std::alloc::Global;
 
 /// The store of the entities that the bytes write, with the schema's actions before them (Cedar
-/// documentation, entities and context in JSON). Refused with 1 for want of memory, and else with 401,
-/// 402 or 501 to 509 only where that fault is in the bytes. The bytes are let go as they are read. Takes time by the number of values and of
-/// pairs of an entity and what lies above it, and for each entry look-ups in the schema by search.
-pub fn read_entities(alloc: Global, schema: &Schema, bytes: Vec<u8>) -> Result<Store, ConformFault>
+/// documentation, entities and context in JSON). Takes a copy of the bytes, time by the number of values and of pairs of an
+/// entity and what lies above it, and for each entry look-ups in the schema by search.
+///
+/// # Errors
+///
+/// 1 where memory was refused, and else 401, 402 or 501 to 509 only where that fault is in the bytes.
+pub fn read_entities(alloc: Global, schema: &Schema, bytes: &[u8]) -> Result<Store, ConformFault>
+    ensures denotes { IfOk result (BytesDenote schema.now bytes.now) }
+    ensures conforms { IfOk result (Conforms schema.now) }
+    ensures refused { IfErr result (λ f. f ≢ OutOfMemory → BytesHaveFault schema.now bytes.now f) }
+{
+    let copied = Vec::from_slice(alloc, bytes)?;
+    read_entities_owned(alloc, schema, copied)
+}
+
+/// As [`read_entities`], of bytes that it owns: it frees them as they are read, so that the bytes and the entities are
+/// never in memory as a whole at the same time.
+///
+/// # Errors
+///
+/// As those of [`read_entities`]. After an error the bytes are lost: a caller that may want to call again, as when memory
+/// was refused, calls [`read_entities`] or keeps a copy.
+pub fn read_entities_owned(
+    alloc: Global,
+    schema: &Schema,
+    bytes: Vec<u8>,
+) -> Result<Store, ConformFault>
     ensures denotes { IfOk result (BytesDenote schema.now bytes.items) }
     ensures conforms { IfOk result (Conforms schema.now) }
     ensures refused { IfErr result (λ f. f ≢ OutOfMemory → BytesHaveFault schema.now bytes.items f) }
@@ -36,8 +59,8 @@ pub fn read_entities(alloc: Global, schema: &Schema, bytes: Vec<u8>) -> Result<S
     build_store(alloc, entities)
 }
 
-// The schema's actions and the entities of the bytes, which are let go as they are read. What the JSON was read with is let
-// go before the store is built.
+// The schema's actions and the entities of the bytes, which are freed as they are read. What the JSON was read with is
+// freed before the store is built.
 fn entities_of(alloc: Global, schema: &Schema, bytes: Vec<u8>) -> Result<Vec<Entity>, ConformFault>
     ensures { MatchResult result
         (λ v. AreRead schema.now bytes.items v.items)

@@ -7,6 +7,8 @@
 //! assert!(rt; store.is_below(&ann, &team));
 //! ```
 //!
+//! [`read_entities`] is lent the bytes; [`read_entities_owned`] owns them, and frees what it has read.
+//!
 //! A list of entries is read one by one: what an entry writes whatever the schema is, then what the schema
 //! says of it. The schema's actions stand in every store, before the entities. A world that is read
 //! conforms to the schema, which is what the soundness of typing rests on.
@@ -23,5 +25,5 @@ mod list;
 mod objects;
 mod written;
 
-pub use entities::read_entities;
+pub use entities::{read_entities, read_entities_owned};
 pub use laws::{denoted_worlds_are_exact, denoted_worlds_conform, sound_entities_conform};

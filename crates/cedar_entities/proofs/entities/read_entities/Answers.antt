@@ -1,14 +1,14 @@
-use Rattle.cedar_entities.proofs.StoreLemmas.{store_denoted, store_conforms, store_answers}
+use Rattle.std.proofs.Common.{◌≢◌, ℕ, List, subst}
+use Rattle.std.specs.Prelude.{IfErr, IfOk}
+use Rattle.cedar_data.specs.declared.conform_fault.ConformFault.TheVariants.{OutOfMemory}
+use Rattle.cedar_entities.specs.Bytes.{BytesDenote, BytesHaveFault}
 use Rattle.cedar_entities.proofs.entities.read_entities.Goals as goal
 
 pub returns-clause-denotes : goal.returns-clause-denotes
 returns-clause-denotes c =
-    store_denoted c.args.schema.now c.args.bytes.items c.in_ok-entities.entities.items c.well_formedness.ensures.apart c.in_ok-entities.ensures c.build_store.result c.build_store.ensures.world c.build_store.ensures.distinct c.build_store.ensures.acyclic
-
-pub returns-clause-conforms : goal.returns-clause-conforms
-returns-clause-conforms c =
-    store_conforms c.args.schema.now c.args.bytes.items c.in_ok-entities.entities.items c.well_formedness.ensures.apart c.in_ok-entities.ensures c.denoted_worlds_conform.ensures c.well_formedness.ensures.hierarchy c.build_store.result (returns-clause-denotes c)
+    subst (λ (bytes : List ℕ). IfOk c.read_entities_owned.result (BytesDenote c.args.schema.now bytes)) c.in_ok-copied.ensures.items c.read_entities_owned.ensures.denotes
 
 pub returns-clause-refused : goal.returns-clause-refused
 returns-clause-refused c =
-    store_answers c.args.schema.now c.args.bytes.items c.in_ok-entities.entities.items c.well_formedness.ensures.apart c.in_ok-entities.ensures c.well_formedness.ensures.in_order.1 c.build_store.result c.build_store.ensures.refused
+    subst (λ (bytes : List ℕ). IfErr c.read_entities_owned.result (λ f. f ≢ OutOfMemory → BytesHaveFault c.args.schema.now bytes f)) c.in_ok-copied.ensures.items
+    c.read_entities_owned.ensures.refused

@@ -5,8 +5,9 @@ use Rattle.std.specs.List.{list_all}
 use Rattle.cedar_policies.specs.PolicyTree.{PolicyTree}
 use Rattle.cedar_schema.specs.SchemaTree.{SchemaTree}
 use Rattle.cedar_schema.specs.declared.schema.environment.Environment.{Environment}
-use Rattle.cedar_typing.specs.Checking.{form_in_with}
-use Rattle.cedar_typing.specs.Reports.{FaultTree, fault_at, faults_in_with, is_known_false}
+use Rattle.cedar_typing.specs.Private.Checking.{form_in_with}
+use Rattle.cedar_typing.specs.Private.Reporting.{faults_in_with, is_known_false}
+use Rattle.cedar_typing.specs.Reports.{FaultTree, fault_at}
 use Rattle.cedar_rules.proofs.Held.{drop_here}
 use Rattle.cedar_typing.specs.declared.settings.Settings.{Settings}
 

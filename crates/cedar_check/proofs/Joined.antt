@@ -9,7 +9,8 @@ use Rattle.cedar_ast.specs.Keys.{AreDistinct, keys_of}
 use Rattle.cedar_schema.specs.SchemaTree.{SchemaTree}
 use Rattle.cedar_schema.specs.declared.schema.environment.Environment.{Environment}
 use Rattle.cedar_typing.specs.Capabilities.{Capabilities}
-use Rattle.cedar_typing.specs.Checking.{Typed, type_of_with, types_onto, types_entries, are_distinct}
+use Rattle.cedar_typing.specs.Rows.{Typed}
+use Rattle.cedar_typing.specs.Private.Checking.{type_of_with, types_onto, types_entries, are_distinct}
 use Rattle.cedar_typing.specs.Typing.{names_of}
 use Rattle.cedar_typing.proofs.Trees.{test_from_distinct}
 use Rattle.cedar_rules.proofs.Held.{drop_here}

@@ -1,4 +1,5 @@
 pub mod Environments
 pub mod Joined
+pub mod Kept
 pub mod Policies
 pub mod Unmentioned

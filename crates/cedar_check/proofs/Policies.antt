@@ -4,7 +4,8 @@ use Rattle.std.specs.Prelude.{filter, slice_get}
 use Rattle.std.proofs.lemmas.Option.{slice_get_within, get_or_from_slice_get}
 use Rattle.cedar_policies.specs.PolicyTree.{PolicyTree}
 use Rattle.cedar_schema.specs.SchemaTree.{SchemaTree}
-use Rattle.cedar_typing.specs.Reports.{FaultTree, faults_of_with, all_faults_with, is_impossible_with, warnings_with}
+use Rattle.cedar_typing.specs.Private.Reporting.{faults_of_with, all_faults_with, is_impossible_with, warnings_with}
+use Rattle.cedar_typing.specs.Reports.{FaultTree}
 use Rattle.cedar_rules.proofs.Held.{drop_here}
 use Rattle.cedar_typing.specs.declared.settings.Settings.{Settings}
 

@@ -1,6 +1,6 @@
 //! The row of `if`, by its branches.
 ghost use Rattle.std.specs.Prelude.{◌≡◌, IfOk, option_and_then, option_map};
-ghost use Rattle.cedar_rules.specs.Private.View.{held_view, typed_view, typing_view};
+ghost use Rattle.cedar_rules.specs.View.{held_view, typed_view, typing_view};
 ghost use Rattle.cedar_check.specs.Private.View.{joined_branches, kept_branch};
 
 use cedar_rules::{Capability, TypeFault, Typed, Typing, common, extended, join_types, together};
@@ -23,6 +23,7 @@ pub(crate) fn if_known<'a>(
 }
 
 // The two branches, which both have a type.
+#[tactic(auto, using(crate::proofs::Kept::kept_in))]
 fn joined<'a>(
     alloc: Global,
     gained: &[Capability<'a>],

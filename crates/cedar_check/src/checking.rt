@@ -2,8 +2,8 @@
 ghost use Rattle.std.specs.Prelude.{◌≡◌, ◌++◌, [], IfOk};
 ghost use Rattle.cedar_ast.specs.Expression.{and, entries_of, expressions_of, if_else, or, record_with, set_with, unary, binary};
 ghost use Rattle.cedar_ast.specs.Keys.{AreDistinct, keys_of};
-ghost use Rattle.cedar_typing.specs.Checking.{type_of_with, types_onto};
-ghost use Rattle.cedar_rules.specs.Private.View.{element_view, held_view, tree_of, typing_view};
+ghost use Rattle.cedar_typing.specs.Private.Checking.{type_of_with, types_onto};
+ghost use Rattle.cedar_rules.specs.View.{element_view, held_view, tree_of, typing_view};
 
 use crate::branches::{if_joined, if_known};
 use crate::rows::{and_right, boolean_alone, literal_type, or_right, unary_fault, variable_type};
@@ -269,6 +269,7 @@ fn check_if<'a>(
 }
 
 // An operator on its operand.
+#[tactic(auto, using(crate::proofs::Kept::unary_given))]
 #[cycle(check)]
 #[inline(never)]
 fn check_unary<'a>(

@@ -1,8 +1,9 @@
 //! Faults of policies.
 ghost use Rattle.std.specs.Prelude.{◌≡◌, ◌++◌, ◌∷◌, [], IfOk, OnOk, cond, is_some, map};
 ghost use Rattle.cedar_policies.specs.Condition.{condition_of};
-ghost use Rattle.cedar_typing.specs.Checking.{form_in_with};
-ghost use Rattle.cedar_typing.specs.Reports.{fault_at, faults_of_with, is_impossible_with, is_known_false};
+ghost use Rattle.cedar_typing.specs.Private.Checking.{form_in_with};
+ghost use Rattle.cedar_typing.specs.Private.Reporting.{faults_of_with, is_impossible_with, is_known_false};
+ghost use Rattle.cedar_typing.specs.Reports.{fault_at};
 ghost use Rattle.cedar_check.specs.FaultView.{fault_view};
 ghost use Rattle.cedar_check.specs.Private.Condition.{condition_in, IsReady};
 
@@ -28,6 +29,17 @@ pub struct Fault {
     pub resource: Name,
     /// Why the policy's condition has no type there.
     pub reason: TypeFault,
+}
+
+impl Fault {
+    ghost use Rattle.cedar_rules.specs.Numbers.{number_of};
+
+    /// The number of the reason, from 601 to 607 (own).
+    pub fn number(&self) -> u16
+        ensures { result ≡ number_of self.now.reason }
+    {
+        self.reason.number()
+    }
 }
 
 // The fault of a policy in an environment.

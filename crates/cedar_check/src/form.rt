@@ -2,9 +2,10 @@
 ghost use Rattle.std.specs.Prelude.{◌≡◌, [], IfOk, option_and_then};
 ghost use Rattle.cedar_ast.specs.Expression.{and};
 ghost use Rattle.cedar_ast.specs.Replacement.{replace};
-ghost use Rattle.cedar_typing.specs.Checking.{truth_in, type_of_with};
+ghost use Rattle.cedar_typing.specs.Rows.{truth_in};
+ghost use Rattle.cedar_typing.specs.Private.Checking.{type_of_with};
 ghost use Rattle.cedar_check.specs.Private.Condition.{condition_in, IsReady};
-ghost use Rattle.cedar_rules.specs.Private.View.{typing_view};
+ghost use Rattle.cedar_rules.specs.View.{typing_view};
 ghost use Rattle.cedar_check.specs.Private.View.{form_view};
 
 use crate::checking::{check, check_scoped};

@@ -10,8 +10,12 @@
 //! A service that wants `decimal` of any text, as of an attribute, calls `check_with` and says so in its
 //! settings.
 //!
-//! A condition is typed in one pass, with a function for each row of the rules that cedar_typing defines.
-//! The rows of operators, by the types of their operands, and the types themselves stand in cedar_rules.
+//! A report is a relation: a fault for each pair of a policy and an environment in which the policy is not
+//! accepted, and a warning for each policy that no request can satisfy. It follows from the rules of cedar_typing,
+//! whose laws are passed on here: `typing_is_sound` and `typing_is_determined`.
+//!
+//! A condition is typed in one pass, with a function for each row of those rules. The rows of operators, which
+//! depend on the types of their operands, and the types themselves are in cedar_rules.
 #![tactic(auto)]
 
 mod branches;
@@ -24,6 +28,6 @@ mod report;
 mod rows;
 
 pub use cedar_rules::TypeFault;
-pub use cedar_typing::Settings;
+pub use cedar_typing::{Settings, typing_is_determined, typing_is_sound};
 pub use fault::Fault;
 pub use report::{Report, check, check_with};

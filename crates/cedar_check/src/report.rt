@@ -1,6 +1,8 @@
 //! Reports on a set of policies.
 ghost use Rattle.std.specs.Prelude.{◌≡◌, ◌++◌, ◌∷◌, [], IfOk, OnOk, cond, map};
-ghost use Rattle.cedar_typing.specs.Reports.{all_faults, all_faults_with, faults_of_with, is_impossible_with, warnings, warnings_with};
+ghost use Rattle.cedar_typing.specs.Private.Reporting.{faults_of_with, is_impossible_with};
+ghost use Rattle.cedar_typing.specs.Reports.{AreFaultsWith, AreWarningsWith};
+ghost use Rattle.cedar_typing.specs.Settings.{default_settings};
 ghost use Rattle.cedar_check.specs.FaultView.{fault_view};
 
 use crate::fault::{Fault, check_policy};
@@ -38,30 +40,35 @@ fn check_next(
     Ok(())
 }
 
-/// The faults of the policies for a schema under these settings, and those that no request can satisfy.
-/// Templates are not checked, links are, as policies of the set. 1: memory was refused.
+/// The faults of the policies for a schema under these settings, and the policies that no request can satisfy
+/// (Cedar documentation, policy validation). Templates are not checked; links are, as policies of the set.
+///
+/// # Errors
+///
+/// 1: memory was refused.
 pub fn check_with(
     alloc: Global,
     schema: &Schema,
     policies: &PolicySet,
     settings: Settings,
 ) -> Result<Report, AllocError>
-    ensures faults { IfOk result (λ report. map fault_view report.faults.items ≡ all_faults_with settings schema.now policies.now.policies) }
-    ensures warnings { IfOk result (λ report. report.warnings.items ≡ warnings_with settings schema.now policies.now.policies) }
+    ensures faults { IfOk result (λ report. AreFaultsWith settings schema.now policies.now.policies (map fault_view report.faults.items)) }
+    ensures warnings { IfOk result (λ report. AreWarningsWith settings schema.now policies.now.policies report.warnings.items) }
 {
     let mut faults = Vec::new(alloc);
     let mut impossible = Vec::new(alloc);
     for position in 0..policies.count() {
-        if let Some(policy) = policies.policy(position) {
-            check_next(
-                alloc,
-                settings,
-                schema,
-                policy,
-                &mut faults,
-                &mut impossible,
-            )?;
-        }
+        let Some(policy) = policies.policy(position) else {
+            unreachable!()
+        };
+        check_next(
+            alloc,
+            settings,
+            schema,
+            policy,
+            &mut faults,
+            &mut impossible,
+        )?;
     }
     Ok(Report {
         faults,
@@ -69,12 +76,16 @@ pub fn check_with(
     })
 }
 
-/// The faults of the policies for a schema by strict validation as it is documented, and those that no
-/// request can satisfy: `check_with` with no setting on. Templates are not checked, links are, as policies
-/// of the set. 1: memory was refused.
+/// The faults of the policies for a schema with strict validation as it is documented, and the policies that no
+/// request can satisfy (Cedar documentation, policy validation): `check_with` with no setting on. Templates are
+/// not checked; links are, as policies of the set.
+///
+/// # Errors
+///
+/// 1: memory was refused.
 pub fn check(alloc: Global, schema: &Schema, policies: &PolicySet) -> Result<Report, AllocError>
-    ensures faults { IfOk result (λ report. map fault_view report.faults.items ≡ all_faults schema.now policies.now.policies) }
-    ensures warnings { IfOk result (λ report. report.warnings.items ≡ warnings schema.now policies.now.policies) }
+    ensures faults { IfOk result (λ report. AreFaultsWith default_settings schema.now policies.now.policies (map fault_view report.faults.items)) }
+    ensures warnings { IfOk result (λ report. AreWarningsWith default_settings schema.now policies.now.policies report.warnings.items) }
 {
     check_with(alloc, schema, policies, Settings::default())
 }

@@ -2,8 +2,9 @@
 ghost use Rattle.std.specs.Prelude.{◌≡◌, IfOk};
 ghost use Rattle.cedar_types.specs.Types.{boolean};
 ghost use Rattle.cedar_value.specs.Datum.{uid as uid_datum};
-ghost use Rattle.cedar_typing.specs.Checking.{and_right, gaining, literal_type, on_boolean, or_right, variable_type};
-ghost use Rattle.cedar_rules.specs.Private.View.{held_view, typing_view};
+ghost use Rattle.cedar_typing.specs.Rows.{gaining};
+ghost use Rattle.cedar_typing.specs.Private.Checking.{and_right, literal_type, on_boolean, or_right, variable_type};
+ghost use Rattle.cedar_rules.specs.View.{held_view, typing_view};
 
 use cedar_ast::{UnaryOperator, Variable};
 use cedar_rules::{Capability, LentType, TypeFault, Typed, Typing, common, is_action, together};
@@ -85,6 +86,7 @@ pub(crate) fn and_right<'a>(
 }
 
 /// The row of `||`, by the right side, where nothing is known of the left.
+#[tactic(auto, using(crate::proofs::Kept::kept_in))]
 pub(crate) fn or_right<'a>(
     alloc: Global,
     gained: Vec<Capability<'a>>,

@@ -1,10 +1,17 @@
 -- Capabilities from a place on.
-use Rattle.std.proofs.Common.{◌≡◌, true, false, ℕ, ◌<◌, ◌+◌, List, [], ◌∷◌, ◌++◌, cond, length, get_or, drop, drop-cons, add-one, refl, ap, ap₂, sym, ◌∙◌}
+use Rattle.std.proofs.Common.{◌≡◌, true, false, ℕ, ◌<◌, ◌+◌, Option, List, [], ◌∷◌, ◌++◌, cond, length, get_or, drop, drop-cons, add-one, refl, ap, ap₂, sym, ◌∙◌}
 use Rattle.std.specs.Prelude.{◌||◌}
 use Rattle.cedar_typing.specs.Capabilities as spec
-use Rattle.cedar_typing.specs.Checking.{is_held, same_capability, common}
+use Rattle.cedar_typing.specs.Private.Checking.{is_held, same_capability, common}
+use Rattle.cedar_ast.specs.Expression.{Expression}
+use Rattle.cedar_ast.specs.declared.operator.UnaryOperator.{UnaryOperator}
+use Rattle.cedar_schema.specs.SchemaTree.{SchemaTree}
+use Rattle.cedar_typing.specs.Rows.{Typed, IsUnaryRow}
+use Rattle.cedar_typing.specs.Private.Checking.{unary_type}
+use Rattle.cedar_typing.specs.declared.settings.Settings.{Settings}
+use Rattle.cedar_typing.proofs.Trees.{unary_row_of}
 use Rattle.cedar_rules.specs.declared.capability.Capability.{Capability}
-use Rattle.cedar_rules.specs.Private.View.{capability_view, held_view}
+use Rattle.cedar_rules.specs.View.{capability_view, held_view}
 
 pub drop_here : {A : Type 0} (xs : List A) (i : ℕ) (x : A) → i < length xs → x ≡ get_or xs i x → drop i xs ≡ x ∷ drop (i + 1) xs
 drop_here xs i x h e = drop-cons xs i x h ∙ ap₂ (λ y (n : ℕ). y ∷ drop n xs) (sym e) (sym (add-one i))
@@ -29,3 +36,8 @@ pub common_left : (xs hs two : List Capability) (i : ℕ) (h : Capability) → i
 common_left xs hs two i h lt e is =
     ap (λ l. held_view xs ++ l) (sym (ap (λ l. common (held_view l) (held_view two)) (drop_here hs i h lt e)
     ∙ ap (λ b. cond b (capability_view h ∷ common (held_view (drop (i + 1) hs)) (held_view two)) (common (held_view (drop (i + 1) hs)) (held_view two))) is))
+
+-- what the function of the rows gives is the row
+pub unary_answered : (settings : Settings) (s : SchemaTree) (h : spec.Capabilities) (op : UnaryOperator) (e : Expression) (t : Typed) (typing : Option Typed)
+    → typing ≡ unary_type settings s h op e t → IsUnaryRow settings s h op e t typing
+unary_answered settings s h op e t typing is = unary_row_of settings s h op e t typing is

@@ -1,2 +1,2 @@
--- What only proofs and private contracts use.
+-- What only proofs and the contracts of functions that the crate keeps to itself use.
 pub mod View

@@ -1,10 +1,10 @@
 //! The rows of `has` and `.`.
 ghost use Rattle.std.specs.Prelude.{◌≡◌, IfOk, option_and_then, option_copied};
 ghost use Rattle.cedar_types.specs.Lookup.{attribute_at};
-ghost use Rattle.cedar_typing.specs.Checking.{get_type, has_type, is_held};
+ghost use Rattle.cedar_typing.specs.Private.Checking.{get_type, has_type, is_held};
 ghost use Rattle.cedar_typing.specs.Typing.{attributes_in};
 ghost use Rattle.std.specs.Prelude.{◌||◌};
-ghost use Rattle.cedar_rules.specs.Private.View.{capability_view, held_view, tree_of, typing_view};
+ghost use Rattle.cedar_rules.specs.View.{capability_view, held_view, tree_of, typing_view};
 
 use crate::capability::{Capability, is_held};
 use crate::declared::declared;

@@ -1,7 +1,8 @@
 //! Capabilities.
 ghost use Rattle.std.specs.Prelude.{◌≡◌, ◌++◌, IfOk};
-ghost use Rattle.cedar_typing.specs.Checking.{common, is_held, same_capability};
-ghost use Rattle.cedar_rules.specs.Private.View.{capability_view, held_view};
+ghost use Rattle.cedar_typing.specs.Capabilities.{AreKept};
+ghost use Rattle.cedar_typing.specs.Private.Checking.{is_held, same_capability};
+ghost use Rattle.cedar_rules.specs.View.{capability_view, held_view};
 
 use cedar_ast::Expr;
 use cedar_value::Text;
@@ -70,13 +71,13 @@ pub fn together<'a>(
     Ok(all)
 }
 
-/// Those of the first that the second has.
+/// Those of the first that the second has, in order.
 pub fn common<'a>(
     alloc: Global,
     one: &[Capability<'a>],
     two: &[Capability<'a>],
 ) -> Result<Vec<Capability<'a>>, AllocError>
-    ensures { IfOk result (λ both. held_view both.items ≡ common (held_view one.now) (held_view two.now)) }
+    ensures { IfOk result (λ both. AreKept (held_view one.now) (held_view two.now) (held_view both.items)) }
 {
     let mut both = Vec::new(alloc);
     for capability in one {

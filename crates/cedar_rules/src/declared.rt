@@ -2,7 +2,7 @@
 ghost use Rattle.std.specs.Prelude.{◌≡◌, ◌||◌, option_copied, option_map};
 ghost use Rattle.cedar_schema.specs.Declarations.{action_below, is_action, is_action_type, is_entity_type, type_below};
 ghost use Rattle.cedar_types.specs.Lookup.{attribute_at};
-ghost use Rattle.cedar_typing.specs.Checking.{is_or_descends};
+ghost use Rattle.cedar_typing.specs.Rows.{is_or_descends};
 ghost use Rattle.cedar_typing.specs.Typing.{attributes_in};
 ghost use Rattle.cedar_rules.specs.Private.View.{type_seen};
 

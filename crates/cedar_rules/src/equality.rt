@@ -2,9 +2,9 @@
 ghost use Rattle.std.specs.Prelude.{◌≡◌, IfSome, Some, is_some, option_and_then};
 ghost use Rattle.cedar_types.specs.Types.{boolean};
 ghost use Rattle.cedar_types.specs.Membership.{known};
-ghost use Rattle.cedar_typing.specs.Checking.{apart, as_type, entity_in, equal_literal_type, equal_type};
+ghost use Rattle.cedar_typing.specs.Rows.{apart, as_type, entity_in, equal_literal_type, equal_type};
 ghost use Rattle.cedar_typing.specs.Typing.{two_literals};
-ghost use Rattle.cedar_rules.specs.Private.View.{tree_of, typing_view};
+ghost use Rattle.cedar_rules.specs.View.{tree_of, typing_view};
 
 use crate::joins::types_join;
 use crate::lent_type::LentType;

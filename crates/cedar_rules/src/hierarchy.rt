@@ -5,9 +5,10 @@ ghost use Rattle.cedar_types.specs.Joining.{only_if};
 ghost use Rattle.cedar_types.specs.Types.{boolean};
 ghost use Rattle.cedar_ast.specs.Expression.{expressions_of};
 ghost use Rattle.cedar_schema.specs.Declarations.{is_action, type_below};
-ghost use Rattle.cedar_typing.specs.Checking.{any_if, as_type, entity_in, in_truth, is_or_descends, target_in};
+ghost use Rattle.cedar_typing.specs.Rows.{any_if, as_type, entity_in, in_truth, is_or_descends, target_in};
 ghost use Rattle.cedar_typing.specs.Typing.{all_uids, one_uid, written_uids};
-ghost use Rattle.cedar_rules.specs.Private.View.{is_row, tree_of, typing_view};
+ghost use Rattle.cedar_rules.specs.View.{tree_of, typing_view};
+ghost use Rattle.cedar_rules.specs.Private.View.{is_row};
 
 use crate::declared::{is_action, is_declared_type, is_or_descends, type_below};
 use crate::equality::known;

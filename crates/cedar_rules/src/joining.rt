@@ -2,7 +2,7 @@
 ghost use Rattle.std.specs.Prelude.{◌≡◌, IfOk, option_map};
 ghost use Rattle.cedar_types.specs.Joining.{join, join_truths};
 ghost use Rattle.cedar_types.specs.Types.{record_of, set};
-ghost use Rattle.cedar_rules.specs.Private.View.{tree_of};
+ghost use Rattle.cedar_rules.specs.View.{tree_of};
 
 use crate::lent_type::{LentType, TypeGlance};
 use cedar_schema::{RecordType, Truth, Type, TypeKind, join};

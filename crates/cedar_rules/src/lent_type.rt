@@ -1,8 +1,9 @@
 //! Types, lent where they can be.
 ghost use Rattle.std.specs.Prelude.{◌≡◌, IfOk, IfSome, option_map};
-ghost use Rattle.cedar_typing.specs.Checking.{element_in, entity_in, is_decimal, is_long, is_string, target_in, truth_in};
-ghost use Rattle.cedar_typing.specs.Typing.{is_record};
-ghost use Rattle.cedar_rules.specs.Private.View.{tree_of, type_seen};
+ghost use Rattle.cedar_typing.specs.Rows.{element_in, entity_in, is_decimal, is_long, is_string, target_in, truth_in};
+ghost use Rattle.cedar_schema.specs.Declaring.{is_record};
+ghost use Rattle.cedar_rules.specs.View.{tree_of};
+ghost use Rattle.cedar_rules.specs.Private.View.{type_seen};
 
 use cedar_schema::{RecordType, Truth, Type, TypeKind};
 use cedar_value::Name;

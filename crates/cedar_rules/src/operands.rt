@@ -1,8 +1,8 @@
 //! Operators that ask for operands of one kind: a Boolean, whole numbers, decimals.
 ghost use Rattle.std.specs.Prelude.{◌≡◌, option_and_then};
-ghost use Rattle.cedar_typing.specs.Checking.{as_type, decimals_type, longs_type};
+ghost use Rattle.cedar_typing.specs.Rows.{as_type, decimals_type, longs_type};
 ghost use Rattle.cedar_typing.specs.Typing.{flipped};
-ghost use Rattle.cedar_rules.specs.Private.View.{tree_of, typing_view};
+ghost use Rattle.cedar_rules.specs.View.{tree_of, typing_view};
 
 use crate::lent_type::LentType;
 use crate::type_fault::TypeFault;

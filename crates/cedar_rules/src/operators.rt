@@ -1,7 +1,7 @@
 //! The rows of operators, by the types of their operands.
 ghost use Rattle.std.specs.Prelude.{◌≡◌, IfOk, option_and_then};
-ghost use Rattle.cedar_typing.specs.Checking.{as_type, binary_type, decimal_type, literal_decimal_type, unary_type};
-ghost use Rattle.cedar_rules.specs.Private.View.{held_view, tree_of, typed_view, typing_view};
+ghost use Rattle.cedar_typing.specs.Rows.{IsUnaryRow, as_type, binary_type, decimal_type, literal_decimal_type};
+ghost use Rattle.cedar_rules.specs.View.{held_view, tree_of, typed_view, typing_view};
 
 use crate::attributes::{get_type, has_type};
 use crate::capability::Capability;
@@ -66,6 +66,7 @@ fn decimal_type<'a>(
 
 /// The rows of the operators on one operand. But for `has`, and for `.` of a type that was put together,
 /// it takes no memory.
+#[tactic(auto, using(crate::proofs::Held::unary_answered))]
 pub fn unary_type<'a>(
     alloc: Global,
     settings: Settings,
@@ -75,7 +76,7 @@ pub fn unary_type<'a>(
     operand: &'a Expr,
     typed: &Typed<'a>,
 ) -> Result<Typing<'a>, AllocError>
-    ensures { IfOk result (λ t. typing_view t ≡ unary_type settings schema.now (held_view held.now) operator.now operand.now (typed_view typed.now)) }
+    ensures { IfOk result (λ t. IsUnaryRow settings schema.now (held_view held.now) operator.now operand.now (typed_view typed.now) (typing_view t)) }
 {
     match operator {
         UnaryOperator::Not => match typed.ty.truth() {

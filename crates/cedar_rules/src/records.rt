@@ -2,8 +2,8 @@
 ghost use Rattle.std.specs.Prelude.{◌≡◌, IfOk, OnOk, option_and_then, true};
 ghost use Rattle.cedar_types.specs.Ordered.{with_attribute};
 ghost use Rattle.cedar_types.specs.Types.{set};
-ghost use Rattle.cedar_typing.specs.Checking.{as_type};
-ghost use Rattle.cedar_rules.specs.Private.View.{element_view, tree_of, typing_view};
+ghost use Rattle.cedar_typing.specs.Rows.{as_type};
+ghost use Rattle.cedar_rules.specs.View.{element_view, tree_of, typing_view};
 
 use crate::lent_type::LentType;
 use crate::typing::Typing;

@@ -3,8 +3,9 @@ ghost use Rattle.std.specs.Prelude.{◌≡◌, option_and_then};
 ghost use Rattle.cedar_types.specs.Joining.{join};
 ghost use Rattle.cedar_types.specs.Types.{boolean};
 ghost use Rattle.cedar_types.specs.declared.truth.Truth.TheVariants.{Any};
-ghost use Rattle.cedar_typing.specs.Checking.{any_where, as_type, element_in, sets_type};
-ghost use Rattle.cedar_rules.specs.Private.View.{tree_of, type_seen, typing_view};
+ghost use Rattle.cedar_typing.specs.Rows.{any_where, as_type, element_in, sets_type};
+ghost use Rattle.cedar_rules.specs.View.{tree_of, typing_view};
+ghost use Rattle.cedar_rules.specs.Private.View.{type_seen};
 
 use crate::joins::types_join;
 use crate::lent_type::{LentType, TypeGlance, glance_at};

@@ -1,7 +1,7 @@
 //! Answers of the checker.
 ghost use Rattle.std.specs.Prelude.{◌≡◌};
-ghost use Rattle.cedar_typing.specs.Checking.{as_type};
-ghost use Rattle.cedar_rules.specs.Private.View.{tree_of, typing_view};
+ghost use Rattle.cedar_typing.specs.Rows.{as_type};
+ghost use Rattle.cedar_rules.specs.View.{tree_of, typing_view};
 
 use crate::capability::Capability;
 use crate::lent_type::LentType;

@@ -1,5 +1,5 @@
 -- A typing is the function's answer.
-use Rattle.std.proofs.Common.{◌≡◌, ℕ, Bool, true, false, cond, not, ◌&&◌, ◌||◌, is_some, List, [], ◌∷◌, ◌++◌, ◌⊎◌, inl, inr, ⊎_elim, Option, Some, None, option_map, option_and_then, refl, ap, ap₂, subst, ◌∙◌}
+use Rattle.std.proofs.Common.{◌≡◌, ℕ, Bool, true, false, cond, not, ◌&&◌, ◌||◌, is_some, List, [], ◌∷◌, ◌++◌, ◌⊎◌, inl, inr, ⊎_elim, Option, Some, None, option_map, option_and_then, refl, sym, ap, ap₂, subst, ◌∙◌}
 use Rattle.std.specs.Bool.{Decides, one_answer}
 use Rattle.std.specs.List.{list_any}
 use Rattle.std.specs.Str.{bytes_eq}
@@ -23,16 +23,19 @@ use Rattle.cedar_schema.specs.SchemaTree.{SchemaTree}
 use Rattle.cedar_types.specs.Membership.{known}
 use Rattle.cedar_schema.specs.Declarations.{IsAction, is_entity_type, is_action, is_action_type, type_below}
 use Rattle.cedar_typing.specs.Capabilities.{Capability, Capabilities, Has, IsUnion, IsCommon, AreSame}
-use Rattle.cedar_typing.specs.Typing.{is_record, flipped, is_arithmetic, is_comparison, is_decimal_comparison, is_set_comparison, MayHold, written_uids, names_of, AreWritten, IsInOne, Target, one_entity, entity_set, is_literal, TypesWith, of_boolean, of_long, of_text, of_uid, of_principal, of_resource, of_context, of_not, and_false, and_then_false, and_then_true, and_then_any, or_true, or_false, or_any_true, or_any_false, or_any_any, if_true, if_false, if_any, of_negative, of_arithmetic, of_comparison, equal_literals, equal_joined, equal_apart, has_none, has_held, has_required, has_any, of_get, of_like, of_is, in_written, in_related, in_unrelated, of_contains, of_set_comparison, of_is_empty, of_set, of_record, of_decimal, of_any_decimal, of_decimals, JoinsOnto, joined_all, joined_more, AddsOnto, added_all, added_more}
+use Rattle.cedar_schema.specs.Declaring.{is_record}
+use Rattle.cedar_typing.specs.Typing.{flipped, is_arithmetic, is_comparison, is_decimal_comparison, is_set_comparison, MayHold, written_uids, names_of, AreWritten, IsInOne, Target, one_entity, entity_set, is_literal, TypesWith, of_boolean, of_long, of_text, of_uid, of_principal, of_resource, of_context, of_not, and_false, and_then_false, and_then_true, and_then_any, or_true, or_false, or_any_true, or_any_false, or_any_any, if_true, if_false, if_any, of_negative, of_arithmetic, of_comparison, equal_literals, equal_joined, equal_apart, has_none, has_held, has_required, has_any, of_get, of_like, of_is, in_written, in_related, in_unrelated, of_contains, of_set_comparison, of_is_empty, of_set, of_record, of_decimal, of_any_decimal, of_decimals, JoinsOnto, joined_all, joined_more, AddsOnto, added_all, added_more}
 use Rattle.cedar_types.specs.Lookup.{attribute_at}
 use Rattle.cedar_types.specs.Ordered.{with_attribute}
-use Rattle.cedar_typing.specs.Checking.{Typed, is_held, common, as_type, gaining, truth_in, entity_in, target_in, on_boolean, on_two, and_right, and_type, or_type, if_type, has_type, get_type, unary_type, apart, any_or, equal_literal_type, any_if, names_action, is_or_descends, is_in_written, in_truth, any_where, binary_type, decimal_type, type_of_with, types_onto, types_entries, type_in_with}
+use Rattle.cedar_typing.specs.Rows.{Typed, as_type, gaining, truth_in, entity_in, target_in, apart, any_or, equal_literal_type, any_if, names_action, is_or_descends, is_in_written, in_truth, any_where, binary_type, decimal_type}
+use Rattle.cedar_typing.specs.Private.Checking.{is_held, common, on_boolean, on_two, and_right, and_type, or_type, if_type, has_type, get_type, unary_type, type_of_with, types_onto, types_entries, type_in_with}
 use Rattle.cedar_typing.proofs.Listed.{both_true, or_right as by_right}
 use Rattle.cedar_typing.proofs.Descents.{is_action-Decides, is_action_type-Decides}
 use Rattle.cedar_typing.proofs.Trees.{test_from_cap, cap_from_test, test_from_distinct}
 use Rattle.cedar_policies.specs.Condition.{condition_of}
 use Rattle.cedar_ast.specs.Replacement.{replace}
-use Rattle.cedar_typing.specs.Exactness.{FoundIsTypedWith, TypedIsFoundWith, FormIsFoundWith}
+use Rattle.cedar_typing.specs.Determined.{TypingIsOneWith}
+use Rattle.cedar_typing.specs.Private.Exactness.{FoundIsTypedWith, TypedIsFoundWith, FormIsFoundWith}
 use Rattle.cedar_typing.proofs.Found.{union_append, common_is, form_is, found, names_action-Decides, written-Decides, related-Decides}
 use Rattle.cedar_typing.specs.declared.settings.Settings.{Settings}
 
@@ -308,6 +311,21 @@ pub typed_is_found : (settings : Settings) → TypedIsFoundWith settings
 typed_is_found settings s env h g e t d =
     let x = exact settings s env d h (record { each = λ c. (λ m. m, λ m. m) }) in
     record { answer = record { ty = t; gained = x.gained }; given = x.gives; ty = refl; same = x.same }
+
+-- the function has one answer
+pub typing_is_one : (settings : Settings) → TypingIsOneWith settings
+typing_is_one settings s env h one two e t u d f =
+    let a = typed_is_found settings s env h one e t d in
+    let b = typed_is_found settings s env h two e u f in
+    let same : a.answer ≡ b.answer = let p = a.given in let q = b.given in cc in (
+      sym a.ty ∙ ap (λ (x : Typed). x.ty) same ∙ b.ty,
+      record {
+        each = λ x. (
+          λ m. (b.same.each x).1 (subst (λ (y : Typed). Has x y.gained) same ((a.same.each x).0 m)),
+          λ m. (a.same.each x).1 (subst (λ (y : Typed). Has x y.gained) (sym same) ((b.same.each x).0 m)),
+        );
+      },
+    )
 
 -- a policy's form
 form_from : (r : Option Typed) (f : Truth) → option_and_then (λ x. truth_in x.ty) r ≡ Some f → (x : Typed) × (r ≡ Some x) × (x.ty ≡ kind.boolean f)

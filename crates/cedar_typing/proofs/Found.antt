@@ -28,11 +28,13 @@ use Rattle.cedar_schema.specs.Descents.{ActionDescends, TypeDescends}
 use Rattle.cedar_types.specs.Membership.{known}
 use Rattle.cedar_schema.specs.Declarations.{is_entity_type, is_action, is_action_type, action_below, type_below}
 use Rattle.cedar_typing.specs.Capabilities.{Capability, Capabilities, Has, IsUnion, IsCommon}
-use Rattle.cedar_typing.specs.Typing.{attributes_in, is_record, flipped, is_arithmetic, is_comparison, is_decimal_comparison, is_set_comparison, MayHold, two_literals, written_uids, names_of, NamesAction, AreWritten, IsInOne, IsOrDescends, Target, one_entity, entity_set, is_literal, TypesWith, of_boolean, of_long, of_text, of_uid, of_principal, of_resource, of_context, of_not, and_false, and_then_false, and_then_true, and_then_any, or_true, or_false, or_any_true, or_any_false, or_any_any, if_true, if_false, if_any, of_negative, of_arithmetic, of_comparison, equal_literals, equal_joined, equal_apart, has_none, has_held, has_required, has_any, of_get, of_like, of_is, in_written, in_related, in_unrelated, of_contains, of_set_comparison, of_is_empty, of_set, of_record, of_decimal, of_any_decimal, of_decimals, JoinsOnto, joined_all, joined_more, AddsOnto, added_all, added_more}
+use Rattle.cedar_schema.specs.Declaring.{is_record}
+use Rattle.cedar_typing.specs.Typing.{attributes_in, flipped, is_arithmetic, is_comparison, is_decimal_comparison, is_set_comparison, MayHold, two_literals, written_uids, names_of, NamesAction, AreWritten, IsInOne, IsOrDescends, Target, one_entity, entity_set, is_literal, TypesWith, of_boolean, of_long, of_text, of_uid, of_principal, of_resource, of_context, of_not, and_false, and_then_false, and_then_true, and_then_any, or_true, or_false, or_any_true, or_any_false, or_any_any, if_true, if_false, if_any, of_negative, of_arithmetic, of_comparison, equal_literals, equal_joined, equal_apart, has_none, has_held, has_required, has_any, of_get, of_like, of_is, in_written, in_related, in_unrelated, of_contains, of_set_comparison, of_is_empty, of_set, of_record, of_decimal, of_any_decimal, of_decimals, JoinsOnto, joined_all, joined_more, AddsOnto, added_all, added_more}
 use Rattle.cedar_types.specs.Lookup.{attribute_at}
 use Rattle.cedar_types.specs.declared.attribute.Attribute.{Attribute}
 use Rattle.cedar_types.specs.Ordered.{with_attribute}
-use Rattle.cedar_typing.specs.Checking.{Typed, is_held, common, are_distinct, as_type, gaining, truth_in, entity_in, element_in, target_in, is_long, is_string, is_decimal, on_boolean, on_two, literal_type, variable_type, and_right, and_type, or_right, or_type, if_type, has_type, get_type, literal_decimal_type, decimal_type, unary_type, apart, any_or, equal_literal_type, any_if, names_action, is_or_descends, is_in_written, in_truth, any_where, sets_type, longs_type, decimals_type, binary_type, type_of_with, types_all, types_onto, types_entries}
+use Rattle.cedar_typing.specs.Rows.{Typed, as_type, gaining, truth_in, entity_in, element_in, target_in, is_long, is_string, is_decimal, literal_decimal_type, decimal_type, apart, any_or, equal_literal_type, any_if, names_action, is_or_descends, is_in_written, in_truth, any_where, sets_type, longs_type, decimals_type, binary_type}
+use Rattle.cedar_typing.specs.Private.Checking.{is_held, common, are_distinct, on_boolean, on_two, literal_type, variable_type, and_right, and_type, or_right, or_type, if_type, has_type, get_type, unary_type, type_of_with, types_all, types_onto, types_entries}
 use Rattle.cedar_typing.proofs.Listed.{both_true, either_true, either_decides, any_decides}
 use Rattle.cedar_typing.proofs.Descents.{is_action-Decides, is_action_type-Decides, action_below-Decides, type_below-Decides}
 use Rattle.cedar_typing.proofs.Trees.{cap_from_test, no_cap_from_test, distinct_from_test}

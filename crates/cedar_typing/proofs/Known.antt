@@ -8,7 +8,7 @@ use Rattle.cedar_schema.specs.SchemaTree.{SchemaTree}
 use Rattle.cedar_types.specs.Joins.{Join, join_boolean, join_long, join_string, join_entity, join_decimal, join_set, join_record}
 use Rattle.cedar_typing.specs.Capabilities.{Capability, Capabilities, Has}
 use Rattle.cedar_typing.specs.Typing.{TypesWith, and_then_true, and_then_any, or_false, or_any_false, or_any_any, if_true, if_false, if_any, has_any}
-use Rattle.cedar_typing.specs.Exactness.{IsKnown, KnownGainsNothingWith}
+use Rattle.cedar_typing.specs.Determined.{IsKnown, KnownGainsNothingWith}
 use Rattle.cedar_typing.specs.declared.settings.Settings.{Settings}
 
 known_right : {t u v : TypeTree} → Join t u v → IsKnown v → IsKnown u

@@ -7,7 +7,8 @@ use Rattle.std.specs.Str.{bytes_eq}
 use Rattle.std.proofs.lemmas.List.Elements.{All-from_recursion}
 use Rattle.cedar_value.specs.Datum.{Datum, long, text, uid, same_uid}
 use Rattle.cedar_value.specs.Private.Equality.{same_uid-Decides}
-use Rattle.cedar_value.specs.World.{World, EntityTree, entry_of, has_entity, parents_of, IsParent, Below}
+use Rattle.cedar_value.specs.World.{World, EntityTree, entry_of, has_entity, parents_of, Below}
+use Rattle.cedar_value.specs.Private.Parents.{IsParent}
 use Rattle.cedar_closure.specs.Closure.{one_link, more_links}
 use Rattle.cedar_value.specs.declared.uid.Uid.{Uid}
 use Rattle.cedar_value.specs.declared.request.Request.{Request}
@@ -24,7 +25,7 @@ use Rattle.cedar_schema.proofs.DeclaredTests.{actions_conform}
 use Rattle.cedar_typing.specs.Soundness.{PremisesAreMetWith}
 use Rattle.cedar_typing.specs.declared.settings.Settings.{Settings}
 use Rattle.cedar_typing.proofs.Descents.{chain_down}
-use Rattle.cedar_typing.proofs.Reports.{accepted_has_no_fault}
+use Rattle.cedar_typing.proofs.Reports.{accepted_without_fault}
 use Rattle.cedar_typing.proofs.Members.{pair_fits}
 use Rattle.cedar_typing.proofs.Rows.{guarded_policy, guarded_everywhere, schema, user_type, admin_type, doc_type, act, deletes, reads, views}
 
@@ -247,5 +248,5 @@ premises_are_met settings = record {
   apart = types_apart;
   conforms = conforms;
   fits = fits;
-  accepted = (accepted_has_no_fault settings schema guarded_policy).1 (guarded_everywhere settings);
+  accepted = accepted_without_fault settings schema guarded_policy (guarded_everywhere settings);
 }

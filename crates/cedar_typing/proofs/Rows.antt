@@ -23,8 +23,8 @@ use Rattle.cedar_types.specs.Types as kind
 use Rattle.cedar_schema.specs.SchemaTree.{SchemaTree, EntityTypeTree, ActionTree, environments_of}
 use Rattle.cedar_typing.specs.Settings.{default_settings}
 use Rattle.cedar_typing.specs.declared.settings.Settings.{Settings}
-use Rattle.cedar_typing.specs.Reports.{faults_of_with}
-use Rattle.cedar_typing.specs.Checking.{form_in_with}
+use Rattle.cedar_typing.specs.Private.Reporting.{faults_of_with}
+use Rattle.cedar_typing.specs.Private.Checking.{form_in_with}
 
 -- ---- a schema: users, who may be in teams, admins and docs, and three actions
 

@@ -1,14 +1,23 @@
 -- The tests of equality are exact, and so are those of capabilities and of keys.
-use Rattle.std.proofs.Common.{◌≡◌, ◌≢◌, ℕ, zero, suc, ◌<◌, Bool, true, false, not, ◌&&◌, ◌||◌, List, [], ◌∷◌, length, Contains, inl, inr, ⊎_elim, arith, refl, sym, ap, ap₂, subst, ◌∙◌}
-use Rattle.std.specs.Bool.{Decides}
+use Rattle.std.proofs.Common.{◌≡◌, ◌≢◌, ℕ, zero, suc, ◌<◌, Bool, true, false, cond, not, ◌&&◌, ◌||◌, List, [], ◌∷◌, length, Contains, inl, inr, ⊎_elim, arith, refl, sym, ap, ap₂, subst, ◌∙◌}
+use Rattle.std.specs.Prelude.{filter, Option, option_and_then}
+use Rattle.std.specs.Bool.{Decides, one_answer}
 use Rattle.std.specs.List.{list_any, slice_index_or}
 use Rattle.std.specs.Str.{bytes_eq}
 use Rattle.std.proofs.lemmas.Slice.Eq.{bytes_eq-Decides}
 use Rattle.std.proofs.lemmas.List.Elements.{Contains-get_or}
 use Rattle.cedar_ast.specs.Private.SameExpression.{same_expression, same_expression-Decides}
 use Rattle.cedar_ast.specs.Keys.{AreDistinct}
-use Rattle.cedar_typing.specs.Capabilities.{Capability, Capabilities, Has}
-use Rattle.cedar_typing.specs.Checking.{same_capability, is_held, are_distinct}
+use Rattle.cedar_ast.specs.Expression.{Expression}
+use Rattle.cedar_ast.specs.declared.operator.UnaryOperator.{UnaryOperator}
+use Rattle.cedar_ast.specs.declared.operator.UnaryOperator.TheVariants as operator
+use Rattle.cedar_schema.specs.SchemaTree.{SchemaTree}
+use Rattle.cedar_types.specs.Lookup.{attribute_at}
+use Rattle.cedar_typing.specs.Capabilities.{Capability, Capabilities, Has, TellsHeld, AreKept}
+use Rattle.cedar_typing.specs.Rows.{Typed, IsUnaryRow, has_row, get_row, unary_row}
+use Rattle.cedar_typing.specs.Typing.{attributes_in}
+use Rattle.cedar_typing.specs.declared.settings.Settings.{Settings}
+use Rattle.cedar_typing.specs.Private.Checking.{same_capability, is_held, common, are_distinct, unary_type}
 use Rattle.cedar_typing.proofs.Listed.{both_true, either_true, or_left, or_true, not_true, decides_as, any_decides}
 use Rattle.cedar_typing.proofs.Made.{distinct_tail, distinct_head}
 
@@ -32,6 +41,44 @@ test_from_cap x (y ∷ ys) m =
 
 pub no_cap_from_test : (x : Capability) (h : Capabilities) → is_held x h ≡ false → ¬ Has x h
 no_cap_from_test x h e = λ m. let t = test_from_cap x h m in cc
+
+pub held_told : (h : Capabilities) → TellsHeld (λ x. is_held x h) h
+held_told h x = (cap_from_test x h, test_from_cap x h)
+
+pub one_test : (holds : Capability → Bool) (h : Capabilities) → TellsHeld holds h → (x : Capability) → is_held x h ≡ holds x
+one_test holds h told x = one_answer (is_held x h) (holds x) (held_told h x) (told x)
+
+filter_as : (f g : Capability → Bool) → ((x : Capability) → f x ≡ g x) → (xs : Capabilities) → filter f xs ≡ filter g xs
+filter_as f g e [] = refl
+filter_as f g e (x ∷ xs) = ap (λ b. cond b (x ∷ filter f xs) (filter f xs)) (e x) ∙ ap (λ l. cond (g x) (x ∷ l) l) (filter_as f g e xs)
+
+pub common_kept : (one two : Capabilities) → AreKept one two (common one two)
+common_kept one two = record { by_test = λ holds told. filter_as (λ x. is_held x two) holds (one_test holds two told) one }
+
+pub kept_common : (one two kept : Capabilities) → AreKept one two kept → kept ≡ common one two
+kept_common one two kept h = h.by_test (λ x. is_held x two) (held_told two)
+
+-- the rows of one operand
+same_row : (settings : Settings) (s : SchemaTree) (h : Capabilities) (op : UnaryOperator) (e : Expression) (t : Typed) (holds : Capability → Bool) → TellsHeld holds h
+    → unary_type settings s h op e t ≡ unary_row settings s holds op e t
+same_row settings s h operator.Not e t holds told = refl
+same_row settings s h operator.Negate e t holds told = refl
+same_row settings s h (operator.Has a) e t holds told =
+    ap (λ b. option_and_then (λ at. has_row b e a t.ty (attribute_at a at)) (attributes_in s t.ty)) (one_test holds h told (record { on = e; key = a }))
+same_row settings s h (operator.Get a) e t holds told =
+    ap (λ b. option_and_then (λ at. get_row b (attribute_at a at)) (attributes_in s t.ty)) (one_test holds h told (record { on = e; key = a }))
+same_row settings s h (operator.Like p) e t holds told = refl
+same_row settings s h (operator.Is n) e t holds told = refl
+same_row settings s h operator.Decimal e t holds told = refl
+same_row settings s h operator.IsEmpty e t holds told = refl
+
+pub unary_row_of : (settings : Settings) (s : SchemaTree) (h : Capabilities) (op : UnaryOperator) (e : Expression) (t : Typed) (typing : Option Typed)
+    → typing ≡ unary_type settings s h op e t → IsUnaryRow settings s h op e t typing
+unary_row_of settings s h op e t typing is = record { by_test = λ holds told. is ∙ same_row settings s h op e t holds told }
+
+pub unary_row_is : (settings : Settings) (s : SchemaTree) (h : Capabilities) (op : UnaryOperator) (e : Expression) (t : Typed) (typing : Option Typed)
+    → IsUnaryRow settings s h op e t typing → typing ≡ unary_type settings s h op e t
+unary_row_is settings s h op e t typing row = row.by_test (λ x. is_held x h) (held_told h)
 
 -- keys
 not_false : (b : Bool) → not b ≡ true → b ≡ false

@@ -8,7 +8,6 @@ use Rattle.cedar_schema.specs.declared.schema.environment.Environment.{Environme
 use Rattle.cedar_types.specs.Types as kind
 use Rattle.cedar_schema.specs.SchemaTree.{SchemaTree, environments_of}
 use Rattle.cedar_typing.specs.Capabilities.{Capabilities}
-use Rattle.cedar_typing.specs.Settings.{default_settings}
 use Rattle.cedar_typing.specs.Typing.{TypesWith}
 use Rattle.cedar_typing.specs.declared.settings.Settings.{Settings}
 use Rattle.cedar_ast.specs.Replacement.{replace}
@@ -32,20 +31,3 @@ IsAcceptedWith settings s p = (env : Environment) → Contains (environments_of 
 -- the policy (Cedar documentation, policy validation: impossible policies).
 abbrev pub IsImpossibleWith : Settings → SchemaTree → PolicyTree → Type 0
 IsImpossibleWith settings s p = (env : Environment) → Contains (environments_of s.actions) env → HasFormWith settings s env p False
-
--- The condition is typed as a Boolean of which this is known, with no setting on (cedar-spec, Lean: Cedar.Validation,
--- typechecker).
-abbrev pub HasForm : SchemaTree → Environment → PolicyTree → Truth → Type 0
-HasForm = HasFormWith default_settings
-
--- The policy is accepted in the environment, with no setting on (Cedar documentation, policy validation).
-abbrev pub IsAcceptedIn : SchemaTree → Environment → PolicyTree → Type 0
-IsAcceptedIn = IsAcceptedInWith default_settings
-
--- The policy is accepted in every environment of the schema, with no setting on (Cedar documentation, policy validation).
-abbrev pub IsAccepted : SchemaTree → PolicyTree → Type 0
-IsAccepted = IsAcceptedWith default_settings
-
--- No request can satisfy the policy, with no setting on (Cedar documentation, policy validation: impossible policies).
-abbrev pub IsImpossible : SchemaTree → PolicyTree → Type 0
-IsImpossible = IsImpossibleWith default_settings

@@ -1,5 +1,6 @@
 -- Capabilities: attributes of expressions that are known to be there (cedar-spec, Lean: Cedar.Validation, capabilities).
-use Rattle.std.specs.Prelude.{◌≡◌, ℕ, true, List, [], ◌∷◌, ◌⊎◌, ◌↔◌, Ok}
+use Rattle.std.specs.Prelude.{◌≡◌, ℕ, Bool, true, List, [], ◌∷◌, filter, ◌⊎◌, ◌↔◌, Ok}
+use Rattle.std.specs.Bool.{Decides}
 use Rattle.cedar_value.specs.Datum.{boolean}
 use Rattle.cedar_value.specs.World.{World}
 use Rattle.cedar_value.specs.declared.request.Request.{Request}
@@ -16,7 +17,7 @@ pub record Capability : Type 0 where
 abbrev pub Capabilities : Type 0
 Capabilities = List Capability
 
--- The capability is one of these.
+-- The capability is one of these (cedar-spec, Lean: Cedar.Validation, capabilities).
 abbrev pub Has : Capability → Capabilities → Type 0
 Has x [] = ⊥
 Has x (y ∷ ys) = (y ≡ x) ⊎ Has x ys
@@ -29,9 +30,18 @@ pub record IsUnion (a b d : Capabilities) : Type 0 where
 pub record IsCommon (a b d : Capabilities) : Type 0 where
   pub each : (x : Capability) → Has x d ↔ (Has x a × Has x b)
 
--- The two are one set.
+-- The two are one set (own).
 pub record AreSame (a b : Capabilities) : Type 0 where
   pub each : (x : Capability) → Has x a ↔ Has x b
+
+-- The test holds of just the capabilities that are held (own).
+abbrev pub TellsHeld : (Capability → Bool) → Capabilities → Type 0
+TellsHeld holds held = (x : Capability) → Decides (holds x) (Has x held)
+
+-- The last are those of the first that the second has too, in the order of the first (cedar-spec, Lean: Cedar.Validation,
+-- capabilities: intersection).
+pub record AreKept (one two kept : Capabilities) : Type 0 where
+  pub by_test : (holds : Capability → Bool) → TellsHeld holds two → kept ≡ filter holds one
 
 -- Each capability of the set is true: `has` of its expression and attribute evaluates to true (cedar-spec, Lean:
 -- Cedar.Thm.Validation, capabilities).

@@ -3,7 +3,8 @@ pub mod Capabilities
 pub mod Typing
 pub mod Acceptance
 pub mod Soundness
-pub mod Checking
-pub mod Exactness
-pub mod Candidates
 pub mod Reports
+pub mod Determined
+pub mod Candidates
+pub mod Rows
+pub mod Private

@@ -33,7 +33,7 @@ IsAllowedWith settings MissingEntity = Unit {0}
 IsAllowedWith settings Decimal = IsTrue settings.any_decimal
 IsAllowedWith settings _ = ⊥
 
--- The answer has the property, or is one of the errors that the settings leave.
+-- The answer has the property, or is one of the errors that the settings leave (own).
 abbrev pub GoodWith : {A : Type 0} → Settings → (A → Type 0) → Answer A → Type 0
 GoodWith settings P (Ok v) = P v
 GoodWith settings P (Err e) = IsAllowedWith settings e
@@ -55,7 +55,7 @@ SoundTypingWith settings = (s : SchemaTree) (env : Environment) (q : Request) (w
 abbrev pub SoundReplacement : Type 0
 SoundReplacement = (q : Request) (w : World) (e : Expression) → eval (replace q.action e) q w ≡ eval e q w
 
--- The value is a Boolean.
+-- The value is a Boolean (Cedar language reference, Bool).
 abbrev pub IsTruth : Datum → Type 0
 IsTruth = IsBoolean (λ b. Unit {0})
 
@@ -69,7 +69,7 @@ SoundAcceptanceWith settings = (s : SchemaTree) (q : Request) (w : World) (p : P
 abbrev pub SoundResponseWith : Settings → Type 0
 SoundResponseWith settings = (s : SchemaTree) (q : Request) (w : World) (ps : List PolicyTree) → AreTypesApart s → Conforms s w → Fits s q → AllByRecursion (IsAcceptedWith settings s) ps → AllByRecursion (λ (x : ErringTree). IsAllowedWith settings x.error) (response ps q w).erring
 
--- Some schema, world, request and policy meet all premises at once, so that the promises are not empty.
+-- Some schema, world, request and policy meet all premises at once, so that the promises are not empty (own).
 pub record PremisesAreMetWith (settings : Settings) : Type 0 where
   pub schema : SchemaTree
   pub environment : Environment
@@ -80,20 +80,6 @@ pub record PremisesAreMetWith (settings : Settings) : Type 0 where
   pub conforms : Conforms schema world
   pub fits : FitsIn schema environment request
   pub accepted : IsAcceptedWith settings schema policy
-
--- The two errors that validation leaves with no setting on: a sum or product beyond 64 bits, and the attribute of an entity
--- that the world lacks (Cedar documentation, policy validation: what validation does not find).
-abbrev pub IsAllowed : EvaluationError → Type 0
-IsAllowed = IsAllowedWith default_settings
-
--- The answer has the property, or is one of the two errors.
-abbrev pub Good : {A : Type 0} → (A → Type 0) → Answer A → Type 0
-Good P o = GoodWith default_settings P o
-
--- The expression evaluates to a member of its type or to one of the two errors, and where it is true, all that it gains
--- holds (cedar-spec, Lean: Cedar.Thm.Validation, type of is sound).
-abbrev pub Promise : Request → World → Expression → TypeTree → Capabilities → Type 0
-Promise = PromiseWith default_settings
 
 -- Every typing keeps its promise, with no setting on (cedar-spec, Lean: Cedar.Thm.Validation, type of is sound).
 abbrev pub SoundTyping : Type 0
@@ -109,6 +95,6 @@ SoundAcceptance = SoundAcceptanceWith default_settings
 abbrev pub SoundResponse : Type 0
 SoundResponse = SoundResponseWith default_settings
 
--- Some schema, world, request and policy meet all premises at once, with no setting on.
+-- Some schema, world, request and policy meet all premises at once, with no setting on (own).
 abbrev pub PremisesAreMet : Type 0
 PremisesAreMet = PremisesAreMetWith default_settings

@@ -15,7 +15,8 @@ use Rattle.cedar_ast.specs.Keys.{AreDistinct}
 use Rattle.cedar_types.specs.declared.truth.Truth.{Truth}
 use Rattle.cedar_types.specs.declared.truth.Truth.TheVariants.{True, False, Any}
 use Rattle.cedar_schema.specs.declared.schema.environment.Environment.{Environment}
-use Rattle.cedar_types.specs.Types.{TypeTree, Attributes, no_attributes, attribute}
+use Rattle.cedar_schema.specs.Declaring.{is_record}
+use Rattle.cedar_types.specs.Types.{TypeTree, Attributes, no_attributes}
 use Rattle.cedar_types.specs.Types as kind
 use Rattle.cedar_types.specs.Joins.{Join}
 use Rattle.cedar_types.specs.Lookup.{attribute_at}
@@ -26,7 +27,6 @@ use Rattle.cedar_schema.specs.Descents.{ActionDescends, TypeDescends}
 use Rattle.cedar_types.specs.Membership.{known}
 use Rattle.cedar_schema.specs.Declarations.{IsEntityType, IsAction, IsActionType}
 use Rattle.cedar_typing.specs.Capabilities.{Capabilities, Has, IsUnion, IsCommon}
-use Rattle.cedar_typing.specs.Settings.{default_settings}
 use Rattle.cedar_typing.specs.declared.settings.Settings.{Settings}
 
 -- The attributes of an entity type's shape; a type that the schema gives no shape, which is an action's, has none
@@ -42,11 +42,6 @@ abbrev pub attributes_in : SchemaTree → TypeTree → Option Attributes
 attributes_in s (kind.record_of a) = Some a
 attributes_in s (kind.entity n) = shape_attributes (shape_of s n)
 attributes_in s _ = None
-
--- Whether a type is one of records (Cedar documentation, JSON schema format: Record).
-abbrev pub is_record : TypeTree → Bool
-is_record (kind.record_of a) = true
-is_record _ = false
 
 -- What is known of `!e` from what is known of e (Cedar language reference, `!`).
 abbrev pub flipped : Truth → Truth
@@ -100,12 +95,12 @@ abbrev pub one_uid : Expression → Option Uid
 one_uid (literal (uid u)) = Some u
 one_uid _ = None
 
--- The one before the others, where there are both.
+-- The one uid before the others, where there are both (own).
 abbrev pub joined_uids : Option Uid → Option (List Uid) → Option (List Uid)
 joined_uids (Some u) (Some us) = Some (u ∷ us)
 joined_uids _ _ = None
 
--- The uids of expressions that are all literal uids.
+-- The uids of expressions that are all literal uids (Cedar language reference, policy grammar: Entity).
 abbrev pub all_uids : Expressions → Option (List Uid)
 all_uids no_more = Some []
 all_uids (and_then e es) = joined_uids (one_uid e) (all_uids es)
@@ -229,8 +224,3 @@ mutual
   pub data AddsOnto (settings : Settings) (s : SchemaTree) (env : Environment) : Capabilities → Attributes → Entries → Attributes → Type 0 where
     added_all : {h : Capabilities} {at : Attributes} → AddsOnto settings s env h at no_entries at
     added_more : {h g : Capabilities} {k : List ℕ} {e : Expression} {fs : Entries} {t : TypeTree} {at more : Attributes} → TypesWith settings s env h e t g → AddsOnto settings s env h (with_attribute k true t at) fs more → AddsOnto settings s env h at (entry k e fs) more
-
--- The rules of strict validation as it is documented, with no setting on (Cedar documentation, strict validation; cedar-spec,
--- Lean: Cedar.Validation, typechecker).
-abbrev pub Types : SchemaTree → Environment → Capabilities → Expression → TypeTree → Capabilities → Type 0
-Types = TypesWith default_settings

@@ -1,4 +1,4 @@
-//! Strict typing of the Cedar policy language, that it is sound, and that a function computes it.
+//! Strict typing of the Cedar policy language, and that it is sound.
 //!
 //! The crate holds definitions and the laws between them; each law is the contract of a function with an
 //! empty body, which runs nothing. Read the definitions in `specs/` in this order:
@@ -10,9 +10,10 @@
 //! - `Replacement` and `Acceptance`: the action of an environment in the place of `action`, and which
 //!   policies are accepted and which are impossible.
 //! - `Soundness`: what a typing promises of evaluation. This is what validation is for.
-//! - `Checking` and `Reports`: the same as functions, which the checker computes, with the faults and
-//!   warnings that it reports; `Exactness`: that the functions answer just what the rules say.
+//! - `Reports`: the faults and the warnings that a checker reports of policies; `Determined`: that there is one
+//!   such report, and one typing.
 //! - `Candidates`: which policies a request can satisfy, by their scopes alone.
+//! - `Rows`: the rules of single operators as functions, which the functions of cedar_rules compute.
 //!
 //! A policy that is accepted for a schema is safe to evaluate: [`typing_is_sound`] says that its condition
 //! is a Boolean for every request that fits the schema and every world that conforms to it, or else that a
@@ -23,8 +24,7 @@
 mod settings;
 
 ghost use Rattle.cedar_typing.specs.Candidates.{CandidatesAreEnough, FalseOnesMayGo};
-ghost use Rattle.cedar_typing.specs.Exactness.{FoundIsTyped, FoundIsTypedWith, TypedIsFound, TypedIsFoundWith, KnownGainsNothing, KnownGainsNothingWith, FormIsFound, FormIsFoundWith};
-ghost use Rattle.cedar_typing.specs.Reports.{AcceptedHasNoFault, AcceptedHasNoFaultWith, ImpossibleIsComputed, ImpossibleIsComputedWith};
+ghost use Rattle.cedar_typing.specs.Determined.{AcceptedHaveNoFaultWith, FaultsAreRefusalsWith, ImpossibleHasNoFaultWith, KnownGainsNothingWith, ReportIsOneWith, TypingIsOneWith};
 ghost use Rattle.cedar_typing.specs.Soundness.{SoundTyping, SoundTypingWith, SoundReplacement, SoundAcceptance, SoundAcceptanceWith, SoundResponse, SoundResponseWith, PremisesAreMet, PremisesAreMetWith};
 
 pub use settings::Settings;
@@ -48,25 +48,18 @@ pub fn typing_is_sound()
     ensures premises_with { (settings : Settings) → PremisesAreMetWith settings }
 {}
 
-/// The rules, which are a relation, are what a function computes: each answer is a typing, and each typing
-/// is the answer, up to the order in which gained capabilities stand. What is known true or known false
-/// gains nothing. The form of a policy's condition in an environment is the one that is computed. A policy
-/// is accepted where it has no fault, and it is impossible where each form of it is known false. So it is
-/// under all settings; the clauses without `with` are that with no setting on. It is a law of the
+/// Typing leaves no choice, whatever the settings: an expression has no two types, and gains no two sets of
+/// capabilities; what is known true or known false gains nothing. Policies have one list of faults and one of
+/// warnings. There is a fault just where a policy is not accepted in an environment, so that policies have no
+/// fault just where each of them is accepted; a policy that no request can satisfy has none. It is a law of the
 /// definitions, and runs nothing.
-pub fn typing_is_computed()
-    ensures found { FoundIsTyped }
-    ensures typed { TypedIsFound }
-    ensures known { KnownGainsNothing }
-    ensures forms { FormIsFound }
-    ensures accepted { AcceptedHasNoFault }
-    ensures impossible { ImpossibleIsComputed }
-    ensures found_with { (settings : Settings) → FoundIsTypedWith settings }
-    ensures typed_with { (settings : Settings) → TypedIsFoundWith settings }
-    ensures known_with { (settings : Settings) → KnownGainsNothingWith settings }
-    ensures forms_with { (settings : Settings) → FormIsFoundWith settings }
-    ensures accepted_with { (settings : Settings) → AcceptedHasNoFaultWith settings }
-    ensures impossible_with { (settings : Settings) → ImpossibleIsComputedWith settings }
+pub fn typing_is_determined()
+    ensures typing { (settings : Settings) → TypingIsOneWith settings }
+    ensures known { (settings : Settings) → KnownGainsNothingWith settings }
+    ensures report { (settings : Settings) → ReportIsOneWith settings }
+    ensures faults { (settings : Settings) → FaultsAreRefusalsWith settings }
+    ensures accepted { (settings : Settings) → AcceptedHaveNoFaultWith settings }
+    ensures impossible { (settings : Settings) → ImpossibleHasNoFaultWith settings }
 {}
 
 /// A policy whose scope cannot be met in the request's environment, by the types of its entities or by the

@@ -3,17 +3,18 @@ use Rattle.std.specs.Prelude.{◌++◌, option_map, Option, Some, None}
 use Rattle.cedar_types.specs.Joining.{join}
 use Rattle.cedar_types.specs.declared.truth.Truth.{Truth}
 use Rattle.cedar_typing.specs.Capabilities as spec
-use Rattle.cedar_typing.specs.Checking as rule
+use Rattle.cedar_typing.specs.Rows.{Typed}
+use Rattle.cedar_typing.specs.Private.Checking.{common}
 use Rattle.cedar_check.specs.declared.form.Form.{Form}
 use Rattle.cedar_check.specs.declared.form.Form.TheVariants as form
 
 -- The first branch of an `if` behind a condition that gains these.
-abbrev pub kept_branch : spec.Capabilities → rule.Typed → rule.Typed
+abbrev pub kept_branch : spec.Capabilities → Typed → Typed
 kept_branch g t = record { ty = t.ty; gained = g ++ t.gained }
 
 -- Both branches of an `if`, the first behind a condition that gains these.
-abbrev pub joined_branches : spec.Capabilities → rule.Typed → rule.Typed → Option rule.Typed
-joined_branches g t u = option_map (λ v. let x : rule.Typed = record { ty = v; gained = rule.common (g ++ t.gained) u.gained } in x) (join t.ty u.ty)
+abbrev pub joined_branches : spec.Capabilities → Typed → Typed → Option Typed
+joined_branches g t u = option_map (λ v. let x : Typed = record { ty = v; gained = common (g ++ t.gained) u.gained } in x) (join t.ty u.ty)
 
 -- What is known of a condition, where it has a type of Booleans.
 abbrev pub form_view : Form → Option Truth

@@ -6,9 +6,10 @@ use Rattle.cedar_ast.specs.Private.Depth.{depth, list_depth, pairs_depth}
 use Rattle.cedar_ast.specs.Expression.{set_with, record_with, expressions_of, entries_of}
 use Rattle.cedar_ast.specs.Keys.{AreDistinct, keys_of}
 use Rattle.cedar_ast.proofs.Lists.{member_depth, pair_depth}
-use Rattle.cedar_typing.specs.Checking.{Typed, are_distinct, as_type, types_onto, types_entries}
+use Rattle.cedar_typing.specs.Rows.{Typed, as_type}
+use Rattle.cedar_typing.specs.Private.Checking.{are_distinct, types_onto, types_entries}
 use Rattle.cedar_typing.specs.Typing.{names_of}
-use Rattle.cedar_rules.specs.Private.View.{held_view, tree_of, typed_view, typing_view}
+use Rattle.cedar_rules.specs.View.{held_view, tree_of, typed_view, typing_view}
 use Rattle.cedar_check.proofs.Joined.{member_refused, member_apart, member_joined, entry_refused, entry_added, nothing, distinct_names}
 use Rattle.cedar_check.proofs.checking.+check.Goals as goal
 

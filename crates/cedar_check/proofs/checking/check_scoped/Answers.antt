@@ -7,8 +7,9 @@ use Rattle.cedar_types.specs.declared.truth.Truth.TheVariants.{True, False, Any}
 use Rattle.cedar_ast.specs.Expression.{Expression, and}
 use Rattle.cedar_schema.specs.SchemaTree.{SchemaTree}
 use Rattle.cedar_schema.specs.declared.schema.environment.Environment.{Environment}
-use Rattle.cedar_typing.specs.Checking.{Typed, and_right, and_type, on_boolean, truth_in, type_of_with}
-use Rattle.cedar_rules.specs.Private.View.{held_view, tree_of, typed_view, typing_view}
+use Rattle.cedar_typing.specs.Rows.{Typed, truth_in}
+use Rattle.cedar_typing.specs.Private.Checking.{and_right, and_type, on_boolean, type_of_with}
+use Rattle.cedar_rules.specs.View.{held_view, tree_of, typed_view, typing_view}
 use Rattle.cedar_check.proofs.checking.check_scoped.Goals as goal
 use Rattle.cedar_typing.specs.declared.settings.Settings.{Settings}
 

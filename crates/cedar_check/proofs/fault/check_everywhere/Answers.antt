@@ -1,6 +1,6 @@
 use Rattle.std.proofs.Common.{◌≡◌, ◌++◌, ◌&&◌, Bool, map, drop_of_length-le, arith, ap, sym, ◌∙◌}
 use Rattle.std.specs.List.{list_all}
-use Rattle.cedar_typing.specs.Reports.{faults_in_with}
+use Rattle.cedar_typing.specs.Private.Reporting.{faults_in_with}
 use Rattle.cedar_check.specs.FaultView.{fault_view}
 use Rattle.cedar_check.proofs.Environments.{known_false, faults_step, impossible_step, not_known, still_known, all_so_far, nil_right}
 use Rattle.cedar_check.proofs.fault.check_everywhere.Goals.{then-not-branch, else-not-branch}

@@ -1,6 +1,6 @@
 use Rattle.std.proofs.Common.{◌≡◌, ◌++◌, drop}
-use Rattle.cedar_typing.specs.Checking.{common}
-use Rattle.cedar_rules.specs.Private.View.{held_view}
+use Rattle.cedar_typing.specs.Private.Checking.{common}
+use Rattle.cedar_rules.specs.View.{held_view}
 use Rattle.cedar_rules.proofs.capability.common.Given as goal
 
 abbrev pub invariant-loop-capability : goal.invariant-loop-capability

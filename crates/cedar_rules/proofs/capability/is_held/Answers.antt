@@ -1,7 +1,7 @@
 use Rattle.std.proofs.Common.{Bool, ap, sym, ◌∙◌, drop, ◌+◌}
 use Rattle.std.specs.Prelude.{◌||◌}
-use Rattle.cedar_typing.specs.Checking.{is_held}
-use Rattle.cedar_rules.specs.Private.View.{capability_view, held_view}
+use Rattle.cedar_typing.specs.Private.Checking.{is_held}
+use Rattle.cedar_rules.specs.View.{capability_view, held_view}
 use Rattle.cedar_rules.proofs.Held.{held_step}
 use Rattle.cedar_rules.proofs.capability.is_held.Goals as goal
 

@@ -1,6 +1,6 @@
 use Rattle.std.proofs.Common.{◌≡◌, drop}
-use Rattle.cedar_typing.specs.Checking.{is_held}
-use Rattle.cedar_rules.specs.Private.View.{capability_view, held_view}
+use Rattle.cedar_typing.specs.Private.Checking.{is_held}
+use Rattle.cedar_rules.specs.View.{capability_view, held_view}
 use Rattle.cedar_rules.proofs.capability.is_held.Given as goal
 
 abbrev pub invariant-loop-capability : goal.invariant-loop-capability

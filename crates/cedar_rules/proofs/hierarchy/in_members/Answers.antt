@@ -1,7 +1,7 @@
 use Rattle.std.proofs.Common.{◌≡◌, Bool, drop_of_length-le, arith, ap, sym, ◌∙◌}
 use Rattle.std.specs.Prelude.{◌||◌, option_copied}
 use Rattle.cedar_ast.specs.Expression.{expressions_of}
-use Rattle.cedar_typing.specs.Checking.{is_or_descends}
+use Rattle.cedar_typing.specs.Rows.{is_or_descends}
 use Rattle.cedar_typing.specs.Typing.{all_uids}
 use Rattle.cedar_rules.proofs.Written.{found_in, no_uid, next_uid, either, neither, none_left}
 use Rattle.cedar_rules.proofs.hierarchy.in_members.Goals.{then-is_or_descends, else-is_or_descends}

@@ -1,6 +1,6 @@
 use Rattle.std.proofs.Common.{◌≡◌, false, drop}
 use Rattle.cedar_ast.specs.Expression.{expressions_of}
-use Rattle.cedar_typing.specs.Checking.{is_or_descends}
+use Rattle.cedar_typing.specs.Rows.{is_or_descends}
 use Rattle.cedar_typing.specs.Typing.{all_uids}
 use Rattle.cedar_rules.proofs.Written.{found_in}
 use Rattle.cedar_rules.proofs.hierarchy.in_members.Given as goal

@@ -1,0 +1,17 @@
+-- What the rows of cedar_rules give, as the checker's functions have it.
+use Rattle.std.proofs.Common.{◌≡◌, Option}
+use Rattle.cedar_ast.specs.Expression.{Expression}
+use Rattle.cedar_ast.specs.declared.operator.UnaryOperator.{UnaryOperator}
+use Rattle.cedar_schema.specs.SchemaTree.{SchemaTree}
+use Rattle.cedar_typing.specs.Capabilities.{Capabilities, AreKept}
+use Rattle.cedar_typing.specs.Rows.{Typed, IsUnaryRow}
+use Rattle.cedar_typing.specs.Private.Checking.{common, unary_type}
+use Rattle.cedar_typing.specs.declared.settings.Settings.{Settings}
+use Rattle.cedar_typing.proofs.Trees.{kept_common, unary_row_is}
+
+pub kept_in : (one two kept : Capabilities) → AreKept one two kept → kept ≡ common one two
+kept_in one two kept h = kept_common one two kept h
+
+pub unary_given : (settings : Settings) (s : SchemaTree) (h : Capabilities) (op : UnaryOperator) (e : Expression) (t : Typed) (typing : Option Typed)
+    → IsUnaryRow settings s h op e t typing → typing ≡ unary_type settings s h op e t
+unary_given settings s h op e t typing row = unary_row_is settings s h op e t typing row

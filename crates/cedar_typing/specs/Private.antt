@@ -1,0 +1,4 @@
+-- What only proofs and private contracts use: typing and reports as functions, which the checker computes.
+pub mod Checking
+pub mod Exactness
+pub mod Reporting

@@ -19,9 +19,9 @@ use Rattle.cedar_schema.specs.WellFormed.{AreTypesApart}
 use Rattle.cedar_schema.specs.Conformance.{Conforms, Fits, FitsIn}
 use Rattle.cedar_typing.specs.Candidates.{MayMeet, Meets, IsCandidate, CandidatesAreEnough}
 use Rattle.cedar_auth.specs.Candidates.{AreCandidates, OthersAreFalse}
-use Rattle.cedar_index.specs.Index.{IsIndexOf, HasReached}
-use Rattle.cedar_auth.specs.declared.cell.Cell.{Cell}
-use Rattle.cedar_auth.specs.Private.Sifting.{Cells, Row, Rows, SiftedBy, LeavesFalse, OfAction, ByAction, cell_at, positions_in}
+use Rattle.cedar_auth.specs.declared.row.Row.{Row}
+use Rattle.cedar_index.specs.Index.{IndexTree, IsListingBy, ListingTree, HasReached}
+use Rattle.cedar_auth.specs.Private.Sifting.{Cells, RowCells, Rows, SiftedBy, LeavesFalse, OfAction, ByAction, AreCandidatesFor, cell_at, positions_in}
 use Rattle.cedar_auth.proofs.Environments.{found_at, looked_up}
 use Rattle.cedar_auth.proofs.Listed.{here, there}
 use Rattle.cedar_auth.proofs.Makings.{IsMaking, making_end}
@@ -29,10 +29,10 @@ use Rattle.cedar_auth.proofs.Reached.{unreached_is_false}
 use Rattle.cedar_auth.proofs.Sifts.{both_sifted, alike_sifted, sifted_exactly, sifted_ascends}
 
 -- three look-ups, one after the other
-three : (rows : Rows) (u : Uid) (n m : List ℕ) (row : Row) (cells : Cells) (cell : Cell)
-    → get uid_cmp rows u ≡ Some row → get text_cmp row n ≡ Some cells → get text_cmp cells m ≡ Some cell → cell_at rows u n m ≡ Some cell
+three : (rows : Rows) (u : Uid) (n m : List ℕ) (row : Row) (cells : Cells) (cell : ListingTree)
+    → get uid_cmp rows u ≡ Some row → get text_cmp row.cells.value n ≡ Some cells → get text_cmp cells m ≡ Some cell → cell_at rows u n m ≡ Some cell
 three rows u n m row cells cell a b c =
-    ap (λ (o : Option Row). option_and_then (λ (cells : Cells). get text_cmp cells m) (option_and_then (λ (row : Row). get text_cmp row n) o)) a
+    ap (λ (o : Option Row). option_and_then (λ (cells : Cells). get text_cmp cells m) (option_and_then (λ (row : Row). get text_cmp row.cells.value n) o)) a
     ∙ ap (λ (o : Option Cells). option_and_then (λ (cells : Cells). get text_cmp cells m) o) b
     ∙ c
 
@@ -43,81 +43,81 @@ of_candidate : (s : SchemaTree) (env : Environment) (p : PolicyTree) → IsCandi
 of_candidate s env p c = ((c.action, c.principal), c.resource)
 
 -- what is kept for an environment
-record IsKeptFor (s : SchemaTree) (ps : List PolicyTree) (env : Environment) (found : Option Cell) : Type 0 where
-  cell : Cell
+record IsKeptFor (s : SchemaTree) (ps : List PolicyTree) (index : IndexTree) (env : Environment) (found : Option ListingTree) : Type 0 where
+  cell : ListingTree
   is : found ≡ Some cell
-  sifted : SiftedBy ps (IsCandidate s env) (range_with_len 0 (length ps)) cell.positions.items
-  indexed : IsIndexOf ps cell.positions.items cell.index
+  sifted : SiftedBy ps (IsCandidate s env) (range_with_len 0 (length ps)) cell.positions
+  listed : IsListingBy index cell
 
-kept_for : (s : SchemaTree) (ps : List PolicyTree) (rows : Rows) → ByAction s ps rows → IsStrictlySortedBy uid_cmp (keys_of s.actions)
-    → (q : Request) (env : Environment) → FitsIn s env q → IsKeptFor s ps env (cell_at rows env.action env.principal env.resource)
-kept_for s ps rows by up q env fits =
+kept_for : (s : SchemaTree) (ps : List PolicyTree) (index : IndexTree) (rows : Rows) → ByAction s ps index rows → IsStrictlySortedBy uid_cmp (keys_of s.actions)
+    → (q : Request) (env : Environment) → FitsIn s env q → IsKeptFor s ps index env (cell_at rows env.action env.principal env.resource)
+kept_for s ps index rows by up q env fits =
     let (a, declared, principal, resource) = found_at s.actions up env fits.listed in
     let (row, row_at, of_action) = by env.action a declared in
     let (by_action, first, principals) = of_action in
     let (cells, cells_at, of_principal) = principals env.principal principal in
     let (by_principal, second, resources) = of_principal in
     let (cell, is_at, of_cell) = resources env.resource resource in
-    let (third, indexed) = of_cell in
+    let (third, listed) = of_cell in
     let all = range_with_len 0 (length ps) in
     record {
       cell = cell;
       is = three rows env.action env.principal env.resource row cells cell row_at cells_at is_at;
-      sifted = alike_sifted ps (λ p. (Meets s env.action p.scope.action × MayMeet s env.principal p.scope.principal) × MayMeet s env.resource p.scope.resource) (IsCandidate s env) all cell.positions.items
+      sifted = alike_sifted ps (λ p. (Meets s env.action p.scope.action × MayMeet s env.principal p.scope.principal) × MayMeet s env.resource p.scope.resource) (IsCandidate s env) all cell.positions
           (candidate_from s env) (of_candidate s env)
-          (both_sifted ps (λ p. Meets s env.action p.scope.action × MayMeet s env.principal p.scope.principal) (λ p. MayMeet s env.resource p.scope.resource) all by_principal cell.positions.items
+          (both_sifted ps (λ p. Meets s env.action p.scope.action × MayMeet s env.principal p.scope.principal) (λ p. MayMeet s env.resource p.scope.resource) all by_principal cell.positions
           (both_sifted ps (λ p. Meets s env.action p.scope.action) (λ p. MayMeet s env.principal p.scope.principal) all by_action by_principal first second) third);
-      indexed = indexed;
+      listed = listed;
     }
 
 -- what is looked up for a request that is one of the environment
-found_for : (s : SchemaTree) (ps : List PolicyTree) (rows : Rows) → ByAction s ps rows → IsStrictlySortedBy uid_cmp (keys_of s.actions)
-    → (q : Request) (found : Option Cell) → found ≡ cell_at rows q.action q.principal.ty q.resource.ty → (env : Environment) → FitsIn s env q
-    → IsKeptFor s ps env found
-found_for s ps rows by up q found is env fits =
+found_for : (s : SchemaTree) (ps : List PolicyTree) (index : IndexTree) (rows : Rows) → ByAction s ps index rows → IsStrictlySortedBy uid_cmp (keys_of s.actions)
+    → (q : Request) (found : Option ListingTree) → found ≡ cell_at rows q.action q.principal.ty q.resource.ty → (env : Environment) → FitsIn s env q
+    → IsKeptFor s ps index env found
+found_for s ps index rows by up q found is env fits =
     let same : cell_at rows env.action env.principal env.resource ≡ found =
     ap (λ (u : Uid). cell_at rows u env.principal env.resource) (sym fits.action)
     ∙ ap (λ (n : List ℕ). cell_at rows q.action n env.resource) (sym fits.principal)
     ∙ ap (λ (m : List ℕ). cell_at rows q.action q.principal.ty m) (sym fits.resource)
     ∙ sym is in
-    subst (λ (o : Option Cell). IsKeptFor s ps env o) same (kept_for s ps rows by up q env fits)
+    subst (λ (o : Option ListingTree). IsKeptFor s ps index env o) same (kept_for s ps index rows by up q env fits)
 
 -- its positions are those of the candidates
-pub positions_for : (s : SchemaTree) (ps : List PolicyTree) (rows : Rows) → ByAction s ps rows → IsStrictlySortedBy uid_cmp (keys_of s.actions)
-    → (q : Request) (found : Option Cell) → found ≡ cell_at rows q.action q.principal.ty q.resource.ty → (env : Environment) → FitsIn s env q
+pub positions_for : (s : SchemaTree) (ps : List PolicyTree) (index : IndexTree) (rows : Rows) → ByAction s ps index rows → IsStrictlySortedBy uid_cmp (keys_of s.actions)
+    → (q : Request) (found : Option ListingTree) → found ≡ cell_at rows q.action q.principal.ty q.resource.ty → (env : Environment) → FitsIn s env q
     → SiftedBy ps (IsCandidate s env) (range_with_len 0 (length ps)) (positions_in found)
-positions_for s ps rows by up q found is env fits =
-    let kept = found_for s ps rows by up q found is env fits in
-    subst (λ (o : Option Cell). SiftedBy ps (IsCandidate s env) (range_with_len 0 (length ps)) (positions_in o)) (sym kept.is) kept.sifted
+positions_for s ps index rows by up q found is env fits =
+    let kept = found_for s ps index rows by up q found is env fits in
+    subst (λ (o : Option ListingTree). SiftedBy ps (IsCandidate s env) (range_with_len 0 (length ps)) (positions_in o)) (sym kept.is) kept.sifted
 
 -- what is selected from it leaves policies alone that are false
-pub selected_for : (s : SchemaTree) (ps : List PolicyTree) (w : World) (rows : Rows) → ByAction s ps rows → IsStrictlySortedBy uid_cmp (keys_of s.actions) → AreTypesApart s → Conforms s w
-    → (q : Request) (cell : Cell) (ks : List ℕ) → Some cell ≡ cell_at rows q.action q.principal.ty q.resource.ty → Fits s q → HasReached cell.index q w ks → LeavesFalse ps q w ks
-selected_for s ps w rows by up apart conforms q cell ks is fits reached i p at out =
+pub selected_for : (s : SchemaTree) (ps : List PolicyTree) (w : World) (index : IndexTree) (rows : Rows) → AreCandidatesFor s ps index rows → IsStrictlySortedBy uid_cmp (keys_of s.actions) → AreTypesApart s → Conforms s w
+    → (q : Request) (cell : ListingTree) (ks : List ℕ) → Some cell ≡ cell_at rows q.action q.principal.ty q.resource.ty → Fits s q → HasReached index cell q w ks → LeavesFalse ps q w ks
+selected_for s ps w index rows are up apart conforms q cell ks is fits reached i p at out =
     let env = fits.0 in
-    let kept = found_for s ps rows by up q (Some cell) is env fits.1 in
+    let kept = found_for s ps index rows are.kept up q (Some cell) is env fits.1 in
     let same : cell ≡ kept.cell = cc kept.is in
-    let sifted = subst (λ (c : Cell). SiftedBy ps (IsCandidate s env) (range_with_len 0 (length ps)) c.positions.items) (sym same) kept.sifted in
-    let indexed = subst (λ (c : Cell). IsIndexOf ps c.positions.items c.index) (sym same) kept.indexed in
+    let sifted = subst (λ (c : ListingTree). SiftedBy ps (IsCandidate s env) (range_with_len 0 (length ps)) c.positions) (sym same) kept.sifted in
+    let listed = subst (λ (c : ListingTree). IsListingBy index c) (sym same) kept.listed in
     unreached_is_false s env q w p apart conforms fits.1
-    (λ h. out (reached ps cell.positions.items indexed i p ((sifted_exactly ps (IsCandidate s env) cell.positions.items sifted i).1 (p, at, h.0)) at h.1))
+    (λ h. out (reached ps are.indexed listed i p ((sifted_exactly ps (IsCandidate s env) cell.positions sifted i).1 (p, at, h.0)) at h.1))
 
 -- there is a cell for each request that fits
-pub found_always : (s : SchemaTree) (ps : List PolicyTree) (rows : Rows) → ByAction s ps rows → IsStrictlySortedBy uid_cmp (keys_of s.actions)
+pub found_always : (s : SchemaTree) (ps : List PolicyTree) (index : IndexTree) (rows : Rows) → ByAction s ps index rows → IsStrictlySortedBy uid_cmp (keys_of s.actions)
     → (q : Request) → None ≡ cell_at rows q.action q.principal.ty q.resource.ty → Fits s q → ⊥
-found_always s ps rows by up q is fits =
-    let kept = found_for s ps rows by up q None is fits.0 fits.1 in
+found_always s ps index rows by up q is fits =
+    let kept = found_for s ps index rows by up q None is fits.0 fits.1 in
     cc kept.is
 
 -- ---- how the rows are made
 
 -- what is kept for a listed action is kept for the action that is found
-pub row_right : (s : SchemaTree) (ps : List PolicyTree) (u : Uid) (a : ActionTree) (row : Row) (ks : List ℕ) → IsStrictlySortedBy uid_cmp (keys_of s.actions) → Contains s.actions (u, a) → ks ≡ range_with_len 0 (length ps)
-    → OfAction s ps ks u a row → (action : ActionTree) → action_at s u ≡ Some action → OfAction s ps (range_with_len 0 (length ps)) u action row
-row_right s ps u a row ks up m all of action found =
+pub row_right : (s : SchemaTree) (ps : List PolicyTree) (index : IndexTree) (u : Uid) (a : ActionTree) (row : RowCells) → IsStrictlySortedBy uid_cmp (keys_of s.actions) → Contains s.actions (u, a)
+    → OfAction s ps index u a row → (action : ActionTree) → action_at s u ≡ Some action → OfAction s ps index u action row
+row_right s ps index u a row up m of action found =
     let both : Some a ≡ Some action = sym (looked_up s.actions up u a m) ∙ found in
     let same : a ≡ action = cc in
-    subst (λ (x : ActionTree). OfAction s ps (range_with_len 0 (length ps)) u x row) same (subst (λ (js : List ℕ). OfAction s ps js u a row) all of)
+    subst (λ (x : ActionTree). OfAction s ps index u x row) same of
 
 listed_key : (actions : List (Uid × ActionTree)) (u : Uid) (a : ActionTree) → lookup (is_at (uid_cmp u)) actions ≡ Some a → Contains (keys_of actions) u
 listed_key [] u a h = cc
@@ -128,11 +128,11 @@ listed_key (x ∷ xs) u a h = at (is_at (uid_cmp u) x.0) refl (listed_key xs u a
     at false e rest g = there x.0 (keys_of xs) u (rest g)
 
 -- all rows are there
-pub rows_made : (s : SchemaTree) (ps : List PolicyTree) (rows : Rows) (left : List (Uid × ActionTree)) → left ≡ []
-    → IsMaking uid_cmp (λ (u : Uid) (row : Row). (action : ActionTree) → action_at s u ≡ Some action → OfAction s ps (range_with_len 0 (length ps)) u action row) rows (keys_of left) (keys_of s.actions)
-    → ByAction s ps rows
-rows_made s ps rows left none m u action found =
-    let e = making_end uid_total uid_same (λ (u : Uid) (row : Row). (action : ActionTree) → action_at s u ≡ Some action → OfAction s ps (range_with_len 0 (length ps)) u action row) rows (keys_of left) (keys_of s.actions) (ap (λ (es : List (Uid × ActionTree)). keys_of es) none) m u (listed_key s.actions u action found) in
+pub rows_made : (s : SchemaTree) (ps : List PolicyTree) (index : IndexTree) (rows : Rows) (left : List (Uid × ActionTree)) → left ≡ []
+    → IsMaking uid_cmp (λ (u : Uid) (row : Row). (action : ActionTree) → action_at s u ≡ Some action → OfAction s ps index u action row.cells.value) rows (keys_of left) (keys_of s.actions)
+    → ByAction s ps index rows
+rows_made s ps index rows left none m u action found =
+    let e = making_end uid_total uid_same (λ (u : Uid) (row : Row). (action : ActionTree) → action_at s u ≡ Some action → OfAction s ps index u action row.cells.value) rows (keys_of left) (keys_of s.actions) (ap (λ (es : List (Uid × ActionTree)). keys_of es) none) m u (listed_key s.actions u action found) in
     (e.0, e.1, e.2 action found)
 
 -- ---- what is said of them

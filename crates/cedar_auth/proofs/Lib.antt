@@ -5,6 +5,8 @@ pub mod Environments
 pub mod Headlines
 pub mod Listed
 pub mod Makings
+pub mod Made
+pub mod OpenActions
 pub mod PoliciesAt
 pub mod Reached
 pub mod Responses

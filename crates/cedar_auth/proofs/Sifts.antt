@@ -1,5 +1,5 @@
 -- Positions that were sifted.
-use Rattle.std.proofs.Common.{◌≡◌, ◌↔◌, ℕ, zero, suc, ◌+◌, ◌<◌, ◌≤◌, ◌⊎◌, ⊎_elim, get_or, List, [], ◌∷◌, ◌++◌, length, take, Contains, Option, Some, None, arith, refl, sym, ap, subst, ◌∙◌, add-one}
+use Rattle.std.proofs.Common.{◌≡◌, ◌↔◌, ℕ, zero, suc, ◌+◌, ◌<◌, ◌≤◌, ⊎_elim, get_or, List, [], ◌∷◌, ◌++◌, length, take, Contains, Option, Some, None, arith, refl, sym, ap, subst, ◌∙◌, add-one}
 use Rattle.std.specs.List.{slice_get, range_with_len}
 use Rattle.std.proofs.lemmas.List.{take_all, take_more}
 use Rattle.std.proofs.lemmas.List.Elements.{Contains-get_or}
@@ -54,6 +54,13 @@ sifted_alike [] (y ∷ ys) f g s = elim s [ ]
 sifted_alike (x ∷ xs) (y ∷ ys) f g (keeps _ _ _ p s) = keeps x xs ys (f x p) (sifted_alike xs ys f g s)
 sifted_alike (x ∷ xs) ks f g (drops _ _ _ p s) = drops x xs ks (λ q. p (g x q)) (sifted_alike xs ks f g s)
 
+-- the same, where it is known of what stands in the first list alone
+pub sifted_within : {P Q : ℕ → Type 0} (xs ks : List ℕ) → ((k : ℕ) → Contains xs k → P k → Q k) → ((k : ℕ) → Contains xs k → Q k → P k) → Sifted P xs ks → Sifted Q xs ks
+sifted_within [] [] f g none_left = none_left
+sifted_within [] (y ∷ ys) f g s = elim s [ ]
+sifted_within (x ∷ xs) (y ∷ ys) f g (keeps _ _ _ p s) = keeps x xs ys (f x (here x xs) p) (sifted_within xs ys (λ k m. f k (there x xs k m)) (λ k m. g k (there x xs k m)) s)
+sifted_within (x ∷ xs) ks f g (drops _ _ _ p s) = drops x xs ks (λ q. p (g x (here x xs) q)) (sifted_within xs ks (λ k m. f k (there x xs k m)) (λ k m. g k (there x xs k m)) s)
+
 of_both : (P Q : PolicyTree → Type 0) (o : Option PolicyTree) → OfPolicy P o × OfPolicy Q o → OfPolicy (λ p. P p × Q p) o
 of_both P Q None h = h.0
 of_both P Q (Some p) h = h
@@ -65,7 +72,7 @@ of_each P Q (Some p) h = h
 pub both_sifted : (ps : List PolicyTree) (P Q : PolicyTree → Type 0) (xs ys zs : List ℕ) → SiftedBy ps P xs ys → SiftedBy ps Q ys zs → SiftedBy ps (λ p. P p × Q p) xs zs
 both_sifted ps P Q xs ys zs s t = sifted_alike xs zs (λ k. of_both P Q (slice_get ps k)) (λ k. of_each P Q (slice_get ps k)) (sifted_twice xs ys zs s t)
 
-of_alike : (P Q : PolicyTree → Type 0) → ((p : PolicyTree) → P p → Q p) → (o : Option PolicyTree) → OfPolicy P o → OfPolicy Q o
+pub of_alike : (P Q : PolicyTree → Type 0) → ((p : PolicyTree) → P p → Q p) → (o : Option PolicyTree) → OfPolicy P o → OfPolicy Q o
 of_alike P Q f None h = h
 of_alike P Q f (Some p) h = f p h
 

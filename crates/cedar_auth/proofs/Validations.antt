@@ -1,31 +1,24 @@
--- Policies without faults are accepted.
-use Rattle.std.proofs.Common.{◌≡◌, ◌≢◌, ⊎_elim, List, [], ◌∷◌, ◌++◌, map, length, Contains, arith, refl, sym, subst, ◌∙◌}
+-- Policies without faults are accepted, and a report with faults is one of policies that have some.
+use Rattle.std.proofs.Common.{◌≡◌, ◌≢◌, List, [], ◌∷◌, map, length, arith, refl, sym, subst, ◌∙◌}
 use Rattle.cedar_policies.specs.PolicyTree.{PolicyTree}
 use Rattle.cedar_schema.specs.SchemaTree.{SchemaTree}
-use Rattle.cedar_typing.specs.Reports.{faults_of_with, all_faults_with, AcceptedHasNoFaultWith}
+use Rattle.cedar_typing.specs.Determined.{AcceptedHaveNoFaultWith, ReportIsOneWith}
+use Rattle.cedar_typing.specs.Reports.{FaultTree, AreFaultsWith}
 use Rattle.cedar_typing.specs.declared.settings.Settings.{Settings}
 use Rattle.cedar_auth.specs.Validation.{IsValidatedWith}
-use Rattle.cedar_auth.proofs.Listed.{cases, nowhere}
-
-both_empty : {A : Type 0} (xs ys : List A) → xs ++ ys ≡ [] → (xs ≡ []) × (ys ≡ [])
-both_empty [] ys e = (refl, e)
-both_empty (x ∷ xs) ys e = cc
-
-module _ (settings : Settings) (s : SchemaTree) where
-  none_of : (ps : List PolicyTree) (p : PolicyTree) → all_faults_with settings s ps ≡ [] → Contains ps p → faults_of_with settings s p ≡ []
-  none_of [] p e m = absurd (nowhere p m)
-  none_of (x ∷ xs) p e m =
-      let d = both_empty (faults_of_with settings s x) (all_faults_with settings s xs) e in
-      ⊎_elim (λ i. subst (λ (y : PolicyTree). faults_of_with settings s y ≡ []) i d.0) (λ r. none_of xs p d.1 r) (cases x xs p m)
-
-  pub validated : AcceptedHasNoFaultWith settings → (ps : List PolicyTree) → all_faults_with settings s ps ≡ [] → IsValidatedWith settings s ps
-  validated law ps e = record { each = λ p m. (law s p).1 (none_of ps p e m) }
 
 -- a list that shows nothing, and one that shows something
-pub shows_none : {A B : Type 0} (f : A → B) (xs : List A) (ys : List B) → map f xs ≡ ys → length xs ≡ 0 → ys ≡ []
-shows_none f [] ys e n = sym e
-shows_none f (x ∷ xs) ys e n = absurd (omega arith)
+shows_none : {A B : Type 0} (f : A → B) (xs : List A) → length xs ≡ 0 → map f xs ≡ []
+shows_none f [] n = refl
+shows_none f (x ∷ xs) n = absurd (omega arith)
 
-pub shows_some : {A B : Type 0} (f : A → B) (xs : List A) (ys : List B) → map f xs ≡ ys → length xs ≢ 0 → ys ≢ []
-shows_some f [] ys e n = absurd (n refl)
-shows_some f (x ∷ xs) ys e n = λ d. let t : f x ∷ map f xs ≡ [] = e ∙ d in cc
+shows_some : {A B : Type 0} (f : A → B) (xs : List A) → length xs ≢ 0 → map f xs ≢ []
+shows_some f [] n = absurd (n refl)
+shows_some f (x ∷ xs) n = λ e. cc
+
+module _ {A : Type 0} (view : A → FaultTree) (settings : Settings) (s : SchemaTree) (ps : List PolicyTree) (xs : List A) where
+  pub validated : AcceptedHaveNoFaultWith settings → AreFaultsWith settings s ps (map view xs) → length xs ≡ 0 → IsValidatedWith settings s ps
+  validated law h n = record { each = (law s ps).0 (subst (AreFaultsWith settings s ps) (shows_none view xs n) h) }
+
+  pub some_fault : ReportIsOneWith settings → AreFaultsWith settings s ps (map view xs) → length xs ≢ 0 → ¬ AreFaultsWith settings s ps []
+  some_fault law h n = λ none. let one = (law s ps).0.2 in shows_some view xs n (one (map view xs) h ∙ sym (one [] none))

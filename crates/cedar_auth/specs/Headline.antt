@@ -87,7 +87,7 @@ pub record IsAnsweredSoundlyWith (settings : Settings) (ps : List PolicyTree) (q
 abbrev pub EngineIsSoundWith : Settings → Type 0
 EngineIsSoundWith settings = (s : SchemaTree) (ps : List PolicyTree) (w : World) (q : Request) → AreTypesApart s → IsValidatedWith settings s ps → Conforms s w → Fits s q → IsAnsweredSoundlyWith settings ps q w
 
--- Some schema, policies, world and request meet all premises at once, so that the promise is not empty.
+-- Some schema, policies, world and request meet all premises at once, so that the promise is not empty (own).
 pub record PremisesAreMetWith (settings : Settings) : Type 0 where
   pub schema : SchemaTree
   pub policies : List PolicyTree
@@ -101,26 +101,11 @@ pub record PremisesAreMetWith (settings : Settings) : Type 0 where
 
 -- ---- the same with no setting on
 
--- An end is safe: it is a Boolean, or one of the two errors overflow and missing entity. No stack fault is, nor a type
--- error, a decimal error or a missing attribute (Cedar documentation, policy validation: what validation does not find).
-abbrev pub IsSafe : Outcome → Type 0
-IsSafe = IsSafeWith default_settings
-
--- The policy's code runs to the end that the evaluation of its condition has, after so many steps, which are no more than
--- it has instructions, and that end is safe (cedar-spec, Lean: Cedar.Thm.Validation; own: the code).
-abbrev pub RunsSafely : PolicyTree → Request → World → Type 0
-RunsSafely = RunsSafelyWith default_settings
-
--- What is promised of a request: every policy's code runs safely, the response names no other error than overflow and
--- missing entity, and it is Cedar's (Cedar language reference, authorization; cedar-spec, Lean: Cedar.Thm).
-abbrev pub IsAnsweredSoundly : List PolicyTree → Request → World → Type 0
-IsAnsweredSoundly = IsAnsweredSoundlyWith default_settings
-
 -- Where strict validation accepts the policies for the schema, and the world and the request conform to it, the request is
 -- answered soundly (Cedar documentation, policy validation; cedar-spec, Lean: Cedar.Thm).
 abbrev pub EngineIsSound : Type 0
 EngineIsSound = EngineIsSoundWith default_settings
 
--- Some schema, policies, world and request meet all premises at once, with no setting on.
+-- Some schema, policies, world and request meet all premises at once, with no setting on (own).
 abbrev pub PremisesAreMet : Type 0
 PremisesAreMet = PremisesAreMetWith default_settings

@@ -1,10 +1,10 @@
 -- What strict validation of a set of policies gives.
-use Rattle.std.specs.Prelude.{◌≡◌, ◌≢◌, ℕ, List, [], map, Contains, Option, Some, None}
+use Rattle.std.specs.Prelude.{ℕ, List, [], map, Contains, Option, Some, None}
 use Rattle.cedar_policies.specs.PolicyTree.{PolicyTree}
 use Rattle.cedar_policies.specs.PolicySetTree.{PolicySetTree}
 use Rattle.cedar_schema.specs.SchemaTree.{SchemaTree}
 use Rattle.cedar_typing.specs.Acceptance.{IsAcceptedWith}
-use Rattle.cedar_typing.specs.Reports.{all_faults_with, warnings_with}
+use Rattle.cedar_typing.specs.Reports.{AreFaultsWith, AreWarningsWith}
 use Rattle.cedar_typing.specs.Settings.{default_settings}
 use Rattle.cedar_typing.specs.declared.settings.Settings.{Settings}
 use Rattle.cedar_check.specs.FaultView.{fault_view}
@@ -27,9 +27,9 @@ pub record ValidatedTree : Type 0 where
 
 -- The report is that of strict validation under these settings, and it has faults (Cedar documentation, policy validation).
 pub record HasReportWith (settings : Settings) (s : SchemaTree) (ps : List PolicyTree) (report : Report) : Type 0 where
-  pub faults : map fault_view report.faults.items ≡ all_faults_with settings s ps
-  pub warnings : report.warnings.items ≡ warnings_with settings s ps
-  pub some : all_faults_with settings s ps ≢ []
+  pub faults : AreFaultsWith settings s ps (map fault_view report.faults.items)
+  pub warnings : AreWarningsWith settings s ps report.warnings.items
+  pub some : ¬ AreFaultsWith settings s ps []
 
 -- Under these settings the schema and the policies have the fault; want of memory is none of theirs (own).
 abbrev pub HasFaultWith : Settings → SchemaTree → List PolicyTree → ValidationFault → Type 0
@@ -41,10 +41,6 @@ HasFaultWith settings s ps TooLong = HasLongCode ps
 -- documentation, policy validation).
 abbrev pub IsValidated : SchemaTree → List PolicyTree → Type 0
 IsValidated = IsValidatedWith default_settings
-
--- The report is that of strict validation with no setting on, and it has faults (Cedar documentation, policy validation).
-abbrev pub HasReport : SchemaTree → List PolicyTree → Report → Type 0
-HasReport = HasReportWith default_settings
 
 -- The schema and the policies have the fault, with no setting on; want of memory is none of theirs (own).
 abbrev pub HasFault : SchemaTree → List PolicyTree → ValidationFault → Type 0

@@ -3,7 +3,7 @@
 //!
 //! ```
 //! let validated = Validated::new(alloc, schema, policies)?;
-//! let ready = Ready::new(alloc, validated, entities_json)?;
+//! let ready = Ready::new(alloc, validated, &entities_json)?;
 //! if ready.fits(&request) {
 //!     let response = ready.answer(alloc, &request)?;
 //!     assert_eq!(rt; response.decision, Decision::Allow);
@@ -20,15 +20,19 @@
 mod answer;
 mod candidates;
 mod cell;
+mod cells;
 mod codes;
 mod law;
 mod not_ready;
 mod not_validated;
 mod part;
+mod positions;
 mod question;
 mod ready;
 mod response;
 mod room;
+mod row;
+mod row_maker;
 mod scope_tests;
 mod serving;
 mod sifting;
@@ -37,6 +41,10 @@ mod told;
 mod validated;
 mod validation_fault;
 
+pub use cedar_lines::{
+    PiecewiseSink, PiecewiseSource, ReadFailed, ServeFault, Sink, SliceSource, Source, StdSink,
+    StdSource, VecSink, WriteFailed,
+};
 pub use law::engine_is_sound;
 pub use not_ready::NotReady;
 pub use not_validated::NotValidated;

@@ -7,6 +7,7 @@ ghost use Rattle.cedar_data.specs.declared.conform_fault.ConformFault.TheVariant
 ghost use Rattle.cedar_entities.specs.Bytes.{BytesDenote, BytesHaveFault};
 ghost use Rattle.cedar_conform.specs.Requests.{AnswersRequest, LineDenotes, LineHasFault};
 ghost use Rattle.cedar_schema.specs.Conformance.{Conforms, Fits, FitsIn};
+ghost use Rattle.cedar_schema.specs.WellFormed.{AreTypesApart};
 ghost use Rattle.cedar_schema.specs.declared.schema.environment.Environment.{Environment as EnvironmentTree};
 ghost use Rattle.cedar_value.specs.declared.request.Request.{Request as RequestTree};
 ghost use Rattle.cedar_typing.specs.Candidates.{IsCandidate};
@@ -15,6 +16,7 @@ ghost use Rattle.cedar_auth.specs.AnswerLine.{AnswersLine};
 ghost use Rattle.cedar_auth.specs.Candidates.{AreCandidates, OthersAreFalse};
 ghost use Rattle.cedar_auth.specs.Codes.{IsPartAt};
 ghost use Rattle.cedar_auth.specs.Headline.{IsAnsweredSoundlyWith};
+ghost use Rattle.cedar_auth.specs.Validation.{IsValidatedWith};
 ghost use Rattle.cedar_auth.specs.Private.Sifting.{LeavesFalse, SiftedBy};
 ghost use Rattle.cedar_auth.specs.Private.Tally.{tally_of};
 
@@ -25,9 +27,9 @@ use crate::response::Response;
 use crate::tally::Tally;
 use crate::validated::Validated;
 use cedar_code::Code;
-use cedar_conform::{read_request, read_request_with};
+use cedar_conform::{denoted_requests_fit, read_request, read_request_with};
 use cedar_data::{ConformFault, read_values_belong};
-use cedar_entities::read_entities;
+use cedar_entities::read_entities_owned;
 use cedar_index::Selection;
 use cedar_policies::Effect;
 use cedar_reader::JsonReader;
@@ -62,14 +64,46 @@ impl Model for Ready {
 
     ghost view = { λ r. record { schema = r.validated.schema; policies = r.validated.policies; settings = r.validated.settings; world = r.store } };
 
-    ghost invariant = { λ r. IsReady r.validated.schema r.validated.policies.policies r.store r.candidates.rows };
+    ghost invariant = { λ r. IsReady r.validated.schema r.validated.policies.policies r.store r.candidates.index r.candidates.rows };
 }
 
 impl Ready {
     /// The policies, ready to answer requests over the entities that the bytes denote by the schema (Cedar
-    /// documentation, entities JSON). A refusal hands the policies back: with 1 where memory was refused, and else with
-    /// 401, 402 or 501 to 509 only where that fault is in the bytes.
-    pub fn new(alloc: Global, validated: Validated, entities: Vec<u8>) -> Result<Ready, NotReady>
+    /// documentation, entities JSON). Takes a copy of the bytes.
+    ///
+    /// # Errors
+    ///
+    /// 1 where memory was refused, and else 401, 402 or 501 to 509 only where that fault is in the bytes. Each hands the
+    /// policies back.
+    pub fn new(alloc: Global, validated: Validated, entities: &[u8]) -> Result<Ready, NotReady>
+        ensures holds { IfOk result (λ r. (r.schema ≡ validated.schema) × (r.policies ≡ validated.policies)) }
+        ensures settings { IfOk result (λ r. r.settings ≡ validated.settings) }
+        ensures denotes { IfOk result (λ r. BytesDenote validated.schema entities.now r.world) }
+        ensures conforms { IfOk result (λ r. Conforms r.schema r.world) }
+        ensures refused { IfErr result (λ e. e.fault ≢ OutOfMemory → BytesHaveFault validated.schema entities.now e.fault) }
+        ensures handed_back { IfErr result (λ e. e.validated ≡ validated) }
+    {
+        match Vec::from_slice(alloc, entities) {
+            Ok(copied) => Ready::new_owned(alloc, validated, copied),
+            Err(_) => Err(NotReady {
+                fault: ConformFault::OutOfMemory,
+                validated,
+            }),
+        }
+    }
+
+    /// As [`Ready::new`], of bytes that it owns: it frees them as they are read, so that the bytes and the entities are
+    /// never in memory as a whole at the same time.
+    ///
+    /// # Errors
+    ///
+    /// As those of [`Ready::new`]. After an error the bytes are lost: a caller that may want to call again, as when memory
+    /// was refused, calls [`Ready::new`] or keeps a copy.
+    pub fn new_owned(
+        alloc: Global,
+        validated: Validated,
+        entities: Vec<u8>,
+    ) -> Result<Ready, NotReady>
         ensures holds { IfOk result (λ r. (r.schema ≡ validated.schema) × (r.policies ≡ validated.policies)) }
         ensures settings { IfOk result (λ r. r.settings ≡ validated.settings) }
         ensures denotes { IfOk result (λ r. BytesDenote validated.schema entities.items r.world) }
@@ -77,7 +111,7 @@ impl Ready {
         ensures refused { IfErr result (λ e. e.fault ≢ OutOfMemory → BytesHaveFault validated.schema entities.items e.fault) }
         ensures handed_back { IfErr result (λ e. e.validated ≡ validated) }
     {
-        let store = match read_entities(alloc, validated.schema(), entities) {
+        let store = match read_entities_owned(alloc, validated.schema(), entities) {
             Ok(store) => store,
             Err(fault) => return Err(NotReady { fault, validated }),
         };
@@ -186,7 +220,7 @@ impl Ready {
         // A law of schemas, which does nothing.
         self.validated.schema().well_formedness();
         match self.candidates.cell(&request.action, &request.principal.ty, &request.resource.ty) {
-            Some(cell) => &cell.positions,
+            Some(cell) => cell.listing().positions(),
             None => &[],
         }
     }
@@ -219,7 +253,10 @@ impl Ready {
         // A law of schemas, which does nothing.
         self.validated.schema().well_formedness();
         match self.candidates.cell(&request.action, &request.principal.ty, &request.resource.ty) {
-            Some(cell) => cell.index.select(request, &self.store, selection),
+            Some(cell) => {
+                let index = self.candidates.index();
+                index.select(request, &self.store, cell.listing(), selection)
+            }
             None => {
                 selection.clear();
                 Ok(())
@@ -251,6 +288,29 @@ impl Ready {
         // Laws, which run nothing.
         engine_is_sound();
         self.validated.schema().well_formedness();
+    }
+
+    /// What [`engine_is_sound`] asks for holds of these policies and this world: no action's type is an entity type, strict
+    /// validation under the settings accepts the policies for the schema, and the world conforms to it. It is a law, and
+    /// runs nothing.
+    pub fn premises(&self)
+        ensures apart { AreTypesApart self.now.schema }
+        ensures validated { IsValidatedWith self.now.settings self.now.schema self.now.policies.policies }
+        ensures conforms { Conforms self.now.schema self.now.world }
+    {
+        // A law of schemas, which does nothing.
+        self.validated.schema().well_formedness();
+    }
+
+    /// Every request that a line denotes by the schema is answered soundly: what [`engine_is_sound`] says of these policies,
+    /// under their settings, and this world. It is a law, and runs nothing.
+    pub fn lines_are_answered_soundly(&self)
+        ensures { (line : List ℕ) (q : RequestTree) → LineDenotes self.now.schema line q
+            → IsAnsweredSoundlyWith self.now.settings self.now.policies.policies q self.now.world }
+    {
+        // Laws, which run nothing.
+        denoted_requests_fit();
+        self.soundness();
     }
 
     /// Each line has an answer: it denotes a request by the schema, or it has a fault. It is a law, and runs nothing.

@@ -1,11 +1,12 @@
 //! Answers request lines.
-ghost use Rattle.std.specs.Prelude.{◌≡◌, ◌≢◌, ◌-◌, ◌^◌, ◌<◌, ◌++◌, IfSome, OnOk, OnErr, IsErrOf};
+ghost use Rattle.std.specs.Prelude.{ℕ, List, ◌≡◌, ◌≢◌, ◌-◌, ◌^◌, ◌<◌, ◌++◌, IfSome, OnOk, OnErr, IsErrOf};
 ghost use Rattle.serde_json.specs.Written.{compact_text};
 ghost use Rattle.cedar_value.specs.declared.request.Request.{Request as RequestTree};
 ghost use Rattle.cedar_lines.specs.Lines.{lines_of, ended_lines_of};
 ghost use Rattle.cedar_lines.specs.AnswerText.{AnswersEach, AnswersFirst, BeginsAnswers, BeginsAnswerText, IsAnswerText, Receives, Writes};
 ghost use Rattle.cedar_data.specs.declared.conform_fault.ConformFault.TheVariants.{OutOfMemory};
 ghost use Rattle.cedar_data.specs.Numbers.{number_of};
+ghost use Rattle.cedar_conform.specs.Requests.{LineDenotes};
 ghost use Rattle.cedar_schema.specs.Conformance.{Fits};
 ghost use Rattle.cedar_auth.specs.AnswerJson.{refused_data};
 ghost use Rattle.cedar_auth.specs.AnswerLine.{AnswersLine};
@@ -96,13 +97,17 @@ pub fn serve<S: Source, K: Sink>(
     ensures read_rose { IsErrOf result ServeFault.ReadFailed → S.failed source.old < S.failed source.new }
     ensures write_rose { IsErrOf result ServeFault.WriteFailed → K.failed sink.old < K.failed sink.new }
 
-    // Each request that a line denotes fits, and is answered soundly: no other error is named than overflow and missing
+    // Each request that a line denotes by the schema is answered soundly: no other error is named than overflow and missing
     // entity, or a decimal error where the settings have `any_decimal` on.
-    ensures sound { (q : RequestTree) → Fits ready.now.schema q
+    ensures sound { (line : List ℕ) (q : RequestTree) → LineDenotes ready.now.schema line q
+        → IsAnsweredSoundlyWith ready.now.settings ready.now.policies.policies q ready.now.world }
+    // And so is each other request that fits.
+    ensures fitting { (q : RequestTree) → Fits ready.now.schema q
         → IsAnsweredSoundlyWith ready.now.settings ready.now.policies.policies q ready.now.world }
 {
     // Laws, which run nothing.
     ready.soundness();
+    ready.lines_are_answered_soundly();
     ready.lines_have_answers();
     let mut buffers = Room::new(alloc);
     cedar_lines::serve(alloc, &Answering { ready }, &mut buffers, source, sink)

@@ -4,7 +4,7 @@ ghost use Rattle.std.specs.List.{slice_get};
 ghost use Rattle.cedar_auth.specs.Private.Sifting.{Holds, OfPolicy, SiftedBy};
 
 use crate::question::Question;
-use crate::scope_tests::{may_meet, meets};
+use crate::scope_tests::{leaves_open, may_meet, meets};
 use cedar_policies::{Policy, PolicySet};
 use cedar_schema::Schema;
 use std::alloc::{AllocError, Global};
@@ -14,6 +14,8 @@ fn holds(schema: &Schema, question: Question<'_>, policy: &Policy) -> bool
     ensures { IsTrue result ↔ Holds schema.now question.entry policy.now }
 {
     match question {
+        Question::AnyAction => leaves_open(&policy.scope().action),
+        Question::SomeAction => !leaves_open(&policy.scope().action),
         Question::Action(action) => meets(schema, action, &policy.scope().action),
         Question::Principal(ty) => may_meet(schema, ty, &policy.scope().principal),
         Question::Resource(ty) => may_meet(schema, ty, &policy.scope().resource),

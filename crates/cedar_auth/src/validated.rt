@@ -7,10 +7,10 @@ ghost use Rattle.cedar_auth.specs.Private.Kept.{AreCodes};
 ghost use Rattle.cedar_auth.specs.Private.Sifting.{policies_at};
 ghost use Rattle.cedar_auth.specs.Private.Tally.{tally_of};
 
-use crate::candidates::all_positions;
 use crate::codes::codes_of;
 use crate::not_validated::NotValidated;
 use crate::part::Part;
+use crate::positions::all_positions;
 use crate::response::Response;
 use crate::tally::Tally;
 use crate::validation_fault::ValidationFault;
@@ -19,7 +19,7 @@ use cedar_code::{Code, CodeFault};
 use cedar_machine::Operands;
 use cedar_policies::PolicySet;
 use cedar_schema::Schema;
-use cedar_typing::{Settings, typing_is_computed};
+use cedar_typing::{Settings, typing_is_determined};
 use cedar_value::{Hierarchy, Request};
 use std::alloc::{AllocError, Global};
 use std::marker::Model;
@@ -62,7 +62,7 @@ fn judge(
     ensures refused { IfErr result (HasFaultWith settings schema.now policies.now.policies) }
 {
     // A law of typing: it runs nothing.
-    typing_is_computed();
+    typing_is_determined();
     let Ok(report) = check_with(alloc, schema, policies, settings) else {
         return Err(ValidationFault::OutOfMemory);
     };

@@ -1,9 +1,9 @@
 //! The laws of the compiler.
-ghost use Rattle.std.specs.Prelude.{List};
+ghost use Rattle.std.specs.Prelude.{◌≡◌, ℕ, List, length};
 ghost use Rattle.cedar_value.specs.World.{World};
 ghost use Rattle.cedar_value.specs.declared.request.Request.{Request};
 ghost use Rattle.cedar_ast.specs.Expression.{Expression};
-ghost use Rattle.cedar_code.specs.Code.{code_of};
+ghost use Rattle.cedar_code.specs.Code.{code_at, code_of, size};
 ghost use Rattle.cedar_code.specs.Jumps.{JumpsForward};
 ghost use Rattle.cedar_code.specs.Machine.{RunsAsEvaluated};
 ghost use Rattle.cedar_code.specs.TrueSides.{chain_of, size_before, AreTrue, ComesTo};
@@ -12,6 +12,12 @@ ghost use Rattle.cedar_code.specs.TrueSides.{chain_of, size_before, AreTrue, Com
 /// than it has instructions, and never stands higher than stated, whatever the expression, the request and the world.
 pub fn execution_is_evaluation()
     ensures { (e : Expression) (q : Request) (w : World) → RunsAsEvaluated e q w }
+{}
+
+/// The code of an expression has as many instructions as its size says, at whatever place it begins. So `size`, from which
+/// the compiler works the places of jumps out, is no second measure of a code.
+pub fn size_is_the_length()
+    ensures { (place : ℕ) (e : Expression) → length (code_at place e) ≡ size e }
 {}
 
 /// Each jump of an expression's code is to a later place. So each step comes to a later place, whatever code it is of.

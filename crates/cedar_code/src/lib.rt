@@ -24,7 +24,9 @@ pub use code::Code;
 pub use compiler::{MOST_INSTRUCTIONS, compile};
 pub use fault::CodeFault;
 pub use instruction::Instruction;
-pub use law::{execution_is_evaluation, jumps_go_forward, true_sides_are_passed};
+pub use law::{
+    execution_is_evaluation, jumps_go_forward, size_is_the_length, true_sides_are_passed,
+};
 pub use literal::Literal;
 pub use literal_set::LiteralSet;
 pub use outcome::Outcome;

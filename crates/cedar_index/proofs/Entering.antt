@@ -1,19 +1,19 @@
 -- What is kept stays kept, and what is entered is kept.
-use Rattle.std.proofs.Common.{◌≡◌, ℕ, ◌+◌, ◌<◌, ◌≤◌, ◌⊎◌, ⊎_elim, Bool, true, false, cond, get_or, List, [], length, take, Contains, Option, Some, None, arith, refl, sym, ap, subst, ◌∙◌}
+use Rattle.std.proofs.Common.{◌≡◌, ℕ, zero, suc, ◌+◌, ◌<◌, ⊎_elim, Bool, true, false, cond, List, [], ◌∷◌, map, length, Contains, Option, Some, None, arith, refl, sym, ap, subst, ◌∙◌}
 use Rattle.indexmap.specs.IndexMap.{UpdatesBy, get}
 use Rattle.std.specs.Global.{Vec}
 use Rattle.std.specs.List.{slice_get}
+use Rattle.std.specs.Map.{lookup}
 use Rattle.std.specs.Option.{option_map, unwrap_or}
-use Rattle.std.proofs.lemmas.List.{take_all, take_more}
-use Rattle.std.proofs.lemmas.List.Elements.{Contains-push_cases}
 use Rattle.cedar_value.specs.Datum.{same_uid}
 use Rattle.cedar_value.specs.Private.Equality.{same_uid-Decides}
 use Rattle.cedar_value.specs.declared.uid.Uid.{Uid}
 use Rattle.cedar_policies.specs.PolicyTree.{PolicyTree}
-use Rattle.cedar_index.specs.Index.{IsIndexOf}
-use Rattle.cedar_index.specs.Private.Kept.{Holds, KeepsAll, KeepsIndex, IsKept, Lists, list_at, list_for}
+use Rattle.cedar_index.specs.Index.{IsIndexOf, IsKept, positions_under}
+use Rattle.cedar_index.specs.Private.Kept.{AreEntered, Holds, IsEntered, IsKeptAt, KeepsAll, KeepsTables, Lists, entries_of, list_at, tree_of}
 use Rattle.cedar_index.specs.Reached.{uid_in}
-use Rattle.cedar_index.specs.declared.index.Index.{Index}
+use Rattle.cedar_index.specs.declared.tables.Tables.{Tables}
+use Rattle.cedar_index.proofs.Gathering.{less_or_same}
 
 abbrev items_in : Option (Vec ℕ) → List ℕ
 items_in found = unwrap_or (option_map (λ v. v.items) found) []
@@ -42,25 +42,47 @@ holds_none old n ks none k m = nothing (subst (λ (o : Option (Vec ℕ)). Contai
 pub holds_found : (old : Lists) (n : Uid) (v : Vec ℕ) (ks : List ℕ) → Some v ≡ get same_uid old n → Holds v.items ks → Holds (list_at old n) ks
 holds_found old n v ks found holds k m = holds k (subst (λ (o : Option (Vec ℕ)). Contains (items_in o) k) (sym found) m)
 
--- ---- the index
+-- ---- the tables
 
-still_kept : (old new : Index) (a b : Option Uid) (k : ℕ) → KeepsIndex old new → Contains (list_for old a b) k → Contains (list_for new a b) k
+still_kept : (old new : Tables) (a b : Option Uid) (k : ℕ) → KeepsTables old new → IsKeptAt old a b k → IsKeptAt new a b k
 still_kept old new (Some u) b k keeps m = keeps.principals u k m
 still_kept old new None (Some u) k keeps m = keeps.resources u k m
 still_kept old new None None k keeps m = keeps.unnamed k m
 
-pub index_more : (ps : List PolicyTree) (xs : List ℕ) (i : ℕ) (old new : Index) → i < length xs → KeepsIndex old new
-    → ((p : PolicyTree) → slice_get ps (get_or xs i 0) ≡ Some p → IsKept new p.scope (get_or xs i 0))
-    → IsIndexOf ps (take i xs) old → IsIndexOf ps (take (i + 1) xs) new
-index_more ps xs i old new low keeps entered before k p m at = ⊎_elim
-    (λ h. still_kept old new (uid_in p.scope.principal) (uid_in p.scope.resource) k keeps (before k p h at))
-    (λ (e : get_or xs i 0 ≡ k). subst (λ (j : ℕ). slice_get ps j ≡ Some p → IsKept new p.scope j) e (entered p) at)
-    (Contains-push_cases (take i xs) (get_or xs i 0) k (subst (λ (ys : List ℕ). Contains ys k) (take_more xs i 0 low) m))
+-- one policy more
+pub entered_more : (ps : List PolicyTree) (old new : Tables) (i : ℕ) (p : PolicyTree) → slice_get ps i ≡ Some p → KeepsTables old new → IsEntered new p.scope i
+    → AreEntered ps old i → AreEntered ps new (i + 1)
+entered_more ps old new i p at keeps entered before k x low is = ⊎_elim
+    (λ (h : k < i). still_kept old new (uid_in x.scope.principal) (uid_in x.scope.resource) k keeps (before k x h is))
+    (λ (e : k ≡ i).
+    let both : Some p ≡ Some x = sym at ∙ ap (λ (j : ℕ). slice_get ps j) (sym e) ∙ is in
+    let same : p ≡ x = cc both in
+    subst (λ (j : ℕ). IsEntered new x.scope j) (sym e) (subst (λ (y : PolicyTree). IsEntered new y.scope i) same entered))
+    (less_or_same k i low)
 
-pub index_same : (ps : List PolicyTree) (xs : List ℕ) (i : ℕ) (index : Index) → i < length xs → slice_get ps (get_or xs i 0) ≡ None → IsIndexOf ps (take i xs) index → IsIndexOf ps (take (i + 1) xs) index
-index_same ps xs i index low none before =
-    index_more ps xs i index index low (record { unnamed = λ k m. m; principals = λ u k m. m; resources = λ u k m. m })
-    (λ p some. let no : None ≡ Some p = sym none ∙ some in cc no) before
+within : (ps : List PolicyTree) (i : ℕ) (p : PolicyTree) → slice_get ps i ≡ Some p → i < length ps
+within [] i p e = cc
+within (x ∷ xs) zero p e = omega arith
+within (x ∷ xs) (suc i) p e = omega (arith, within xs i p e)
 
-pub index_all : (ps : List PolicyTree) (xs : List ℕ) (i : ℕ) (index : Index) → length xs ≤ i → IsIndexOf ps (take i xs) index → IsIndexOf ps xs index
-index_all ps xs i index past by = subst (λ (ys : List ℕ). IsIndexOf ps ys index) (take_all i xs past) by
+-- ---- the same as contracts see it
+
+under_is : (es : List (Uid × Vec ℕ)) (u : Uid) → items_in (lookup (same_uid u) es) ≡ positions_under (map (λ e. (e.0, e.1.items)) es) u
+under_is [] u = refl
+under_is (x ∷ xs) u = at (same_uid u x.0) (under_is xs u)
+  where
+    at : (b : Bool) → items_in (lookup (same_uid u) xs) ≡ positions_under (map (λ e. (e.0, e.1.items)) xs) u
+        → items_in (cond b (Some x.1) (lookup (same_uid u) xs)) ≡ unwrap_or (cond b (Some (x.1).items) (lookup (same_uid u) (map (λ e. (e.0, e.1.items)) xs))) []
+    at true e = refl
+    at false e = e
+
+pub list_is : (lists : Lists) (u : Uid) → list_at lists u ≡ positions_under (entries_of lists) u
+list_is lists u = under_is lists.entries u
+
+tree_kept : (tables : Tables) (a b : Option Uid) (k : ℕ) → IsKeptAt tables a b k → IsKept (tree_of tables) a b k
+tree_kept tables (Some u) b k m = subst (λ (ks : List ℕ). Contains ks k) (list_is tables.principals u) m
+tree_kept tables None (Some u) k m = subst (λ (ks : List ℕ). Contains ks k) (list_is tables.resources u) m
+tree_kept tables None None k m = m
+
+pub index_of : (ps : List PolicyTree) (tables : Tables) → AreEntered ps tables (length ps) → IsIndexOf ps (tree_of tables)
+index_of ps tables all k p is = tree_kept tables (uid_in p.scope.principal) (uid_in p.scope.resource) k (all k p (within ps k p is) is)

@@ -1,3 +1,5 @@
 pub mod Asking
 pub mod Entering
 pub mod Gathering
+pub mod Positions
+pub mod Selected

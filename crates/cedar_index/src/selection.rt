@@ -1,11 +1,13 @@
 //! The policies that are selected for a request.
-ghost use Rattle.std.specs.Prelude.{◌≡◌, ◌⊎◌, [], OnOk};
+ghost use Rattle.std.specs.Prelude.{◌≡◌, ◌⊎◌, ◌++◌, [], filter, OnOk};
 ghost use Rattle.std.specs.List.Sorted.{IsStrictlyIncreasing};
+ghost use Rattle.cedar_bits.specs.Bits.{has_bit};
 ghost use Rattle.cedar_value.specs.World.{Below};
 ghost use Rattle.cedar_value.specs.declared.uid.Uid.{Uid as UidTree};
 ghost use Rattle.cedar_index.specs.Private.Kept.{Holds, list_at};
 
 use crate::uid_lists::{UidLists, push_below, push_list, push_lists};
+use cedar_bits::has_bit;
 use cedar_store::Store;
 use cedar_value::Uid;
 use std::alloc::{AllocError, Global};
@@ -52,14 +54,6 @@ impl<'s> Selection<'s> {
         self.positions.clear();
     }
 
-    // Begins anew with these positions.
-    pub(crate) fn begin(&mut self, positions: &[usize]) -> Result<(), AllocError>
-        ensures { OnOk result (Holds positions.now self.new) }
-    {
-        self.positions.clear();
-        self.positions.extend_from_slice(positions)
-    }
-
     // Adds what is kept under the entity and under all that it lies below: what it lies below is looked up, or, where fewer
     // uids have lists, of each of these it is asked whether the entity lies below it.
     pub(crate) fn push_reached(
@@ -83,6 +77,20 @@ impl<'s> Selection<'s> {
             push_lists(lists, &self.above, &mut self.positions)?;
         }
         Ok(())
+    }
+
+    // Keeps only the positions whose bits are set.
+    pub(crate) fn keep(&mut self, row: &[u64])
+        ensures { self.new ≡ filter (has_bit row.now) self.old }
+    {
+        self.positions.retain(|position| has_bit(row, *position));
+    }
+
+    // Adds these positions.
+    pub(crate) fn add(&mut self, positions: &[usize]) -> Result<(), AllocError>
+        ensures { OnOk result (self.new ≡ self.old ++ positions.now) }
+    {
+        self.positions.extend_from_slice(positions)
     }
 
     // Puts the positions in order, each once.

@@ -6,7 +6,7 @@
 //! // All at once, with the end and the count of instructions:
 //! let run = run(alloc, &code, &request, &store)?;
 //! // Only whether a condition is true, over a stack that the next one uses again:
-//! let satisfied = Operands::new(alloc).decide(alloc, &code, &request, &store)?;
+//! let satisfied = Operands::new(alloc).decide_from(alloc, &code, 0, &request, &store)?;
 //! // Or one instruction after another:
 //! let mut machine = Machine::new(alloc, &code, &request, &store)?;
 //! while machine.step()? == Progress::Going {}
@@ -23,12 +23,14 @@ mod deciding;
 mod driving;
 mod execution;
 mod machine;
+mod made_sets;
 mod making;
 mod owning;
 mod performing;
 mod resting;
 mod state;
 
+pub use cedar_code::Outcome;
 pub use deciding::Operands;
 pub use execution::Run;
 pub use machine::{Machine, Progress, run};

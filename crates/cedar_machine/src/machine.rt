@@ -10,6 +10,7 @@ ghost use Rattle.cedar_ast.specs.Expression.{Expression};
 
 use crate::driving::{drive, outcome_at};
 use crate::execution::Run;
+use crate::made_sets::MadeSets;
 use crate::performing::perform;
 use crate::state::{State, settle};
 use cedar_code::{Code, Outcome, execution_is_evaluation};
@@ -35,6 +36,7 @@ pub struct Machine<'a, H: Hierarchy> {
     code: &'a Code,
     request: &'a Request,
     hierarchy: &'a H,
+    made: MadeSets<'a>,
     stack: Stack<'a>,
     state: State,
     executed: u32,
@@ -86,6 +88,7 @@ impl<'a, H: Hierarchy> Machine<'a, H> {
             code,
             request,
             hierarchy,
+            made: MadeSets::of(code),
             stack,
             state: State::Going(0),
             executed: 0,
@@ -109,7 +112,7 @@ impl<'a, H: Hierarchy> Machine<'a, H> {
         let moved = perform(
             self.alloc,
             instructions,
-            self.code.literal_sets(),
+            &mut self.made,
             self.request,
             self.hierarchy,
             place,
@@ -140,7 +143,8 @@ impl<'a, H: Hierarchy> Machine<'a, H> {
         let _state = &self.state;
     }
 
-    /// A copy of the end, or none before it. 1: memory was refused; of a Boolean, a number or an error it takes none.
+    /// A copy of the end, or none before it. 1: memory was refused; of a Boolean, a number, a decimal or an error it takes
+    /// none.
     pub fn outcome(&self, alloc: Global) -> Result<Option<Outcome>, AllocError>
         ensures outcome { IfOk result (λ o. o ≡ outcome_reached self.now.configuration) }
         ensures succeeds { EndsPlain self.now.configuration → IsOk result }

@@ -6,10 +6,11 @@ ghost use Rattle.cedar_machine.specs.Private.State.{led_to, Pushes};
 ghost use Rattle.cedar_machine.specs.Progress.{TakesNoMemory};
 ghost use Rattle.cedar_ast.specs.Operators.{unary_of, binary_of};
 
-use crate::making::{made_for, make_record, make_set};
+use crate::made_sets::MadeSets;
+use crate::making::{make_record, make_set};
 use crate::state::Move;
 use cedar_ast::{BinaryOperator, EvaluationError, UnaryOperator};
-use cedar_code::{Instruction, LiteralSet};
+use cedar_code::Instruction;
 use cedar_operators::{Entry, Stack, of_two, unary};
 use cedar_value::{Hierarchy, Request};
 use std::alloc::{AllocError, Global};
@@ -39,7 +40,7 @@ pub fn give<'a>(
 pub fn perform<'a, H: Hierarchy>(
     alloc: Global,
     code: &'a [Instruction],
-    sets: &'a [LiteralSet],
+    made: &mut MadeSets<'a>,
     request: &'a Request,
     hierarchy: &'a H,
     place: usize,
@@ -71,13 +72,7 @@ pub fn perform<'a, H: Hierarchy>(
         Instruction::Test => test(place, stack),
         Instruction::Branch(other) => branch(place, *other, stack),
         Instruction::Jump(end) => Move::To(*end),
-        Instruction::Set(count) => make_set(
-            alloc,
-            place + 1,
-            stack,
-            *count,
-            made_for(sets, place),
-        )?,
+        Instruction::Set(count) => make_set(alloc, place + 1, stack, *count, made.at(place))?,
         Instruction::Record(keys) => make_record(alloc, place + 1, stack, keys)?,
     };
     Ok(moved)

@@ -21,7 +21,7 @@ fn is_within_one<H: Hierarchy>(action: &Uid, uids: &[Uid], hierarchy: &H) -> boo
 }
 
 /// Whether the action is what the scope asks for (Cedar language reference, policy scope).
-pub fn is_met<H: Hierarchy>(scope: &ActionScope, action: &Uid, hierarchy: &H) -> bool
+pub(crate) fn is_met<H: Hierarchy>(scope: &ActionScope, action: &Uid, hierarchy: &H) -> bool
     ensures { result ≡ is_action_met (H.world hierarchy.now) action.now scope.now }
 {
     match scope {
@@ -33,7 +33,7 @@ pub fn is_met<H: Hierarchy>(scope: &ActionScope, action: &Uid, hierarchy: &H) ->
 }
 
 /// How many instructions the code of what the scope asks for has.
-pub fn size_of(scope: &ActionScope) -> usize
+pub(crate) fn size_of(scope: &ActionScope) -> usize
     requires { size (action_scope_of scope.now) ≤ most_instructions }
     ensures { result ≡ size (action_scope_of scope.now) }
 {

@@ -11,14 +11,14 @@ use cedar_policies::EntityScope;
 use cedar_value::{Hierarchy, Uid};
 
 /// Whether the one entity is the other, or below it (Cedar language reference, operators, `in`).
-pub fn is_within<H: Hierarchy>(low: &Uid, high: &Uid, hierarchy: &H) -> bool
+pub(crate) fn is_within<H: Hierarchy>(low: &Uid, high: &Uid, hierarchy: &H) -> bool
     ensures { result ≡ (same_uid low.now high.now || below (H.world hierarchy.now) low.now high.now) }
 {
     low == high || hierarchy.is_below(low, high)
 }
 
 /// Whether the entity is what the scope asks for (Cedar language reference, policy scope).
-pub fn is_met<H: Hierarchy>(scope: &EntityScope, entity: &Uid, hierarchy: &H) -> bool
+pub(crate) fn is_met<H: Hierarchy>(scope: &EntityScope, entity: &Uid, hierarchy: &H) -> bool
     ensures { result ≡ is_entity_met (H.world hierarchy.now) entity.now scope.now }
 {
     match scope {
@@ -31,7 +31,7 @@ pub fn is_met<H: Hierarchy>(scope: &EntityScope, entity: &Uid, hierarchy: &H) ->
 }
 
 /// How many instructions the code of what the scope asks for has.
-pub fn size_of(scope: &EntityScope) -> usize
+pub(crate) fn size_of(scope: &EntityScope) -> usize
     ensures { (x : Variable) → result ≡ size (entity_scope_of x scope.now) }
 {
     match scope {

@@ -18,11 +18,11 @@ use Rattle.cedar_machine.specs.Verdict.{Verdict}
 use Rattle.cedar_auth.specs.Codes.{policy_code}
 use Rattle.cedar_histories.specs.Results.{Results, satisfied, entered}
 use Rattle.cedar_histories.specs.Jobs.{JobTree, Advances, are_none, is_finished}
-use Rattle.cedar_service.specs.Private.Kept.{configuration_of, IsBegun}
+use Rattle.cedar_service.specs.Private.Kept.{configuration_of, IsBegun, IsReached}
 use Rattle.cedar_service.specs.Private.Parts.{policies_at}
 use Rattle.cedar_service.specs.Private.Steps.{StepsTo}
 use Rattle.cedar_service.specs.Private.Verdicts.{verdict_of, verdict_at, with_verdict}
-use Rattle.cedar_service.specs.Runs.{IsRunOf}
+use Rattle.cedar_service.specs.Runs.{HasMadeSteps, IsRunOf}
 
 got : (ps : List PolicyTree) (k : ℕ) → k < length ps → (p : PolicyTree) × (slice_get ps k ≡ Some p)
 got [] k low = absurd (omega arith)
@@ -113,12 +113,21 @@ pub twice : (b : Bool) → not (not b) ≡ b
 twice true = refl
 twice false = refl
 
+-- the steps of a run that is under way
+made_steps : (job : JobTree) (ps : List PolicyTree) (r : RestingView) → are_none ps ≡ false → IsReached job.version job.request ps (Some r) → HasMadeSteps job ps r
+made_steps job [] r some reached = absurd (cc some)
+made_steps job (p ∷ rest) r some reached = reached
+
 -- the run that is lent
-pub run_of : (job : JobTree) (run : Option RestingView) (o : Option RestingView) → are_none job.left ≡ not (is_some run) → job.configuration ≡ configuration_of run → o ≡ run
-    → IsRunOf job o
-run_of job run None so same e = so ∙ ap (λ (x : Option RestingView). not (is_some x)) (sym e)
-run_of job run (Some r) so same e =
-    (so ∙ ap (λ (x : Option RestingView). not (is_some x)) (sym e), sym (same ∙ ap configuration_of (sym e)))
+pub run_of : (job : JobTree) (run : Option RestingView) (o : Option RestingView) → are_none job.left ≡ not (is_some run) → job.configuration ≡ configuration_of run
+    → IsReached job.version job.request job.left run → o ≡ run → IsRunOf job o
+run_of job run None so same reached e = so ∙ ap (λ (x : Option RestingView). not (is_some x)) (sym e)
+run_of job run (Some r) so same reached e =
+    let some : are_none job.left ≡ false = so ∙ ap (λ (x : Option RestingView). not (is_some x)) (sym e) in (
+      some,
+      sym (same ∙ ap configuration_of (sym e)),
+      made_steps job job.left r some (subst (λ (x : Option RestingView). IsReached job.version job.request job.left x) (sym e) reached),
+    )
 
 -- a run that has made no step is at the start
 pub begun_at : (run : Option RestingView) → IsBegun run → configuration_of run ≡ start

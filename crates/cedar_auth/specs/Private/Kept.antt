@@ -8,7 +8,8 @@ use Rattle.cedar_code.specs.CodeView.{CodeView}
 use Rattle.cedar_typing.specs.declared.settings.Settings.{Settings}
 use Rattle.cedar_auth.specs.Codes.{policy_code}
 use Rattle.cedar_auth.specs.Validation.{IsValidatedWith}
-use Rattle.cedar_auth.specs.Private.Sifting.{ByAction, Rows}
+use Rattle.cedar_index.specs.Index.{IndexTree}
+use Rattle.cedar_auth.specs.Private.Sifting.{AreCandidatesFor, Rows}
 
 -- the codes are those of the policies, one by one
 abbrev pub AreCodes : List CodeView → List PolicyTree → Type 0
@@ -18,6 +19,6 @@ pub record IsKept (settings : Settings) (s : SchemaTree) (ps : List PolicyTree) 
   pub accepted : IsValidatedWith settings s ps
   pub compiled : AreCodes codes ps
 
-pub record IsReady (s : SchemaTree) (ps : List PolicyTree) (w : World) (rows : Rows) : Type 0 where
+pub record IsReady (s : SchemaTree) (ps : List PolicyTree) (w : World) (index : IndexTree) (rows : Rows) : Type 0 where
   pub conforms : Conforms s w
-  pub candidates : ByAction s ps rows
+  pub candidates : AreCandidatesFor s ps index rows

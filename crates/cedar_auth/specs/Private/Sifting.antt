@@ -2,22 +2,35 @@
 use Rattle.std.specs.Prelude.{◌≡◌, ℕ, List, [], ◌∷◌, Contains, Option, Some, None, Ok, false, option_and_then, length}
 use Rattle.std.specs.List.{slice_get, filter_map, range_with_len}
 use Rattle.std.specs.BTreeMap.{BTreeMap, get}
+use Rattle.std.specs.Ordering.{nat_cmp}
 use Rattle.cedar_value.specs.Datum.{boolean}
 use Rattle.cedar_value.specs.Order.{text_cmp, uid_cmp}
 use Rattle.cedar_value.specs.World.{World}
 use Rattle.cedar_value.specs.declared.request.Request.{Request}
 use Rattle.cedar_value.specs.declared.uid.Uid.{Uid}
+use Rattle.cedar_policies.specs.declared.scope.ActionScope.{ActionScope}
+use Rattle.cedar_policies.specs.declared.scope.ActionScope.TheVariants as action
 use Rattle.cedar_policies.specs.PolicyTree.{PolicyTree}
 use Rattle.cedar_policies.specs.Response.{meaning}
 use Rattle.cedar_schema.specs.SchemaTree.{SchemaTree, ActionTree, action_at}
 use Rattle.cedar_typing.specs.Candidates.{MayMeet, Meets}
-use Rattle.cedar_index.specs.Index.{IsIndexOf}
-use Rattle.cedar_auth.specs.declared.cell.Cell.{Cell}
+use Rattle.cedar_index.specs.Index.{IndexTree, IsIndexOf, IsListingBy, ListingTree}
+use Rattle.cedar_auth.specs.declared.positions.Positions.{Positions}
+use Rattle.cedar_auth.specs.declared.row.Row.{Row}
 use Rattle.cedar_auth.specs.declared.question.Question.{Question}
-use Rattle.cedar_auth.specs.declared.question.Question.TheVariants.{Action, Principal, Resource}
+use Rattle.cedar_auth.specs.declared.question.Question.TheVariants.{AnyAction, SomeAction, Action, Principal, Resource}
+
+-- the scope leaves the action open
+abbrev pub LeavesOpen : ActionScope → Type 0
+LeavesOpen action.Any = Unit {0}
+LeavesOpen (action.Equal u) = ⊥
+LeavesOpen (action.In u) = ⊥
+LeavesOpen (action.InSet us) = ⊥
 
 -- what is asked of a policy's scope
 abbrev pub Holds : SchemaTree → Question → PolicyTree → Type 0
+Holds s AnyAction p = LeavesOpen p.scope.action
+Holds s SomeAction p = ¬ LeavesOpen p.scope.action
 Holds s (Action u) p = Meets s u.now p.scope.action
 Holds s (Principal n) p = MayMeet s n.now p.scope.principal
 Holds s (Resource n) p = MayMeet s n.now p.scope.resource
@@ -41,54 +54,73 @@ SiftedBy ps P ks js = Sifted (λ k. OfPolicy P (slice_get ps k)) ks js
 abbrev pub policies_at : List PolicyTree → List ℕ → List PolicyTree
 policies_at ps ks = filter_map (slice_get ps) ks
 
+-- the positions of all policies, of those that leave the action open, and of the others
+pub record ArePositions (s : SchemaTree) (ps : List PolicyTree) (positions : Positions) : Type 0 where
+  pub all : positions.all.items ≡ range_with_len 0 (length ps)
+  pub leaving : SiftedBy ps (Holds s AnyAction) positions.all.items positions.leaving.items
+  pub asking : SiftedBy ps (Holds s SomeAction) positions.all.items positions.asking.items
+
 -- a policy at another position than these is false
 abbrev pub LeavesFalse : List PolicyTree → Request → World → List ℕ → Type 0
 LeavesFalse ps q w ks = (i : ℕ) (p : PolicyTree) → slice_get ps i ≡ Some p → ¬ Contains ks i → meaning q w p ≡ Ok (boolean false)
 
 -- ---- what is kept for each environment
 
+-- what is kept for each type of resources
 abbrev pub Cells : Type 0
-Cells = BTreeMap (List ℕ) Cell
+Cells = BTreeMap (List ℕ) ListingTree
 
-abbrev pub Row : Type 0
-Row = BTreeMap (List ℕ) Cells
+-- the same for each type of principals
+abbrev pub RowCells : Type 0
+RowCells = BTreeMap (List ℕ) Cells
 
+-- the same for each action
 abbrev pub Rows : Type 0
 Rows = BTreeMap Uid Row
 
--- the positions that a type of resources leaves, and their index
-abbrev pub OfResource : SchemaTree → List PolicyTree → List ℕ → List ℕ → Cell → Type 0
-OfResource s ps ks m cell = SiftedBy ps (λ p. MayMeet s m p.scope.resource) ks cell.positions.items × IsIndexOf ps cell.positions.items cell.index
+-- what was made for each digest is listed by the index
+abbrev pub AreListedBy : IndexTree → BTreeMap ℕ ListingTree → Type 0
+AreListedBy index made = (digest : ℕ) (cell : ListingTree) → get nat_cmp made digest ≡ Some cell → IsListingBy index cell
+
+-- the positions that a type of resources leaves, as the index lists them
+abbrev pub OfResource : SchemaTree → List PolicyTree → IndexTree → List ℕ → List ℕ → ListingTree → Type 0
+OfResource s ps index ks m cell = SiftedBy ps (λ p. MayMeet s m p.scope.resource) ks cell.positions × IsListingBy index cell
 
 -- the same for each type of resources
-abbrev pub ByResource : SchemaTree → List PolicyTree → List ℕ → List (List ℕ) → Cells → Type 0
-ByResource s ps ks resources cells =
-    (m : List ℕ) → Contains resources m → (cell : Cell) × (get text_cmp cells m ≡ Some cell) × OfResource s ps ks m cell
+abbrev pub ByResource : SchemaTree → List PolicyTree → IndexTree → List ℕ → List (List ℕ) → Cells → Type 0
+ByResource s ps index ks resources cells =
+    (m : List ℕ) → Contains resources m → (cell : ListingTree) × (get text_cmp cells m ≡ Some cell) × OfResource s ps index ks m cell
 
 -- for a type of principals, what is kept of the positions that it leaves
-abbrev pub OfPrincipal : SchemaTree → List PolicyTree → List ℕ → ActionTree → List ℕ → Cells → Type 0
-OfPrincipal s ps ks action n cells =
-    (js : List ℕ) × SiftedBy ps (λ p. MayMeet s n p.scope.principal) ks js × ByResource s ps js action.resources cells
+abbrev pub OfPrincipal : SchemaTree → List PolicyTree → IndexTree → List ℕ → ActionTree → List ℕ → Cells → Type 0
+OfPrincipal s ps index ks action n cells =
+    (js : List ℕ) × SiftedBy ps (λ p. MayMeet s n p.scope.principal) ks js × ByResource s ps index js action.resources cells
 
 -- the same for each type of principals
-abbrev pub ByPrincipal : SchemaTree → List PolicyTree → List ℕ → ActionTree → Row → Type 0
-ByPrincipal s ps ks action row =
-    (n : List ℕ) → Contains action.principals n → (cells : Cells) × (get text_cmp row n ≡ Some cells) × OfPrincipal s ps ks action n cells
+abbrev pub ByPrincipal : SchemaTree → List PolicyTree → IndexTree → List ℕ → ActionTree → RowCells → Type 0
+ByPrincipal s ps index ks action row =
+    (n : List ℕ) → Contains action.principals n → (cells : Cells) × (get text_cmp row n ≡ Some cells) × OfPrincipal s ps index ks action n cells
 
--- for an action, what is kept of the positions that it leaves
-abbrev pub OfAction : SchemaTree → List PolicyTree → List ℕ → Uid → ActionTree → Row → Type 0
-OfAction s ps ks u action row = (js : List ℕ) × SiftedBy ps (λ p. Meets s u p.scope.action) ks js × ByPrincipal s ps js action row
+-- for an action, what is kept of the positions that it leaves of all
+abbrev pub OfAction : SchemaTree → List PolicyTree → IndexTree → Uid → ActionTree → RowCells → Type 0
+OfAction s ps index u action row =
+    (js : List ℕ) × SiftedBy ps (λ p. Meets s u p.scope.action) (range_with_len 0 (length ps)) js × ByPrincipal s ps index js action row
 
--- the same for each action, of all positions
-abbrev pub ByAction : SchemaTree → List PolicyTree → Rows → Type 0
-ByAction s ps rows =
-    (u : Uid) (action : ActionTree) → action_at s u ≡ Some action → (row : Row) × (get uid_cmp rows u ≡ Some row) × OfAction s ps (range_with_len 0 (length ps)) u action row
+-- the same for each action
+abbrev pub ByAction : SchemaTree → List PolicyTree → IndexTree → Rows → Type 0
+ByAction s ps index rows =
+    (u : Uid) (action : ActionTree) → action_at s u ≡ Some action → (row : Row) × (get uid_cmp rows u ≡ Some row) × OfAction s ps index u action row.cells.value
 
 -- what is kept for an action and two types
-abbrev pub cell_at : Rows → Uid → List ℕ → List ℕ → Option Cell
-cell_at rows u n m = option_and_then (λ cells. get text_cmp cells m) (option_and_then (λ row. get text_cmp row n) (get uid_cmp rows u))
+abbrev pub cell_at : Rows → Uid → List ℕ → List ℕ → Option ListingTree
+cell_at rows u n m = option_and_then (λ cells. get text_cmp cells m) (option_and_then (λ row. get text_cmp row.cells.value n) (get uid_cmp rows u))
 
 -- the positions of a cell, and none where there is no cell
-abbrev pub positions_in : Option Cell → List ℕ
+abbrev pub positions_in : Option ListingTree → List ℕ
 positions_in None = []
-positions_in (Some cell) = cell.positions.items
+positions_in (Some cell) = cell.positions
+
+-- what is kept for each environment, and the index by which it is listed
+pub record AreCandidatesFor (s : SchemaTree) (ps : List PolicyTree) (index : IndexTree) (rows : Rows) : Type 0 where
+  pub indexed : IsIndexOf ps index
+  pub kept : ByAction s ps index rows

@@ -1,13 +1,17 @@
--- What an index keeps.
-use Rattle.std.specs.Prelude.{ℕ, List, [], Contains, Option, None, Some, option_map, unwrap_or}
+-- What an index keeps, as its fields have it.
+use Rattle.std.specs.Prelude.{◌≡◌, ◌<◌, ℕ, true, List, [], Contains, Option, None, Some, map, option_map, unwrap_or}
 use Rattle.std.specs.Global.{Vec}
+use Rattle.std.specs.List.{slice_get}
 use Rattle.indexmap.specs.IndexMap.{IndexMap, get}
+use Rattle.cedar_bits.specs.Bits.{has_bit}
 use Rattle.cedar_value.specs.Datum.{same_uid}
 use Rattle.cedar_value.specs.declared.uid.Uid.{Uid}
 use Rattle.cedar_policies.specs.declared.scope.Scope.{Scope}
+use Rattle.cedar_policies.specs.PolicyTree.{PolicyTree}
 use Rattle.cedar_store.specs.declared.uid_hashing.UidHashing.{UidHashing}
+use Rattle.cedar_index.specs.Index.{IndexTree}
 use Rattle.cedar_index.specs.Reached.{uid_in}
-use Rattle.cedar_index.specs.declared.index.Index.{Index}
+use Rattle.cedar_index.specs.declared.tables.Tables.{Tables}
 
 -- the second list has all that the first has
 abbrev pub Holds : List ℕ → List ℕ → Type 0
@@ -25,18 +29,42 @@ list_at lists u = unwrap_or (option_map (λ v. v.items) (get same_uid lists u)) 
 abbrev pub KeepsAll : Lists → Lists → Type 0
 KeepsAll old new = (u : Uid) → Holds (list_at old u) (list_at new u)
 
--- what the index kept it keeps still
-pub record KeepsIndex (old new : Index) : Type 0 where
-  pub unnamed : Holds old.unnamed.items new.unnamed.items
+-- the bits that were set are set still
+abbrev pub KeepsBits : List ℕ → List ℕ → Type 0
+KeepsBits old new = (k : ℕ) → has_bit old k ≡ true → has_bit new k ≡ true
+
+-- the bit of each position is set
+abbrev pub HasBits : List ℕ → List ℕ → Type 0
+HasBits row ks = (k : ℕ) → Contains ks k → has_bit row k ≡ true
+
+-- what the tables kept they keep still
+pub record KeepsTables (old new : Tables) : Type 0 where
+  pub unnamed : KeepsBits old.unnamed.items new.unnamed.items
   pub principals : KeepsAll old.principals new.principals
   pub resources : KeepsAll old.resources new.resources
 
--- where the position of a policy is kept by the uids that its scope names, of the principal and of the resource
-abbrev pub list_for : Index → Option Uid → Option Uid → List ℕ
-list_for index (Some u) other = list_at index.principals u
-list_for index None (Some u) = list_at index.resources u
-list_for index None None = index.unnamed.items
+-- the position of a policy is kept by the uids that its scope names, of the principal and of the resource
+abbrev pub IsKeptAt : Tables → Option Uid → Option Uid → ℕ → Type 0
+IsKeptAt tables (Some u) other k = Contains (list_at tables.principals u) k
+IsKeptAt tables None (Some u) k = Contains (list_at tables.resources u) k
+IsKeptAt tables None None k = has_bit tables.unnamed.items k ≡ true
 
 -- the position of a policy is kept by what its scope names
-abbrev pub IsKept : Index → Scope → ℕ → Type 0
-IsKept index scope k = Contains (list_for index (uid_in scope.principal) (uid_in scope.resource)) k
+abbrev pub IsEntered : Tables → Scope → ℕ → Type 0
+IsEntered tables scope k = IsKeptAt tables (uid_in scope.principal) (uid_in scope.resource) k
+
+-- the policy stands at the position
+abbrev pub IsPolicyAt : List PolicyTree → ℕ → PolicyTree → Type 0
+IsPolicyAt ps k p = slice_get ps k ≡ Some p
+
+-- the same of each policy before a position
+abbrev pub AreEntered : List PolicyTree → Tables → ℕ → Type 0
+AreEntered ps tables count = (k : ℕ) (p : PolicyTree) → k < count → slice_get ps k ≡ Some p → IsEntered tables p.scope k
+
+-- the entries of a table, in order
+abbrev pub entries_of : Lists → List (Uid × List ℕ)
+entries_of lists = map (λ e. (e.0, e.1.items)) lists.entries
+
+-- the index that the tables are
+abbrev pub tree_of : Tables → IndexTree
+tree_of tables = record { principals = entries_of tables.principals; resources = entries_of tables.resources; unnamed = tables.unnamed.items }

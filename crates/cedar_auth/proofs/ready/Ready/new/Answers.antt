@@ -1,20 +1,14 @@
-use Rattle.std.proofs.Common.{◌≢◌, subst}
-use Rattle.cedar_policies.specs.PolicySetTree.{PolicySetTree}
+use Rattle.std.proofs.Common.{◌≢◌, ℕ, List, subst}
+use Rattle.std.specs.Prelude.{IfErr, IfOk}
 use Rattle.cedar_data.specs.declared.conform_fault.ConformFault.TheVariants.{OutOfMemory}
-use Rattle.cedar_entities.specs.Bytes.{BytesHaveFault}
-use Rattle.cedar_schema.specs.Conformance.{Conforms}
-use Rattle.cedar_schema.specs.SchemaTree.{SchemaTree}
-use Rattle.cedar_auth.specs.Private.Sifting.{ByAction}
+use Rattle.cedar_entities.specs.Bytes.{BytesDenote, BytesHaveFault}
 use Rattle.cedar_auth.proofs.ready.Ready.new.Goals as goal
 
-pub invariant_of-result : goal.invariant_of-result
-invariant_of-result c =
-    let rows = c.in-Ok-new.candidates.rows in record {
-      conforms = subst (λ (s : SchemaTree). Conforms s c.in-Ok.store) c.schema.ensures.value c.in-Ok.ensures.conforms;
-      candidates = subst (λ (s : SchemaTree). ByAction s c.args.validated.policies.policies rows) c.schema-2.ensures.value
-          (subst (λ (set : PolicySetTree). ByAction c.schema-2.result.now set.policies rows) c.policies.ensures.value c.in-Ok-new.ensures);
-    }
+pub returns-in-Ok-clause-denotes : goal.returns-in-Ok-clause-denotes
+returns-in-Ok-clause-denotes c =
+    subst (λ (bytes : List ℕ). IfOk c.new_owned.result (λ r. BytesDenote c.args.validated.schema bytes r.world)) c.in-Ok.ensures.items c.new_owned.ensures.denotes
 
-pub returns-in-Err-clause-refused : goal.returns-in-Err-clause-refused
-returns-in-Err-clause-refused c =
-    subst (λ (s : SchemaTree). c.in-Err.fault ≢ OutOfMemory → BytesHaveFault s c.args.entities.items c.in-Err.fault) c.schema.ensures.value c.in-Err.ensures.refused
+pub returns-in-Ok-clause-refused : goal.returns-in-Ok-clause-refused
+returns-in-Ok-clause-refused c =
+    subst (λ (bytes : List ℕ). IfErr c.new_owned.result (λ e. e.fault ≢ OutOfMemory → BytesHaveFault c.args.validated.schema bytes e.fault)) c.in-Ok.ensures.items
+    c.new_owned.ensures.refused

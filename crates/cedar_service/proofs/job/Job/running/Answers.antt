@@ -10,4 +10,4 @@ pub returns : goal.returns
 returns c =
     let v = c.self.inside.version.value in
     let old : JobTree = record { version = v; request = c.self.inside.request; left = policies_at v.policies.policies (drop c.self.inside.done c.self.inside.positions.items); results = c.self.inside.results; configuration = configuration_of c.self.inside.run } in
-    subst (λ (j : JobTree). IsRunOf j (option_copied c.as_ref.result)) c.self.view_is (run_of old c.self.inside.run _ (finished_so _ _ _ _ c.self.invariant.within c.self.invariant.under_way) refl c.as_ref.ensures.value)
+    subst (λ (j : JobTree). IsRunOf j (option_copied c.as_ref.result)) c.self.view_is (run_of old c.self.inside.run _ (finished_so _ _ _ _ c.self.invariant.within c.self.invariant.under_way) refl c.self.invariant.reached c.as_ref.ensures.value)

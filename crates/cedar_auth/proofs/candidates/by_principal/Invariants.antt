@@ -1,7 +1,0 @@
-use Rattle.cedar_value.specs.Order.{text_cmp}
-use Rattle.cedar_auth.specs.Private.Sifting.{OfPrincipal}
-use Rattle.cedar_auth.proofs.Makings.{IsMaking}
-use Rattle.cedar_auth.proofs.candidates.by_principal.Given as goal
-
-abbrev pub invariant-loop-ty : goal.invariant-loop-ty
-invariant-loop-ty l = IsMaking text_cmp (OfPrincipal l.schema l.policies.policies l.positions l.action) l.row l.ty-iterator l.action.principals

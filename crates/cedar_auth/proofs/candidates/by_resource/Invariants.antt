@@ -1,7 +1,0 @@
-use Rattle.cedar_value.specs.Order.{text_cmp}
-use Rattle.cedar_auth.specs.Private.Sifting.{OfResource}
-use Rattle.cedar_auth.proofs.Makings.{IsMaking}
-use Rattle.cedar_auth.proofs.candidates.by_resource.Given as goal
-
-abbrev pub invariant-loop-ty : goal.invariant-loop-ty
-invariant-loop-ty l = IsMaking text_cmp (OfResource l.schema l.policies.policies l.positions) l.cells l.ty-iterator l.resources.keys

@@ -1,0 +1,21 @@
+use Rattle.std.proofs.Common.{◌≢◌, subst}
+use Rattle.cedar_policies.specs.PolicySetTree.{PolicySetTree}
+use Rattle.cedar_data.specs.declared.conform_fault.ConformFault.TheVariants.{OutOfMemory}
+use Rattle.cedar_entities.specs.Bytes.{BytesHaveFault}
+use Rattle.cedar_schema.specs.Conformance.{Conforms}
+use Rattle.cedar_schema.specs.SchemaTree.{SchemaTree}
+use Rattle.cedar_auth.specs.Private.Sifting.{AreCandidatesFor}
+use Rattle.cedar_auth.proofs.ready.Ready.new_owned.Goals as goal
+
+pub invariant_of-result : goal.invariant_of-result
+invariant_of-result c =
+    let index = c.in-Ok-new.candidates.index in
+    let rows = c.in-Ok-new.candidates.rows in record {
+      conforms = subst (λ (s : SchemaTree). Conforms s c.in-Ok.store) c.schema.ensures.value c.in-Ok.ensures.conforms;
+      candidates = subst (λ (s : SchemaTree). AreCandidatesFor s c.args.validated.policies.policies index rows) c.schema-2.ensures.value
+          (subst (λ (set : PolicySetTree). AreCandidatesFor c.schema-2.result.now set.policies index rows) c.policies.ensures.value c.in-Ok-new.ensures);
+    }
+
+pub returns-in-Err-clause-refused : goal.returns-in-Err-clause-refused
+returns-in-Err-clause-refused c =
+    subst (λ (s : SchemaTree). c.in-Err.fault ≢ OutOfMemory → BytesHaveFault s c.args.entities.items c.in-Err.fault) c.schema.ensures.value c.in-Err.ensures.refused

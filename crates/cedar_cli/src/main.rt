@@ -20,10 +20,23 @@ fn tell(rt: &HostRuntime, error: &clap::Error) -> io::Result<End> {
     })
 }
 
+/// Says that the words of the command line cannot be read, as where one is not UTF-8: it is then refused.
+fn refuse_words(rt: &HostRuntime, error: &io::Error) -> io::Result<End> {
+    if error.kind() == io::ErrorKind::OutOfMemory {
+        return Ok(End::Memory);
+    }
+    rt.eprintln("error: a word of the command line is not UTF-8")?;
+    Ok(End::CommandLine)
+}
+
 /// Does what the command line asks for.
 fn run(rt: &HostRuntime) -> io::Result<End> {
     let alloc = rt.alloc();
-    let arguments: Vec<String> = env::args(rt)?.collect(alloc)?;
+    let given = match env::args(rt) {
+        Ok(given) => given,
+        Err(error) => return refuse_words(rt, &error),
+    };
+    let arguments: Vec<String> = given.collect(alloc)?;
     let mut texts = Vec::with_capacity(alloc, arguments.len())?;
     for argument in &arguments {
         texts.push(argument.as_str())?;

@@ -28,9 +28,22 @@ fn host_streams(rt: &HostRuntime, names: Names<'_>) -> End {
     host(rt, names, &mut source, &mut sink)
 }
 
+// How the program ends where the words of the command line cannot be read, as where one is not UTF-8: they name no files.
+fn end_of_words(error: &io::Error) -> End {
+    if error.kind() == io::ErrorKind::OutOfMemory {
+        End::Memory
+    } else {
+        End::CommandLine
+    }
+}
+
 // Does what the command line asks for.
 fn run(rt: &HostRuntime) -> io::Result<End> {
-    let words: Vec<String> = env::args(rt)?.collect(rt.alloc())?;
+    let given = match env::args(rt) {
+        Ok(given) => given,
+        Err(error) => return Ok(end_of_words(&error)),
+    };
+    let words: Vec<String> = given.collect(rt.alloc())?;
     match Names::given(&words) {
         Some(names) => Ok(host_streams(rt, names)),
         None => Ok(End::CommandLine),

@@ -7,7 +7,7 @@ use Rattle.cedar_data.specs.declared.conform_fault.ConformFault.{ConformFault}
 use Rattle.cedar_data.specs.declared.conform_fault.ConformFault.TheVariants.{OutOfMemory}
 use Rattle.cedar_entities.specs.Bytes.{BytesHaveFault}
 use Rattle.cedar_program.specs.EntitiesFile.{HoldsNoWorld}
-use Rattle.cedar_program.specs.Private.Unread.{IfRefused}
+use Rattle.cedar_program.specs.Unread.{IfRefused}
 use Rattle.cedar_program.specs.declared.reading.Unread.{Unread}
 use Rattle.cedar_program.specs.declared.reading.Unread.TheVariants.{Refused, Unnamed, Device, Memory}
 use Rattle.cedar_program.specs.declared.refusal.FileRefusal.{FileRefusal}

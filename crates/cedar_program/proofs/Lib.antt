@@ -1,4 +1,5 @@
 pub mod EntitiesFiles
+pub mod Found
 pub mod Holding
 pub mod Links
 pub mod Pairs

@@ -16,10 +16,12 @@ use Rattle.cedar_policies.specs.PolicySetTree.{ids_of}
 use Rattle.cedar_lines.specs.Lines.{line_feed}
 use Rattle.cedar_schema.specs.SchemaTree.{SchemaTree, environments_of}
 use Rattle.cedar_schema.specs.declared.schema.environment.Environment.{Environment}
-use Rattle.cedar_typing.specs.Checking.{form_in_with}
-use Rattle.cedar_typing.specs.Reports.{FaultTree, fault_at, faults_in_with, faults_of_with, all_faults_with, is_impossible_with, warnings_with}
+use Rattle.cedar_typing.specs.Private.Checking.{form_in_with}
+use Rattle.cedar_typing.specs.Private.Reporting.{faults_in_with, faults_of_with, all_faults_with, is_impossible_with, warnings_with}
+use Rattle.cedar_typing.specs.Reports.{FaultTree, fault_at}
+use Rattle.cedar_typing.proofs.Reports.{are_faults, are_faults_in, are_warnings, faults_in_are, impossible, impossible_without_fault, not_impossible}
 use Rattle.cedar_typing.specs.declared.settings.Settings.{Settings}
-use Rattle.cedar_program.specs.ReportText.{ReportLine, fault_line, warning_line, totals_line, policy_lines, Tells, TellsEach, IsReportText}
+use Rattle.cedar_program.specs.ReportText.{ReportLine, fault_line, warning_line, totals_line, AreReported, of_none, of_satisfiable, of_impossible, Tells, TellsEach, IsReportText}
 use Rattle.cedar_program.specs.Private.Telling.{AppendsLines, faults_of_first, faults_after, begins_with}
 use Rattle.cedar_program.specs.Private.Tokens.{data_tokens}
 use Rattle.cedar_program.proofs.Prefixes.{take-next}
@@ -228,22 +230,39 @@ module _ (settings : Settings) (s : SchemaTree) where
 
   -- ---- policies
 
+  -- what is told of a policy: its faults, in the order of the environments, and a warning where no request can satisfy it
+  abbrev pub policy_lines : PolicyTree → List ReportLine
+  policy_lines p = map fault_line (faults_of_with settings s p) ++ cond (is_impossible_with settings s p) (warning_line p.id ∷ []) []
+
+  lines_of : (p : PolicyTree) (ps : List PolicyTree) (lines : List ReportLine) (b : Bool) → is_impossible_with settings s p ≡ b → AreReported settings s ps lines
+      → AreReported settings s (p ∷ ps) ((map fault_line (faults_of_with settings s p) ++ cond b (warning_line p.id ∷ []) []) ++ lines)
+  lines_of p ps lines true e h =
+      let none : faults_of_with settings s p ≡ [] = sym (faults_in_are settings s p (impossible_without_fault settings s p (impossible settings s p e))) in
+      subst (λ (fs : List FaultTree). AreReported settings s (p ∷ ps) ((map fault_line fs ++ warning_line p.id ∷ []) ++ lines)) (sym none) (of_impossible (impossible settings s p e) h)
+  lines_of p ps lines false e h =
+      subst (λ (ls : List ReportLine). AreReported settings s (p ∷ ps) (ls ++ lines)) (sym (append-nil (map fault_line (faults_of_with settings s p))))
+      (of_satisfiable (not_impossible settings s p e) (are_faults_in settings s p (environments_of s.actions)) h)
+
+  reported : (ps : List PolicyTree) → AreReported settings s ps (flat_map policy_lines ps)
+  reported [] = of_none
+  reported (p ∷ ps) = lines_of p ps (flat_map policy_lines ps) (is_impossible_with settings s p) refl (reported ps)
+
   -- what was told before the policy at a place, and what is left
   pub record IsToldTo (ps : List PolicyTree) (i : ℕ) (fs : List FaultTree) (ids : List (List ℕ)) (text : List ℕ) : Type 0 where
     pub faults : fs ≡ all_faults_with settings s (drop i ps)
     pub warnings : ids ≡ warnings_with settings s (drop i ps)
-    pub told : TellsEach (flat_map (policy_lines settings s) (take i ps)) text
+    pub told : TellsEach (flat_map policy_lines (take i ps)) text
 
   lines_more : (ps : List PolicyTree) (i : ℕ) (p : PolicyTree) → slice_get ps i ≡ Some p
-      → flat_map (policy_lines settings s) (take i ps) ++ policy_lines settings s p ≡ flat_map (policy_lines settings s) (take (i + 1) ps)
+      → flat_map policy_lines (take i ps) ++ policy_lines p ≡ flat_map policy_lines (take (i + 1) ps)
   lines_more ps i p e =
-      flat_map_more (policy_lines settings s) [] (take i ps) p ∙ ap (flat_map (policy_lines settings s)) (sym (take-next ps i p e))
+      flat_map_more policy_lines [] (take i ps) p ∙ ap (flat_map policy_lines) (sym (take-next ps i p e))
 
   told_more : (xs ys : List ReportLine) (a b : List ℕ) → TellsEach xs a → AppendsLines ys a b → TellsEach (xs ++ ys) b
   told_more xs ys a b h k = subst (λ (t : List ℕ). TellsEach (xs ++ ys) t) (sym k.2) (tells-append xs ys a k.0 h k.1)
 
   next_lines : (p : PolicyTree) (ps : List PolicyTree) → IsFree p.id ps
-      → map fault_line (faults_of_first p.id (all_faults_with settings s (p ∷ ps))) ++ cond (begins_with p.id (warnings_with settings s (p ∷ ps))) (warning_line p.id ∷ []) [] ≡ policy_lines settings s p
+      → map fault_line (faults_of_first p.id (all_faults_with settings s (p ∷ ps))) ++ cond (begins_with p.id (warnings_with settings s (p ∷ ps))) (warning_line p.id ∷ []) [] ≡ policy_lines p
   next_lines p ps h =
       ap₂ (λ (fs : List FaultTree) (b : Bool). map fault_line fs ++ cond b (warning_line p.id ∷ []) []) (split p ps h).0 (warned p ps h)
 
@@ -257,10 +276,10 @@ module _ (settings : Settings) (s : SchemaTree) where
       let free : IsFree p.id (drop (i + 1) ps) = (subst AreApart at apart).0 in
       let faults : fs ≡ all_faults_with settings s (p ∷ drop (i + 1) ps) = h.faults ∙ ap (all_faults_with settings s) at in
       let warned : ids ≡ warnings_with settings s (p ∷ drop (i + 1) ps) = h.warnings ∙ ap (warnings_with settings s) at in
-      let lines : map fault_line (faults_of_first p.id fs) ++ cond (begins_with p.id ids) (warning_line p.id ∷ []) [] ≡ policy_lines settings s p =
+      let lines : map fault_line (faults_of_first p.id fs) ++ cond (begins_with p.id ids) (warning_line p.id ∷ []) [] ≡ policy_lines p =
       ap₂ (λ (fs : List FaultTree) (ids : List (List ℕ)). map fault_line (faults_of_first p.id fs) ++ cond (begins_with p.id ids) (warning_line p.id ∷ []) []) faults warned
       ∙ next_lines p (drop (i + 1) ps) free in
-      let both : AppendsLines (policy_lines settings s p) old new = subst (λ (ls : List ReportLine). AppendsLines ls old new) lines (lines-behind _ _ old mid new k l) in
+      let both : AppendsLines (policy_lines p) old new = subst (λ (ls : List ReportLine). AppendsLines ls old new) lines (lines-behind _ _ old mid new k l) in
       record {
         faults = ap (faults_after p.id) faults ∙ (split p (drop (i + 1) ps) free).1;
         warnings = ap (λ (ids : List (List ℕ)). cond (begins_with p.id ids) (drop 1 ids) ids) warned ∙ left p (drop (i + 1) ps) free;
@@ -288,5 +307,13 @@ module _ (settings : Settings) (s : SchemaTree) where
       → length ps ≤ i → IsToldTo ps i fs ids old → m ≡ length (all_faults_with settings s ps) → n ≡ length (warnings_with settings s ps)
       → AppendsLines (totals_line m n ∷ []) old new → IsReportText settings s ps new
   told-all ps i fs ids old new m n whole h em en k =
-      let told : TellsEach (flat_map (policy_lines settings s) ps) old = subst (λ (qs : List PolicyTree). TellsEach (flat_map (policy_lines settings s) qs) old) (take_all i ps whole) h.told in
-      subst (λ (x : ReportLine). TellsEach (flat_map (policy_lines settings s) ps ++ x ∷ []) new) (ap₂ totals_line em en) (told_more _ _ old new told k)
+      let told : TellsEach (flat_map policy_lines ps) old = subst (λ (qs : List PolicyTree). TellsEach (flat_map policy_lines qs) old) (take_all i ps whole) h.told in
+      record {
+        lines = flat_map policy_lines ps;
+        faults = all_faults_with settings s ps;
+        warnings = warnings_with settings s ps;
+        reported = reported ps;
+        are_faults = are_faults settings s ps;
+        are_warnings = are_warnings settings s ps;
+        told = subst (λ (x : ReportLine). TellsEach (flat_map policy_lines ps ++ x ∷ []) new) (ap₂ totals_line em en) (told_more _ _ old new told k);
+      }

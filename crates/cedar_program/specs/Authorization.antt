@@ -1,13 +1,18 @@
 -- What authorization writes, by what the files hold.
 use Rattle.std.specs.Prelude.{◌≡◌, ◌⊎◌, ℕ, List, Option, None, IfSome}
 use Rattle.std.specs.Io.KnownBytes.{Keeps}
+use Rattle.cedar_value.specs.declared.request.Request.{Request}
 use Rattle.cedar_policies.specs.PolicySetTree.{PolicySetTree}
+use Rattle.cedar_schema.specs.Conformance.{Conforms}
 use Rattle.cedar_schema.specs.SchemaTree.{SchemaTree}
+use Rattle.cedar_schema.specs.WellFormed.{AreTypesApart}
+use Rattle.cedar_conform.specs.Requests.{LineDenotes}
 use Rattle.cedar_typing.specs.declared.settings.Settings.{Settings}
 use Rattle.cedar_lines.specs.AnswerText.{AnswersFirst, BeginsAnswers, Writes}
 use Rattle.cedar_lines.specs.Lines.{lines_of}
 use Rattle.cedar_auth.specs.AnswerLine.{AnswersLine}
 use Rattle.cedar_auth.specs.Codes.{HasLongCode}
+use Rattle.cedar_auth.specs.Headline.{IsAnsweredSoundlyWith}
 use Rattle.cedar_auth.specs.Ready.{ReadyTree}
 use Rattle.cedar_auth.specs.Validation.{IsValidatedWith}
 use Rattle.cedar_program.specs.EntitiesFile.{HoldsNoWorld, HoldsWorld}
@@ -18,13 +23,17 @@ use Rattle.cedar_program.specs.declared.files.Role.{Role}
 use Rattle.cedar_program.specs.declared.files.Role.TheVariants.{Schema, Policies, Links, Entities}
 use Rattle.cedar_program.specs.declared.refusal.FileRefusal.{FileRefusal}
 
--- The files hold a schema, policies that strict validation under these settings accepts for it, and a world by it, where it is
--- known what they hold (own).
+-- The files hold a schema, policies and a world, where it is known what they hold: strict validation under these settings accepts
+-- the policies for the schema, no action's type is an entity type of the schema, the world conforms to it, and each request that a
+-- line denotes by it is answered soundly (own; Cedar documentation, policy validation; cedar-spec, Lean: Cedar.Thm).
 pub record HoldAll (settings : Settings) (holds : Holdings) (r : ReadyTree) : Type 0 where
   pub hold : Hold holds r.schema r.policies
   pub settings_are : r.settings ≡ settings
   pub validated : IsValidatedWith settings r.schema r.policies.policies
   pub is_world : IfSome (holds Entities) (λ held. HoldsWorld r.schema held r.world)
+  pub apart : AreTypesApart r.schema
+  pub conforms : Conforms r.schema r.world
+  pub sound : (line : List ℕ) (q : Request) → LineDenotes r.schema line q → IsAnsweredSoundlyWith settings r.policies.policies q r.world
 
 -- The code of one of the policies, or of one that is linked, would have over 1,000,000 instructions, for which the policy file
 -- is refused by 701, without a place (own).

@@ -12,4 +12,5 @@ pub mod ReportText
 pub mod Roles
 pub mod SchemaFile
 pub mod Standing
+pub mod Unread
 pub mod Validation

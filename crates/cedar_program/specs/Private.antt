@@ -1,4 +1,3 @@
 -- What proofs and private contracts speak of, and no public clause.
 pub mod Telling
 pub mod Tokens
-pub mod Unread

@@ -1,11 +1,11 @@
 -- The text of a report on policies (own; Cedar documentation, policy validation).
-use Rattle.std.specs.Prelude.{◌≡◌, ℕ, cond, List, [], ◌∷◌, ◌++◌, length, map}
-use Rattle.std.specs.List.{flat_map}
+use Rattle.std.specs.Prelude.{◌≡◌, ℕ, List, [], ◌∷◌, ◌++◌, length, map}
 use Rattle.serde_json.specs.Written.{compact_text}
 use Rattle.cedar_lines.specs.Lines.{line_feed}
 use Rattle.cedar_policies.specs.PolicyTree.{PolicyTree}
 use Rattle.cedar_schema.specs.SchemaTree.{SchemaTree}
-use Rattle.cedar_typing.specs.Reports.{FaultTree, all_faults_with, faults_of_with, is_impossible_with, warnings_with}
+use Rattle.cedar_typing.specs.Acceptance.{IsImpossibleWith}
+use Rattle.cedar_typing.specs.Reports.{FaultTree, AreFaultsOfWith, AreFaultsWith, AreWarningsWith}
 use Rattle.cedar_typing.specs.declared.settings.Settings.{Settings}
 use Rattle.cedar_check.specs.FaultView.{fault_view}
 use Rattle.cedar_rules.specs.Numbers.{number_of}
@@ -19,21 +19,19 @@ pub data ReportLine : Type 0 where
   warning_line : List ℕ → ReportLine
   totals_line : ℕ → ℕ → ReportLine
 
--- What is told of a policy under these settings: its faults, in the order of the environments, and a warning where no request
--- can satisfy it (Cedar documentation, policy validation).
-abbrev pub policy_lines : Settings → SchemaTree → PolicyTree → List ReportLine
-policy_lines settings s p = map fault_line (faults_of_with settings s p) ++ cond (is_impossible_with settings s p) (warning_line p.id ∷ []) []
-
--- A whole report: what is told of each policy, in their order, and then how many faults and warnings there are (own).
-abbrev pub report_lines : Settings → SchemaTree → List PolicyTree → List ReportLine
-report_lines settings s ps =
-    flat_map (policy_lines settings s) ps ++ totals_line (length (all_faults_with settings s ps)) (length (warnings_with settings s ps)) ∷ []
+-- What is reported of these policies under these settings, in their order: of a policy that no request can satisfy a warning, and
+-- of another policy its faults (Cedar documentation, policy validation).
+pub data AreReported (settings : Settings) (s : SchemaTree) : List PolicyTree → List ReportLine → Type 0 where
+  of_none : AreReported settings s [] []
+  of_satisfiable : {p : PolicyTree} {ps : List PolicyTree} {faults : List FaultTree} {lines : List ReportLine} → ¬ IsImpossibleWith settings s p → AreFaultsOfWith settings s p faults → AreReported settings s ps lines
+      → AreReported settings s (p ∷ ps) (map fault_line faults ++ lines)
+  of_impossible : {p : PolicyTree} {ps : List PolicyTree} {lines : List ReportLine} → IsImpossibleWith settings s p → AreReported settings s ps lines → AreReported settings s (p ∷ ps) (warning_line p.id ∷ lines)
 
 -- What strict validation under these settings finds in these policies by this schema: their faults and their warnings, in order
 -- (Cedar documentation, policy validation).
 pub record Reports (settings : Settings) (s : SchemaTree) (ps : List PolicyTree) (report : Report) : Type 0 where
-  pub faults : map fault_view report.faults.items ≡ all_faults_with settings s ps
-  pub warnings : report.warnings.items ≡ warnings_with settings s ps
+  pub faults : AreFaultsWith settings s ps (map fault_view report.faults.items)
+  pub warnings : AreWarningsWith settings s ps report.warnings.items
 
 -- The text is such a line, without its LF; of a fault it gives the number of some reason, and which one that is is tested (own).
 abbrev pub Tells : ReportLine → List ℕ → Type 0
@@ -46,6 +44,13 @@ abbrev pub TellsEach : List ReportLine → List ℕ → Type 0
 TellsEach [] text = text ≡ []
 TellsEach (line ∷ lines) text = (told more : List ℕ) × Tells line told × (text ≡ told ++ (line_feed ∷ more)) × TellsEach lines more
 
--- The text is a report on these policies by this schema under these settings (own).
-abbrev pub IsReportText : Settings → SchemaTree → List PolicyTree → List ℕ → Type 0
-IsReportText settings s ps text = TellsEach (report_lines settings s ps) text
+-- The text is a report on these policies by this schema under these settings: what is reported of each policy, and then how many
+-- faults and warnings there are (own).
+pub record IsReportText (settings : Settings) (s : SchemaTree) (ps : List PolicyTree) (text : List ℕ) : Type 0 where
+  pub lines : List ReportLine
+  pub faults : List FaultTree
+  pub warnings : List (List ℕ)
+  pub reported : AreReported settings s ps lines
+  pub are_faults : AreFaultsWith settings s ps faults
+  pub are_warnings : AreWarningsWith settings s ps warnings
+  pub told : TellsEach (lines ++ totals_line (length faults) (length warnings) ∷ []) text

@@ -1,9 +1,9 @@
 //! The subcommand `authorize`.
-ghost use Rattle.std.specs.Prelude.{◌≡◌, ◌≢◌, ◌⊎◌, ◌-◌, ◌<◌, ◌^◌, [], None, IfSome};
+ghost use Rattle.std.specs.Prelude.{◌≡◌, ◌⊎◌, ◌-◌, ◌<◌, ◌^◌, [], None, IfSome};
 ghost use Rattle.std.specs.Io.KnownBytes.{Keeps};
 ghost use Rattle.cedar_policies.specs.PolicySetTree.{PolicySetTree};
 ghost use Rattle.cedar_schema.specs.SchemaTree.{SchemaTree};
-ghost use Rattle.cedar_typing.specs.Reports.{all_faults_with};
+ghost use Rattle.cedar_typing.specs.Reports.{AreFaultsWith};
 ghost use Rattle.cedar_auth.specs.AnswerLine.{AnswersLine};
 ghost use Rattle.cedar_auth.specs.Codes.{HasLongCode};
 ghost use Rattle.cedar_auth.specs.Ready.{ReadyTree};
@@ -35,7 +35,7 @@ const TOO_LONG: u16 = 701;
 fn tell<K: Sink>(alloc: Global, refused: &NotValidated, sink: &mut K, settings: Settings) -> End
     requires sink_count { K.failed sink.old < 2 ^ 64 - 1 }
     requires refused { HasFaultWith settings refused.now.schema refused.now.policies.policies refused.now.fault }
-    ensures faults { result ≡ End.Faults → (all_faults_with settings refused.now.schema refused.now.policies.policies ≢ [])
+    ensures faults { result ≡ End.Faults → ¬ AreFaultsWith settings refused.now.schema refused.now.policies.policies []
         × Writes (K.written sink.old) (K.written sink.new) (IsReportText settings refused.now.schema refused.now.policies.policies) }
     ensures refused { result ≡ End.Refused → HasLongCode refused.now.policies.policies
         × Writes (K.written sink.old) (K.written sink.new) (IsRefusalLine Role.Policies (record { number = 701; offset = None })) }
@@ -108,6 +108,9 @@ fn over_entities<F: Files, S: Source, K: Sink>(
         Ok(ready) => ready,
         Err(unread) => return stop(alloc, Role::Entities, unread, sink),
     };
+    // Laws, which run nothing.
+    ready.premises();
+    ready.lines_are_answered_soundly();
     answer(alloc, &ready, source, sink)
 }
 
@@ -128,7 +131,7 @@ fn over_policies<F: Files, S: Source, K: Sink>(
         × HoldAll settings (F.holds files.now) r
         × IfSome (S.left source.old) (λ input. Writes (K.written sink.old) (K.written sink.new) (IsAnswerText (AnswersLine r) input)) }
     ensures faults { result ≡ End.Faults → (s : SchemaTree) × (set : PolicySetTree)
-        × Hold (F.holds files.now) s set × (all_faults_with settings s set.policies ≢ [])
+        × Hold (F.holds files.now) s set × ¬ AreFaultsWith settings s set.policies []
         × Writes (K.written sink.old) (K.written sink.new) (IsReportText settings s set.policies) }
     ensures refused { result ≡ End.Refused → (role : Role) × (refusal : FileRefusal)
         × IsFirstRefused settings (F.holds files.now) role refusal
@@ -165,7 +168,7 @@ fn over_links<F: Files, S: Source, K: Sink>(
         × HoldAll settings (F.holds files.now) r
         × IfSome (S.left source.old) (λ input. Writes (K.written sink.old) (K.written sink.new) (IsAnswerText (AnswersLine r) input)) }
     ensures faults { result ≡ End.Faults → (s : SchemaTree) × (set : PolicySetTree)
-        × Hold (F.holds files.now) s set × (all_faults_with settings s set.policies ≢ [])
+        × Hold (F.holds files.now) s set × ¬ AreFaultsWith settings s set.policies []
         × Writes (K.written sink.old) (K.written sink.new) (IsReportText settings s set.policies) }
     ensures refused { result ≡ End.Refused → (role : Role) × (refusal : FileRefusal)
         × IsFirstRefused settings (F.holds files.now) role refusal
@@ -207,7 +210,7 @@ pub fn authorize<F: Files, S: Source, K: Sink>(
         × HoldAll settings (F.holds files.now) r
         × IfSome (S.left source.old) (λ input. Writes (K.written sink.old) (K.written sink.new) (IsAnswerText (AnswersLine r) input)) }
     ensures faults { result ≡ End.Faults → (s : SchemaTree) × (set : PolicySetTree)
-        × Hold (F.holds files.now) s set × (all_faults_with settings s set.policies ≢ [])
+        × Hold (F.holds files.now) s set × ¬ AreFaultsWith settings s set.policies []
         × Writes (K.written sink.old) (K.written sink.new) (IsReportText settings s set.policies) }
     ensures refused { result ≡ End.Refused → (role : Role) × (refusal : FileRefusal)
         × IsFirstRefused settings (F.holds files.now) role refusal

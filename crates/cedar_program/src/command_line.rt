@@ -7,7 +7,6 @@ ghost use Rattle.cedar_program.specs.GivenWords.{AreGiven, subcommand_name};
 use crate::command::command;
 use crate::options::{Subcommand, Words};
 use cedar_typing::Settings;
-use clap::Error;
 use clap::error::ErrorKind;
 use std::alloc::{AllocError, Global};
 
@@ -23,20 +22,26 @@ fn subcommand_of(name: &str) -> Option<Subcommand>
     None
 }
 
-/// What the words of a command line say, the program's name first. A refusal is `clap`'s own: it comes only where
-/// `clap`'s definition doesn't take the words, or where memory runs out.
-pub fn words<'a>(alloc: Global, words: &'a [&'a str]) -> Result<Words<'a>, Error>
+/// Why the words of a command line are refused: `clap`'s error, which prints itself.
+pub type WordsFault = clap::Error;
+
+/// What the words of a command line say, the program's name first.
+///
+/// # Errors
+///
+/// A refusal is `clap`'s own: it comes only where `clap`'s definition does not take the words, or where memory ran out.
+pub fn words<'a>(alloc: Global, words: &'a [&'a str]) -> Result<Words<'a>, WordsFault>
     ensures ok { IfOk result (AreGiven (map (λ s. s.now) words.now)) }
     ensures err { IfErr result (λ e. takes program (map (λ s. s.now) words.now) ≡ true → kind_of e ≡ ErrorKind.OutOfMemory) }
 {
     let matches = command(alloc)?.try_get_matches_from(words)?;
     let Some((name, found)) = matches.subcommand() else {
         // A subcommand is required, so the parse refused this.
-        return Err(Error::from(AllocError));
+        return Err(WordsFault::from(AllocError));
     };
     let Some(subcommand) = subcommand_of(name) else {
         // `help`, which the parse refuses.
-        return Err(Error::from(AllocError));
+        return Err(WordsFault::from(AllocError));
     };
     Ok(Words {
         subcommand,

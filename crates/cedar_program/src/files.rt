@@ -1,5 +1,6 @@
 //! The files that the command line names.
 use std::alloc::Global;
+use thiserror::Error;
 
 mod memory_files;
 mod named_files;
@@ -21,11 +22,13 @@ pub enum Role {
 }
 
 /// Why a file that is named can't be read.
-#[derive(Clone, Copy, Debug, PartialEq, Eq)]
+#[derive(Clone, Copy, Debug, PartialEq, Eq, Error)]
 pub enum FileFault {
     /// The device failed, or there is no such file.
+    #[error("the file cannot be read")]
     Device,
     /// Memory ran out.
+    #[error("out of memory")]
     Memory,
 }
 

@@ -27,7 +27,7 @@ mod report;
 mod validating;
 
 pub use authorizing::authorize;
-pub use command_line::words;
+pub use command_line::{WordsFault, words};
 pub use ending::End;
 pub use files::{FileFault, Files, MemoryFiles, NamedFiles, Role};
 pub use linking::enter_links;

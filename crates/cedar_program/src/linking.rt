@@ -3,7 +3,7 @@ ghost use Rattle.std.specs.Prelude.{◌≡◌, ◌≢◌, None, Some, IfErr, IfS
 ghost use Rattle.cedar_policies.specs.LinkFault.{number_of};
 ghost use Rattle.cedar_policies.specs.Linking.{IsLinked};
 ghost use Rattle.cedar_program.specs.LinksFile.{AreLinked, HasLinkFault, HaveLinkFault, HoldsLinked, HoldsNoLinks};
-ghost use Rattle.cedar_program.specs.Private.Unread.{IfRefused};
+ghost use Rattle.cedar_program.specs.Unread.{IfRefused};
 
 use crate::files::{Files, Role};
 use crate::reading::{OUT_OF_MEMORY, Unread, read_file, refusal_of};
@@ -62,7 +62,7 @@ fn enter_read(alloc: Global, bytes: &[u8], policies: &mut PolicySet) -> Result<(
 
 /// Enters the links of the links file behind the policies, in their order; where the command line names no such file, nothing.
 /// `Refused` where its bytes denote no links (501, 502), or at the first link that is refused (204, 210 to 212), with no place;
-/// never `Unnamed`. After an error the links before the one that is refused stand entered.
+/// never `Unnamed`. After an error the set may hold some of the links, and is of no use.
 pub fn enter_links<F: Files>(
     alloc: Global,
     files: &F,

@@ -5,7 +5,7 @@ ghost use Rattle.cedar_data.specs.declared.conform_fault.ConformFault.TheVariant
 ghost use Rattle.cedar_program.specs.EntitiesFile.{HoldsNoWorld, HoldsWorld};
 ghost use Rattle.cedar_program.specs.PolicyFile.{HoldsNoPolicies, HoldsPolicies};
 ghost use Rattle.cedar_program.specs.SchemaFile.{HoldsNoSchema, HoldsSchema};
-ghost use Rattle.cedar_program.specs.Private.Unread.{IfRefused};
+ghost use Rattle.cedar_program.specs.Unread.{IfRefused};
 
 use crate::files::{FileFault, Files, Role};
 use crate::refusal::FileRefusal;
@@ -15,6 +15,7 @@ use cedar_parser::parse;
 use cedar_policies::PolicySet;
 use cedar_schema::{Schema, SchemaFault};
 use std::alloc::Global;
+use thiserror::Error;
 
 /// 105: a policy file that is no UTF-8.
 const NO_UTF8: u16 = 105;
@@ -23,15 +24,19 @@ const NO_UTF8: u16 = 105;
 pub(crate) const OUT_OF_MEMORY: u16 = 1;
 
 /// Why a file gives nothing to go on with.
-#[derive(Clone, Copy, Debug, PartialEq, Eq)]
+#[derive(Clone, Copy, Debug, PartialEq, Eq, Error)]
 pub enum Unread {
     /// It is refused.
+    #[error("the file is refused")]
     Refused(FileRefusal),
     /// The command line names none.
+    #[error("no file is named")]
     Unnamed,
     /// It can't be read.
+    #[error("the file cannot be read")]
     Device,
     /// Memory ran out.
+    #[error("out of memory")]
     Memory,
 }
 
@@ -114,7 +119,7 @@ pub fn read_ready<F: Files>(alloc: Global, files: &F, validated: Validated) -> R
     ensures device { IsErrOf result Unread.Device → F.holds files.now Role.Entities ≡ None }
 {
     let bytes = read_file(alloc, files, Role::Entities)?;
-    match Ready::new(alloc, validated, bytes) {
+    match Ready::new_owned(alloc, validated, bytes) {
         Ok(ready) => Ok(ready),
         Err(NotReady { fault, .. }) => Err(refusal_of(&fault)),
     }

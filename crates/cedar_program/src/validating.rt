@@ -3,7 +3,7 @@ ghost use Rattle.std.specs.Prelude.{◌≡◌, ◌≢◌, ◌⊎◌, ◌-◌, �
 ghost use Rattle.std.specs.Io.KnownBytes.{Keeps};
 ghost use Rattle.cedar_policies.specs.PolicySetTree.{PolicySetTree};
 ghost use Rattle.cedar_schema.specs.SchemaTree.{SchemaTree};
-ghost use Rattle.cedar_typing.specs.Reports.{all_faults_with};
+ghost use Rattle.cedar_typing.specs.Reports.{AreFaultsWith};
 ghost use Rattle.cedar_lines.specs.AnswerText.{Writes};
 ghost use Rattle.cedar_program.specs.ReportText.{IsReportText, Reports};
 ghost use Rattle.cedar_program.specs.Standing.{BeginsRefusal, IsRefusalLine};
@@ -82,9 +82,9 @@ fn report_on<K: Sink>(
     settings: Settings,
 ) -> End
     requires { K.failed sink.old < 2 ^ 64 - 1 }
-    ensures done { result ≡ End.Done → (all_faults_with settings schema.now policies.now.policies ≡ [])
+    ensures done { result ≡ End.Done → AreFaultsWith settings schema.now policies.now.policies []
         × Writes (K.written sink.old) (K.written sink.new) (IsReportText settings schema.now policies.now.policies) }
-    ensures faults { result ≡ End.Faults → (all_faults_with settings schema.now policies.now.policies ≢ [])
+    ensures faults { result ≡ End.Faults → ¬ AreFaultsWith settings schema.now policies.now.policies []
         × Writes (K.written sink.old) (K.written sink.new) (IsReportText settings schema.now policies.now.policies) }
     ensures device { result ≡ End.Device → K.failed sink.old < K.failed sink.new }
     ensures stands { result ≡ End.Device
@@ -110,10 +110,10 @@ fn report_linked<F: Files, K: Sink>(
     requires count { K.failed sink.old < 2 ^ 64 - 1 }
     requires held { HoldText (F.holds files.now) schema.now policies.old }
     ensures done { result ≡ End.Done → (s : SchemaTree) × (set : PolicySetTree)
-        × Hold (F.holds files.now) s set × (all_faults_with settings s set.policies ≡ [])
+        × Hold (F.holds files.now) s set × AreFaultsWith settings s set.policies []
         × Writes (K.written sink.old) (K.written sink.new) (IsReportText settings s set.policies) }
     ensures faults { result ≡ End.Faults → (s : SchemaTree) × (set : PolicySetTree)
-        × Hold (F.holds files.now) s set × (all_faults_with settings s set.policies ≢ [])
+        × Hold (F.holds files.now) s set × ¬ AreFaultsWith settings s set.policies []
         × Writes (K.written sink.old) (K.written sink.new) (IsReportText settings s set.policies) }
     ensures refused { result ≡ End.Refused → (role : Role) × (refusal : FileRefusal)
         × IsRefused (F.holds files.now) role refusal
@@ -145,10 +145,10 @@ pub fn validate<F: Files, K: Sink>(
 ) -> End
     requires { K.failed sink.old < 2 ^ 64 - 1 }
     ensures done { result ≡ End.Done → (s : SchemaTree) × (set : PolicySetTree)
-        × Hold (F.holds files.now) s set × (all_faults_with settings s set.policies ≡ [])
+        × Hold (F.holds files.now) s set × AreFaultsWith settings s set.policies []
         × Writes (K.written sink.old) (K.written sink.new) (IsReportText settings s set.policies) }
     ensures faults { result ≡ End.Faults → (s : SchemaTree) × (set : PolicySetTree)
-        × Hold (F.holds files.now) s set × (all_faults_with settings s set.policies ≢ [])
+        × Hold (F.holds files.now) s set × ¬ AreFaultsWith settings s set.policies []
         × Writes (K.written sink.old) (K.written sink.new) (IsReportText settings s set.policies) }
     ensures refused { result ≡ End.Refused → (role : Role) × (refusal : FileRefusal)
         × IsRefused (F.holds files.now) role refusal

@@ -20,17 +20,17 @@ returns-in-Err-clause-stands g c = λ h.
 pub returns-clause-done : goal.returns-clause-done
 returns-clause-done g c = λ h.
     let r = c.in-Ok.ready in
-    (r, hold-all _ c.args.validated r c.requires.held c.requires.accepted c.in-Ok.ensures.holds c.in-Ok.ensures.settings c.in-Ok.ensures.found, c.answer.ensures.done h)
+    (r, hold-all _ c.args.validated r c.requires.held c.in-Ok.ensures.holds c.in-Ok.ensures.settings c.in-Ok.ensures.found c.premises.ensures.apart c.premises.ensures.validated c.premises.ensures.conforms c.lines_are_answered_soundly.ensures, c.answer.ensures.done h)
 
 pub returns-clause-stands : goal.returns-clause-stands
 returns-clause-stands g c = λ h.
     let r = c.in-Ok.ready in
-    inr (inr (inr (r, hold-all _ c.args.validated r c.requires.held c.requires.accepted c.in-Ok.ensures.holds c.in-Ok.ensures.settings c.in-Ok.ensures.found, c.answer.ensures.stands h)))
+    inr (inr (inr (r, hold-all _ c.args.validated r c.requires.held c.in-Ok.ensures.holds c.in-Ok.ensures.settings c.in-Ok.ensures.found c.premises.ensures.apart c.premises.ensures.validated c.premises.ensures.conforms c.lines_are_answered_soundly.ensures, c.answer.ensures.stands h)))
 
 pub returns-clause-stands_whole : goal.returns-clause-stands_whole
 returns-clause-stands_whole g c = λ h.
     let r = c.in-Ok.ready in
-    inr (r, hold-all _ c.args.validated r c.requires.held c.requires.accepted c.in-Ok.ensures.holds c.in-Ok.ensures.settings c.in-Ok.ensures.found, c.answer.ensures.stands_whole h)
+    inr (r, hold-all _ c.args.validated r c.requires.held c.in-Ok.ensures.holds c.in-Ok.ensures.settings c.in-Ok.ensures.found c.premises.ensures.apart c.premises.ensures.validated c.premises.ensures.conforms c.lines_are_answered_soundly.ensures, c.answer.ensures.stands_whole h)
 
 pub returns-clause-device : goal.returns-clause-device
 returns-clause-device g c = λ h. inr (c.answer.ensures.device h)

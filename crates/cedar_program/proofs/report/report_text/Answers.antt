@@ -3,6 +3,7 @@ use Rattle.std.specs.Prelude.{option_copied}
 use Rattle.std.proofs.lemmas.List.{length-map}
 use Rattle.cedar_check.specs.FaultView.{fault_view}
 use Rattle.cedar_check.specs.declared.fault.Fault.{Fault}
+use Rattle.cedar_typing.proofs.Reports.{faults_are, warnings_are}
 use Rattle.cedar_program.specs.ReportText.{warning_line}
 use Rattle.cedar_program.specs.Private.Telling.{AppendsLines, begins_with}
 use Rattle.cedar_program.proofs.Telling.{apart_next, apart_of, not_past, told-all, told-step}
@@ -13,8 +14,8 @@ pub loop-position-init : goal.loop-position-init
 loop-position-init c = record {
   apart = apart_of c.args.policies.now.policies _ c.count-position-end.ensures.distinct;
   told = λ settings s r. record {
-    faults = ap (map fault_view) c.as_slice-faults.ensures.value ∙ r.faults;
-    warnings = c.as_slice-warnings.ensures.value ∙ r.warnings;
+    faults = ap (map fault_view) c.as_slice-faults.ensures.value ∙ faults_are settings s r.faults;
+    warnings = c.as_slice-warnings.ensures.value ∙ warnings_are settings s r.warnings;
     told = c.new-text.ensures.items;
   };
 }
@@ -43,5 +44,5 @@ pub returns : goal.returns
 returns c = λ settings s r.
     told-all settings s c.args.policies.now.policies c.loop-position.position _ _ _ _ _ _
     (omega (arith, c.count-position-end.ensures.policies, c.loop-position-test.false)) (c.loop-position.invariant.told settings s r)
-    (omega (arith, c.len.ensures, c.args.report.now.faults.ok.0, length-map c.args.report.now.faults.items fault_view, ap length r.faults))
-    (omega (arith, c.len-2.ensures, c.args.report.now.warnings.ok.0, ap length r.warnings)) c.in_ok-append_totals.ensures
+    (omega (arith, c.len.ensures, c.args.report.now.faults.ok.0, length-map c.args.report.now.faults.items fault_view, ap length (faults_are settings s r.faults)))
+    (omega (arith, c.len-2.ensures, c.args.report.now.warnings.ok.0, ap length (warnings_are settings s r.warnings))) c.in_ok-append_totals.ensures

@@ -4,7 +4,7 @@ use crate::world::{Asked, ENTITIES, ready, request, validated};
 use cedar_auth::{NotReady, Ready};
 use cedar_policies::Decision;
 use cedar_value::Request;
-use std::alloc::{AllocError, Global};
+use std::alloc::Global;
 use std::process::Abort;
 use std::test::Fail;
 
@@ -29,24 +29,22 @@ const REFUSED: [(&[u8], u16); 12] = [
 ];
 
 /// Whether the two policies are handed back, and are ready with entities that conform.
-fn are_handed_back(alloc: Global, refused: NotReady) -> Result<bool, AllocError> {
+fn are_handed_back(alloc: Global, refused: NotReady) -> bool {
     let count = refused.validated.policies().count();
-    let entities = Vec::from_slice(alloc, ENTITIES)?;
-    match Ready::new(alloc, refused.validated, entities) {
+    match Ready::new(alloc, refused.validated, ENTITIES) {
         Ok(ready) => {
             drop(ready);
-            Ok(count == 2)
+            count == 2
         }
         Err(refused) => {
             drop(refused);
-            Ok(false)
+            false
         }
     }
 }
 
 /// The number by which the entities are refused, where the policies are handed back.
 fn number_of(alloc: Global, entities: &[u8]) -> Result<Option<u16>, Fail> {
-    let entities = Vec::from_slice(alloc, entities)?;
     let validated = validated(alloc, TWO_POLICIES)?;
     match Ready::new(alloc, validated, entities) {
         Ok(ready) => {
@@ -55,7 +53,7 @@ fn number_of(alloc: Global, entities: &[u8]) -> Result<Option<u16>, Fail> {
         }
         Err(refused) => {
             let number = refused.fault.number();
-            Ok(are_handed_back(alloc, refused)?.then_some(number))
+            Ok(are_handed_back(alloc, refused).then_some(number))
         }
     }
 }

@@ -65,7 +65,7 @@ pub fn ready_with_any_decimal(
 ) -> Result<Ready, Fail> {
     let entities = Vec::from_slice(alloc, entities)?;
     let validated = validated_with_any_decimal(alloc, policies)?;
-    match Ready::new(alloc, validated, entities) {
+    match Ready::new_owned(alloc, validated, entities) {
         Ok(ready) => Ok(ready),
         Err(refused) => {
             drop(refused);
@@ -76,8 +76,7 @@ pub fn ready_with_any_decimal(
 
 /// The policies, ready to answer over the entities.
 pub fn ready(alloc: Global, policies: &str) -> Result<Ready, Fail> {
-    let entities = Vec::from_slice(alloc, ENTITIES)?;
-    match Ready::new(alloc, validated(alloc, policies)?, entities) {
+    match Ready::new(alloc, validated(alloc, policies)?, ENTITIES) {
         Ok(ready) => Ok(ready),
         Err(refused) => {
             drop(refused);

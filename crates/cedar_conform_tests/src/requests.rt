@@ -317,6 +317,43 @@ fn json_nests_127_deep(rt: HostRuntime) -> Result<(), Fail> {
     Ok(())
 }
 
+// Lists inside one another, and nothing in the innermost.
+fn lists(alloc: Global, levels: usize) -> Result<String, AllocError> {
+    let mut text = String::new(alloc);
+    for _ in 0..levels {
+        text.push_str("[")?;
+    }
+    for _ in 0..levels {
+        text.push_str("]")?;
+    }
+    Ok(text)
+}
+
+// A line as deep as JSON may be is JSON, and no request; one level more is no JSON.
+#[test]
+fn lines_of_lists(rt: HostRuntime) -> Result<(), Fail> {
+    let alloc = rt.alloc();
+    let deep = lists(alloc, 127)?;
+    assert_eq!(rt; number_of(alloc, deep.as_bytes())?, 502);
+    let deeper = lists(alloc, 128)?;
+    assert_eq!(rt; number_of(alloc, deeper.as_bytes())?, 501);
+    Ok(())
+}
+
+// Each beginning of a request line that lacks its end is no JSON.
+#[test]
+fn beginnings_of_a_line(rt: HostRuntime) -> Result<(), Fail> {
+    let alloc = rt.alloc();
+    let line =
+        br#"{"principal":"User::\"ann\"","action":"Action::\"delete\"","resource":"Doc::\"d\""}"#;
+    for length in 0..line.len() {
+        let (beginning, _) = line.split_at(length);
+        assert_eq!(rt; number_of(alloc, beginning)?, 501, "{length}");
+    }
+    assert_eq!(rt; number_of(alloc, line)?, 0);
+    Ok(())
+}
+
 #[test]
 fn bytes_that_are_no_text(rt: HostRuntime) -> Result<(), Fail> {
     let alloc = rt.alloc();

@@ -4,7 +4,7 @@ use crate::held::made;
 use cedar_ast::{BinaryOperator, Expr, UnaryOperator, Variable};
 use cedar_code::{Code, CodeFault, Instruction, compile};
 use cedar_policies::{ActionScope, Condition, ConditionKind, Effect, EntityScope, Policy, Scope};
-use cedar_value::Text;
+use cedar_value::{Glance, Text};
 use std::alloc::{AllocError, Global};
 use std::process::Abort;
 use std::test::Fail;
@@ -88,7 +88,8 @@ fn policy(alloc: Global) -> Result<Policy, AllocError> {
     Ok(Policy::new(id, Vec::new(alloc), Effect::Permit, scope, conditions))
 }
 
-fn condition(alloc: Global) -> Result<Expr, AllocError> {
+/// Its condition.
+pub fn condition(alloc: Global) -> Result<Expr, AllocError> {
     let policy = policy(alloc)?;
     let condition = policy.condition(alloc);
     drop(policy);
@@ -114,6 +115,58 @@ const CONDITION_CODE: &[(&str, usize)] = &[
 fn the_condition_of_a_policy_tests_the_scope_first(rt: HostRuntime) -> Result<(), Fail> {
     let alloc = rt.alloc();
     made(assert_compiles(&rt, alloc, condition(alloc)?, 2, CONDITION_CODE))
+}
+
+/// What an instruction pushes, or the sign of its operator, as a text.
+fn written(instruction: &Instruction) -> &'static str {
+    match instruction {
+        Instruction::Push(value) => match value.glance() {
+            Glance::Boolean(true) => "true",
+            Glance::Boolean(false) => "false",
+            Glance::Long(1) => "1",
+            Glance::Long(2) => "2",
+            _ => "another value",
+        },
+        Instruction::Binary(BinaryOperator::Less) => "<",
+        Instruction::Binary(_) => "another operator",
+        _ => "",
+    }
+}
+
+/// The place of the first instruction that is written otherwise; none where all are written so.
+fn first_written_otherwise(instructions: &[Instruction], wanted: &[&str]) -> Option<usize> {
+    for (place, (instruction, wanted)) in instructions.iter().zip(wanted).enumerate() {
+        if written(instruction) != *wanted {
+            return Some(place);
+        }
+    }
+    None
+}
+
+/// Where the code of the expression is written otherwise first.
+fn written_otherwise(
+    alloc: Global,
+    expression: &Expr,
+    wanted: &[&str],
+) -> Result<Option<usize>, CodeFault> {
+    let code = compile(alloc, expression)?;
+    let place = first_written_otherwise(code.instructions(), wanted);
+    drop(code);
+    Ok(place)
+}
+
+const CONDITION_WRITTEN: &[&str] = &[
+    "true", "", "true", "", "true", "", "1", "2", "<", "", "", "",
+];
+
+#[test]
+fn the_condition_of_a_policy_pushes_what_it_compares(rt: HostRuntime) -> Result<(), Fail> {
+    let alloc = rt.alloc();
+    let expression = condition(alloc)?;
+    let place = written_otherwise(alloc, &expression, CONDITION_WRITTEN);
+    drop(expression);
+    assert_eq!(rt; place?, None);
+    Ok(())
 }
 
 /// `if true then 1 + 2 else 3`

@@ -20,11 +20,15 @@ mod expressions;
 #[cfg(test)]
 mod held;
 #[cfg(test)]
+mod masks;
+#[cfg(test)]
 mod met;
 #[cfg(test)]
 mod plain;
 #[cfg(test)]
 mod plain_fault;
+#[cfg(test)]
+mod resting;
 #[cfg(test)]
 mod runs;
 #[cfg(test)]

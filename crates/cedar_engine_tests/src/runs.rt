@@ -1,9 +1,11 @@
 //! Runs: ends and counts.
-use crate::expressions::{long, record, set, truth};
+use crate::codes::condition;
+use crate::expressions::{long, record, set, set_of_first, truth};
 use crate::held::{both, made};
 use crate::world::{Row, request_in, store_of, uid};
 use cedar_ast::{BinaryOperator, EvaluationError, Expr, UnaryOperator, Variable};
 use cedar_code::{Code, CodeFault, Outcome, compile};
+use cedar_ext::{Element, Pattern};
 use cedar_machine::run;
 use cedar_store::Store;
 use cedar_value::{Hierarchy, NoEntities, Record, Request, Text, Value, ValueKind};
@@ -115,6 +117,49 @@ fn a_right_grouped_sum_stands_higher(rt: HostRuntime) -> Result<(), Fail> {
     Ok(())
 }
 
+#[test]
+fn the_condition_of_a_policy_runs_whole(rt: HostRuntime) -> Result<(), Fail> {
+    let alloc = rt.alloc();
+    assert_eq!(rt; ran(alloc, condition(alloc)?)?, ("true", 12, 12, 2));
+    Ok(())
+}
+
+fn text(alloc: Global, content: &str) -> Result<Expr, AllocError> {
+    Ok(Expr::literal(Value::string(Text::read(alloc, content)?)))
+}
+
+/// `decimal("1.")`
+fn short_decimal(alloc: Global) -> Result<Expr, AllocError> {
+    let text = text(alloc, "1.")?;
+    Expr::unary(alloc, UnaryOperator::Decimal, text)
+}
+
+#[test]
+fn a_text_that_is_not_a_decimal_is_an_error(rt: HostRuntime) -> Result<(), Fail> {
+    let alloc = rt.alloc();
+    assert_eq!(rt; ran(alloc, short_decimal(alloc)?)?, ("decimal", 2, 2, 1));
+    Ok(())
+}
+
+/// `"aab" like "*ab"`
+fn like(alloc: Global) -> Result<Expr, AllocError> {
+    let elements = [
+        Element::Star,
+        Element::Character('a'),
+        Element::Character('b'),
+    ];
+    let pattern = Pattern::new(Vec::from_slice(alloc, &elements)?);
+    let (pattern, text) = both(pattern, text(alloc, "aab"))?;
+    Expr::unary(alloc, UnaryOperator::Like(pattern), text)
+}
+
+#[test]
+fn a_text_ends_like_a_pattern(rt: HostRuntime) -> Result<(), Fail> {
+    let alloc = rt.alloc();
+    assert_eq!(rt; ran(alloc, like(alloc)?)?, ("true", 2, 2, 1));
+    Ok(())
+}
+
 fn literal_uid(alloc: Global, ty: &str, id: &str) -> Result<Expr, AllocError> {
     Ok(Expr::literal(Value::uid(alloc, uid(alloc, ty, id)?)?))
 }
@@ -145,6 +190,29 @@ fn equal_sets(alloc: Global) -> Result<Expr, AllocError> {
 fn a_set_has_the_values_of_its_members(rt: HostRuntime) -> Result<(), Fail> {
     let alloc = rt.alloc();
     assert_eq!(rt; ran(alloc, equal_sets(alloc)?)?, ("true", 8, 8, 3));
+    Ok(())
+}
+
+/// `[] == [1]`
+fn unequal_sets(alloc: Global) -> Result<Expr, AllocError> {
+    let left = set(alloc, &[])?;
+    let (left, right) = both(left, set(alloc, &[1]))?;
+    Expr::binary(alloc, BinaryOperator::Equal, left, right)
+}
+
+#[test]
+fn a_set_is_made_of_what_stands_on_the_stack(rt: HostRuntime) -> Result<(), Fail> {
+    let alloc = rt.alloc();
+    assert_eq!(rt; ran(alloc, set(alloc, &[1, 2, 3])?)?, ("value", 4, 4, 3));
+    assert_eq!(rt; ran(alloc, unequal_sets(alloc)?)?, ("false", 4, 4, 2));
+    Ok(())
+}
+
+#[test]
+fn a_code_of_a_million_instructions_runs_whole(rt: HostRuntime) -> Result<(), Fail> {
+    let alloc = rt.alloc();
+    let set = set_of_first(alloc, 999_999)?;
+    assert_eq!(rt; ran(alloc, set)?, ("value", 1_000_000, 1_000_000, 999_999));
     Ok(())
 }
 

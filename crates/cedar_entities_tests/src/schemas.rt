@@ -25,10 +25,7 @@ pub const GROUPS: &str = r#"{"":{"entityTypes":{
 
 /// The number that reading the entities of the text by the schema of the other text answers, 0 where they are read.
 pub fn number_of(alloc: Global, schema: &Schema, text: &[u8]) -> u16 {
-    let Ok(bytes) = Vec::from_slice(alloc, text) else {
-        return 1;
-    };
-    match read_entities(alloc, schema, bytes) {
+    match read_entities(alloc, schema, text) {
         Ok(_) => 0,
         Err(fault) => number(&fault),
     }

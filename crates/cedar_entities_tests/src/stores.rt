@@ -1,7 +1,7 @@
 //! What stands in the store of a list of entities.
 use crate::schemas::{DOCUMENTS, GROUPS};
 use cedar_data::ConformFault;
-use cedar_entities::read_entities;
+use cedar_entities::{read_entities, read_entities_owned};
 use cedar_ext::Decimal;
 use cedar_schema::Schema;
 use cedar_store::{Hierarchy, Store};
@@ -39,7 +39,7 @@ fn uid(alloc: Global, ty: &str, id: &str) -> Result<Uid, AllocError> {
 fn read(alloc: Global, schema: &str, text: &str) -> Result<Store, Fail> {
     let bytes = Vec::from_slice(alloc, text.as_bytes())?;
     let schema = Schema::read(alloc, schema.as_bytes())?;
-    let store = read_entities(alloc, &schema, bytes)?;
+    let store = read_entities_owned(alloc, &schema, bytes)?;
     Ok(store)
 }
 
@@ -293,9 +293,8 @@ fn names(fault: &ConformFault, id: &str) -> bool {
 
 // Whether the text is refused so, by the schema of groups.
 fn is_refused(alloc: Global, text: &str, id: &str) -> Result<bool, Fail> {
-    let bytes = Vec::from_slice(alloc, text.as_bytes())?;
     let schema = Schema::read(alloc, GROUPS.as_bytes())?;
-    let answer = read_entities(alloc, &schema, bytes);
+    let answer = read_entities(alloc, &schema, text.as_bytes());
     let is_named = match &answer {
         Ok(_) => false,
         Err(fault) => names(fault, id),

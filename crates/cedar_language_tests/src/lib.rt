@@ -3,11 +3,13 @@
 //!
 //! Tokens are tested in `tokens.rt`. Texts that read stand in `parsing.rt`, conditions with their trees in `trees.rt`,
 //! statements with theirs in `statements.rt`, texts that are refused in `refusals.rt`, the limits in `parsing_limits.rt`, and
-//! the beginnings of a text in `beginnings.rt`.
+//! the beginnings of a text in `beginnings.rt`, and the examples that open the crates in `examples.rt`.
 #![tactic(auto)]
 
 #[cfg(test)]
 mod beginnings;
+#[cfg(test)]
+mod examples;
 #[cfg(test)]
 mod parsing;
 #[cfg(test)]

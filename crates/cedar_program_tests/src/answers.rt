@@ -1,15 +1,14 @@
 //! Worked examples through `authorize` over memory: policies and links with their answers to request lines, each worked out from
 //! the rules of evaluation and authorization (Cedar language reference).
-use crate::documents::{ALL, ANN, DELETE, DELETE_GONE, TEMPLATE, with_links};
+use crate::documents::{
+    ALL, ALLOWED, ANN, DELETE, DELETE_BY_BOB, DELETE_GONE, DENIED, FIVE_ANSWERS, FIVE_LINES,
+    TEMPLATE, with_links,
+};
 use cedar_lines::{Sink, SliceSource, VecSink};
 use cedar_program::{End, authorize};
 use cedar_typing::Settings;
 use std::alloc::Global;
 use std::process::Abort;
-
-/// Bob deletes it.
-const DELETE_BY_BOB: &[u8] =
-    br#"{"principal":"User::\"bob\"","action":"Action::\"delete\"","resource":"Doc::\"d\""}"#;
 
 /// Ann views it, by a context with 0.
 const VIEW: &[u8] =
@@ -26,10 +25,6 @@ const VIEW_GREATEST: &[u8] =
 /// Ann views it, by a context with the number before the greatest.
 const VIEW_GREAT: &[u8] =
     br#"{"principal":"User::\"ann\"","action":"Action::\"view\"","resource":"Doc::\"d\"","context":{"n":9223372036854775806}}"#;
-
-const ALLOWED: &[u8] = b"{\"decision\":\"allow\",\"determining\":[\"policy0\"],\"erring\":[]}\n";
-
-const DENIED: &[u8] = b"{\"decision\":\"deny\",\"determining\":[],\"erring\":[]}\n";
 
 const FORBIDDEN: &[u8] = b"{\"decision\":\"deny\",\"determining\":[\"policy1\"],\"erring\":[]}\n";
 
@@ -67,21 +62,6 @@ const ALLOWED_BY_LINK: &[u8] = b"{\"decision\":\"allow\",\"determining\":[\"l1\"
 const ALLOWED_BY_BOTH: &[u8] =
     b"{\"decision\":\"allow\",\"determining\":[\"policy1\",\"l1\"],\"erring\":[]}\n";
 
-/// Five lines, of which the last has no LF.
-const LINES: &[u8] = br#"{"principal":
-{"principal":"User::\"ann\"","action":"Action::\"view\"","resource":"Doc::\"d\""}
-{"principal":"User::\"ann\"","action":"Action::\"fly\"","resource":"Doc::\"d\""}
-
-{"principal":"User::\"ann\"","action":"Action::\"delete\"","resource":"Doc::\"d\""}"#;
-
-/// Their answers.
-const LINE_ANSWERS: &[u8] = br#"{"refused":501}
-{"refused":505}
-{"refused":510}
-{"refused":501}
-{"decision":"allow","determining":["policy0"],"erring":[]}
-"#;
-
 /// Policies, links, request lines, and their answers.
 #[rattlefmt::skip]
 const ANSWERS: [(&[u8], Option<&[u8]>, &[u8], &[u8]); 31] = [
@@ -110,7 +90,7 @@ const ANSWERS: [(&[u8], Option<&[u8]>, &[u8], &[u8]); 31] = [
     (br#"permit(principal in Team::"t", action, resource);"#, None, DELETE_BY_BOB, DENIED),
     // A template answers nothing.
     (br#"@id("t") permit(principal == ?principal, action, resource);"#, None, DELETE, DENIED),
-    (ALL, None, LINES, LINE_ANSWERS),
+    (ALL, None, FIVE_LINES, FIVE_ANSWERS),
     (ALL, None, b"", b""),
     // Links, which stand behind the policies.
     (TEMPLATE, Some(ANN), DELETE, ALLOWED_BY_LINK),

@@ -1,6 +1,8 @@
 //! The setting any-decimal, on and off, by both subcommands: policies that ask for the decimal of a text, each end and each text
 //! worked out from the rules (Cedar language reference, decimal; Cedar documentation, policy validation).
-use crate::documents::{DELETE, DELETE_GONE, DOCUMENTS, ENTITIES, NAMED, files};
+use crate::documents::{
+    ACCEPTED, ALLOWED, DELETE, DELETE_GONE, DOCUMENTS, ENTITIES, NAMED, NO_LITERAL, NO_TYPE, files,
+};
 use cedar_lines::{Sink, SliceSource, VecSink};
 use cedar_program::{End, authorize, validate};
 use cedar_typing::Settings;
@@ -17,27 +19,6 @@ const LITERAL: &[u8] =
 const OWNER: &[u8] =
     br#"permit(principal, action, resource) when { decimal(resource.owner) == decimal("1.0") };"#;
 
-/// The report on a policy that has no type in any environment: it asks for a decimal of what is no literal, or of one that is
-/// no decimal's.
-const NO_LITERAL: &[u8] =
-    br#"{"action":{"id":"delete","type":"Action"},"fault":607,"policy":"policy0","principal":"User","resource":"Doc"}
-{"action":{"id":"view","type":"Action"},"fault":607,"policy":"policy0","principal":"Admin","resource":"Doc"}
-{"action":{"id":"view","type":"Action"},"fault":607,"policy":"policy0","principal":"User","resource":"Doc"}
-{"faults":3,"warnings":0}
-"#;
-
-/// The same, where it asks for a decimal of what is no text.
-const NO_TEXT: &[u8] =
-    br#"{"action":{"id":"delete","type":"Action"},"fault":606,"policy":"policy0","principal":"User","resource":"Doc"}
-{"action":{"id":"view","type":"Action"},"fault":606,"policy":"policy0","principal":"Admin","resource":"Doc"}
-{"action":{"id":"view","type":"Action"},"fault":606,"policy":"policy0","principal":"User","resource":"Doc"}
-{"faults":3,"warnings":0}
-"#;
-
-const ACCEPTED: &[u8] = b"{\"faults\":0,\"warnings\":0}\n";
-
-const ALLOWED: &[u8] = b"{\"decision\":\"allow\",\"determining\":[\"policy0\"],\"erring\":[]}\n";
-
 const DENIED_DECIMAL: &[u8] =
     b"{\"decision\":\"deny\",\"determining\":[],\"erring\":[{\"error\":\"decimal\",\"policy\":\"policy0\"}]}\n";
 
@@ -52,7 +33,7 @@ const REPORTS: [(&[u8], bool, End, &[u8]); 6] = [
     (LITERAL, false, End::Faults, NO_LITERAL),
     (LITERAL, true, End::Faults, NO_LITERAL),
     (OWNER, false, End::Faults, NO_LITERAL),
-    (OWNER, true, End::Faults, NO_TEXT),
+    (OWNER, true, End::Faults, NO_TYPE),
 ];
 
 /// A policy, whether the setting is on, entities and a line, and how `authorize` ends and what it writes.
@@ -63,7 +44,7 @@ const ANSWERS: [(&[u8], bool, &[u8], &[u8], End, &[u8]); 6] = [
     (NAMED_BELOW, true, NAMED, DELETE, End::Done, ALLOWED),
     (NAMED_BELOW, true, ENTITIES, DELETE_GONE, End::Done, DENIED_MISSING),
     (LITERAL, true, ENTITIES, DELETE, End::Faults, NO_LITERAL),
-    (OWNER, true, ENTITIES, DELETE, End::Faults, NO_TEXT),
+    (OWNER, true, ENTITIES, DELETE, End::Faults, NO_TYPE),
 ];
 
 fn check_reports(rt: &impl Abort, alloc: Global, rows: &[(&[u8], bool, End, &[u8])]) {

@@ -1,5 +1,7 @@
 //! Sources and sinks that fail, each in turn, and a peer that waits for its answers.
-use crate::documents::{ALL, DELETE, UNGUARDED, UNGUARDED_REPORT, with_links};
+use crate::documents::{
+    ALL, DELETE, FIVE_ANSWERS, FIVE_LINES, UNGUARDED, UNGUARDED_REPORT, with_links,
+};
 use crate::peer::{PeerSink, PeerSource};
 use cedar_lines::{PiecewiseSink, PiecewiseSource, Sink};
 use cedar_program::{End, MemoryFiles, authorize, validate};
@@ -9,40 +11,74 @@ use std::cell::Cell;
 use std::process::Abort;
 use std::test::Fail;
 
-/// Three lines that are refused, and one that is answered: 89 bytes.
-const FOUR_LINES: &[u8] = br#"{}
+/// The reads that fail, from the first to before the second, and what was written before: where each read gives a byte, a read that
+/// fails comes after as many bytes as there were reads, and each line that had ended in them is answered. The five lines end after 14,
+/// 96, 177 and 178 bytes, and the last, with no end, after 261.
+const READS: [(u64, u64, &[u8]); 5] = [
+    (1, 15, b""),
+    (15, 97, b"{\"refused\":501}\n"),
+    (97, 178, b"{\"refused\":501}\n{\"refused\":505}\n"),
+    (
+        178,
+        179,
+        b"{\"refused\":501}\n{\"refused\":505}\n{\"refused\":510}\n",
+    ),
+    (
+        179,
+        263,
+        b"{\"refused\":501}\n{\"refused\":505}\n{\"refused\":510}\n{\"refused\":501}\n",
+    ),
+];
 
-{
-{"principal":"User::\"ann\"","action":"Action::\"delete\"","resource":"Doc::\"d\""}"#;
-
-/// Their answers.
-const FOUR_ANSWERS: &[u8] = br#"{"refused":502}
-{"refused":501}
-{"refused":501}
-{"decision":"allow","determining":["policy0"],"erring":[]}
-"#;
-
-/// How the call ends over a source that gives 7 bytes a read and fails at a read (0: at none), and over a sink that takes
-/// 5 bytes a write and fails at a write, and what it writes.
+/// How `authorize` ends on the five lines, over a source that gives a byte a read and fails at a read (0: at none), and over a sink
+/// that takes a byte a write and fails at a write, and what it writes.
 fn piecewise(alloc: Global, files: &MemoryFiles, read: u64, write: u64) -> (End, PiecewiseSink) {
-    let mut source = PiecewiseSource::new(FOUR_LINES, 7, read);
-    let mut sink = PiecewiseSink::new(alloc, 5, write);
+    let mut source = PiecewiseSource::new(FIVE_LINES, 1, read);
+    let mut sink = PiecewiseSink::new(alloc, 1, write);
     let end = authorize(alloc, files, &mut source, &mut sink, Settings::default());
     (end, sink)
 }
 
+/// Each read from the first to before the second fails, and what was written is this text.
+fn assert_reads_fail(rt: &impl Abort, alloc: Global, first: u64, behind: u64, text: &[u8]) {
+    let files = with_links(ALL, None);
+    for read in first..behind {
+        let (end, sink) = piecewise(alloc, &files, read, 0);
+        assert_eq!(rt; end, End::Device, "read {read}");
+        assert_eq!(rt; sink.bytes(), text, "read {read}");
+    }
+}
+
+fn check_reads(rt: &impl Abort, alloc: Global, rows: &[(u64, u64, &[u8])]) {
+    for (first, behind, text) in rows {
+        assert_reads_fail(rt, alloc, *first, *behind, text);
+    }
+}
+
 #[test]
 fn each_read_may_fail(rt: HostRuntime) {
+    let alloc = rt.alloc();
+    check_reads(&rt, alloc, &READS);
+    // The read after the last byte tells the end of the input; there is none after it.
+    let (end, sink) = piecewise(alloc, &with_links(ALL, None), 263, 0);
+    assert_eq!(rt; end, End::Done);
+    assert_eq!(rt; sink.bytes(), FIVE_ANSWERS);
+}
+
+#[test]
+fn each_write_may_fail(rt: HostRuntime) {
+    let alloc = rt.alloc();
     let files = with_links(ALL, None);
-    for k in 1..40u64 {
-        let (end, sink) = piecewise(rt.alloc(), &files, k, 0);
-        // 89 bytes in pieces of 7, and the end: 14 reads.
-        let wanted = if k <= 14 { End::Device } else { End::Done };
-        assert_eq!(rt; end, wanted, "read {k}");
-        let is_whole = sink.bytes() == FOUR_ANSWERS;
-        assert!(rt; is_whole || end == End::Device, "read {k}");
-        assert!(rt; FOUR_ANSWERS.starts_with(sink.bytes()), "read {k}");
+    // Each write takes a byte, so a write that fails comes after as many bytes as there were writes: 123 in all.
+    for write in 1..=123u64 {
+        let (end, sink) = piecewise(alloc, &files, 0, write);
+        assert_eq!(rt; end, End::Device, "write {write}");
+        assert_eq!(rt; sink.bytes().len() as u64, write - 1);
+        assert!(rt; FIVE_ANSWERS.starts_with(sink.bytes()), "write {write}");
     }
+    let (end, sink) = piecewise(alloc, &files, 0, 124);
+    assert_eq!(rt; end, End::Done);
+    assert_eq!(rt; sink.bytes(), FIVE_ANSWERS);
 }
 
 /// How `validate` ends over a sink that takes so many bytes a write and fails at a write (0: at none), and what it writes.
@@ -64,17 +100,10 @@ fn assert_stands(rt: &impl Abort, (end, sink): (End, PiecewiseSink), wanted: End
 }
 
 #[test]
-fn each_write_may_fail(rt: HostRuntime) {
+fn each_write_of_a_report_may_fail(rt: HostRuntime) {
     let alloc = rt.alloc();
-    let permitting = with_links(ALL, None);
     let faulty = with_links(UNGUARDED, None);
     for k in 1..80u64 {
-        assert_stands(
-            &rt,
-            piecewise(alloc, &permitting, 0, k),
-            End::Done,
-            FOUR_ANSWERS,
-        );
         // Nothing is read behind faults.
         assert_stands(
             &rt,

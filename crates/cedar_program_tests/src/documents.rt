@@ -48,9 +48,55 @@ pub const ANN: &[u8] =
 pub const DELETE: &[u8] =
     br#"{"principal":"User::\"ann\"","action":"Action::\"delete\"","resource":"Doc::\"d\""}"#;
 
+/// Bob deletes the document.
+pub const DELETE_BY_BOB: &[u8] =
+    br#"{"principal":"User::\"bob\"","action":"Action::\"delete\"","resource":"Doc::\"d\""}"#;
+
 /// Ann deletes a document that has no entity.
 pub const DELETE_GONE: &[u8] =
     br#"{"principal":"User::\"ann\"","action":"Action::\"delete\"","resource":"Doc::\"gone\""}"#;
+
+/// Five lines, of which the last has no LF.
+pub const FIVE_LINES: &[u8] = br#"{"principal":
+{"principal":"User::\"ann\"","action":"Action::\"view\"","resource":"Doc::\"d\""}
+{"principal":"User::\"ann\"","action":"Action::\"fly\"","resource":"Doc::\"d\""}
+
+{"principal":"User::\"ann\"","action":"Action::\"delete\"","resource":"Doc::\"d\""}"#;
+
+/// Their answers.
+pub const FIVE_ANSWERS: &[u8] = br#"{"refused":501}
+{"refused":505}
+{"refused":510}
+{"refused":501}
+{"decision":"allow","determining":["policy0"],"erring":[]}
+"#;
+
+/// The answer of a request that the first policy permits.
+pub const ALLOWED: &[u8] =
+    b"{\"decision\":\"allow\",\"determining\":[\"policy0\"],\"erring\":[]}\n";
+
+/// The answer of a request that no policy permits or forbids.
+pub const DENIED: &[u8] = b"{\"decision\":\"deny\",\"determining\":[],\"erring\":[]}\n";
+
+/// The report on policies that are accepted.
+pub const ACCEPTED: &[u8] = b"{\"faults\":0,\"warnings\":0}\n";
+
+/// The report on a policy that has no type in any environment, since it asks for a decimal of what is no literal, or of one that is
+/// no decimal's.
+pub const NO_LITERAL: &[u8] =
+    br#"{"action":{"id":"delete","type":"Action"},"fault":607,"policy":"policy0","principal":"User","resource":"Doc"}
+{"action":{"id":"view","type":"Action"},"fault":607,"policy":"policy0","principal":"Admin","resource":"Doc"}
+{"action":{"id":"view","type":"Action"},"fault":607,"policy":"policy0","principal":"User","resource":"Doc"}
+{"faults":3,"warnings":0}
+"#;
+
+/// The same, where an operand has another type than its operator takes.
+pub const NO_TYPE: &[u8] =
+    br#"{"action":{"id":"delete","type":"Action"},"fault":606,"policy":"policy0","principal":"User","resource":"Doc"}
+{"action":{"id":"view","type":"Action"},"fault":606,"policy":"policy0","principal":"Admin","resource":"Doc"}
+{"action":{"id":"view","type":"Action"},"fault":606,"policy":"policy0","principal":"User","resource":"Doc"}
+{"faults":3,"warnings":0}
+"#;
 
 /// The files that hold these texts.
 pub fn files<'a>(

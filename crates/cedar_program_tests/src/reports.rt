@@ -1,6 +1,6 @@
 //! Worked examples through `validate` over memory: schemas, policies and links with the reports on them, each worked out from the
 //! rules of strict validation (Cedar documentation, policy validation).
-use crate::documents::{ANN, DOCUMENTS, TEMPLATE, UNGUARDED, UNGUARDED_REPORT, files};
+use crate::documents::{ACCEPTED, ANN, DOCUMENTS, TEMPLATE, UNGUARDED, UNGUARDED_REPORT, files};
 use cedar_lines::{Sink, VecSink};
 use cedar_program::{End, validate};
 use cedar_typing::Settings;
@@ -16,9 +16,6 @@ const TWO_NAMESPACES: &[u8] = br#"{"M":{"actions":{"g":{},"h":{}}},
 /// The link of that template for a principal of a type that is not declared.
 const GHOST: &[u8] =
     br#"[{"template_id":"t","link_id":"l1","args":{"?principal":"Ghost::\"x\""}}]"#;
-
-/// The report on policies that are accepted.
-const ACCEPTED: &[u8] = b"{\"faults\":0,\"warnings\":0}\n";
 
 /// The report on one policy that no request can satisfy.
 const WARNED: &[u8] = b"{\"policy\":\"policy0\",\"warning\":650}\n{\"faults\":0,\"warnings\":1}\n";

@@ -110,6 +110,14 @@ fn refusals(rt: HostRuntime) -> Result<(), Fail> {
     assert!(rt; number_of(alloc, "{") == 301);
     assert!(rt; number_of(alloc, "[]") == 302);
     assert!(rt; number_of(alloc, r#"{"":{"entityTypes":{"A":{"x":1}}}}"#) == 302);
+    // The keys of an entity type are `memberOfTypes` and `shape`.
+    assert!(rt; number_of(alloc, r#"{"":{"entityTypes":{"A":{"tags":{}}}}}"#) == 302);
+    assert!(rt;
+        number_of(
+            alloc,
+            r#"{"":{},"N::M":{"entityTypes":{"A":{"tags":{},"memberOfTypes":["A"]}}}}"#
+        ) == 302
+    );
     assert!(rt;
         number_of(
             alloc,
@@ -164,7 +172,7 @@ fn accepted(rt: HostRuntime) -> Result<(), Fail> {
     assert!(rt;
         number_of(
             alloc,
-            r#"{"":{},"N::M":{"entityTypes":{"A":{"tags":{},"memberOfTypes":["A"]}}}}"#
+            r#"{"":{},"N::M":{"entityTypes":{"A":{"memberOfTypes":["A"]}}}}"#
         ) == 0
     );
     assert!(rt;

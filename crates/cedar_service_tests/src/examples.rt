@@ -299,3 +299,46 @@ const RUNS: [Event; 10] = [
 fn runs_are_lent_until_a_job_is_finished(rt: HostRuntime) -> Result<(), Fail> {
     check_events(&rt, rt.alloc(), READERS, &RUNS)
 }
+
+// A delete runs no policy: the permit asks for an action in `read`, which `delete` is not, and the forbid for `read` itself.
+const FINISHED_AT_ONCE: [Event; 5] = [
+    Event::Open(DELETE, "0"),
+    Event::Look(0, None),
+    Event::Take(0, "deny"),
+    Event::Take(0, "801"),
+    Event::Open(DELETE, "1"),
+];
+
+#[test]
+fn a_job_of_no_candidates_is_finished_at_once(rt: HostRuntime) -> Result<(), Fail> {
+    check_events(&rt, rt.alloc(), READERS, &FINISHED_AT_ONCE)
+}
+
+/// The code of the forbid: three times a push of true and the jump of `&&`, the pushes of 1 and 2, the set of these two, the push
+/// of 1, `contains`, and the three tests behind the jumps: 14 instructions, of which the ninth makes the set.
+const FORBIDS_BY_A_SET: &str =
+    "permit(principal, action, resource); forbid(principal, action, resource) when { [1, 2].contains(1) };";
+
+const STEPS_OF_A_SET: [Event; 15] = [
+    Event::Open(DELETE, "0"),
+    Event::Look(0, Some(0)),
+    Event::Steps(0, 10, 0),
+    Event::Look(0, Some(10)),
+    // The permit's result is entered, and the run of the forbid begins.
+    Event::Step(0, 0),
+    Event::Look(0, Some(0)),
+    Event::Steps(0, 8, 0),
+    Event::Look(0, Some(8)),
+    Event::Step(0, 0),
+    Event::Look(0, Some(9)),
+    Event::Steps(0, 5, 0),
+    Event::Look(0, Some(14)),
+    Event::Step(0, 2),
+    Event::Look(0, None),
+    Event::Take(0, "deny policy1"),
+];
+
+#[test]
+fn each_step_is_counted_where_a_set_is_made(rt: HostRuntime) -> Result<(), Fail> {
+    check_events(&rt, rt.alloc(), FORBIDS_BY_A_SET, &STEPS_OF_A_SET)
+}

@@ -52,10 +52,9 @@ fn validated(alloc: Global, policies: &str) -> Result<Validated, Fail> {
 
 /// The policies, ready to answer over the entities.
 pub fn ready(alloc: Global, policies: &str) -> Result<Ready, Fail> {
-    let entities = Vec::from_slice(alloc, ENTITIES)?;
     let validated = validated(alloc, policies)?;
     made_or(
-        Ready::new(alloc, validated, entities),
+        Ready::new(alloc, validated, ENTITIES),
         "the entities are refused",
     )
 }
@@ -71,10 +70,9 @@ fn validated_with_any_decimal(alloc: Global, policies: &str) -> Result<Validated
 
 /// The policies, accepted with `decimal` of any text, ready to answer over the entities.
 fn ready_with_any_decimal(alloc: Global, policies: &str) -> Result<Ready, Fail> {
-    let entities = Vec::from_slice(alloc, ENTITIES)?;
     let validated = validated_with_any_decimal(alloc, policies)?;
     made_or(
-        Ready::new(alloc, validated, entities),
+        Ready::new(alloc, validated, ENTITIES),
         "the entities are refused",
     )
 }

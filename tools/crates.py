@@ -8,9 +8,9 @@ import sys
 TOP = os.path.dirname(os.path.dirname(os.path.abspath(__file__)))
 
 
-def named():
+def named(top=TOP):
     """The libraries that each crate names in crates.txt."""
-    with open(os.path.join(TOP, 'crates.txt'), encoding='utf-8') as lines:
+    with open(os.path.join(top, 'crates.txt'), encoding='utf-8') as lines:
         rows = [line.split('#')[0].partition(':') for line in lines]
     return {row[0].split()[0]: row[2].split() for row in rows if row[1]}
 

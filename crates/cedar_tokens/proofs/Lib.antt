@@ -10,3 +10,4 @@ pub mod OneUid
 pub mod Identifiers
 pub mod PlainLetters
 pub mod PlainUids
+pub mod DigitsWorth

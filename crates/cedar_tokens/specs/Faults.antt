@@ -6,39 +6,30 @@ use Rattle.cedar_text.specs.Faults as lexer
 use Rattle.cedar_tokens.specs.declared.parse_fault.ParseFault.{ParseFault}
 use Rattle.cedar_tokens.specs.declared.parse_fault.ParseFault.TheVariants as f
 
+-- How a refusal of a policy text is reported: its number, and the byte from 0 at which it is, if it has a place (own).
+abbrev pub reported : ParseFault → ℕ × Option ℕ
+reported f.OutOfMemory = (1, None)
+reported (f.Text fault) = (lexer.number_of fault, lexer.offset_of fault)
+reported (f.NumberTooLarge at) = (104, Some at)
+reported (f.EscapedStar at) = (103, Some at)
+reported (f.Syntax at) = (201, Some at)
+reported (f.TooDeep at) = (202, Some at)
+reported (f.TooHigh at) = (202, Some at)
+reported (f.DuplicateKey at) = (203, Some at)
+reported (f.DuplicateId at) = (204, Some at)
+reported (f.UnknownFunction at) = (205, Some at)
+reported (f.Arity at) = (206, Some at)
+reported (f.SlotMisplaced at) = (207, Some at)
+reported (f.DuplicateAnnotation at) = (208, Some at)
+reported (f.TooLarge at) = (209, Some at)
+
 -- The number of a refusal of a policy text, as the program prints it (own).
 abbrev pub number_of : ParseFault → ℕ
-number_of f.OutOfMemory = 1
-number_of (f.Text fault) = lexer.number_of fault
-number_of (f.NumberTooLarge at) = 104
-number_of (f.EscapedStar at) = 103
-number_of (f.Syntax at) = 201
-number_of (f.TooDeep at) = 202
-number_of (f.TooHigh at) = 202
-number_of (f.DuplicateKey at) = 203
-number_of (f.DuplicateId at) = 204
-number_of (f.UnknownFunction at) = 205
-number_of (f.Arity at) = 206
-number_of (f.SlotMisplaced at) = 207
-number_of (f.DuplicateAnnotation at) = 208
-number_of (f.TooLarge at) = 209
+number_of fault = (reported fault).0
 
 -- The byte from 0 at which a refusal is reported, if it has a place (own).
 abbrev pub offset_of : ParseFault → Option ℕ
-offset_of f.OutOfMemory = None
-offset_of (f.Text fault) = lexer.offset_of fault
-offset_of (f.NumberTooLarge at) = Some at
-offset_of (f.EscapedStar at) = Some at
-offset_of (f.Syntax at) = Some at
-offset_of (f.TooDeep at) = Some at
-offset_of (f.TooHigh at) = Some at
-offset_of (f.DuplicateKey at) = Some at
-offset_of (f.DuplicateId at) = Some at
-offset_of (f.UnknownFunction at) = Some at
-offset_of (f.Arity at) = Some at
-offset_of (f.SlotMisplaced at) = Some at
-offset_of (f.DuplicateAnnotation at) = Some at
-offset_of (f.TooLarge at) = Some at
+offset_of fault = (reported fault).1
 
 -- The refusal of a text that has no tokens, which is the lexer's own; out of memory is the one refusal of that name (own).
 abbrev pub of_text : TextFault → ParseFault

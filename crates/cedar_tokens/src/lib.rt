@@ -11,6 +11,7 @@
 
 mod content;
 mod cursor;
+mod laws;
 mod names;
 mod parse_fault;
 mod plain_uid;
@@ -20,6 +21,7 @@ mod uid;
 
 pub use content::{Content, Word, WrittenUid};
 pub use cursor::Cursor;
+pub use laws::digits_have_one_worth;
 pub use names::{entity, key, one_identifier, path, text, uid_of};
 pub use parse_fault::ParseFault;
 pub use spelled::Spelled;

@@ -4,56 +4,53 @@ use Rattle.std.specs.List.{slice_get}
 use Rattle.cedar_form.specs.declared.form.Form.{the_lemmas}
 use Rattle.cedar_form.specs.declared.form.Form.TheVariants.{Common}
 use Rattle.cedar_form.specs.declared.schema_fault.SchemaFault.TheVariants.{UnknownType, CommonCycle}
-use Rattle.cedar_form.specs.Forms.{FormTree, common_form}
+use Rattle.cedar_form.specs.Forms.{FormTree, no_form, common_form}
 use Rattle.cedar_form.specs.FormView.{form_of}
-use Rattle.cedar_form.specs.Expansion.{Table, form_nodes, form_height, form_type, form_faults, faults_behind, common_nodes, common_height, common_type, cycle_faults, nodes, height}
+use Rattle.cedar_form.specs.Expansion.{Table, form_size, form_type, form_faults, common_size, common_type, cycle_faults, size}
 use Rattle.cedar_form.specs.Ends.{Leads, stays, goes, AreEnds}
 use Rattle.cedar_form.specs.Private.Behind.{StandsBehind, IsNothing, LeadsTooFar}
 
 -- one place more is followed
 abbrev Same : Table → ℕ → ℕ → ℕ → ℕ → Type 0
-Same t n i m j = (common_nodes t n i ≡ common_nodes t m j) × (common_height t n i ≡ common_height t m j) × (common_type t n i ≡ common_type t m j) × (cycle_faults t n i ≡ cycle_faults t m j)
+Same t n i m j = (common_size t n i ≡ common_size t m j) × (common_type t n i ≡ common_type t m j) × (cycle_faults t n i ≡ cycle_faults t m j)
 
 one_more : (t : Table) (n i k : ℕ) → slice_get t i ≡ Some (common_form k) → Same t (suc n) i n k
-unfolding common_nodes common_height common_type cycle_faults
+unfolding common_size common_type cycle_faults
 one_more t n i k e = (
-  ap (λ o. unwrap_or (option_map (form_nodes (common_nodes t n)) o) 1) e,
-  ap (λ o. unwrap_or (option_map (form_height (common_height t n)) o) 1) e,
+  ap (λ o. form_size (common_size t n) (unwrap_or o no_form)) e,
   ap (λ o. option_and_then (form_type (common_type t n)) o) e,
-  ap (λ o. faults_behind (form_faults (cycle_faults t n)) o) e,
+  ap (λ o. unwrap_or (option_map (form_faults (cycle_faults t n)) o) (UnknownType ∷ [])) e,
 )
 
 follow : (t : Table) {i n j : ℕ} (m : ℕ) → Leads t i n j → Same t (n + m) i m j
-follow t {i = i} m stays = let e : 0 + m ≡ m = omega arith in (ap (λ x. common_nodes t x i) e, ap (λ x. common_height t x i) e, ap (λ x. common_type t x i) e, ap (λ x. cycle_faults t x i) e)
+follow t {i = i} m stays = let e : 0 + m ≡ m = omega arith in (ap (λ x. common_size t x i) e, ap (λ x. common_type t x i) e, ap (λ x. cycle_faults t x i) e)
 follow t {i = i} m (goes {k = k} {n = n} l rest) =
     let e : suc n + m ≡ suc (n + m) = omega arith in
     let p = one_more t (n + m) i k l in
     let q = follow t m rest in
-    (ap (λ x. common_nodes t x i) e ∙ p.0 ∙ q.0, ap (λ x. common_height t x i) e ∙ p.1 ∙ q.1, ap (λ x. common_type t x i) e ∙ p.2 ∙ q.2, ap (λ x. cycle_faults t x i) e ∙ p.3 ∙ q.3)
+    (ap (λ x. common_size t x i) e ∙ p.0 ∙ q.0, ap (λ x. common_type t x i) e ∙ p.1 ∙ q.1, ap (λ x. cycle_faults t x i) e ∙ p.2 ∙ q.2)
 
 here : (t : Table) (m j : ℕ) (f : FormTree) → slice_get t j ≡ Some f
-    → (common_nodes t (suc m) j ≡ nodes t m f) × (common_height t (suc m) j ≡ height t m f) × (common_type t (suc m) j ≡ form_type (common_type t m) f) × (cycle_faults t (suc m) j ≡ form_faults (cycle_faults t m) f)
-unfolding common_nodes common_height common_type cycle_faults
+    → (common_size t (suc m) j ≡ size t m f) × (common_type t (suc m) j ≡ form_type (common_type t m) f) × (cycle_faults t (suc m) j ≡ form_faults (cycle_faults t m) f)
+unfolding common_size common_type cycle_faults
 here t m j f e = (
-  ap (λ o. unwrap_or (option_map (form_nodes (common_nodes t m)) o) 1) e,
-  ap (λ o. unwrap_or (option_map (form_height (common_height t m)) o) 1) e,
+  ap (λ o. form_size (common_size t m) (unwrap_or o no_form)) e,
   ap (λ o. option_and_then (form_type (common_type t m)) o) e,
-  ap (λ o. faults_behind (form_faults (cycle_faults t m)) o) e,
+  ap (λ o. unwrap_or (option_map (form_faults (cycle_faults t m)) o) (UnknownType ∷ [])) e,
 )
 
 absent : (t : Table) (m j : ℕ) → slice_get t j ≡ None → cycle_faults t (suc m) j ≡ UnknownType ∷ []
 unfolding cycle_faults
-absent t m j e = ap (λ o. faults_behind (form_faults (cycle_faults t m)) o) e
+absent t m j e = ap (λ o. unwrap_or (option_map (form_faults (cycle_faults t m)) o) (UnknownType ∷ [])) e
 
 pub stands_behind : (t : Table) (n i c j m : ℕ) (f : FormTree) → Leads t i c j → n ≡ c + suc m → slice_get t j ≡ Some f → StandsBehind t n i m f
 stands_behind t n i c j m f l e found =
     let p = follow t (suc m) l in
     let q = here t m j f found in
     record {
-      same_nodes = ap (λ x. common_nodes t x i) e ∙ p.0 ∙ q.0;
-      same_height = ap (λ x. common_height t x i) e ∙ p.1 ∙ q.1;
-      same_type = ap (λ x. common_type t x i) e ∙ p.2 ∙ q.2;
-      same_faults = ap (λ x. cycle_faults t x i) e ∙ p.3 ∙ q.3;
+      same_size = ap (λ x. common_size t x i) e ∙ p.0 ∙ q.0;
+      same_type = ap (λ x. common_type t x i) e ∙ p.1 ∙ q.1;
+      same_faults = ap (λ x. cycle_faults t x i) e ∙ p.2 ∙ q.2;
       fewer = omega arith;
       at = j;
       found = found;
@@ -62,14 +59,14 @@ stands_behind t n i c j m f l e found =
 pub is_nothing : (t : Table) (n i c j m : ℕ) → Leads t i c j → n ≡ c + suc m → slice_get t j ≡ None → IsNothing t n i
 is_nothing t n i c j m l e none =
     let p = follow t (suc m) l in
-    let is : cycle_faults t n i ≡ UnknownType ∷ [] = ap (λ x. cycle_faults t x i) e ∙ p.3 ∙ absent t m j none in
+    let is : cycle_faults t n i ≡ UnknownType ∷ [] = ap (λ x. cycle_faults t x i) e ∙ p.2 ∙ absent t m j none in
     record { unknown = subst (λ fs. Contains fs UnknownType) (sym is) (0, lit< tt, refl) }
 
 too_far : (t : Table) (n : ℕ) {i c j : ℕ} → Leads t i c j → n ≤ c → Contains (cycle_faults t n i) CommonCycle
 unfolding cycle_faults
 too_far t zero l h = (0, lit< tt, refl)
 too_far t (suc n) stays h = absurd (omega arith)
-too_far t (suc n) (goes {i = i} {k = k} e rest) h = subst (λ fs. Contains fs CommonCycle) (sym (one_more t n i k e).3) (too_far t n rest (omega arith))
+too_far t (suc n) (goes {i = i} {k = k} e rest) h = subst (λ fs. Contains fs CommonCycle) (sym (one_more t n i k e).2) (too_far t n rest (omega arith))
 
 pub leads_too_far : (t : Table) (n i c j : ℕ) → Leads t i c j → n ≤ c → LeadsTooFar t n i
 leads_too_far t n i c j l h = record { cycle = too_far t n l h }

@@ -10,22 +10,27 @@ use Rattle.cedar_form.specs.declared.form.FormField.{FormField}
 use Rattle.cedar_form.specs.declared.form.Form.{the_lemmas}
 use Rattle.cedar_types.specs.declared.attribute.Attribute.{Attribute}
 use Rattle.cedar_form.specs.Faults.{Told}
-use Rattle.cedar_form.specs.Forms.{FormTree, FormRows, form_row}
+use Rattle.cedar_form.specs.Forms.{FormTree, set_form, record_form, FormRows, no_form_rows, form_row}
 use Rattle.cedar_form.specs.FormView.{form_of}
 use Rattle.cedar_form.specs.Private.FieldView.{field_of, fields_view}
 use Rattle.cedar_types.specs.Ordered.{with_attribute}
 use Rattle.cedar_types.specs.Types.{TypeTree, Attributes, no_attributes}
-use Rattle.cedar_form.specs.Expansion.{Table, form_nodes, form_height, form_type, form_faults, rows_type, rows_nodes, rows_height, rows_faults, with_row, nodes, height, expanded, limit_faults, typed}
-use Rattle.cedar_form.specs.Private.Measures.{IsOver, Leaves}
+use Rattle.cedar_form.specs.Expansion.{Table, Size, form_size, form_type, form_faults, rows_type, rows_size, rows_faults, with_row, size, limit_faults, typed}
+use Rattle.cedar_form.specs.Private.Expanding.{expanded}
+use Rattle.cedar_form.specs.Private.Measures.{IsOver}
 use Rattle.cedar_form.specs.TableView.{Expands}
 use Rattle.cedar_form.proofs.FormLemmas.{told_first, told_then, told_here}
 
 -- how deep a form itself nests
-abbrev pub own : FormTree → ℕ
-own = form_height (λ _. 1)
+abbrev mutual
+  pub own : FormTree → ℕ
+  own (set_form f) = suc (own f)
+  own (record_form rs) = suc (own_rows rs)
+  own _ = 1
 
-abbrev pub own_rows : FormRows → ℕ
-own_rows = rows_height (λ _. 1)
+  pub own_rows : FormRows → ℕ
+  own_rows no_form_rows = 0
+  own_rows (form_row k r f rs) = max (own f) (own_rows rs)
 
 abbrev pub most : Table → ℕ
 most [] = 0
@@ -51,13 +56,15 @@ own_here (y ∷ a) (suc i) x h e = let p = own_here a i x (omega arith) e in ome
 pub field-form : (x : FormField) → (field_of x).form ≡ form_of x.form
 field-form x = search (rules, the_lemmas)
 
-pub nodes_here : (names : ℕ → ℕ) (a : List FormField) (i : ℕ) (x : FormField) → i < length a → x ≡ get_or a i x
-    → rows_nodes names (fields_view (drop i a)) ≡ form_nodes names (form_of x.form) + rows_nodes names (fields_view (drop (i + 1) a))
-nodes_here names a i x h e = ap (rows_nodes names) (rows_here a i x h e) ∙ ap (λ f. form_nodes names f + rows_nodes names (fields_view (drop (i + 1) a))) (field-form x)
+pub nodes_here : (names : ℕ → Size) (a : List FormField) (i : ℕ) (x : FormField) → i < length a → x ≡ get_or a i x
+    → (rows_size names (fields_view (drop i a))).nodes ≡ (form_size names (form_of x.form)).nodes + (rows_size names (fields_view (drop (i + 1) a))).nodes
+nodes_here names a i x h e =
+    ap (λ (rs : FormRows). (rows_size names rs).nodes) (rows_here a i x h e) ∙ ap (λ (f : FormTree). (form_size names f).nodes + (rows_size names (fields_view (drop (i + 1) a))).nodes) (field-form x)
 
-pub height_here : (names : ℕ → ℕ) (a : List FormField) (i : ℕ) (x : FormField) → i < length a → x ≡ get_or a i x
-    → rows_height names (fields_view (drop i a)) ≡ max (form_height names (form_of x.form)) (rows_height names (fields_view (drop (i + 1) a)))
-height_here names a i x h e = ap (rows_height names) (rows_here a i x h e) ∙ ap (λ f. max (form_height names f) (rows_height names (fields_view (drop (i + 1) a)))) (field-form x)
+pub height_here : (names : ℕ → Size) (a : List FormField) (i : ℕ) (x : FormField) → i < length a → x ≡ get_or a i x
+    → (rows_size names (fields_view (drop i a))).height ≡ max (form_size names (form_of x.form)).height (rows_size names (fields_view (drop (i + 1) a))).height
+height_here names a i x h e =
+    ap (λ (rs : FormRows). (rows_size names rs).height) (rows_here a i x h e) ∙ ap (λ (f : FormTree). max (form_size names f).height (rows_size names (fields_view (drop (i + 1) a))).height) (field-form x)
 
 pub own_form_here : (a : List FormField) (i : ℕ) (x : FormField) → i < length a → x ≡ get_or a i x → own (form_of x.form) ≤ own_rows (fields_view a)
 own_form_here a i x h e = subst (λ f. own f ≤ own_rows (fields_view a)) (field-form x) (own_here a i x h e)
@@ -108,9 +115,9 @@ name_less m (suc n) most_of h e le =
     omega (arith, p)
 
 -- ---- what has no room among rows has none in all of them
-pub over_row : (e : SchemaFault) (room left levels n later nodes_here all h higher height_here whole : ℕ) (f fs : List SchemaFault) → left + all ≡ room + nodes_here → nodes_here ≡ n + later → height_here ≡ max h higher → height_here ≤ whole
-    → (Contains f e → Contains fs e) → IsOver e left levels n h f → IsOver e room levels all whole fs
-over_row e room left levels n later nodes_here all h higher height_here whole f fs counted split high within faults over = elim over [
+pub over_row : (e : SchemaFault) (room left levels later nodes_here higher height_here : ℕ) (s all : Size) (f fs : List SchemaFault) → left + all.nodes ≡ room + nodes_here → nodes_here ≡ s.nodes + later → height_here ≡ max s.height higher → height_here ≤ all.height
+    → (Contains f e → Contains fs e) → IsOver e left levels s f → IsOver e room levels all fs
+over_row e room left levels later nodes_here higher height_here s all f fs counted split high within faults over = elim over [
   | inl large ↦ inl (large.0, elim large.1 [ inl less ↦ inl (omega arith) | inr less ↦ inr (omega arith) ])
   | inr has ↦ inr (faults has)
 ]
@@ -119,9 +126,6 @@ pub rows_has : (names : ℕ → List SchemaFault) (a : List FormField) (i : ℕ)
     → Contains (form_faults names (form_of x.form)) e → Contains fs e
 rows_has names a i x fs e h here is has =
     subst (λ (xs : List SchemaFault). Contains xs e) (sym (is ∙ row_faults names a i x h here)) (Contains-append_left _ _ e has)
-
-pub leaves_as : (r : Result ℕ SchemaFault) (room levels n m h k : ℕ) (f g : List SchemaFault) → n ≡ m → h ≡ k → f ≡ g → Leaves r room levels n h f → Leaves r room levels m k g
-leaves_as r room levels n m h k f g p q s l = subst (λ x. Leaves r room levels x k g) p (subst (λ y. Leaves r room levels n y g) q (subst (λ z. Leaves r room levels n h z) s l))
 
 -- ---- the limits
 limits_kept : (n h : ℕ) → n ≤ 10000 → h ≤ 100 → cond (nat_le n 10000 && nat_le h 100) [] (TooLarge ∷ []) ≡ []
@@ -146,21 +150,21 @@ limits_broken n h (inr p) = last (nat_le n 10000) (past p)
     last true e = ap (λ b. cond b [] (TooLarge ∷ [])) e
     last false e = refl
 
-pub judged_fine : (t : Table) (f : FormTree) (n left : ℕ) → length t ≡ n → (left + nodes t n f ≡ 10000) × (height t n f ≤ 100) × ((expanded t n f).faults ≡ []) → (typed t f).faults ≡ []
+pub judged_fine : (t : Table) (f : FormTree) (n left : ℕ) → length t ≡ n → (left + (size t n f).nodes ≡ 10000) × ((size t n f).height ≤ 100) × ((expanded t n f).faults ≡ []) → (typed t f).faults ≡ []
 unfolding typed
 judged_fine t f n left e h =
-    let p : (left + nodes t (length t) f ≡ 10000) × (height t (length t) f ≤ 100) × ((expanded t (length t) f).faults ≡ []) =
-    subst (λ (x : ℕ). (left + nodes t x f ≡ 10000) × (height t x f ≤ 100) × ((expanded t x f).faults ≡ [])) (sym e) h in
-    let few : nodes t (length t) f ≤ 10000 = omega (arith, p.0) in
-    λ i. limits_kept (nodes t (length t) f) (height t (length t) f) few p.1 i ++ p.2 i
+    let p : (left + (size t (length t) f).nodes ≡ 10000) × ((size t (length t) f).height ≤ 100) × ((expanded t (length t) f).faults ≡ []) =
+    subst (λ (x : ℕ). (left + (size t x f).nodes ≡ 10000) × ((size t x f).height ≤ 100) × ((expanded t x f).faults ≡ [])) (sym e) h in
+    let few : (size t (length t) f).nodes ≤ 10000 = omega (arith, p.0) in
+    λ i. limits_kept (size t (length t) f).nodes (size t (length t) f).height few p.1 i ++ p.2 i
 
-pub judged_over : (t : Table) (f : FormTree) (n : ℕ) (e : SchemaFault) → length t ≡ n → IsOver e 10000 100 (nodes t n f) (height t n f) (expanded t n f).faults → Told (typed t f).faults e
+pub judged_over : (t : Table) (f : FormTree) (n : ℕ) (e : SchemaFault) → length t ≡ n → IsOver e 10000 100 (size t n f) (expanded t n f).faults → Told (typed t f).faults e
 unfolding typed
-judged_over t f n e same over = at (subst (λ (x : ℕ). IsOver e 10000 100 (nodes t x f) (height t x f) (expanded t x f).faults) (sym same) over)
+judged_over t f n e same over = at (subst (λ (x : ℕ). IsOver e 10000 100 (size t x f) (expanded t x f).faults) (sym same) over)
   where
-    at : IsOver e 10000 100 (nodes t (length t) f) (height t (length t) f) (expanded t (length t) f).faults → Told (limit_faults t f ++ (expanded t (length t) f).faults) e
+    at : IsOver e 10000 100 (size t (length t) f) (expanded t (length t) f).faults → Told (limit_faults t f ++ (expanded t (length t) f).faults) e
     at (inl large) =
-        told_first (limit_faults t f) _ e (subst (λ (xs : List SchemaFault). Told xs e) (sym (limits_broken (nodes t (length t) f) (height t (length t) f) large.1)) (subst (λ x. Told (TooLarge ∷ []) x) (sym large.0) (told_here TooLarge)))
+        told_first (limit_faults t f) _ e (subst (λ (xs : List SchemaFault). Told xs e) (sym (limits_broken (size t (length t) f).nodes (size t (length t) f).height large.1)) (subst (λ x. Told (TooLarge ∷ []) x) (sym large.0) (told_here TooLarge)))
     at (inr has) = told_then (limit_faults t f) _ e (λ _. has)
 
 pub built : (t : Table) (f : FormTree) (n : ℕ) (r : Result TypeTree SchemaFault) → length t ≡ n → (typed t f).faults ≡ [] → Expands r (expanded t n f) → Expands r (typed t f)

@@ -1,6 +1,6 @@
 -- A type that expands to a record.
 use Rattle.std.proofs.Common.{◌≡◌, Bool, true, false, not, List, [], ◌∷◌, ◌++◌, Option, Some, length, refl, sym, ap, ◌∙◌, subst}
-use Rattle.serde_json.specs.Data.{Data}
+use Rattle.serde_json.specs.Data.{Data, object}
 use Rattle.serde_json.specs.Find.{as_object}
 use Rattle.serde_json.specs.View.{members_view}
 use Rattle.serde_json.proofs.Views.{Entry}
@@ -12,8 +12,12 @@ use Rattle.cedar_types.specs.Types.{TypeTree}
 use Rattle.cedar_form.specs.Naming.{fault_if}
 use Rattle.cedar_form.specs.Reading.{Scope, type_read}
 use Rattle.cedar_form.specs.Expansion.{Table, typed}
-use Rattle.cedar_form.specs.Shapes.{record_type, is_record, is_no_record, empty_faults, holds_members}
-use Rattle.cedar_form.proofs.FormLemmas.{told_first, told_then, told_here}
+use Rattle.cedar_form.specs.Shapes.{record_type, is_record, record_or_empty, empty_faults}
+use Rattle.cedar_form.proofs.FormLemmas.{object_of, told_first, told_then, told_here}
+
+-- whether there is a type, and no record
+abbrev is_no_record : Option TypeTree → Bool
+is_no_record o = not (is_record (record_or_empty o))
 
 module _ (sc : Scope) (t : Table) (d : Data) where
   pub shape_form : (e : SchemaFault) → Told (type_read sc false d).faults e → Told (record_type sc t (Some d)).faults e
@@ -38,10 +42,13 @@ module _ (sc : Scope) (t : Table) (d : Data) where
       let typed_fine : (typed t (type_read sc false d).form).faults ≡ [] = ap (λ (g : FormTree). (typed t g).faults) (sym is) ∙ fine in
       ((λ i. none i ++ (typed_fine i ++ fault_if (all i) Shape)), made ∙ ap (λ (g : FormTree). (typed t g).ty) is)
 
-some_members : (es : List Entry) → (length es ≡ 0 → ⊥) → holds_members (Some (members_view es)) ≡ true
-some_members [] h = absurd (h refl)
-some_members (e ∷ es) h = refl
+-- ---- where there has to be an object without members
+
+members_told : (es : List Entry) → (length es ≡ 0 → ⊥) → Told (empty_faults (Some (object (members_view es)))) Shape
+members_told [] h = absurd (h refl)
+members_told (e ∷ es) h = told_here Shape
 
 pub empty_told : (o : Option Data) (d : Data) (es : List Entry) → o ≡ Some d → Some (members_view es) ≡ as_object d → (length es ≡ 0 → ⊥) → Told (empty_faults o) Shape
 empty_told o d es here is h =
-    subst (λ (x : Option Data). Told (empty_faults x) Shape) (sym here) (subst (λ (b : Bool). Told (fault_if b Shape) Shape) (sym (ap holds_members (sym is) ∙ some_members es h)) (told_here Shape))
+    let at : o ≡ Some (object (members_view es)) = here ∙ ap Some (object_of d (members_view es) (sym is)) in
+    subst (λ (x : Option Data). Told (empty_faults x) Shape) (sym at) (members_told es h)

@@ -1,5 +1,5 @@
 -- What a schema's JSON declares, as flat lists (Cedar documentation, JSON schema format: namespaces).
-use Rattle.std.specs.Prelude.{ℕ, ◌==◌, ◌||◌, not, length, nat_eq, Bool, true, false, bytes_eq, codes, is_some, List, [], ◌∷◌, ◌++◌, map, Option, Some, None, option_and_then, unwrap_or, if◌then◌else◌}
+use Rattle.std.specs.Prelude.{ℕ, ◌==◌, ◌||◌, not, length, nat_eq, Bool, true, false, bytes_eq, codes, is_some, List, [], ◌∷◌, ◌++◌, map, Option, Some, None, option_map, option_and_then, unwrap_or, if◌then◌else◌}
 use Rattle.std.specs.List.{list_any}
 use Rattle.serde_json.specs.Data.{Data, null, Members, no_members, member}
 use Rattle.serde_json.specs.Find.{get, as_object}
@@ -52,15 +52,10 @@ belongs Action k = bytes_eq k (codes "memberOf") || bytes_eq k (codes "appliesTo
 belongs AppliesTo k = bytes_eq k (codes "principalTypes") || bytes_eq k (codes "resourceTypes") || bytes_eq k (codes "context")
 belongs Member k = bytes_eq k (codes "id") || bytes_eq k (codes "type")
 
--- The faults of an object that may have the keys of its kind alone; what is no object is 302 (Cedar documentation, JSON
--- schema format).
-abbrev pub faults_of_keys : Part → Option Members → List SchemaFault
-faults_of_keys part None = Shape ∷ []
-faults_of_keys part (Some ms) = key_faults (belongs part) ms
-
--- The faults of an object of a schema: it has to be an object, of these keys alone (Cedar documentation, JSON schema format).
+-- The faults of an object of a schema: it has to be an object, else 302, of these keys alone (Cedar documentation, JSON schema
+-- format).
 abbrev pub part_faults : Part → Data → List SchemaFault
-part_faults part d = faults_of_keys part (as_object d)
+part_faults part d = unwrap_or (option_map (key_faults (belongs part)) (as_object d)) (Shape ∷ [])
 
 -- The fault of a section: where it is there, it has to be an object (Cedar documentation, JSON schema format: namespaces).
 abbrev pub object_faults : Option Data → List SchemaFault

@@ -19,15 +19,11 @@ unfoldable pub each_read : {A : Type 0} → (Data → ListRead A) → Items → 
 each_read f no_items = record { items = []; faults = [] }
 each_read f (item d ds) = record { items = (f d).items ++ (each_read f ds).items; faults = (f d).faults ++ (each_read f ds).faults }
 
--- What a JSON says that has to be a list: another one is 302 (Cedar documentation, JSON schema format).
-abbrev pub list_in : {A : Type 0} → (Data → ListRead A) → Option Items → ListRead A
-list_in f None = record { items = []; faults = Shape ∷ [] }
-list_in f (Some ds) = each_read f ds
-
--- The list at a key; `missing` is the fault of one that is not there (own).
+-- The list at a key: `missing` is the fault of one that is not there, and what is no list is 302 (Cedar documentation, JSON
+-- schema format; own).
 abbrev pub list_at : {A : Type 0} → (Data → ListRead A) → List SchemaFault → Option Data → ListRead A
 list_at f missing None = record { items = []; faults = missing }
-list_at f missing (Some d) = list_in f (as_array d)
+list_at f missing (Some d) = unwrap_or (option_map (each_read f) (as_array d)) (record { items = []; faults = Shape ∷ [] })
 
 -- The declared name that a text stands for; what is no text is 302, an undeclared name 303 (Cedar documentation, JSON schema format: namespaces).
 abbrev pub some_name : List (List ℕ) → List ℕ → Option (List ℕ) → ListRead (List ℕ)

@@ -1,5 +1,6 @@
 -- What proofs, models and private contracts of this crate use.
 pub mod Behind
+pub mod Expanding
 pub mod FieldView
 pub mod Measures
 pub mod Places

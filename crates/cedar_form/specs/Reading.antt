@@ -2,7 +2,7 @@
 use Rattle.std.specs.Prelude.{unwrap_or, ◌||◌, ◌&&◌, ℕ, Bool, true, false, bytes_eq, codes, List, [], ◌∷◌, ◌++◌, Option, Some, None, option_map, option_and_then, if◌then◌else◌}
 use Rattle.std.specs.Ordering.{nat_cmp, match_ordering}
 use Rattle.std.specs.Cmp.Lexicographic.{slice_cmp}
-use Rattle.serde_json.specs.Data.{Data, null, boolean, number, string, array, object, Members, no_members, member}
+use Rattle.serde_json.specs.Data.{Data, boolean, object, Members, no_members, member}
 use Rattle.serde_json.specs.Find.{get, as_str, as_object}
 use Rattle.cedar_form.specs.declared.schema_fault.SchemaFault.{SchemaFault}
 use Rattle.cedar_form.specs.declared.schema_fault.SchemaFault.TheVariants.{Shape, UnknownType, OpenRecord}
@@ -70,14 +70,10 @@ abbrev pub key_faults : (List ℕ → Bool) → Members → List SchemaFault
 key_faults may no_members = []
 key_faults may (member k d ms) = (if may k then [] else Shape ∷ []) ++ key_faults may ms
 
--- The form of a name, none of one that is not declared (own).
-abbrev pub made : (Declared → FormTree) → Option Declared → FormTree
-made make None = no_form
-made make (Some n) = make n
-
--- What a name says: the form that it stands for (Cedar documentation, JSON schema format: namespaces).
+-- What a name says: the form that it stands for, none of one that is not declared (Cedar documentation, JSON schema format:
+-- namespaces).
 abbrev pub form_named : (Declared → FormTree) → List (List ℕ) → List ℕ → List ℕ → Read
-form_named make names namespace s = record { form = made make (resolved names namespace s); faults = name_faults names namespace s }
+form_named make names namespace s = record { form = unwrap_or (option_map make (resolved names namespace s)) no_form; faults = name_faults names namespace s }
 
 -- The string at a key (own).
 abbrev pub text_at : List ℕ → Data → Option (List ℕ)
@@ -85,8 +81,7 @@ text_at k d = option_and_then as_str (get k d)
 
 -- What is read of a part that has to be there: without it there is a fault, 302 (Cedar documentation, JSON schema format).
 abbrev pub needed : {A : Type 0} → (A → Read) → Option A → Read
-needed f None = bad Shape
-needed f (Some x) = f x
+needed f o = unwrap_or (option_map f o) (bad Shape)
 
 -- A declared entity type (Cedar documentation, JSON schema format: Entity).
 abbrev pub entity_read : Scope → Option (List ℕ) → Read
@@ -95,10 +90,6 @@ entity_read sc o = needed (form_named (λ n. entity_form n.0) sc.entities sc.nam
 -- The extension type `decimal`; another name is 303 (Cedar documentation, JSON schema format: Extension).
 abbrev pub extension_named : List ℕ → Read
 extension_named s = if bytes_eq s (codes "decimal") then fine decimal_form else record { form = no_form; faults = text_faults s ++ UnknownType ∷ [] }
-
--- An extension type, by its name: without one there is a fault, 302 (Cedar documentation, JSON schema format: Extension).
-abbrev pub extension_read : Option (List ℕ) → Read
-extension_read o = needed extension_named o
 
 -- A declared common type (Cedar documentation, JSON schema format: commonTypes).
 abbrev pub common_read : Scope → List ℕ → Read
@@ -111,29 +102,28 @@ set_of r = record { form = set_form r.form; faults = r.faults }
 -- `additionalAttributes` may be false alone: true is 307, all else 302 (Cedar documentation, JSON schema format: Record).
 abbrev pub closed_faults : Option Data → List SchemaFault
 closed_faults None = []
-closed_faults (Some null) = Shape ∷ []
-closed_faults (Some (boolean true)) = OpenRecord ∷ []
 closed_faults (Some (boolean false)) = []
-closed_faults (Some (number n)) = Shape ∷ []
-closed_faults (Some (string s)) = Shape ∷ []
-closed_faults (Some (array ds)) = Shape ∷ []
-closed_faults (Some (object ms)) = Shape ∷ []
+closed_faults (Some (boolean true)) = OpenRecord ∷ []
+closed_faults (Some _) = Shape ∷ []
 
--- The type of records of what is read; no attributes are the empty object (Cedar documentation, JSON schema format: Record; own).
-abbrev pub record_of : Option RowsRead → Read
-record_of None = fine (record_form no_form_rows)
-record_of (Some r) = record { form = record_form r.rows; faults = r.faults }
+-- The type of records of what is read (Cedar documentation, JSON schema format: Record).
+abbrev pub record_of : RowsRead → Read
+record_of r = record { form = record_form r.rows; faults = r.faults }
 
--- What the JSON of a type of a kind says, with what its element and its attributes say (Cedar documentation, JSON schema
--- format: attribute types).
+-- No attributes (own).
+abbrev pub no_rows_read : RowsRead
+no_rows_read = record { rows = no_form_rows; faults = [] }
+
+-- What the JSON of a type of a kind says, with what its element and its attributes say; no attributes are the empty object
+-- (Cedar documentation, JSON schema format: attribute types; own).
 abbrev pub of_kind : Scope → Data → List ℕ → Kind → Option Read → Option RowsRead → Read
 of_kind sc d s Boolean el rs = fine boolean_form
 of_kind sc d s Long el rs = fine long_form
 of_kind sc d s Text el rs = fine string_form
 of_kind sc d s Set el rs = needed set_of el
-of_kind sc d s Record el rs = with_faults (closed_faults (get (codes "additionalAttributes") d)) (record_of rs)
+of_kind sc d s Record el rs = with_faults (closed_faults (get (codes "additionalAttributes") d)) (record_of (unwrap_or rs no_rows_read))
 of_kind sc d s Entity el rs = entity_read sc (text_at (codes "name") d)
-of_kind sc d s Extension el rs = extension_read (text_at (codes "name") d)
+of_kind sc d s Extension el rs = needed extension_named (text_at (codes "name") d)
 of_kind sc d s Common el rs = common_read sc s
 
 -- The faults of the keys of an object (Cedar documentation, JSON schema format).
@@ -146,10 +136,6 @@ abbrev pub of_type : Scope → Bool → Data → Option Read → Option RowsRead
 of_type sc attribute d el rs None = bad Shape
 of_type sc attribute d el rs (Some s) = with_faults (unknown_keys (may_have (kind_named s) attribute) d) (of_kind sc d s (kind_named s) el rs)
 
--- No attributes (own).
-abbrev pub no_rows_read : RowsRead
-no_rows_read = record { rows = no_form_rows; faults = [] }
-
 -- Whether the attribute is required: it is where nothing else is written (Cedar documentation, JSON schema format: Record).
 abbrev pub is_required : Option Data → Bool
 is_required (Some (boolean false)) = false
@@ -158,12 +144,8 @@ is_required _ = true
 -- The fault of `required`, which has to be a Boolean where it is there (Cedar documentation, JSON schema format: Record).
 abbrev pub required_faults : Option Data → List SchemaFault
 required_faults None = []
-required_faults (Some null) = Shape ∷ []
 required_faults (Some (boolean b)) = []
-required_faults (Some (number n)) = Shape ∷ []
-required_faults (Some (string s)) = Shape ∷ []
-required_faults (Some (array ds)) = Shape ∷ []
-required_faults (Some (object ms)) = Shape ∷ []
+required_faults (Some _) = Shape ∷ []
 
 -- An attribute, followed by others (Cedar documentation, JSON schema format: Record).
 abbrev pub row_then : List ℕ → Option Data → Read → RowsRead → RowsRead
@@ -173,12 +155,8 @@ row_then k required r rest = record { rows = form_row k (is_required required) r
 -- What a JSON says as a type, or as an attribute (Cedar documentation, JSON schema format: attribute types).
 unfoldable mutual
   pub type_read : Scope → Bool → Data → Read
-  type_read sc a null = bad Shape
-  type_read sc a (boolean b) = bad Shape
-  type_read sc a (number n) = bad Shape
-  type_read sc a (string s) = bad Shape
-  type_read sc a (array ds) = bad Shape
   type_read sc a (object ms) = of_type sc a (object ms) (read_at sc (codes "element") ms) (rows_at sc (codes "attributes") ms) (text_at (codes "type") (object ms))
+  type_read sc a _ = bad Shape
 
   -- What is at a key of an object, read as a type: of a key that is there twice the first counts (Cedar documentation, JSON
   -- schema format: Set).
@@ -194,12 +172,8 @@ unfoldable mutual
 
   -- What a JSON says as the attributes of a record: it has to be an object (Cedar documentation, JSON schema format: Record).
   pub rows_read : Scope → Data → RowsRead
-  rows_read sc null = record { rows = no_form_rows; faults = Shape ∷ [] }
-  rows_read sc (boolean b) = record { rows = no_form_rows; faults = Shape ∷ [] }
-  rows_read sc (number n) = record { rows = no_form_rows; faults = Shape ∷ [] }
-  rows_read sc (string s) = record { rows = no_form_rows; faults = Shape ∷ [] }
-  rows_read sc (array ds) = record { rows = no_form_rows; faults = Shape ∷ [] }
   rows_read sc (object ms) = all_rows sc ms
+  rows_read sc _ = record { rows = no_form_rows; faults = Shape ∷ [] }
 
   -- What the members of an object say as attributes, one after the other (Cedar documentation, JSON schema format: Record).
   pub all_rows : Scope → Members → RowsRead

@@ -9,7 +9,7 @@ use Rattle.cedar_closure.proofs.Listed.{here, there, first_or_later, nowhere, fi
 use Rattle.cedar_form.specs.declared.schema_fault.SchemaFault.{SchemaFault}
 use Rattle.cedar_form.specs.declared.schema_fault.SchemaFault.TheVariants.{UnknownType, CommonCycle, TooLarge}
 use Rattle.cedar_form.specs.Forms.{FormTree, no_form, boolean_form, long_form, string_form, decimal_form, entity_form, set_form, record_form, common_form, FormRows, no_form_rows, form_row}
-use Rattle.cedar_form.specs.Expansion.{Table, form_faults, rows_faults, faults_behind, cycle_faults, limit_faults, nodes, height, typed}
+use Rattle.cedar_form.specs.Expansion.{Table, form_faults, rows_faults, cycle_faults, limit_faults, size, typed}
 use Rattle.cedar_schema.specs.Each.{each_faults}
 use Rattle.cedar_schema.specs.Schemas.{expansion_faults}
 use Rattle.cedar_schema.specs.Cycles.{named_in, named_in_rows, named_by, CyclesAreFound}
@@ -74,6 +74,10 @@ abbrev Follows : (ℕ → List ℕ) → ℕ → ℕ → Type 0
 Follows links zero u = Unit {0}
 Follows links (suc n) u = (p : ℕ) × Contains (links u) p × Follows links n p
 
+-- the faults of what is at a place
+abbrev faults_of_place : (ℕ → List SchemaFault) → Option FormTree → List SchemaFault
+faults_of_place names o = unwrap_or (option_map (form_faults names) o) (UnknownType ∷ [])
+
 module _ (t : Table) where
   linked : (k p : ℕ) (o : Option FormTree) → slice_get t k ≡ o → Contains (unwrap_or (option_map named_in o) []) p → Contains (named_by t k) p
   linked k p o is h = subst (λ (x : Option FormTree). Contains (unwrap_or (option_map named_in x) []) p) (sym is) h
@@ -83,7 +87,7 @@ module _ (t : Table) where
   follows_cycle zero k h = tt
   follows_cycle (suc n) k h = at (slice_get t k) refl h (follows_cycle n)
     where
-      at : (o : Option FormTree) → slice_get t k ≡ o → Contains (faults_behind (form_faults (cycle_faults t n)) o) CommonCycle → ((p : ℕ) → Contains (cycle_faults t n p) CommonCycle → Follows (named_by t) n p)
+      at : (o : Option FormTree) → slice_get t k ≡ o → Contains (faults_of_place (cycle_faults t n) o) CommonCycle → ((p : ℕ) → Contains (cycle_faults t n p) CommonCycle → Follows (named_by t) n p)
           → Follows (named_by t) (suc n) k
       at None is m later = elim (first_or_later UnknownType [] CommonCycle m) [
         | inl same ↦ cc
@@ -96,7 +100,7 @@ module _ (t : Table) where
   cycle_follows zero k h = here CommonCycle []
   cycle_follows (suc n) k (p, m, rest) = at (slice_get t k) m (cycle_follows n p rest)
     where
-      at : (o : Option FormTree) → Contains (unwrap_or (option_map named_in o) []) p → Contains (cycle_faults t n p) CommonCycle → Contains (faults_behind (form_faults (cycle_faults t n)) o) CommonCycle
+      at : (o : Option FormTree) → Contains (unwrap_or (option_map named_in o) []) p → Contains (cycle_faults t n p) CommonCycle → Contains (faults_of_place (cycle_faults t n) o) CommonCycle
       at None m later = absurd (nowhere p m)
       at (Some f) m later = named_fault (cycle_faults t n) CommonCycle f p m later
 
@@ -224,7 +228,7 @@ module _ (t : Table) (f : FormTree) where
   expansion_named : Contains (expansion_faults t f) CommonCycle → HasNamed (cycle_faults t (length t)) (named_in f) CommonCycle
   unfolding typed
   expansion_named h = elim (Contains-append_cases (limit_faults t f) (form_faults (cycle_faults t (length t)) f) CommonCycle h) [
-    | inl limit ↦ absurd (too_large (nat_le (nodes t (length t) f) 10000 && nat_le (height t (length t) f) 100) limit)
+    | inl limit ↦ absurd (too_large (nat_le (size t (length t) f).nodes 10000 && nat_le (size t (length t) f).height 100) limit)
     | inr named ↦ fault_named (cycle_faults t (length t)) CommonCycle f named
   ]
 

@@ -18,6 +18,7 @@ use Rattle.cedar_value.specs.Order.{text_cmp, uid_cmp}
 use Rattle.cedar_value.specs.Private.Same.{text_same, uid_same}
 use Rattle.cedar_value.specs.declared.uid.Uid.{Uid}
 use Rattle.cedar_form.specs.declared.schema_fault.SchemaFault.{SchemaFault}
+use Rattle.cedar_form.specs.declared.schema_fault.SchemaFault.TheVariants.{Shape}
 use Rattle.cedar_schema.specs.declared.schema.environment.Environment.{Environment}
 use Rattle.cedar_form.specs.Naming.{qualified, or_else, listed, place_from, resolved}
 use Rattle.cedar_form.specs.Reading.{Scope, text_at}
@@ -25,7 +26,8 @@ use Rattle.cedar_form.specs.Entries.{EntryTree, whole_names, entity_key_faults, 
 use Rattle.cedar_schema.specs.Each.{each_faults, each_onto}
 use Rattle.cedar_form.specs.Lists.{ListRead, each_read, list_at, name_read, some_name, names_at, set_onto}
 use Rattle.cedar_schema.specs.Declaring.{applies_read, unspecified, listed_uid, with_type, typed_uid, found_uid, by_type, by_id, by_member, member_read, entity_type_of, entity_type_faults, action_of, uid_of}
-use Rattle.cedar_schema.specs.SchemaTree.{SchemaTree, EntityTypeTree, ActionTree, environments_of, with_principals, with_resources, parents_of_action}
+use Rattle.cedar_schema.specs.SchemaTree.{SchemaTree, EntityTypeTree, ActionTree, environments_of, parents_of_action}
+use Rattle.cedar_schema.specs.Private.Environments.{with_principals, with_resources}
 use Rattle.cedar_schema.specs.Schemas.{Setting, schema_in, add_entity, add_action, entity_faults, one_action_faults, scope_in, uids_onto}
 use Rattle.cedar_closure.specs.Closure.{one_link, more_links}
 use Rattle.cedar_schema.specs.Descents.{ActionDescends}
@@ -143,7 +145,7 @@ module _ (uids : List Uid) where
   list_in namespace None = All-nil (Contains uids)
   list_in namespace (Some d) = at (as_array d)
     where
-      at : (o : Option Items) → AreIn (Rattle.cedar_form.specs.Lists.list_in (member_read uids namespace) o)
+      at : (o : Option Items) → AreIn (unwrap_or (option_map (each_read (member_read uids namespace)) o) (record { items = []; faults = Shape ∷ [] }))
       at None = All-nil (Contains uids)
       at (Some ds) = each_in namespace ds
 
@@ -174,7 +176,7 @@ names_at_in : (sc : Scope) (missing : List SchemaFault) (o : Option Data) → Al
 names_at_in sc missing None = All-nil (Contains sc.entities)
 names_at_in sc missing (Some d) = at (as_array d)
   where
-    at : (o : Option Items) → All (Contains sc.entities) (Rattle.cedar_form.specs.Lists.list_in (name_read sc.entities sc.namespace) o).items
+    at : (o : Option Items) → All (Contains sc.entities) (unwrap_or (option_map (each_read (name_read sc.entities sc.namespace)) o) (record { items = []; faults = Shape ∷ [] })).items
     at None = All-nil (Contains sc.entities)
     at (Some ds) = names_in sc.entities sc.namespace ds
 

@@ -1,17 +1,17 @@
 -- The faults of what is read part by part are those of its parts.
-use Rattle.std.proofs.Common.{◌≡◌, ℕ, codes, List, [], ◌∷◌, ◌++◌, Option, Some, None, is_some, refl, sym, ap, ◌∙◌, subst}
+use Rattle.std.proofs.Common.{◌≡◌, ℕ, codes, List, [], ◌∷◌, ◌++◌, Option, Some, None, option_map, unwrap_or, is_some, refl, sym, ap, ◌∙◌, subst}
 use Rattle.serde_json.specs.Data.{Data, Members}
 use Rattle.serde_json.specs.Find.{get, as_object}
 use Rattle.cedar_value.specs.declared.uid.Uid.{Uid}
 use Rattle.cedar_form.specs.declared.schema_fault.SchemaFault.{SchemaFault}
-use Rattle.cedar_form.specs.declared.schema_fault.SchemaFault.TheVariants.{Unspecified}
+use Rattle.cedar_form.specs.declared.schema_fault.SchemaFault.TheVariants.{Shape, Unspecified}
 use Rattle.cedar_form.specs.declared.json.part.Part.TheVariants.{EntityType, Action, AppliesTo}
 use Rattle.cedar_schema.specs.declared.schema.action.AppliesTo.{AppliesTo as CodeApplies}
 use Rattle.cedar_form.specs.Faults.{Told}
 use Rattle.cedar_types.specs.Types.{TypeTree}
-use Rattle.cedar_form.specs.Entries.{EntryTree, part_faults, faults_of_keys, entity_key_faults, unless_null}
+use Rattle.cedar_form.specs.Entries.{EntryTree, part_faults, belongs, entity_key_faults, unless_null}
 use Rattle.cedar_form.specs.Naming.{fault_if}
-use Rattle.cedar_form.specs.Reading.{Scope}
+use Rattle.cedar_form.specs.Reading.{Scope, key_faults}
 use Rattle.cedar_form.specs.Expansion.{Table}
 use Rattle.cedar_schema.specs.Private.ReadsApplies.{IsApplies}
 use Rattle.cedar_form.specs.Lists.{names_at, list_at, set_onto}
@@ -56,7 +56,7 @@ module _ (sc : Scope) (t : Table) (d : Data) where
   lists : part_faults AppliesTo d ≡ [] → unspecified d ≡ Unspecified ∷ []
   lists h = at (as_object d) h
     where
-      at : (o : Option Members) → faults_of_keys AppliesTo o ≡ [] → fault_if (is_some o) Unspecified ≡ Unspecified ∷ []
+      at : (o : Option Members) → unwrap_or (option_map (key_faults (belongs AppliesTo)) o) (Shape ∷ []) ≡ [] → fault_if (is_some o) Unspecified ≡ Unspecified ∷ []
       at None h = cc
       at (Some ms) h = refl
 

@@ -16,7 +16,8 @@ use Rattle.cedar_value.specs.Private.Same.{text_same, uid_same}
 use Rattle.cedar_value.specs.declared.uid.Uid.{Uid}
 use Rattle.cedar_types.specs.Types.{TypeTree}
 use Rattle.cedar_schema.specs.declared.schema.environment.Environment.{Environment}
-use Rattle.cedar_schema.specs.SchemaTree.{ActionTree, environments_of, with_principals, with_resources, HasEnvironment, HasNoEnvironment}
+use Rattle.cedar_schema.specs.SchemaTree.{ActionTree, environments_of, HasEnvironment, HasNoEnvironment}
+use Rattle.cedar_schema.specs.Private.Environments.{with_principals, with_resources}
 use Rattle.cedar_schema.specs.Private.Kept.{types_onto, HasTypes}
 use Rattle.cedar_schema.proofs.InsertedKeys.{all_keys, kept_key, new_key}
 
@@ -149,16 +150,13 @@ module _ (actions : List (Uid × ActionTree)) (up : IsStrictlySortedBy uid_cmp (
       (f.action, lookup-from_Contains (eq_by_cmp_equiv uid_total) e.action f.action actions (IsDistinct-from_sorted uid_cmp (keys_of actions) up) f.listed, f.principal, f.resource)
 
   pub none_declared : (u : Uid) (p r : List ℕ) → lookup (is_at (uid_cmp u)) actions ≡ None → HasNoEnvironment actions u p r
-  none_declared u p r none e m is =
-      let f = found_at e m in
-      let some : lookup (is_at (uid_cmp u)) actions ≡ Some f.0 = subst (λ (v : Uid). lookup (is_at (uid_cmp v)) actions ≡ Some f.0) is.action_is f.1 in cc
+  none_declared u p r none t m =
+      let f = found_at (record { action = u; principal = p; resource = r; context = t }) m in
+      let some : lookup (is_at (uid_cmp u)) actions ≡ Some f.0 = f.1 in cc
 
   pub not_applied : (u : Uid) (a : ActionTree) (p r : List ℕ) → lookup (is_at (uid_cmp u)) actions ≡ Some a → (Contains a.principals p × Contains a.resources r → ⊥) → HasNoEnvironment actions u p r
-  not_applied u a p r h never e m is =
-      let f = found_at e m in
-      let some : Some f.0 ≡ Some a = sym (subst (λ (v : Uid). lookup (is_at (uid_cmp v)) actions ≡ Some f.0) is.action_is f.1) ∙ h in
+  not_applied u a p r h never t m =
+      let f = found_at (record { action = u; principal = p; resource = r; context = t }) m in
+      let some : Some f.0 ≡ Some a = sym f.1 ∙ h in
       let same : f.0 ≡ a = cc in
-      never (
-        subst (λ (x : ActionTree). Contains x.principals p) same (subst (λ (n : List ℕ). Contains f.0.principals n) is.principal_is f.2),
-        subst (λ (x : ActionTree). Contains x.resources r) same (subst (λ (n : List ℕ). Contains f.0.resources n) is.resource_is f.3),
-      )
+      never (subst (λ (x : ActionTree). Contains x.principals p) same f.2, subst (λ (x : ActionTree). Contains x.resources r) same f.3)

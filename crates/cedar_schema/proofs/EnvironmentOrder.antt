@@ -11,7 +11,8 @@ use Rattle.cedar_value.specs.Private.Laws.{uid_total}
 use Rattle.cedar_value.specs.declared.uid.Uid.{Uid}
 use Rattle.cedar_types.specs.Types.{TypeTree}
 use Rattle.cedar_schema.specs.declared.schema.environment.Environment.{Environment}
-use Rattle.cedar_schema.specs.SchemaTree.{SchemaTree, ActionTree, environments_of, with_principals, with_resources}
+use Rattle.cedar_schema.specs.SchemaTree.{SchemaTree, ActionTree, environments_of}
+use Rattle.cedar_schema.specs.Private.Environments.{with_principals, with_resources}
 use Rattle.cedar_schema.specs.WellFormed.{environment_cmp, AreEnvironmentsInOrder, AreListsDeclared, AreDeclaredTypes, IsListedInOrder}
 
 -- ---- lists one after the other

@@ -15,7 +15,7 @@ use Rattle.cedar_form.specs.Reading.{Scope, type_read}
 use Rattle.cedar_form.specs.Expansion.{Table, form_type, rows_type, with_row, common_type, typed}
 use Rattle.cedar_form.specs.Entries.{unless_null, EntryTree, part_faults, entity_key_faults}
 use Rattle.cedar_form.specs.Lists.{names_at, list_at}
-use Rattle.cedar_form.specs.Shapes.{record_type, is_record, is_no_record, record_or_empty}
+use Rattle.cedar_form.specs.Shapes.{record_type, is_record, record_or_empty}
 use Rattle.cedar_schema.specs.Declaring.{unspecified, member_read, applies_read, entity_type_of, entity_type_faults, action_of, action_faults}
 use Rattle.cedar_schema.specs.WellFormed.{IsOrderedRecord}
 use Rattle.cedar_schema.proofs.NameEnds.{no_first, no_second}
@@ -77,16 +77,12 @@ all_true : (b : Bool) → fault_if (not b) Shape ≡ [] → b ≡ true
 all_true true h = refl
 all_true false h = cc
 
-some_record : (o : Option TypeTree) → fault_if (is_no_record o) Shape ≡ [] → is_record (record_or_empty o) ≡ true
-some_record None h = refl
-some_record (Some t) h = all_true (is_record t) h
-
 module _ (sc : Scope) (t : Table) where
   record_is : (o : Option Data) → (record_type sc t o).faults ≡ [] → is_record (record_or_empty (record_type sc t o).ty) ≡ true
   unfolding record_type
   record_is None h = refl
   record_is (Some d) h =
-      some_record (typed t (type_read sc false d).form).ty (no_second (typed t (type_read sc false d).form).faults _ (no_second (type_read sc false d).faults _ h))
+      all_true (is_record (record_or_empty (typed t (type_read sc false d).form).ty)) (no_second (typed t (type_read sc false d).form).faults _ (no_second (type_read sc false d).faults _ h))
 
   shape_is : (e : EntryTree) → entity_type_faults sc t e ≡ [] → is_record (entity_type_of sc t e).shape ≡ true
   unfolding entity_type_faults entity_type_of

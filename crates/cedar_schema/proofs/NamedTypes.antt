@@ -1,5 +1,5 @@
 -- Each entity type that a schema's JSON names in a type is declared.
-use Rattle.std.proofs.Common.{◌≡◌, codes, ℕ, zero, suc, bytes_eq, Bool, true, false, cond, nat_eq, List, [], ◌∷◌, ◌++◌, length, Option, Some, None, option_map, option_and_then, IfSome, Contains, Ordering, Less, Equal, Greater}
+use Rattle.std.proofs.Common.{◌≡◌, codes, ℕ, zero, suc, bytes_eq, Bool, true, false, cond, nat_eq, List, [], ◌∷◌, ◌++◌, length, Option, Some, None, option_map, option_and_then, unwrap_or, IfSome, Contains, Ordering, Less, Equal, Greater}
 use Rattle.std.specs.List.{slice_get, list_any, AllByRecursion}
 use Rattle.std.specs.Ordering.{nat_cmp, match_ordering}
 use Rattle.std.specs.Cmp.Lexicographic.{slice_cmp}
@@ -13,7 +13,7 @@ use Rattle.cedar_types.specs.Ordered.{with_attribute}
 use Rattle.cedar_form.specs.declared.schema_fault.SchemaFault.TheVariants.{UnknownType}
 use Rattle.cedar_form.specs.Naming.{Declared, resolved, text_faults}
 use Rattle.cedar_form.specs.Forms.{FormTree, no_form, boolean_form, long_form, string_form, decimal_form, entity_form, set_form, record_form, common_form, FormRows, no_form_rows, form_row}
-use Rattle.cedar_form.specs.Reading.{Read, RowsRead, Scope, fine, made, of_kind, of_type, kind_named, text_at, needed, set_of, record_of, entity_read, extension_read, extension_named, type_read, read_at, rows_at, rows_read, all_rows}
+use Rattle.cedar_form.specs.Reading.{Read, RowsRead, Scope, fine, no_rows_read, of_kind, of_type, kind_named, text_at, needed, set_of, record_of, entity_read, extension_named, type_read, read_at, rows_at, rows_read, all_rows}
 use Rattle.cedar_form.specs.Expansion.{Table, form_type, rows_type, with_row, common_type, typed}
 use Rattle.cedar_form.specs.Entries.{EntryTree, unless_null}
 use Rattle.cedar_form.specs.Shapes.{record_type, record_or_empty}
@@ -119,11 +119,11 @@ module _ (sc : Scope) where
   abbrev RowsReadName : RowsRead → Type 0
   RowsReadName r = RowsName sc.entities r.rows
 
-  entity_made : (o : Option Declared) → IfSome o (IsOf sc.entities) → FormNames sc.entities (made (λ n. entity_form n.0) o)
+  entity_made : (o : Option Declared) → IfSome o (IsOf sc.entities) → FormNames sc.entities (unwrap_or (option_map (λ (n : Declared). entity_form n.0) o) no_form)
   entity_made None h = tt
   entity_made (Some n) h = h
 
-  common_made : (o : Option Declared) → FormNames sc.entities (made (λ n. common_form n.1) o)
+  common_made : (o : Option Declared) → FormNames sc.entities (unwrap_or (option_map (λ (n : Declared). common_form n.1) o) no_form)
   common_made None = tt
   common_made (Some n) = tt
 
@@ -135,7 +135,7 @@ module _ (sc : Scope) where
   extension_is s true = tt
   extension_is s false = tt
 
-  extension_read_named : (o : Option (List ℕ)) → ReadNames (extension_read o)
+  extension_read_named : (o : Option (List ℕ)) → ReadNames (needed extension_named o)
   extension_read_named None = tt
   extension_read_named (Some s) = extension_is s (bytes_eq s (codes "decimal"))
 
@@ -143,7 +143,7 @@ module _ (sc : Scope) where
   set_read None h = tt
   set_read (Some r) h = h
 
-  record_read : (rs : Option RowsRead) → IfSome rs RowsReadName → ReadNames (record_of rs)
+  record_read : (rs : Option RowsRead) → IfSome rs RowsReadName → ReadNames (record_of (unwrap_or rs no_rows_read))
   record_read None h = tt
   record_read (Some r) h = h
 

@@ -1,5 +1,6 @@
 -- What proofs, models and private contracts of this crate use.
 pub mod Answers
+pub mod Environments
 pub mod Kept
 pub mod KeptSchema
 pub mod Linked

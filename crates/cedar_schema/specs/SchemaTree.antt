@@ -1,5 +1,5 @@
 -- A schema, as what it declares (cedar-spec, Lean: Cedar.Validation.Schema).
-use Rattle.std.specs.Prelude.{◌≡◌, Contains, ℕ, List, [], ◌++◌, ◌∷◌, map, Option, option_map, unwrap_or}
+use Rattle.std.specs.Prelude.{Contains, ℕ, List, [], map, flat_map, Option, option_map, unwrap_or}
 use Rattle.std.specs.Map.{lookup}
 use Rattle.std.specs.BTreeMap.{is_at}
 use Rattle.cedar_value.specs.Order.{text_cmp, uid_cmp}
@@ -37,20 +37,11 @@ parents_of_action actions u = unwrap_or (option_map (λ a. a.parents) (lookup (i
 
 -- ---- the environments: an action with a type of principals and a type of resources, ascending in this order
 
--- The environments of an action with a type of principals (Cedar documentation, JSON schema format: appliesTo).
-abbrev pub with_resources : Uid → List ℕ → TypeTree → List (List ℕ) → List Environment
-with_resources u p context = map (λ r. record { action = u; principal = p; resource = r; context = context })
-
--- The environments of an action with these types of principals (Cedar documentation, JSON schema format: appliesTo).
-abbrev pub with_principals : Uid → ActionTree → List (List ℕ) → List Environment
-with_principals u a [] = []
-with_principals u a (p ∷ ps) = with_resources u p a.context a.resources ++ with_principals u a ps
-
--- The environments: an action with a type of principals and a type of resources, ascending in this order (Cedar
+-- The environments: each action with each type of its principals and each type of its resources, ascending in this order (Cedar
 -- documentation, JSON schema format: appliesTo).
 abbrev pub environments_of : List (Uid × ActionTree) → List Environment
-environments_of [] = []
-environments_of (x ∷ xs) = with_principals x.0 x.1 x.1.principals ++ environments_of xs
+environments_of actions =
+    flat_map (λ (x : Uid × ActionTree). flat_map (λ p. map (λ r. record { action = x.0; principal = p; resource = r; context = x.1.context }) x.1.resources) x.1.principals) actions
 
 -- What a schema declares of an action, none where it is not declared (Cedar documentation, JSON schema format: actions).
 abbrev pub action_at : SchemaTree → Uid → Option ActionTree
@@ -60,17 +51,10 @@ action_at s u = lookup (is_at (uid_cmp u)) s.actions
 abbrev pub shape_of : SchemaTree → List ℕ → Option TypeTree
 shape_of s n = option_map (λ e. e.shape) (lookup (is_at (text_cmp n)) s.entities)
 
--- An environment is that of an action with a type of principals and a type of resources (Cedar documentation, JSON schema
--- format: appliesTo).
-pub record IsEnvironmentOf (e : Environment) (action : Uid) (principal resource : List ℕ) : Type 0 where
-  pub action_is : e.action ≡ action
-  pub principal_is : e.principal ≡ principal
-  pub resource_is : e.resource ≡ resource
-
--- The actions have no environment with these types (Cedar documentation, JSON schema format: appliesTo).
-abbrev pub HasNoEnvironment : List (Uid × ActionTree) → Uid → List ℕ → List ℕ → Type 0
-HasNoEnvironment actions u p r = (e : Environment) → Contains (environments_of actions) e → ¬ IsEnvironmentOf e u p r
-
 -- The actions have the environment with these types and this context (Cedar documentation, JSON schema format: appliesTo).
 abbrev pub HasEnvironment : List (Uid × ActionTree) → Uid → List ℕ → List ℕ → TypeTree → Type 0
 HasEnvironment actions u p r t = Contains (environments_of actions) (record { action = u; principal = p; resource = r; context = t })
+
+-- The actions have no environment with these types (Cedar documentation, JSON schema format: appliesTo).
+abbrev pub HasNoEnvironment : List (Uid × ActionTree) → Uid → List ℕ → List ℕ → Type 0
+HasNoEnvironment actions u p r = (t : TypeTree) → ¬ HasEnvironment actions u p r t

@@ -6,12 +6,11 @@ use Rattle.cedar_form.specs.declared.form.table.Behind.{Behind as CodeBehind}
 use Rattle.cedar_form.specs.declared.form.table.Behind.TheVariants.{Form, Nothing, Cycle}
 use Rattle.cedar_form.specs.Forms.{FormTree}
 use Rattle.cedar_form.specs.FormView.{form_of}
-use Rattle.cedar_form.specs.Expansion.{Table, common_nodes, common_height, common_type, cycle_faults, form_type, form_faults, nodes, height}
+use Rattle.cedar_form.specs.Expansion.{Table, common_size, common_type, cycle_faults, form_type, form_faults, size}
 
 -- with n names to follow the common type says what f says with m
 pub record StandsBehind (t : Table) (n place m : ℕ) (f : FormTree) : Type 0 where
-  pub same_nodes : common_nodes t n place ≡ nodes t m f
-  pub same_height : common_height t n place ≡ height t m f
+  pub same_size : common_size t n place ≡ size t m f
   pub same_type : common_type t n place ≡ form_type (common_type t m) f
   pub same_faults : cycle_faults t n place ≡ form_faults (cycle_faults t m) f
   pub fewer : m < n

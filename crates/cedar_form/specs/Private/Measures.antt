@@ -2,11 +2,12 @@
 use Rattle.std.specs.Prelude.{◌≡◌, ◌+◌, ◌<◌, ◌≤◌, ◌⊎◌, ℕ, List, [], Contains, Result, MatchResult}
 use Rattle.cedar_form.specs.declared.schema_fault.SchemaFault.{SchemaFault}
 use Rattle.cedar_form.specs.declared.schema_fault.SchemaFault.TheVariants.{TooLarge}
+use Rattle.cedar_form.specs.Expansion.{Size}
 
--- why n nodes of height h have no room, or it has faults
-abbrev pub IsOver : SchemaFault → ℕ → ℕ → ℕ → ℕ → List SchemaFault → Type 0
-IsOver e room levels n h faults = ((e ≡ TooLarge) × ((room < n) ⊎ (levels < h))) ⊎ Contains faults e
+-- why what has this size has no room, or it has faults
+abbrev pub IsOver : SchemaFault → ℕ → ℕ → Size → List SchemaFault → Type 0
+IsOver e room levels s faults = ((e ≡ TooLarge) × ((room < s.nodes) ⊎ (levels < s.height))) ⊎ Contains faults e
 
 -- what is left of the room for nodes; or there is none, or it has faults
-abbrev pub Leaves : Result ℕ SchemaFault → ℕ → ℕ → ℕ → ℕ → List SchemaFault → Type 0
-Leaves result room levels n h faults = MatchResult result (λ left. (left + n ≡ room) × (h ≤ levels) × (faults ≡ [])) (λ e. IsOver e room levels n h faults)
+abbrev pub Leaves : Result ℕ SchemaFault → ℕ → ℕ → Size → List SchemaFault → Type 0
+Leaves result room levels s faults = MatchResult result (λ left. (left + s.nodes ≡ room) × (s.height ≤ levels) × (faults ≡ [])) (λ e. IsOver e room levels s faults)

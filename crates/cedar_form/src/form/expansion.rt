@@ -2,9 +2,10 @@
 ghost use Rattle.std.specs.Prelude.{◌≡◌, [], Some, MatchResult};
 ghost use Rattle.cedar_form.specs.Faults.{Told};
 ghost use Rattle.cedar_form.specs.FormView.{form_of};
+ghost use Rattle.cedar_form.specs.Private.Expanding.{expanded};
 ghost use Rattle.cedar_form.specs.Private.FieldView.{field_of, fields_view};
 ghost use Rattle.cedar_types.specs.Types.{no_attributes};
-ghost use Rattle.cedar_form.specs.Expansion.{expanded, rows_type, rows_faults, common_type, cycle_faults, typed};
+ghost use Rattle.cedar_form.specs.Expansion.{rows_type, rows_faults, common_type, cycle_faults, typed};
 ghost use Rattle.cedar_form.specs.Ends.{AreEnds};
 ghost use Rattle.cedar_form.specs.TableView.{table_of, Expands};
 

@@ -1,8 +1,9 @@
 //! What a form would make is counted before it is made.
 ghost use Rattle.std.specs.Prelude.{◌≡◌, []};
 ghost use Rattle.cedar_form.specs.FormView.{form_of};
+ghost use Rattle.cedar_form.specs.Private.Expanding.{expanded};
 ghost use Rattle.cedar_form.specs.Private.FieldView.{fields_view};
-ghost use Rattle.cedar_form.specs.Expansion.{nodes, height, expanded, rows_nodes, rows_height, rows_faults, common_nodes, common_height, cycle_faults};
+ghost use Rattle.cedar_form.specs.Expansion.{size, rows_size, rows_faults, common_size, cycle_faults};
 ghost use Rattle.cedar_form.specs.Ends.{AreEnds};
 ghost use Rattle.cedar_form.specs.Private.Measures.{Leaves};
 ghost use Rattle.cedar_form.specs.TableView.{table_of};
@@ -12,7 +13,7 @@ use crate::form::{Form, FormField};
 use crate::schema_fault::SchemaFault;
 
 fn take_one(levels: u32, room: u32) -> Result<u32, SchemaFault>
-    ensures { Leaves result room levels 1 1 [] }
+    ensures { Leaves result room levels (record { nodes = 1; height = 1 }) [] }
 {
     if levels == 0 || room == 0 {
         Err(SchemaFault::TooLarge)
@@ -33,8 +34,7 @@ pub(crate) fn measure(
 ) -> Result<u32, SchemaFault>
     requires { AreEnds (table_of table.forms.now) table.ends.now }
     ensures { Leaves result room levels
-        (nodes (table_of table.entry.forms.now) names (form_of form.now))
-        (height (table_of table.entry.forms.now) names (form_of form.now))
+        (size (table_of table.entry.forms.now) names (form_of form.now))
         (expanded (table_of table.entry.forms.now) names (form_of form.now)).faults }
 {
     match form {
@@ -63,8 +63,7 @@ fn measure_common(
 ) -> Result<u32, SchemaFault>
     requires { AreEnds (table_of table.forms.now) table.ends.now }
     ensures { Leaves result room levels
-        (common_nodes (table_of table.entry.forms.now) names place)
-        (common_height (table_of table.entry.forms.now) names place)
+        (common_size (table_of table.entry.forms.now) names place)
         (cycle_faults (table_of table.entry.forms.now) names place) }
 {
     match table.behind(names, place) {
@@ -84,8 +83,7 @@ fn measure_fields(
 ) -> Result<u32, SchemaFault>
     requires { AreEnds (table_of table.forms.now) table.ends.now }
     ensures { Leaves result room levels
-        (rows_nodes (common_nodes (table_of table.entry.forms.now) names) (fields_view fields.now.items))
-        (rows_height (common_height (table_of table.entry.forms.now) names) (fields_view fields.now.items))
+        (rows_size (common_size (table_of table.entry.forms.now) names) (fields_view fields.now.items))
         (rows_faults (cycle_faults (table_of table.entry.forms.now) names) (fields_view fields.now.items)) }
 {
     let mut left = room;

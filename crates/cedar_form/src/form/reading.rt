@@ -1,5 +1,5 @@
 //! From the JSON of a type to its form.
-ghost use Rattle.std.specs.Prelude.{◌≡◌, ◌++◌, [], true, false, map, string_bytes, MatchResult, option_map, codes, Some};
+ghost use Rattle.std.specs.Prelude.{◌≡◌, ◌++◌, [], true, false, map, string_bytes, MatchResult, option_map, unwrap_or, codes};
 ghost use Rattle.serde_json.specs.View.{view, members_view};
 ghost use Rattle.serde_json.specs.Find.{get};
 ghost use Rattle.cedar_form.specs.Faults.{Told};
@@ -7,7 +7,7 @@ ghost use Rattle.cedar_form.specs.FormView.{form_of};
 ghost use Rattle.cedar_form.specs.Private.FieldView.{fields_view};
 ghost use Rattle.cedar_form.specs.Reads.{Reads, scope_of};
 ghost use Rattle.cedar_form.specs.Private.ReadsField.{ReadsField};
-ghost use Rattle.cedar_form.specs.Reading.{may_have, key_faults, text_at, entity_read, common_read, extension_read, closed_faults, required_faults, is_required, type_read, rows_read, all_rows, of_kind, set_of, record_of, needed, with_faults};
+ghost use Rattle.cedar_form.specs.Reading.{may_have, key_faults, text_at, entity_read, common_read, extension_named, closed_faults, required_faults, is_required, type_read, rows_read, all_rows, no_rows_read, of_kind, set_of, record_of, needed, with_faults};
 
 use crate::form::kind::{Kind, kind_named, may_have};
 use crate::form::{Form, FormField};
@@ -62,7 +62,7 @@ fn read_common(alloc: Global, scope: &Scope<'_>, text: &str) -> Result<Form, Sch
 }
 
 fn read_extension(alloc: Global, json: &Value) -> Result<Form, SchemaFault>
-    ensures { Reads result (extension_read (text_at (codes "name") (view json.now))) }
+    ensures { Reads result (needed extension_named (text_at (codes "name") (view json.now))) }
 {
     match text_at(json, "name") {
         Some(text) => {
@@ -167,7 +167,7 @@ fn read_set(alloc: Global, scope: &Scope<'_>, json: &Value) -> Result<Form, Sche
 #[cycle(read)]
 fn read_record(alloc: Global, scope: &Scope<'_>, json: &Value) -> Result<Form, SchemaFault>
     ensures { Reads result (with_faults (closed_faults (get (codes "additionalAttributes") (view json.now)))
-        (record_of (option_map (rows_read (scope_of scope.now)) (get (codes "attributes") (view json.now))))) }
+        (record_of (unwrap_or (option_map (rows_read (scope_of scope.now)) (get (codes "attributes") (view json.now))) no_rows_read))) }
 {
     check_closed(json)?;
     match json.get("attributes") {
@@ -178,7 +178,7 @@ fn read_record(alloc: Global, scope: &Scope<'_>, json: &Value) -> Result<Form, S
 
 #[cycle(read)]
 fn read_attributes(alloc: Global, scope: &Scope<'_>, json: &Value) -> Result<Form, SchemaFault>
-    ensures { Reads result (record_of (Some (rows_read (scope_of scope.now) (view json.now)))) }
+    ensures { Reads result (record_of (rows_read (scope_of scope.now) (view json.now))) }
 {
     match json.as_object() {
         Some(members) => Ok(Form::Record(read_fields(alloc, scope, members)?)),

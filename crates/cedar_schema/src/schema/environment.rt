@@ -1,6 +1,7 @@
 //! Environments.
 ghost use Rattle.std.specs.Prelude.{◌≡◌, ◌++◌, IfOk, OnOk};
-ghost use Rattle.cedar_schema.specs.SchemaTree.{environments_of, with_principals, with_resources};
+ghost use Rattle.cedar_schema.specs.SchemaTree.{environments_of};
+ghost use Rattle.cedar_schema.specs.Private.Environments.{with_principals, with_resources};
 
 use crate::schema::action::Action;
 use cedar_types::Type;

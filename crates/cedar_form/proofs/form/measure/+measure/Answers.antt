@@ -1,8 +1,9 @@
 use Rattle.std.proofs.Common.{◌<◌, length, arith, ◌∙◌}
 use Rattle.std.proofs.lemmas.Result.{err_from_is_err_and}
 use Rattle.cedar_form.specs.FormView.{form_of}
+use Rattle.cedar_form.specs.Private.FieldView.{fields_view}
 use Rattle.cedar_form.specs.TableView.{table_of}
-use Rattle.cedar_form.specs.Expansion.{common_nodes, common_height, cycle_faults}
+use Rattle.cedar_form.specs.Expansion.{form_size, rows_size, common_size, cycle_faults}
 use Rattle.cedar_form.proofs.ExpandLemmas.{most_at, name_less, own_form_here, nodes_here, height_here, over_row, rows_clean, rows_has}
 use Rattle.cedar_form.proofs.form.measure.+measure.Goals as goal
 
@@ -28,12 +29,13 @@ measure_fields-returns-in_err-left t c =
     let x = c.index.result.now in
     let here : i < length a = omega arith in
     let T = table_of c.args.table.forms.now in
+    let names = common_size T c.args.names in
     let inv = c.loop-i.invariant in
-    let p = nodes_here (common_nodes T c.args.names) a i x here c.index.ensures in
-    let q = height_here (common_height T c.args.names) a i x here c.index.ensures in
+    let p = nodes_here names a i x here c.index.ensures in
+    let q = height_here names a i x here c.index.ensures in
     let counted = inv.counted in
     let e = err_from_is_err_and c.from_residual.result c.from_residual.ensures.1 in
-    rw (e.1, e.2) (over_row _ c.args.room c.loop-i.left c.args.levels _ _ _ _ _ _ _ _ _ _ counted p q inv.part
+    rw (e.1, e.2) (over_row _ c.args.room c.loop-i.left c.args.levels _ _ _ _ (form_size names (form_of x.form)) (rows_size names (fields_view a)) _ _ counted p q inv.part
     (rows_has (cycle_faults T c.args.names) a i x _ _ here c.index.ensures inv.clean) c.in_err-left.ensures)
 
 pub measure_fields-loop-i-preserved : goal.measure_fields-loop-i-preserved
@@ -45,8 +47,8 @@ measure_fields-loop-i-preserved t c =
     let x = c.index.result.now in
     let here : i < length a = omega arith in
     let T = table_of c.args.table.forms.now in
-    let p = nodes_here (common_nodes T c.args.names) a i x here c.index.ensures in
-    let q = height_here (common_height T c.args.names) a i x here c.index.ensures in
+    let p = nodes_here (common_size T c.args.names) a i x here c.index.ensures in
+    let q = height_here (common_size T c.args.names) a i x here c.index.ensures in
     let counted = c.loop-i.invariant.counted in
     let low = c.loop-i.invariant.low in
     let part = c.loop-i.invariant.part in

@@ -2,7 +2,7 @@ use Rattle.std.proofs.Common.{◌≡◌, ◌+◌, ◌*◌, ◌≤◌, max, drop}
 use Rattle.cedar_form.specs.FormView.{form_of}
 use Rattle.cedar_form.specs.Private.FieldView.{fields_view}
 use Rattle.cedar_form.specs.TableView.{table_of}
-use Rattle.cedar_form.specs.Expansion.{rows_nodes, rows_height, rows_faults, common_nodes, common_height, cycle_faults}
+use Rattle.cedar_form.specs.Expansion.{rows_size, rows_faults, common_size, cycle_faults}
 use Rattle.cedar_form.proofs.ExpandLemmas.{own, own_rows, most}
 use Rattle.cedar_form.proofs.form.measure.+measure.Given as goal
 
@@ -20,9 +20,10 @@ invariant-measure_fields-loop-i l =
     let t = table_of l.table.forms.now in
     let all = fields_view l.fields.items in
     let rest = fields_view (drop l.i l.fields.items) in
+    let size = rows_size (common_size t l.names) in
     record {
-      counted : l.left + rows_nodes (common_nodes t l.names) all ≡ l.fn.room + rows_nodes (common_nodes t l.names) rest;
-      low : rows_height (common_height t l.names) all ≤ max l.levels (rows_height (common_height t l.names) rest);
-      part : rows_height (common_height t l.names) rest ≤ rows_height (common_height t l.names) all;
+      counted : l.left + (size all).nodes ≡ l.fn.room + (size rest).nodes;
+      low : (size all).height ≤ max l.levels (size rest).height;
+      part : (size rest).height ≤ (size all).height;
       clean : rows_faults (cycle_faults t l.names) all ≡ rows_faults (cycle_faults t l.names) rest;
     }

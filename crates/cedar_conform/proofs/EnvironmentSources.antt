@@ -15,7 +15,8 @@ use Rattle.cedar_value.specs.declared.uid.Uid.{Uid}
 use Rattle.cedar_types.specs.Types.{TypeTree}
 use Rattle.cedar_schema.specs.declared.schema.environment.Environment.{Environment}
 use Rattle.cedar_schema.specs.Declarations.{IsAction}
-use Rattle.cedar_schema.specs.SchemaTree.{SchemaTree, EntityTypeTree, ActionTree, environments_of, with_principals, with_resources, shape_of}
+use Rattle.cedar_schema.specs.SchemaTree.{SchemaTree, EntityTypeTree, ActionTree, environments_of, shape_of}
+use Rattle.cedar_schema.specs.Private.Environments.{with_principals, with_resources}
 use Rattle.cedar_schema.specs.WellFormed.{AreListsDeclared, AreDeclaredTypes}
 
 -- the action of an environment

@@ -1,5 +1,5 @@
 -- When a request fits.
-use Rattle.std.proofs.Common.{◌≡◌, Bool, true, false, refl, sym, subst, ◌∙◌}
+use Rattle.std.proofs.Common.{◌≡◌, Contains, Bool, true, false, refl, sym, subst, ◌∙◌}
 use Rattle.std.specs.Prelude.{◌↔◌, IsTrue}
 use Rattle.std.specs.List.Sorted.{IsStrictlySortedBy}
 use Rattle.std.specs.Map.{keys_of}
@@ -8,8 +8,9 @@ use Rattle.cedar_value.specs.Order.{uid_cmp}
 use Rattle.cedar_value.specs.declared.request.Request.{Request}
 use Rattle.cedar_types.specs.Membership.{Member}
 use Rattle.cedar_types.specs.Types.{TypeTree}
-use Rattle.cedar_schema.specs.Conformance.{Fits}
-use Rattle.cedar_schema.specs.SchemaTree.{SchemaTree, HasEnvironment, HasNoEnvironment}
+use Rattle.cedar_schema.specs.declared.schema.environment.Environment.{Environment}
+use Rattle.cedar_schema.specs.Conformance.{Fits, FitsIn}
+use Rattle.cedar_schema.specs.SchemaTree.{SchemaTree, environments_of, HasEnvironment, HasNoEnvironment}
 use Rattle.cedar_conform.proofs.EnvironmentSources.{one_context}
 
 module _ (s : SchemaTree) (q : Request) where
@@ -23,9 +24,12 @@ module _ (s : SchemaTree) (q : Request) where
     λ fit. told.1 (subst (λ (x : TypeTree). Member x (record_of (fields_of q.context))) (one_context s.actions up fit.0 _ fit.1.listed listed (sym fit.1.action)) fit.1.context),
   )
 
+  of_the_request : (e : Environment) → FitsIn s e q → e ≡ record { action = q.action; principal = q.principal.ty; resource = q.resource.ty; context = e.context }
+  of_the_request e fit = λ i. record { action = (sym fit.action) i; principal = (sym fit.principal) i; resource = (sym fit.resource) i; context = e.context }
+
   -- and nowhere where it does not
   pub fits_not : HasNoEnvironment s.actions q.action q.principal.ty q.resource.ty → IsTrue false ↔ Fits s q
   fits_not none = (
     λ h. cc,
-    λ fit. absurd (none fit.0 fit.1.listed (record { action_is = sym fit.1.action; principal_is = sym fit.1.principal; resource_is = sym fit.1.resource })),
+    λ fit. absurd (none fit.0.context (subst (λ (e : Environment). Contains (environments_of s.actions) e) (of_the_request fit.0 fit.1) fit.1.listed)),
   )

@@ -14,7 +14,7 @@ use Rattle.cedar_data.specs.declared.conform_fault.ConformFault.{ConformFault}
 use Rattle.cedar_data.specs.declared.conform_fault.ConformFault.TheVariants.{OutOfMemory, Json, Shape}
 use Rattle.cedar_conform.specs.Links.{IsGiven, DenotesSlots, DenotesLink, DenoteLinks, DenotesLinks, BytesDenoteLinks, LinksAreRefused}
 use Rattle.cedar_conform.specs.Private.Refusals.{Refuses}
-use Rattle.cedar_conform.proofs.RequestLemmas.{one_uid_at}
+use Rattle.cedar_conform.proofs.RequestLemmas.{one_uid_at, memory_alone}
 
 -- ---- a link
 
@@ -101,10 +101,6 @@ module _ (one : WritesOneUid) where
   list_at : (o : Option Items) (ls ms : List Link) → MatchOption o ⊥ (λ ds. DenoteLinks ds ls) → MatchOption o ⊥ (λ ds. DenoteLinks ds ms) → ls ≡ ms
   list_at None ls ms h g = absurd h
   list_at (Some ds) ls ms h g = one_list ds ls ms h g
-
-  memory_alone : (f : ConformFault) → (f ≢ OutOfMemory → ⊥) → f ≡ OutOfMemory
-  memory_alone OutOfMemory never = refl
-  memory_alone _ never = absurd (never (λ e. cc))
 
   pub only_links : {A : Type 0} (items : A → List Link) (bytes : List ℕ) (d : Data) → Some d ≡ json_of bytes → (result : Result A ConformFault) → MatchResult result (λ v. DenotesLinks d (items v)) (Refuses (DenotesLinks d))
       → (ls : List Link) → BytesDenoteLinks bytes ls → MatchResult result (λ v. items v ≡ ls) (λ f. f ≡ OutOfMemory)

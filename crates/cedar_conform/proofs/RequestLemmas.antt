@@ -1,6 +1,6 @@
 -- Which request a JSON denotes, and that there is but one.
 use Rattle.std.proofs.Common.{◌≡◌, ℕ, Bool, true, false, inl, inr, List, [], ◌∷◌, Contains, Option, Some, None, Result, Ok, Err, refl, sym, ap, subst, ◌∙◌}
-use Rattle.std.specs.Prelude.{◌≢◌, codes, IfErr, IfOk, MatchOption}
+use Rattle.std.specs.Prelude.{◌≢◌, codes, IfErr, IfOk, MatchOption, MatchResult}
 use Rattle.std.specs.List.Sorted.{IsStrictlySortedBy}
 use Rattle.std.specs.Map.{keys_of}
 use Rattle.serde_json.specs.Data.{Data}
@@ -23,7 +23,7 @@ use Rattle.cedar_data.specs.WrittenUids.{UidAt, WritesUid, WritesOneUid}
 use Rattle.cedar_data.specs.declared.conform_fault.ConformFault.{ConformFault}
 use Rattle.cedar_data.specs.declared.conform_fault.ConformFault.TheVariants.{OutOfMemory, Json, UnknownType, NoSuchAction, ActionDoesNotApply}
 use Rattle.cedar_conform.specs.Private.Answers.{IsAnswer}
-use Rattle.cedar_conform.specs.Requests.{AnswersRequest, Denotes, HasFault, HasUidsFault, HasContextFault, IsShapeless, LineDenotes, LineHasFault, Names, context_of, has_request_keys}
+use Rattle.cedar_conform.specs.Requests.{Denotes, HasFault, HasUidsFault, HasContextFault, IsShapeless, LineDenotes, LineHasFault, Names, context_of}
 use Rattle.cedar_conform.proofs.EnvironmentSources.{one_context, action_declared, principal_declared, resource_declared}
 
 -- ---- what a JSON denotes fits
@@ -92,12 +92,17 @@ one_line_request one s line q r up h g = at (json_of line) h g
     at None h g = absurd h
     at (Some d) h g = same_request one s up.1 d q r h g
 
+-- where no other refusal can be, memory ran out
+pub memory_alone : (f : ConformFault) → (f ≢ OutOfMemory → ⊥) → f ≡ OutOfMemory
+memory_alone OutOfMemory never = refl
+memory_alone _ never = absurd (never (λ e. cc))
+
 module _ (one : WritesOneUid) (s : SchemaTree) (up : IsStrictlySortedBy uid_cmp (keys_of s.actions)) (declared : AreListsDeclared s) (d : Data) where
   no_uids_fault : (q : Request) → Denotes s d q → (f : ConformFault) → HasUidsFault s q.principal q.action q.resource f → ⊥
   no_uids_fault q h UnknownType (inl none) = principal_declared s declared _ h.applies none
   no_uids_fault q h UnknownType (inr none) = resource_declared s declared _ h.applies none
   no_uids_fault q h NoSuchAction none = none (action_declared s _ h.applies)
-  no_uids_fault q h ActionDoesNotApply none = none.1 _ h.applies (record { action_is = refl; principal_is = refl; resource_is = refl })
+  no_uids_fault q h ActionDoesNotApply none = none.1 h.context_type h.applies
   no_uids_fault q h _ none = none
 
   named : (q : Request) → Denotes s d q → (p a r : Uid) → Names d p a r → (f : ConformFault) → HasUidsFault s p a r f → HasUidsFault s q.principal q.action q.resource f
@@ -124,13 +129,9 @@ module _ (one : WritesOneUid) (s : SchemaTree) (up : IsStrictlySortedBy uid_cmp 
   no_fault q h f (inr (inl (p, a, r, names, fault))) = no_uids_fault q h f (named q h p a r names f fault)
   no_fault q h f (inr (inr fault)) = no_context_fault q h f fault
 
-  not_refused : (q : Request) (f : ConformFault) → (f ≢ OutOfMemory → ⊥) → AnswersRequest q (Err f)
-  not_refused q OutOfMemory never = tt
-  not_refused q _ never = never (λ e. cc)
-
-  only_answer : (q : Request) → Denotes s d q → (result : Result Request ConformFault) → IsAnswer s d result → AnswersRequest q result
+  only_answer : (q : Request) → Denotes s d q → (result : Result Request ConformFault) → IsAnswer s d result → MatchResult result (λ found. found ≡ q) (λ e. e ≡ OutOfMemory)
   only_answer q h (Ok found) g = same_request one s up d found q g h
-  only_answer q h (Err f) g = not_refused q f (λ other. no_fault q h f (g other))
+  only_answer q h (Err f) g = memory_alone f (λ other. no_fault q h f (g other))
 
-  pub only_of : (line : List ℕ) → Some d ≡ json_of line → (result : Result Request ConformFault) → IsAnswer s d result → (q : Request) → LineDenotes s line q → AnswersRequest q result
+  pub only_of : (line : List ℕ) → Some d ≡ json_of line → (result : Result Request ConformFault) → IsAnswer s d result → (q : Request) → LineDenotes s line q → MatchResult result (λ found. found ≡ q) (λ e. e ≡ OutOfMemory)
   only_of line is result g q h = only_answer q (subst (λ o. MatchOption o ⊥ (λ x. Denotes s x q)) (sym is) h) result g

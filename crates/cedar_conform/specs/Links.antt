@@ -1,13 +1,13 @@
 -- Which list of links a JSON denotes.
-use Rattle.std.specs.Prelude.{◌≡◌, ◌||◌, ℕ, Bool, true, false, codes, List, [], ◌∷◌, Option, Some, None, MatchOption, unwrap_or, option_map, if◌then◌else◌}
+use Rattle.std.specs.Prelude.{◌≡◌, ◌||◌, ℕ, Bool, true, codes, List, [], ◌∷◌, Option, Some, None, MatchOption}
 use Rattle.std.specs.Str.{bytes_eq}
-use Rattle.serde_json.specs.Data.{Data, Items, no_items, item, Members, no_members, member}
-use Rattle.serde_json.specs.Find.{get, as_array, as_object}
+use Rattle.serde_json.specs.Data.{Data, Items, no_items, item}
+use Rattle.serde_json.specs.Find.{get, as_array}
 use Rattle.cedar_json.specs.JsonTree.{json_of}
 use Rattle.cedar_value.specs.declared.uid.Uid.{Uid}
 use Rattle.cedar_policies.specs.declared.link.Link.{Link}
 use Rattle.cedar_policies.specs.declared.slots.Slots.{Slots}
-use Rattle.cedar_data.specs.Objects.{size_of, text_at}
+use Rattle.cedar_data.specs.Objects.{has_only, size_of, text_at}
 use Rattle.cedar_data.specs.WrittenUids.{UidAt}
 use Rattle.cedar_data.specs.declared.conform_fault.ConformFault.{ConformFault}
 use Rattle.cedar_data.specs.declared.conform_fault.ConformFault.TheVariants.{Json, Shape}
@@ -16,15 +16,6 @@ use Rattle.cedar_data.specs.declared.conform_fault.ConformFault.TheVariants.{Jso
 unfoldable pub is_slot_key : List ℕ → Bool
 is_slot_key k = bytes_eq k (codes "?principal") || bytes_eq k (codes "?resource")
 
--- All keys are of slots (Cedar language reference, policy templates).
-abbrev pub are_slot_keys : Members → Bool
-are_slot_keys no_members = true
-are_slot_keys (member k d ms) = if is_slot_key k then are_slot_keys ms else false
-
--- The JSON is an object without other keys than those of slots (own).
-abbrev pub has_slot_keys : Data → Bool
-has_slot_keys d = unwrap_or (option_map are_slot_keys (as_object d)) false
-
 -- What is given at a key: the uid that stands there, or nothing where nothing stands there (own).
 abbrev pub IsGiven : List ℕ → Data → Option Uid → Type 0
 IsGiven k d None = get k d ≡ None
@@ -32,7 +23,7 @@ IsGiven k d (Some u) = UidAt k d u
 
 -- An object that gives uids for the slots and has no other key (own).
 pub record DenotesSlots (d : Data) (s : Slots) : Type 0 where
-  pub keys : has_slot_keys d ≡ true
+  pub keys : has_only is_slot_key d ≡ true
   pub principal_given : IsGiven (codes "?principal") d s.principal
   pub resource_given : IsGiven (codes "?resource") d s.resource
 

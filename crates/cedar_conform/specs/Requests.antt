@@ -1,8 +1,8 @@
 -- Which request a JSON denotes by a schema, and which faults it has.
-use Rattle.std.specs.Prelude.{◌≡◌, ◌⊎◌, ◌||◌, ℕ, Bool, true, false, codes, List, [], None, Contains, MatchOption, Result, Ok, Err, unwrap_or, option_map, if◌then◌else◌}
+use Rattle.std.specs.Prelude.{◌≡◌, ◌⊎◌, ◌||◌, ℕ, Bool, true, false, codes, List, [], None, Contains, MatchOption, unwrap_or}
 use Rattle.std.specs.Str.{bytes_eq}
-use Rattle.serde_json.specs.Data.{Data, object, Members, no_members, member}
-use Rattle.serde_json.specs.Find.{get, as_object}
+use Rattle.serde_json.specs.Data.{Data, object, no_members}
+use Rattle.serde_json.specs.Find.{get}
 use Rattle.cedar_json.specs.JsonTree.{json_of}
 use Rattle.cedar_value.specs.Datum.{record_of, fields_of}
 use Rattle.cedar_value.specs.declared.uid.Uid.{Uid}
@@ -11,7 +11,8 @@ use Rattle.cedar_types.specs.Types.{TypeTree}
 use Rattle.cedar_schema.specs.Declarations.{IsAction}
 use Rattle.cedar_schema.specs.SchemaTree.{SchemaTree, shape_of, HasEnvironment, HasNoEnvironment}
 use Rattle.cedar_data.specs.declared.conform_fault.ConformFault.{ConformFault}
-use Rattle.cedar_data.specs.declared.conform_fault.ConformFault.TheVariants.{OutOfMemory, Json, Shape, UnknownType, NoSuchAction, ActionDoesNotApply}
+use Rattle.cedar_data.specs.declared.conform_fault.ConformFault.TheVariants.{Json, Shape, UnknownType, NoSuchAction, ActionDoesNotApply}
+use Rattle.cedar_data.specs.Objects.{has_only}
 use Rattle.cedar_data.specs.Values.{value_read}
 use Rattle.cedar_data.specs.WrittenUids.{UidAt}
 
@@ -20,15 +21,6 @@ use Rattle.cedar_data.specs.WrittenUids.{UidAt}
 -- The keys of a request (own).
 unfoldable pub is_request_key : List ℕ → Bool
 is_request_key k = bytes_eq k (codes "principal") || bytes_eq k (codes "action") || bytes_eq k (codes "resource") || bytes_eq k (codes "context")
-
--- All keys are a request's (own).
-abbrev pub are_request_keys : Members → Bool
-are_request_keys no_members = true
-are_request_keys (member k d ms) = if is_request_key k then are_request_keys ms else false
-
--- The JSON is an object without other keys than a request's (own).
-abbrev pub has_request_keys : Data → Bool
-has_request_keys d = unwrap_or (option_map are_request_keys (as_object d)) false
 
 -- At the three keys stand the uids of the principal, the action and the resource (own; Cedar documentation, entities and
 -- context in JSON).
@@ -43,7 +35,7 @@ Lacks k d = (u : Uid) → ¬ UidAt k d u
 
 -- The JSON is no object, or it has another key, or no uid at one of the three (own).
 abbrev pub IsShapeless : Data → Type 0
-IsShapeless d = (has_request_keys d ≡ false) ⊎ (Lacks (codes "principal") d ⊎ (Lacks (codes "action") d ⊎ Lacks (codes "resource") d))
+IsShapeless d = (has_only is_request_key d ≡ false) ⊎ (Lacks (codes "principal") d ⊎ (Lacks (codes "action") d ⊎ Lacks (codes "resource") d))
 
 -- ---- the schema
 
@@ -67,7 +59,7 @@ context_of d = unwrap_or (get (codes "context") d) (object no_members)
 -- the types of the two, and the context is what the JSON says as a value of its context type (Cedar documentation, validation;
 -- Cedar documentation, entities and context in JSON).
 pub record Denotes (s : SchemaTree) (d : Data) (q : Request) : Type 0 where
-  pub keys : has_request_keys d ≡ true
+  pub keys : has_only is_request_key d ≡ true
   pub names : Names d q.principal q.action q.resource
   pub context_type : TypeTree
   pub applies : HasEnvironment s.actions q.action q.principal.ty q.resource.ty context_type
@@ -97,9 +89,3 @@ LineDenotes s line q = MatchOption (json_of line) ⊥ (λ d. Denotes s d q)
 -- The bytes have the fault 501 where they are no JSON, else the fault is in their JSON (RFC 8259).
 abbrev pub LineHasFault : SchemaTree → List ℕ → ConformFault → Type 0
 LineHasFault s line f = MatchOption (json_of line) (f ≡ Json) (λ d. HasFault s d f)
-
--- The answer is this request, or memory ran out (this project).
-abbrev pub AnswersRequest : Request → Result Request ConformFault → Type 0
-AnswersRequest q (Ok found) = found ≡ q
-AnswersRequest q (Err OutOfMemory) = Unit {0}
-AnswersRequest q (Err _) = ⊥

@@ -2,8 +2,9 @@
 ghost use Rattle.std.specs.Prelude.{◌≡◌, ◌≢◌, IfErr, IfOk, List, MatchResult};
 ghost use Rattle.serde_json.specs.View.{items_view, members_view, view};
 ghost use Rattle.cedar_policies.specs.declared.link.Link.{Link as LinkTree};
+ghost use Rattle.cedar_data.specs.Objects.{are_only, has_only};
 ghost use Rattle.cedar_data.specs.declared.conform_fault.ConformFault.TheVariants.{OutOfMemory};
-ghost use Rattle.cedar_conform.specs.Links.{BytesDenoteLinks, DenoteLinks, DenotesLink, DenotesLinks, DenotesSlots, IsGiven, LinksAreRefused, are_slot_keys, has_slot_keys, is_slot_key};
+ghost use Rattle.cedar_conform.specs.Links.{BytesDenoteLinks, DenoteLinks, DenotesLink, DenotesLinks, DenotesSlots, IsGiven, LinksAreRefused, is_slot_key};
 ghost use Rattle.cedar_conform.specs.Private.Refusals.{ReadsOne, Refuses};
 
 use cedar_data::{ConformFault, one_written_uid, size_of, text_at, written_uid};
@@ -88,7 +89,7 @@ fn read_slots(alloc: Global, json: &Json) -> Result<Slots, ConformFault>
 
 // Whether the JSON is an object without other keys than those of slots.
 fn has_slot_keys(json: &Json) -> bool
-    ensures { result ≡ has_slot_keys (view json.now) }
+    ensures { result ≡ has_only is_slot_key (view json.now) }
 {
     match json.as_object() {
         Some(members) => are_slot_keys(members),
@@ -97,7 +98,7 @@ fn has_slot_keys(json: &Json) -> bool
 }
 
 fn are_slot_keys(members: &Map<String, Json>) -> bool
-    ensures { result ≡ are_slot_keys (members_view members.now.entries) }
+    ensures { result ≡ are_only is_slot_key (members_view members.now.entries) }
 {
     for (key, _) in members.iter() {
         if !is_slot_key(key.as_str()) {

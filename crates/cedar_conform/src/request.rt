@@ -5,11 +5,12 @@ ghost use Rattle.cedar_schema.specs.Conformance.{Fits};
 ghost use Rattle.cedar_schema.specs.Declaring.{is_record};
 ghost use Rattle.cedar_schema.specs.SchemaTree.{HasEnvironment};
 ghost use Rattle.cedar_value.specs.declared.request.Request.{Request as RequestTree};
+ghost use Rattle.cedar_data.specs.Objects.{are_only, has_only};
 ghost use Rattle.cedar_data.specs.Reads.{ReadsRecord};
 ghost use Rattle.cedar_data.specs.Values.{value_read};
 ghost use Rattle.cedar_data.specs.WrittenUids.{UidAt};
 ghost use Rattle.cedar_data.specs.declared.conform_fault.ConformFault.TheVariants.{OutOfMemory, Shape as ShapeFault};
-ghost use Rattle.cedar_conform.specs.Requests.{AnswersRequest, HasUidsFault, IsShapeless, Lacks, LineDenotes, LineHasFault, Names, are_request_keys, context_of, has_request_keys, is_request_key};
+ghost use Rattle.cedar_conform.specs.Requests.{HasUidsFault, IsShapeless, Lacks, LineDenotes, LineHasFault, Names, context_of, is_request_key};
 ghost use Rattle.cedar_conform.specs.Private.Answers.{IsAnswer};
 
 use crate::context::record_type;
@@ -36,7 +37,7 @@ struct RequestUids {
 pub fn read_request(alloc: Global, schema: &Schema, line: &[u8]) -> Result<Request, ConformFault>
     ensures denotes { IfOk result (LineDenotes schema.now line.now) }
     ensures fits { IfOk result (Fits schema.now) }
-    ensures only { (q : RequestTree) → LineDenotes schema.now line.now q → AnswersRequest q result }
+    ensures only { (q : RequestTree) → LineDenotes schema.now line.now q → MatchResult result (λ found. found ≡ q) (λ e. e ≡ OutOfMemory) }
     ensures refused { IfErr result (λ e. e ≢ OutOfMemory → LineHasFault schema.now line.now e) }
 {
     read_request_with(alloc, schema, line, &mut JsonReader::new(alloc))
@@ -51,7 +52,7 @@ pub fn read_request_with(
 ) -> Result<Request, ConformFault>
     ensures denotes { IfOk result (LineDenotes schema.now line.now) }
     ensures fits { IfOk result (Fits schema.now) }
-    ensures only { (q : RequestTree) → LineDenotes schema.now line.now q → AnswersRequest q result }
+    ensures only { (q : RequestTree) → LineDenotes schema.now line.now q → MatchResult result (λ found. found ≡ q) (λ e. e ≡ OutOfMemory) }
     ensures refused { IfErr result (λ e. e ≢ OutOfMemory → LineHasFault schema.now line.now e) }
 {
     // Laws, which do nothing.
@@ -83,7 +84,7 @@ fn request_of(alloc: Global, schema: &Schema, json: &Json) -> Result<Request, Co
 
 // Whether the JSON is an object without other keys than a request's.
 fn has_request_keys(json: &Json) -> bool
-    ensures { result ≡ has_request_keys (view json.now) }
+    ensures { result ≡ has_only is_request_key (view json.now) }
 {
     match json.as_object() {
         Some(members) => are_request_keys(members),
@@ -92,7 +93,7 @@ fn has_request_keys(json: &Json) -> bool
 }
 
 fn are_request_keys(members: &Map<String, Json>) -> bool
-    ensures { result ≡ are_request_keys (members_view members.now.entries) }
+    ensures { result ≡ are_only is_request_key (members_view members.now.entries) }
 {
     for (key, _) in members.iter() {
         if !is_request_key(key.as_str()) {

@@ -8,7 +8,7 @@ use Rattle.serde_json.specs.Data.{Num, Data, Items, no_items, item, Members}
 use Rattle.serde_json.specs.Find.{get, as_bool, as_number, as_str, as_array, as_object, as_i64}
 use Rattle.cedar_ext.specs.DecimalOf.{decimal_of}
 use Rattle.cedar_value.specs.Ascending.{insert_in}
-use Rattle.cedar_value.specs.Datum.{Datum, members_of, list_of, fields_of, pairs_of}
+use Rattle.cedar_value.specs.Datum.{Datum, long, decimal, members_of, list_of, fields_of, pairs_of}
 use Rattle.cedar_value.specs.Order.{datum_cmp}
 use Rattle.cedar_value.specs.Records.{value_at}
 use Rattle.cedar_value.specs.Sets.{set_from}
@@ -18,12 +18,12 @@ use Rattle.cedar_types.specs.declared.truth.Truth.TheVariants.{True, False, Any}
 use Rattle.cedar_types.specs.Types.{TypeTree, Attributes, no_attributes, attribute, names_of}
 use Rattle.cedar_types.specs.Types as kind
 use Rattle.cedar_data.specs.declared.conform_fault.ConformFault.{ConformFault}
-use Rattle.cedar_data.specs.declared.conform_fault.ConformFault.TheVariants.{WrongType, MissingAttribute}
+use Rattle.cedar_data.specs.declared.conform_fault.ConformFault.TheVariants.{WrongType, MissingAttribute, NumberRange}
 use Rattle.cedar_data.specs.Belonging.{ReadValuesBelong}
 use Rattle.cedar_data.specs.Faults.{fault_if}
 use Rattle.cedar_types.specs.Membership.{Member, At, MayStand, Choose, IsBoolean, HasTruth, IsLong, IsText, IsEntity, IsDecimal, IsSetOf, IsRecord}
 use Rattle.cedar_data.specs.Uids.{uid_object}
-use Rattle.cedar_data.specs.Values.{Read, truth_read, whole_read, long_read, text_read, entity_read, decimal_text, units_read, all_read, set_read, FieldsRead, field_read, before, extra_faults, record_read, value_read, fields_read}
+use Rattle.cedar_data.specs.Values.{Read, fine, needed, truth_read, long_read, text_read, entity_read, decimal_text, all_read, set_read, FieldsRead, field_read, before, extra_faults, record_read, value_read, fields_read}
 
 pub no_first : {A : Type 0} (xs ys : List A) → xs ++ ys ≡ [] → xs ≡ []
 no_first [] ys h = refl
@@ -47,7 +47,7 @@ truth_belongs False (Some true) h = cc
 truth_belongs False (Some false) h = refl
 truth_belongs Any (Some b) h = tt
 
-whole_belongs : (o : Option ℤ) → (whole_read o).faults ≡ [] → IsLong (whole_read o).value
+whole_belongs : (o : Option ℤ) → (needed NumberRange (λ z. fine (long z)) o).faults ≡ [] → IsLong (needed NumberRange (λ z. fine (long z)) o).value
 whole_belongs None h = cc
 whole_belongs (Some z) h = tt
 
@@ -67,7 +67,7 @@ entity_belongs : (n : List ℕ) (o : Option Uid) → (entity_read n o).faults �
 entity_belongs n None h = cc
 entity_belongs n (Some u) h = (bytes_eq-Decides u.ty n).0 (true_from (bytes_eq u.ty n) (no_fault _ WrongType h))
 
-units_belong : (o : Option ℤ) → (units_read o).faults ≡ [] → IsDecimal (units_read o).value
+units_belong : (o : Option ℤ) → (needed WrongType (λ z. fine (decimal z)) o).faults ≡ [] → IsDecimal (needed WrongType (λ z. fine (decimal z)) o).value
 units_belong None h = cc
 units_belong (Some z) h = tt
 

@@ -1,16 +1,21 @@
 -- Small JSON objects (RFC 8259).
-use Rattle.std.specs.Prelude.{ℕ, suc, ◌==◌, List, Option, option_map, option_and_then, unwrap_or, if◌then◌else◌}
+use Rattle.std.specs.Prelude.{ℕ, ◌==◌, Bool, true, false, List, Option, option_map, option_and_then, unwrap_or, if◌then◌else◌}
 use Rattle.serde_json.specs.Data.{Data, Members, no_members, member}
+use Rattle.serde_json.specs.Events.{members_len}
 use Rattle.serde_json.specs.Find.{get, as_str, as_object}
-
--- How many members there are (RFC 8259).
-abbrev pub members_count : Members → ℕ
-members_count no_members = 0
-members_count (member k d ms) = suc (members_count ms)
 
 -- How many members an object has, and 0 for what is no object (RFC 8259).
 abbrev pub size_of : Data → ℕ
-size_of d = unwrap_or (option_map members_count (as_object d)) 0
+size_of d = unwrap_or (option_map members_len (as_object d)) 0
+
+-- Each key is allowed (RFC 8259).
+abbrev pub are_only : (List ℕ → Bool) → Members → Bool
+are_only may no_members = true
+are_only may (member k d ms) = if may k then are_only may ms else false
+
+-- The JSON is an object, each of whose keys is allowed (RFC 8259).
+abbrev pub has_only : (List ℕ → Bool) → Data → Bool
+has_only may d = unwrap_or (option_map (are_only may) (as_object d)) false
 
 -- The text at a key, none where something else or nothing stands there (RFC 8259).
 abbrev pub text_at : List ℕ → Data → Option (List ℕ)

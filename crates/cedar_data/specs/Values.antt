@@ -1,7 +1,8 @@
 -- What a JSON says as a value of a type: the value, and the faults that are there (Cedar documentation, entities and context in
 -- JSON).
-use Rattle.std.specs.Prelude.{ℕ, ℤ, not, ◌==◌, ◌&&◌, Bool, true, false, codes, List, [], ◌∷◌, ◌++◌, Option, Some, None, option_map, option_and_then, if◌then◌else◌}
+use Rattle.std.specs.Prelude.{ℕ, not, ◌==◌, ◌&&◌, Bool, true, false, codes, List, [], ◌∷◌, ◌++◌, Option, Some, None, option_map, option_and_then, unwrap_or, if◌then◌else◌}
 use Rattle.std.specs.List.{list_any}
+use Rattle.std.specs.Option.{option_or}
 use Rattle.std.specs.Str.{bytes_eq}
 use Rattle.serde_json.specs.Data.{Num, Data, Items, no_items, item, Members, no_members, member}
 use Rattle.serde_json.specs.Find.{get, as_bool, as_number, as_str, as_array, as_object, as_i64}
@@ -32,6 +33,11 @@ fine v = record { value = v; faults = [] }
 abbrev pub bad : ConformFault → Read
 bad e = record { value = boolean false; faults = e ∷ [] }
 
+-- What has to be there is read, else the fault is this one (this project).
+abbrev pub needed : {A : Type 0} → ConformFault → (A → Read) → Option A → Read
+needed e f None = bad e
+needed e f (Some x) = f x
+
 -- ---- what has no value inside
 
 -- Whether what is known of a Boolean allows it (cedar-spec, Lean: Cedar.Validation.BoolType).
@@ -43,60 +49,39 @@ allows Any b = true
 -- A Boolean is a JSON true or false, as far as it is allowed; else the fault is 504 (Cedar documentation, entities and context
 -- in JSON).
 abbrev pub truth_read : Truth → Option Bool → Read
-truth_read f None = bad WrongType
-truth_read f (Some b) = record { value = boolean b; faults = fault_if (not (allows f b)) WrongType }
+truth_read f o = needed WrongType (λ b. record { value = boolean b; faults = fault_if (not (allows f b)) WrongType }) o
 
--- A number has to be a whole one of 64 bits, else the fault is 509 (Cedar documentation, entities and context in JSON: Long).
-abbrev pub whole_read : Option ℤ → Read
-whole_read None = bad NumberRange
-whole_read (Some z) = fine (long z)
-
--- A long is a number, else the fault is 504 (Cedar documentation, entities and context in JSON: Long).
+-- A long is a number, else the fault is 504, and a whole one of 64 bits, else the fault is 509 (Cedar documentation, entities and
+-- context in JSON: Long).
 abbrev pub long_read : Option Num → Read
-long_read None = bad WrongType
-long_read (Some n) = whole_read (as_i64 n)
+long_read o = needed WrongType (λ n. needed NumberRange (λ z. fine (long z)) (as_i64 n)) o
 
 -- A text is a JSON text, else the fault is 504 (Cedar documentation, entities and context in JSON: String).
 abbrev pub text_read : Option (List ℕ) → Read
-text_read None = bad WrongType
-text_read (Some s) = fine (text s)
+text_read o = needed WrongType (λ s. fine (text s)) o
 
 -- A uid is one of the type, else the fault is 504; its entity need not be in any store (Cedar documentation, entities and
 -- context in JSON: Entity).
 abbrev pub entity_read : List ℕ → Option Uid → Read
-entity_read n None = bad WrongType
-entity_read n (Some u) = record { value = uid u; faults = fault_if (not (bytes_eq u.ty n)) WrongType }
+entity_read n o = needed WrongType (λ (u : Uid). record { value = uid u; faults = fault_if (not (bytes_eq u.ty n)) WrongType }) o
 
 -- Whether the text names the function `decimal` (Cedar documentation, entities and context in JSON: Extension).
 abbrev pub is_decimal_call : Option (List ℕ) → Bool
-is_decimal_call None = false
-is_decimal_call (Some s) = bytes_eq s (codes "decimal")
+is_decimal_call o = unwrap_or (option_map (λ s. bytes_eq s (codes "decimal")) o) false
 
 -- The text of an object of exactly `fn`, which is `decimal`, and `arg`, a text (Cedar documentation, entities and context in
 -- JSON: Extension).
 abbrev pub call_text : Data → Option (List ℕ)
 call_text d = if size_of d == 2 && is_decimal_call (text_at (codes "fn") d) then text_at (codes "arg") d else None
 
--- A text itself, or else that of a call or of a call that stands alone at `__extn` (Cedar documentation, entities and context
--- in JSON: Extension).
-abbrev pub or_call : Data → Option (List ℕ) → Option (List ℕ)
-or_call d (Some s) = Some s
-or_call d None = call_text (inside (codes "__extn") d)
-
 -- The text of a decimal, written as its text, as a call, or as one that stands alone at `__extn` (Cedar documentation, entities
 -- and context in JSON: Extension).
 abbrev pub decimal_text : Data → Option (List ℕ)
-decimal_text d = or_call d (as_str d)
-
--- The decimal of its ten-thousandths, where there are any; else the fault is 504 (Cedar documentation, entities and context in
--- JSON: Extension).
-abbrev pub units_read : Option ℤ → Read
-units_read None = bad WrongType
-units_read (Some z) = fine (decimal z)
+decimal_text d = option_or (as_str d) (call_text (inside (codes "__extn") d))
 
 -- A decimal is the text of one, else the fault is 504 (Cedar language reference, decimal).
 abbrev pub decimal_read : Option (List ℕ) → Read
-decimal_read o = units_read (option_and_then decimal_of o)
+decimal_read o = needed WrongType (λ z. fine (decimal z)) (option_and_then decimal_of o)
 
 -- ---- sets
 
@@ -113,8 +98,7 @@ all_read f (item d ds) = record { values = (f d).value ∷ (all_read f ds).value
 -- A set is a list, in which repeats are one member; else the fault is 504 (Cedar documentation, entities and context in JSON:
 -- Set).
 abbrev pub set_read : (Data → Read) → Option Items → Read
-set_read f None = bad WrongType
-set_read f (Some ds) = record { value = set (members_of (set_from (all_read f ds).values)); faults = (all_read f ds).faults }
+set_read f o = needed WrongType (λ ds. record { value = set (members_of (set_from (all_read f ds).values)); faults = (all_read f ds).faults }) o
 
 -- ---- records
 
@@ -145,8 +129,7 @@ extra_faults names (member k d ms) = fault_if (not (is_declared names k)) ExtraA
 -- A record is an object, with its attributes and no other keys; else the fault is 504 (Cedar documentation, entities and context
 -- in JSON: Record).
 abbrev pub record_read : List (List ℕ) → FieldsRead → Option Members → Read
-record_read names r None = bad WrongType
-record_read names r (Some ms) = record { value = record_of (fields_of r.pairs); faults = extra_faults names ms ++ r.faults }
+record_read names r o = needed WrongType (λ ms. record { value = record_of (fields_of r.pairs); faults = extra_faults names ms ++ r.faults }) o
 
 -- ---- all levels
 

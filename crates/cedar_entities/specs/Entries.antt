@@ -1,23 +1,15 @@
 -- What an entry of a list of entities writes, whatever the schema is.
-use Rattle.std.specs.Prelude.{◌≡◌, ◌⊎◌, ◌||◌, ◌++◌, ℕ, Bool, true, false, codes, List, [], ◌∷◌, IsSome, MatchOption, unwrap_or, option_map, if◌then◌else◌}
+use Rattle.std.specs.Prelude.{◌≡◌, ◌⊎◌, ◌||◌, ◌++◌, ℕ, Bool, true, codes, List, [], ◌∷◌, IsSome, MatchOption, unwrap_or}
 use Rattle.std.specs.Str.{bytes_eq}
-use Rattle.serde_json.specs.Data.{Data, array, object, Items, no_items, item, Members, no_members, member}
+use Rattle.serde_json.specs.Data.{Data, array, object, Items, no_items, item, no_members}
 use Rattle.serde_json.specs.Find.{get, as_array, as_object}
+use Rattle.cedar_data.specs.Objects.{has_only}
 use Rattle.cedar_data.specs.WrittenUids.{IsUidObject}
 use Rattle.cedar_value.specs.declared.uid.Uid.{Uid}
 
 -- The keys of an entry (Cedar documentation, entities and context in JSON).
 unfoldable pub is_entry_key : List ℕ → Bool
 is_entry_key k = bytes_eq k (codes "uid") || bytes_eq k (codes "attrs") || bytes_eq k (codes "parents") || bytes_eq k (codes "tags")
-
--- No member has another key (Cedar documentation, entities and context in JSON).
-abbrev pub are_entry_keys : Members → Bool
-are_entry_keys no_members = true
-are_entry_keys (member k d ms) = if is_entry_key k then are_entry_keys ms else false
-
--- An object without other keys (Cedar documentation, entities and context in JSON).
-abbrev pub has_entry_keys : Data → Bool
-has_entry_keys d = unwrap_or (option_map are_entry_keys (as_object d)) false
 
 -- The attributes that stand there, none where the key is absent (Cedar documentation, entities and context in JSON; own: the
 -- key may be absent).
@@ -45,7 +37,7 @@ IsUidOf d u = MatchOption (get (codes "uid") d) ⊥ (λ found. IsUidObject found
 -- An entry writes a uid and a list of parents: it is an object with no other keys than an entry's, attributes that are an
 -- object, and no tags (Cedar documentation, entities and context in JSON).
 pub record Writes (d : Data) (u : Uid) (parents : List Uid) : Type 0 where
-  pub keys : has_entry_keys d ≡ true
+  pub keys : has_only is_entry_key d ≡ true
   pub uid : IsUidOf d u
   pub listed : MatchOption (as_array (parents_in d)) ⊥ (λ ds. AreUids ds parents)
   pub attributed : IsSome (as_object (attributes_in d))

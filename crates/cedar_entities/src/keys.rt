@@ -3,13 +3,14 @@ ghost use Rattle.std.specs.Prelude.{◌≡◌, ◌↔◌, IsTrue, is_some};
 ghost use Rattle.serde_json.specs.Data.{no_members, object};
 ghost use Rattle.serde_json.specs.Find.{as_object};
 ghost use Rattle.serde_json.specs.View.{members_view, view};
-ghost use Rattle.cedar_entities.specs.Entries.{are_entry_keys, attributes_in, has_entry_keys, is_entry_key, tags_in};
+ghost use Rattle.cedar_data.specs.Objects.{are_only, has_only};
+ghost use Rattle.cedar_entities.specs.Entries.{attributes_in, is_entry_key, tags_in};
 
 use serde_json::{Map, Value as Json};
 
 /// Whether the JSON is an object with no other keys than an entry's.
 pub(crate) fn has_entry_keys(json: &Json) -> bool
-    ensures { result ≡ has_entry_keys (view json.now) }
+    ensures { result ≡ has_only is_entry_key (view json.now) }
 {
     match json.as_object() {
         Some(members) => are_entry_keys(members),
@@ -18,7 +19,7 @@ pub(crate) fn has_entry_keys(json: &Json) -> bool
 }
 
 fn are_entry_keys(members: &Map<String, Json>) -> bool
-    ensures { result ≡ are_entry_keys (members_view members.now.entries) }
+    ensures { result ≡ are_only is_entry_key (members_view members.now.entries) }
 {
     for (key, _) in members.iter() {
         if !is_entry_key(key.as_str()) {

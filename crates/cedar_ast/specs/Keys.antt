@@ -1,6 +1,11 @@
 -- The keys of a record expression (Cedar language reference, records).
-use Rattle.std.specs.Prelude.{◌≡◌, ◌≢◌, ℕ, List, Some, map, take, slice_get, AllPairs, Contains}
-use Rattle.cedar_ast.specs.Expression.{Expression}
+use Rattle.std.specs.Prelude.{◌≡◌, ◌≢◌, ℕ, List, [], ◌∷◌, Some, map, take, slice_get, AllPairs, Contains}
+use Rattle.cedar_ast.specs.Expression.{Expression, Entries, no_entries, entry}
+
+-- The keys that a record writes, in order (Cedar language reference, records).
+abbrev pub keys_in : Entries → List (List ℕ)
+keys_in no_entries = []
+keys_in (entry k e fs) = k ∷ keys_in fs
 
 -- No key stands twice (Cedar language reference, records).
 abbrev pub AreDistinct : List (List ℕ) → Type 0

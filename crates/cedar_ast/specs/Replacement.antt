@@ -2,15 +2,13 @@
 use Rattle.cedar_value.specs.Datum.{uid}
 use Rattle.cedar_value.specs.declared.uid.Uid.{Uid}
 use Rattle.cedar_ast.specs.declared.variable.Variable.{Variable}
-use Rattle.cedar_ast.specs.declared.variable.Variable.TheVariants.{Principal, Action, Resource, Context}
+use Rattle.cedar_ast.specs.declared.variable.Variable.TheVariants.{Action}
 use Rattle.cedar_ast.specs.Expression.{Expression, literal, variable, and, or, if_else, unary, binary, set_with, record_with, Expressions, no_more, and_then, Entries, no_entries, entry}
 
 -- A variable, the action replaced by a uid (cedar-spec, Lean: substituteAction).
 abbrev pub replace_variable : Uid → Variable → Expression
 replace_variable u Action = literal (uid u)
-replace_variable u Principal = variable Principal
-replace_variable u Resource = variable Resource
-replace_variable u Context = variable Context
+replace_variable u x = variable x
 
 -- An expression, the action replaced by a uid wherever it stands (cedar-spec, Lean: substituteAction).
 abbrev mutual

@@ -5,13 +5,12 @@ use Rattle.cedar_types.specs.Types.{TypeTree, Attributes}
 use Rattle.cedar_types.specs.Joining.{join, only_if}
 use Rattle.cedar_types.specs.Ordered.{with_attribute}
 use Rattle.cedar_ast.specs.Expression.{Expression, expressions_of, entries_of}
-use Rattle.cedar_ast.specs.Keys.{AreDistinct, keys_of}
+use Rattle.cedar_ast.specs.Keys.{AreDistinct, keys_of, keys_in}
 use Rattle.cedar_schema.specs.SchemaTree.{SchemaTree}
 use Rattle.cedar_schema.specs.declared.schema.environment.Environment.{Environment}
 use Rattle.cedar_typing.specs.Capabilities.{Capabilities}
 use Rattle.cedar_typing.specs.Rows.{Typed}
 use Rattle.cedar_typing.specs.Private.Checking.{type_of_with, types_onto, types_entries, are_distinct}
-use Rattle.cedar_typing.specs.Typing.{names_of}
 use Rattle.cedar_typing.proofs.Trees.{test_from_distinct}
 use Rattle.cedar_rules.proofs.Held.{drop_here}
 use Rattle.cedar_typing.specs.declared.settings.Settings.{Settings}
@@ -50,9 +49,9 @@ pub nothing : {A : Type 0} (b : Bool) → only_if {A = A} b None ≡ None
 nothing true = refl
 nothing false = refl
 
-names-entries_of : (ps : List (List ℕ × Expression)) → names_of (entries_of ps) ≡ keys_of ps
+names-entries_of : (ps : List (List ℕ × Expression)) → keys_in (entries_of ps) ≡ keys_of ps
 names-entries_of [] = refl
 names-entries_of (p ∷ ps) = ap (λ ks. p.0 ∷ ks) (names-entries_of ps)
 
-pub distinct_names : (ps : List (List ℕ × Expression)) → AreDistinct (keys_of ps) → are_distinct (names_of (entries_of ps)) ≡ true
+pub distinct_names : (ps : List (List ℕ × Expression)) → AreDistinct (keys_of ps) → are_distinct (keys_in (entries_of ps)) ≡ true
 distinct_names ps d = ap are_distinct (names-entries_of ps) ∙ test_from_distinct (keys_of ps) d

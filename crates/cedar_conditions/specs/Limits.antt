@@ -74,16 +74,13 @@ abbrev pub HasNoSlot : SideCondition → Type 0
 HasNoSlot Slots = ⊥
 HasNoSlot _ = Unit {0}
 
--- An expression keeps a side condition where each part of it does.
 abbrev mutual
   -- An expression keeps a side condition where each part of it does (own).
   pub Keeps : SideCondition → Written → Type 0
-  Keeps c (truth b) = Unit {0}
   Keeps c (number n) = Fits c n
   Keeps c (negative n) = FitsNegative c n
   Keeps c (text s) = Stands c s
   Keeps c (entity u) = Stands c u.id
-  Keeps c (variable x) = Unit {0}
   Keeps c (slot x) = HasNoSlot c
   Keeps c (group a) = Keeps c a
   Keeps c (not a) = Keeps c a
@@ -98,6 +95,7 @@ abbrev mutual
   Keeps c (set ms) = KeepMembers c ms
   Keeps c (record_of fs) = HasDistinctKeys c fs × KeepFields c fs
   Keeps c (call name ms) = IsKnown c (function_of name) × HasArity c (function_arity name) ms × KeepMembers c ms
+  Keeps c _ = Unit {0}
 
   -- The links of a chain keep a side condition where each of them does (own).
   pub KeepLinks : SideCondition → Links → Type 0

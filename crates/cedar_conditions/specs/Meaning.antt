@@ -74,7 +74,6 @@ asked_from asked place (a ∷ more) = asked_from (e.and asked (e.unary (Has a) p
 abbrev pub asked_of : Expression → (first : List ℕ) → (more : List (List ℕ)) → Expression
 asked_of x a more = asked_from (e.unary (Has a) x) (e.unary (Get a) x) more
 
--- Brackets are gone; chains group to the left; `x is T in e` asks both of x. A slot stands in no accepted expression.
 abbrev mutual
   -- The expression that is written: brackets are gone, chains group to the left, `x is T in e` asks both of x; a slot is
   -- refused, so its meaning says nothing (Cedar language reference, operators).

@@ -1,5 +1,6 @@
 -- What a statement must keep beside the grammar: side conditions, and the limits of its condition (own).
-use Rattle.std.specs.Prelude.{◌≡◌, ◌<◌, ◌≤◌, List, [], ◌∷◌, map}
+use Rattle.std.specs.Prelude.{◌≡◌, ◌<◌, ◌≤◌, List, [], map}
+use Rattle.std.specs.List.{AllByRecursion}
 use Rattle.cedar_policies.specs.Condition.{condition_of}
 use Rattle.cedar_ast.specs.Keys.{AreDistinct}
 use Rattle.cedar_ast.specs.declared.variable.Variable.{Variable}
@@ -34,16 +35,14 @@ KeepsReference c x (reference.Slot at y) = IsOwn c x y
 
 -- The scope of the principal or the resource keeps a side condition (own).
 abbrev pub KeepsEntityScope : SideCondition → Variable → WrittenEntityScope → Type 0
-KeepsEntityScope c x written.Any = Unit {0}
 KeepsEntityScope c x (written.Equal q) = KeepsReference c x q
 KeepsEntityScope c x (written.In q) = KeepsReference c x q
-KeepsEntityScope c x (written.Is ty) = Unit {0}
 KeepsEntityScope c x (written.IsIn ty q) = KeepsReference c x q
+KeepsEntityScope c x _ = Unit {0}
 
 -- Uids keep a side condition where each of them does (own).
 abbrev pub KeepUids : SideCondition → List WrittenUid → Type 0
-KeepUids c [] = Unit {0}
-KeepUids c (u ∷ us) = Stands c u.id × KeepUids c us
+KeepUids c = AllByRecursion (λ u. Stands c u.id)
 
 -- The scope of the action keeps a side condition (own).
 abbrev pub KeepsActionScope : SideCondition → WrittenActionScope → Type 0
@@ -59,13 +58,11 @@ HasDistinctNames _ notes = Unit {0}
 
 -- The values of annotations keep a side condition where each of them does (own).
 abbrev pub KeepAnnotations : SideCondition → List WrittenAnnotation → Type 0
-KeepAnnotations c [] = Unit {0}
-KeepAnnotations c (a ∷ notes) = Stands c a.value × KeepAnnotations c notes
+KeepAnnotations c = AllByRecursion (λ a. Stands c a.value)
 
 -- The conditions of a statement keep a side condition where the expression of each does (own).
 abbrev pub KeepConditions : SideCondition → List WrittenCondition → Type 0
-KeepConditions c [] = Unit {0}
-KeepConditions c (q ∷ qs) = Keeps c q.body × KeepConditions c qs
+KeepConditions c = AllByRecursion (λ q. Keeps c q.body)
 
 -- A statement keeps a side condition where its annotations, its scope and its conditions do (own).
 pub record KeepsStatement (c : SideCondition) (s : StatementTree) : Type 0 where

@@ -84,11 +84,10 @@ is_slot (reference.Slot at x) = true
 
 -- Whether the scope of the principal or the resource has a slot (Cedar language reference, policy templates).
 abbrev pub asks_slot : WrittenEntityScope → Bool
-asks_slot written.Any = false
 asks_slot (written.Equal q) = is_slot q
 asks_slot (written.In q) = is_slot q
-asks_slot (written.Is ty) = false
 asks_slot (written.IsIn ty q) = is_slot q
+asks_slot _ = false
 
 -- Whether the scope of a statement has a slot (Cedar language reference, policy templates).
 abbrev pub has_slot : WrittenScope → Bool
@@ -148,5 +147,4 @@ entered_from set n (s ∷ ss) = entered_from (entered set (statement_of n s)) (n
 
 -- The ids of statements, the first of which is at this position (own).
 abbrev pub ids_from : ℕ → List StatementTree → List (List ℕ)
-ids_from n [] = []
-ids_from n (s ∷ ss) = id_at n s ∷ ids_from (n + 1) ss
+ids_from n ss = map text_of (written_ids_from n ss)

@@ -17,7 +17,7 @@ use Rattle.cedar_conditions.specs.StatementMeaning.{id_in, id_at, written_id, wr
 use Rattle.cedar_tokens.specs.Content.{Content, text_of}
 use Rattle.cedar_written.specs.declared.written_statement.WrittenAnnotation.{WrittenAnnotation}
 use Rattle.cedar_conditions.specs.StatementLimits.{KeepAnnotations, IsWithinLimits, Breaks}
-use Rattle.cedar_parser.specs.PolicyText.{ArePolicies, BreaksLimit, TokensFault, Answers}
+use Rattle.cedar_parser.specs.PolicyText.{ArePolicies, BreaksLimit, TokensFault}
 use Rattle.cedar_tokens.specs.Reading.{Syntax, TooDeep}
 use Rattle.cedar_grammar.specs.StatementReading as st
 use Rattle.cedar_tokens.specs.Contract.{Refuses}
@@ -60,21 +60,21 @@ none_deep ts us n ps so some e ss h =
     let c = comes_next 101 us g.behind some g.reading in
     statement_too_deep 101 us c.first c.rest c.reading e
 
-pub unread_only : (ts us : Marks) (n : ℕ) (ps : PolicySetTree) → IsReadSoFar ts us n ps → 0 < length us → (x : ParseFault) → Refuses (st.statement 101 us) x → (set : PolicySetTree) → ArePolicies ts [] set → Answers set (Err x)
-unread_only ts us n ps so some f.OutOfMemory e set h = tt
-unread_only ts us n ps so some (f.Syntax at) e set h = none_refused ts us n ps so some e 101 h.statements h.reading
-unread_only ts us n ps so some (f.TooDeep at) e set h = none_deep ts us n ps so some e h.statements h.reading
-unread_only ts us n ps so some (f.Text x) e set h = e
-unread_only ts us n ps so some (f.DuplicateId at) e set h = e
-unread_only ts us n ps so some (f.EscapedStar at) e set h = e
-unread_only ts us n ps so some (f.NumberTooLarge at) e set h = e
-unread_only ts us n ps so some (f.DuplicateKey at) e set h = e
-unread_only ts us n ps so some (f.UnknownFunction at) e set h = e
-unread_only ts us n ps so some (f.Arity at) e set h = e
-unread_only ts us n ps so some (f.SlotMisplaced at) e set h = e
-unread_only ts us n ps so some (f.DuplicateAnnotation at) e set h = e
-unread_only ts us n ps so some (f.TooHigh at) e set h = e
-unread_only ts us n ps so some (f.TooLarge at) e set h = e
+pub unread_only : (ts us : Marks) (n : ℕ) (ps : PolicySetTree) → IsReadSoFar ts us n ps → 0 < length us → (x : ParseFault) → Refuses (st.statement 101 us) x → (set : PolicySetTree) → ArePolicies ts [] set → x ≡ f.OutOfMemory
+unread_only ts us n ps so some f.OutOfMemory e set h = refl
+unread_only ts us n ps so some (f.Syntax at) e set h = absurd (none_refused ts us n ps so some e 101 h.statements h.reading)
+unread_only ts us n ps so some (f.TooDeep at) e set h = absurd (none_deep ts us n ps so some e h.statements h.reading)
+unread_only ts us n ps so some (f.Text x) e set h = absurd e
+unread_only ts us n ps so some (f.DuplicateId at) e set h = absurd e
+unread_only ts us n ps so some (f.EscapedStar at) e set h = absurd e
+unread_only ts us n ps so some (f.NumberTooLarge at) e set h = absurd e
+unread_only ts us n ps so some (f.DuplicateKey at) e set h = absurd e
+unread_only ts us n ps so some (f.UnknownFunction at) e set h = absurd e
+unread_only ts us n ps so some (f.Arity at) e set h = absurd e
+unread_only ts us n ps so some (f.SlotMisplaced at) e set h = absurd e
+unread_only ts us n ps so some (f.DuplicateAnnotation at) e set h = absurd e
+unread_only ts us n ps so some (f.TooHigh at) e set h = absurd e
+unread_only ts us n ps so some (f.TooLarge at) e set h = absurd e
 
 pub unread_fault : (ts us : Marks) (n : ℕ) (ps : PolicySetTree) → IsReadSoFar ts us n ps → 0 < length us → (x : ParseFault) → Refuses (st.statement 101 us) x → TokensFault ts x
 unread_fault ts us n ps so some f.OutOfMemory e = tt
@@ -152,7 +152,7 @@ ids_stand n (s ∷ ss) id w (suc k, lt, e) =
     let c = ids_stand (n + 1) ss id (λ i d less. w (suc i) d (omega arith)) (k, omega arith, e) in
     (suc c.0, omega (arith, c.1), c.2)
 
-pub unentered_only : (ts us vs : Marks) (n : ℕ) (ps : PolicySetTree) (s : StatementTree) → IsReadSoFar ts us n ps → IsRead us vs s → (x : ParseFault) → RefusesEntry ps n s x → (set : PolicySetTree) → ArePolicies ts [] set → Answers set (Err x)
+pub unentered_only : (ts us vs : Marks) (n : ℕ) (ps : PolicySetTree) (s : StatementTree) → IsReadSoFar ts us n ps → IsRead us vs s → (x : ParseFault) → RefusesEntry ps n s x → (set : PolicySetTree) → ArePolicies ts [] set → x ≡ f.OutOfMemory
 unentered_only ts us vs n ps s so i x e set h = go x e
   where
     g : GoesOn 101 vs (so.are_policies.statements ++ s ∷ []) h.statements
@@ -161,21 +161,21 @@ unentered_only ts us vs n ps s so i x e set h = go x e
     kept : IsWithinLimits s
     kept = keeps_limits so.are_policies.statements g.behind h.statements s g.whole h.limits
 
-    go : (x : ParseFault) → RefusesEntry ps n s x → Answers set (Err x)
-    go f.OutOfMemory e = tt
-    go (f.DuplicateId at) e = keeps_ids so.are_policies.statements g.behind h.statements s g.whole h.distinct (repeated ts us n ps s so e.1)
-    go (f.EscapedStar at) e = e (kept.keeps Strings)
-    go (f.NumberTooLarge at) e = e (kept.keeps Numbers)
-    go (f.DuplicateKey at) e = e (kept.keeps Keys)
-    go (f.UnknownFunction at) e = e (kept.keeps Names)
-    go (f.Arity at) e = e (kept.keeps Counts)
-    go (f.SlotMisplaced at) e = e (kept.keeps Slots)
-    go (f.DuplicateAnnotation at) e = e (kept.keeps Annotations)
-    go (f.TooHigh at) e = let low = kept.low in omega arith
-    go (f.TooLarge at) e = let small = kept.small in omega arith
-    go (f.Text y) e = e
-    go (f.Syntax at) e = e
-    go (f.TooDeep at) e = e
+    go : (x : ParseFault) → RefusesEntry ps n s x → x ≡ f.OutOfMemory
+    go f.OutOfMemory e = refl
+    go (f.DuplicateId at) e = absurd (keeps_ids so.are_policies.statements g.behind h.statements s g.whole h.distinct (repeated ts us n ps s so e.1))
+    go (f.EscapedStar at) e = absurd (e (kept.keeps Strings))
+    go (f.NumberTooLarge at) e = absurd (e (kept.keeps Numbers))
+    go (f.DuplicateKey at) e = absurd (e (kept.keeps Keys))
+    go (f.UnknownFunction at) e = absurd (e (kept.keeps Names))
+    go (f.Arity at) e = absurd (e (kept.keeps Counts))
+    go (f.SlotMisplaced at) e = absurd (e (kept.keeps Slots))
+    go (f.DuplicateAnnotation at) e = absurd (e (kept.keeps Annotations))
+    go (f.TooHigh at) e = let low = kept.low in absurd (omega arith)
+    go (f.TooLarge at) e = let small = kept.small in absurd (omega arith)
+    go (f.Text y) e = absurd e
+    go (f.Syntax at) e = absurd e
+    go (f.TooDeep at) e = absurd e
 
 pub unentered_fault : (ts us vs : Marks) (n : ℕ) (ps : PolicySetTree) (s : StatementTree) → IsReadSoFar ts us n ps → IsRead us vs s → (x : ParseFault) → RefusesEntry ps n s x → TokensFault ts x
 unentered_fault ts us vs n ps s so i x e = go x e

@@ -1,5 +1,5 @@
 -- What a policy text is, and why a text is not one (Cedar language reference, grammar; policies).
-use Rattle.std.specs.Prelude.{◌≡◌, ℕ, suc, List, [], ◌∷◌, ◌++◌, length, Some, Result, Ok, Err, All, Contains}
+use Rattle.std.specs.Prelude.{◌≡◌, ℕ, suc, List, [], ◌∷◌, ◌++◌, length, Some, All, Contains}
 use Rattle.cedar_ast.specs.Keys.{AreDistinct}
 use Rattle.cedar_policies.specs.PolicySetTree.{PolicySetTree, no_policies}
 use Rattle.cedar_tokens.specs.Faults.{LacksTokens}
@@ -64,9 +64,3 @@ abbrev pub HasFault : List ℕ → ParseFault → Type 0
 HasFault source f.OutOfMemory = Unit {0}
 HasFault source (f.Text fault) = LacksTokens source fault
 HasFault source fault = (ts : Marks) × IsMarked source ts × TokensFault ts fault
-
--- The answer is this set, or memory ran out (own).
-abbrev pub Answers : PolicySetTree → Result PolicySetTree ParseFault → Type 0
-Answers set (Ok found) = found ≡ set
-Answers set (Err f.OutOfMemory) = Unit {0}
-Answers set (Err _) = ⊥

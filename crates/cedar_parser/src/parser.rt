@@ -1,7 +1,7 @@
 //! Policy texts.
-ghost use Rattle.std.specs.Prelude.{◌≡◌, [], ℕ, List, Some, IfOk, OnOk, IfErr, Contains};
+ghost use Rattle.std.specs.Prelude.{◌≡◌, [], ℕ, List, Some, IfOk, OnOk, IfErr, MatchResult, Contains};
 ghost use Rattle.cedar_policies.specs.PolicySetTree.{PolicySetTree, entered, id_of, ids_in};
-ghost use Rattle.cedar_parser.specs.PolicyText.{ArePolicies, IsPolicyText, TokensFault, HasFault, Answers};
+ghost use Rattle.cedar_parser.specs.PolicyText.{ArePolicies, IsPolicyText, TokensFault, HasFault};
 ghost use Rattle.cedar_parser.specs.Private.Entering.{RefusesEntry, RefusesAdd, refusal_for};
 ghost use Rattle.cedar_policies.specs.AddFault.{number_of};
 ghost use Rattle.cedar_conditions.specs.StatementMeaning.{statement_of, id_at};
@@ -11,6 +11,7 @@ ghost use Rattle.cedar_ast.specs.declared.operator.BinaryOperator.{BinaryOperato
 ghost use Rattle.cedar_ast.specs.declared.operator.UnaryOperator.TheVariants.{Has};
 ghost use Rattle.cedar_written.specs.Written.{Written, has};
 ghost use Rattle.cedar_tokens.specs.Content.{Content, text_of};
+ghost use Rattle.cedar_tokens.specs.declared.parse_fault.ParseFault.TheVariants.{OutOfMemory};
 ghost use Rattle.cedar_conditions.specs.declared.functions.Method.TheVariants.{Binary};
 ghost use Rattle.cedar_conditions.specs.Meaning.{to_expression, method_of};
 ghost use Rattle.cedar_parser.specs.Earlier.{IsEarlierPolicyText};
@@ -38,7 +39,7 @@ pub fn parse(alloc: Global, source: &str) -> Result<PolicySet, ParseFault>
     // What is answered are the policies of the text.
     ensures found { IfOk result (IsPolicyText source.now) }
     // The policies of the text are what is answered, unless memory runs out.
-    ensures only { (set : PolicySetTree) → IsPolicyText source.now set → Answers set result }
+    ensures only { (set : PolicySetTree) → IsPolicyText source.now set → MatchResult result (λ found. found ≡ set) (λ e. e ≡ OutOfMemory) }
     // Each fault comes only where it is.
     ensures fault { IfErr result (HasFault source.now) }
 {
@@ -70,7 +71,7 @@ pub fn earlier_texts()
 // The policies of all tokens.
 fn policies(alloc: Global, tokens: &mut Cursor<'_>) -> Result<PolicySet, ParseFault>
     ensures found { IfOk result (ArePolicies tokens.old []) }
-    ensures only { (set : PolicySetTree) → ArePolicies tokens.old [] set → Answers set result }
+    ensures only { (set : PolicySetTree) → ArePolicies tokens.old [] set → MatchResult result (λ found. found ≡ set) (λ e. e ≡ OutOfMemory) }
     ensures fault { IfErr result (TokensFault tokens.old) }
 {
     let mut set = PolicySet::new(alloc);

@@ -52,14 +52,10 @@ pub record IsTemplate (set : PolicySetTree) (id : List ℕ) (t : TemplateTree) :
 
 -- Whether a template's scope has a slot for the principal or the resource (Cedar language reference, policy templates).
 abbrev pub has_slot : TemplateEntityScope → Bool
-has_slot template.Any = false
-has_slot (template.Equal (Entity u)) = false
 has_slot (template.Equal Slot) = true
-has_slot (template.In (Entity u)) = false
 has_slot (template.In Slot) = true
-has_slot (template.Is ty) = false
-has_slot (template.IsIn ty (Entity u)) = false
 has_slot (template.IsIn ty Slot) = true
+has_slot _ = false
 
 -- Nothing is given for the slot that a scope has (Cedar language reference, policy templates).
 abbrev pub IsMissing : TemplateEntityScope → Option Uid → Type 0

@@ -25,7 +25,8 @@ use Rattle.cedar_ast.specs.Operators.{unary_of, binary_of, in_of}
 use Rattle.cedar_policies.specs.PolicyTree.{PolicyTree}
 use Rattle.cedar_policies.specs.Condition.{entity_literal, entity_scope_of, action_scope_of, conditions_of, condition_of}
 use Rattle.cedar_schema.specs.declared.schema.environment.Environment.{Environment}
-use Rattle.cedar_schema.specs.SchemaTree.{SchemaTree, ActionTree, with_resources, with_principals, environments_of}
+use Rattle.cedar_schema.specs.SchemaTree.{SchemaTree, ActionTree, environments_of}
+use Rattle.cedar_schema.specs.Private.Environments.{with_principals, with_resources}
 use Rattle.cedar_schema.specs.Descents.{ActionDescends, TypeDescends}
 use Rattle.cedar_schema.specs.WellFormed.{AreTypesApart}
 use Rattle.cedar_schema.specs.Declarations.{IsAction}

@@ -24,7 +24,7 @@ use Rattle.cedar_types.specs.Membership.{known}
 use Rattle.cedar_schema.specs.Declarations.{IsAction, is_entity_type, is_action, is_action_type, type_below}
 use Rattle.cedar_typing.specs.Capabilities.{Capability, Capabilities, Has, IsUnion, IsCommon, AreSame}
 use Rattle.cedar_schema.specs.Declaring.{is_record}
-use Rattle.cedar_typing.specs.Typing.{flipped, is_arithmetic, is_comparison, is_decimal_comparison, is_set_comparison, MayHold, written_uids, names_of, AreWritten, IsInOne, Target, one_entity, entity_set, is_literal, TypesWith, of_boolean, of_long, of_text, of_uid, of_principal, of_resource, of_context, of_not, and_false, and_then_false, and_then_true, and_then_any, or_true, or_false, or_any_true, or_any_false, or_any_any, if_true, if_false, if_any, of_negative, of_arithmetic, of_comparison, equal_literals, equal_joined, equal_apart, has_none, has_held, has_required, has_any, of_get, of_like, of_is, in_written, in_related, in_unrelated, of_contains, of_set_comparison, of_is_empty, of_set, of_record, of_decimal, of_any_decimal, of_decimals, JoinsOnto, joined_all, joined_more, AddsOnto, added_all, added_more}
+use Rattle.cedar_typing.specs.Typing.{flipped, is_arithmetic, is_comparison, is_decimal_comparison, is_set_comparison, MayHold, written_uids, AreWritten, IsInOne, Target, one_entity, entity_set, is_literal, TypesWith, of_boolean, of_long, of_text, of_uid, of_principal, of_resource, of_context, of_not, and_false, and_then_false, and_then_true, and_then_any, or_true, or_false, or_any_true, or_any_false, or_any_any, if_true, if_false, if_any, of_negative, of_arithmetic, of_comparison, equal_literals, equal_joined, equal_apart, has_none, has_held, has_required, has_any, of_get, of_like, of_is, in_written, in_related, in_unrelated, of_contains, of_set_comparison, of_is_empty, of_set, of_record, of_decimal, of_any_decimal, of_decimals, JoinsOnto, joined_all, joined_more, AddsOnto, added_all, added_more}
 use Rattle.cedar_types.specs.Lookup.{attribute_at}
 use Rattle.cedar_types.specs.Ordered.{with_attribute}
 use Rattle.cedar_typing.specs.Rows.{Typed, as_type, gaining, truth_in, entity_in, target_in, apart, any_or, equal_literal_type, any_if, names_action, is_or_descends, is_in_written, in_truth, any_where, binary_type, decimal_type}
@@ -34,6 +34,7 @@ use Rattle.cedar_typing.proofs.Descents.{is_action-Decides, is_action_type-Decid
 use Rattle.cedar_typing.proofs.Trees.{test_from_cap, cap_from_test, test_from_distinct}
 use Rattle.cedar_policies.specs.Condition.{condition_of}
 use Rattle.cedar_ast.specs.Replacement.{replace}
+use Rattle.cedar_ast.specs.Keys.{keys_in}
 use Rattle.cedar_typing.specs.Determined.{TypingIsOneWith}
 use Rattle.cedar_typing.specs.Private.Exactness.{FoundIsTypedWith, TypedIsFoundWith, FormIsFoundWith}
 use Rattle.cedar_typing.proofs.Found.{union_append, common_is, form_is, found, names_action-Decides, written-Decides, related-Decides}
@@ -285,7 +286,7 @@ module _ (settings : Settings) (s : SchemaTree) (env : Environment) where
         ∙ ap (option_and_then (λ (t : TypeTree). as_type (kind.set t))) (exact_onto ds k p))
     exact (of_record {fs = fs} {at = at} d ds) k p =
         plainly k (record_with fs) (kind.record_of at)
-        (ap₂ (λ x y. only_if x (option_and_then (λ (at : Attributes). as_type (kind.record_of at)) y)) (test_from_distinct (names_of fs) d) (exact_entries ds k p))
+        (ap₂ (λ x y. only_if x (option_and_then (λ (at : Attributes). as_type (kind.record_of at)) y)) (test_from_distinct (keys_in fs) d) (exact_entries ds k p))
     exact (of_decimal {t = t} e) k p = plainly k (unary operator.Decimal (literal (text t))) kind.decimal (ap (λ r. only_if (is_some r) (as_type kind.decimal)) e)
     exact (of_any_decimal {g = g} {e = e} on n d) k p = one k operator.Decimal e kind.string kind.decimal g (exact d k p) (λ h. decimal_exact e n on)
     exact (of_decimals {ga = ga} {gb = gb} {a = a} {b = b} {op = op} is da db) k p = two k op a b kind.decimal kind.decimal (kind.boolean Any) ga gb (exact da k p) (exact db k p) (decimals_exact op a b is)

@@ -15,6 +15,7 @@ use Rattle.cedar_ast.specs.declared.operator.UnaryOperator.TheVariants as operat
 use Rattle.cedar_ast.specs.declared.operator.BinaryOperator.{BinaryOperator}
 use Rattle.cedar_ast.specs.declared.operator.BinaryOperator.TheVariants as binary_operator
 use Rattle.cedar_ast.specs.Expression.{Expression, literal, variable, and, or, if_else, unary, binary, set_with, record_with, Expressions, no_more, and_then, Entries, no_entries, entry}
+use Rattle.cedar_ast.specs.Keys.{keys_in}
 use Rattle.cedar_types.specs.declared.truth.Truth.{Truth}
 use Rattle.cedar_types.specs.declared.truth.Truth.TheVariants.{True, False, Any}
 use Rattle.cedar_schema.specs.declared.schema.environment.Environment.{Environment}
@@ -29,7 +30,7 @@ use Rattle.cedar_types.specs.Membership.{known}
 use Rattle.cedar_schema.specs.Declarations.{is_entity_type, is_action, is_action_type, action_below, type_below}
 use Rattle.cedar_typing.specs.Capabilities.{Capability, Capabilities, Has, IsUnion, IsCommon}
 use Rattle.cedar_schema.specs.Declaring.{is_record}
-use Rattle.cedar_typing.specs.Typing.{attributes_in, flipped, is_arithmetic, is_comparison, is_decimal_comparison, is_set_comparison, MayHold, two_literals, written_uids, names_of, NamesAction, AreWritten, IsInOne, IsOrDescends, Target, one_entity, entity_set, is_literal, TypesWith, of_boolean, of_long, of_text, of_uid, of_principal, of_resource, of_context, of_not, and_false, and_then_false, and_then_true, and_then_any, or_true, or_false, or_any_true, or_any_false, or_any_any, if_true, if_false, if_any, of_negative, of_arithmetic, of_comparison, equal_literals, equal_joined, equal_apart, has_none, has_held, has_required, has_any, of_get, of_like, of_is, in_written, in_related, in_unrelated, of_contains, of_set_comparison, of_is_empty, of_set, of_record, of_decimal, of_any_decimal, of_decimals, JoinsOnto, joined_all, joined_more, AddsOnto, added_all, added_more}
+use Rattle.cedar_typing.specs.Typing.{attributes_in, flipped, is_arithmetic, is_comparison, is_decimal_comparison, is_set_comparison, MayHold, two_literals, written_uids, NamesAction, AreWritten, IsInOne, IsOrDescends, Target, one_entity, entity_set, is_literal, TypesWith, of_boolean, of_long, of_text, of_uid, of_principal, of_resource, of_context, of_not, and_false, and_then_false, and_then_true, and_then_any, or_true, or_false, or_any_true, or_any_false, or_any_any, if_true, if_false, if_any, of_negative, of_arithmetic, of_comparison, equal_literals, equal_joined, equal_apart, has_none, has_held, has_required, has_any, of_get, of_like, of_is, in_written, in_related, in_unrelated, of_contains, of_set_comparison, of_is_empty, of_set, of_record, of_decimal, of_any_decimal, of_decimals, JoinsOnto, joined_all, joined_more, AddsOnto, added_all, added_more}
 use Rattle.cedar_types.specs.Lookup.{attribute_at}
 use Rattle.cedar_types.specs.declared.attribute.Attribute.{Attribute}
 use Rattle.cedar_types.specs.Ordered.{with_attribute}
@@ -434,9 +435,9 @@ module _ (settings : Settings) (s : SchemaTree) (env : Environment) where
         let d = and_then_some (λ (y : Typed). types_onto settings s env h y.ty es) (type_of_with settings s env h e) p.0 p.1 in
         from_some h (set_with (and_then e es)) (record { ty = kind.set p.0; gained = [] }) x p.2 (of_set (found e h d.0 d.1) (found_onto es h d.0.ty p.0 d.2))
     found (record_with fs) h x r =
-        let c = only_if_some (are_distinct (names_of fs)) (option_and_then (λ (at : Attributes). as_type (kind.record_of at)) (types_entries settings s env h no_attributes fs)) x r in
+        let c = only_if_some (are_distinct (keys_in fs)) (option_and_then (λ (at : Attributes). as_type (kind.record_of at)) (types_entries settings s env h no_attributes fs)) x r in
         let p = and_then_some (λ (at : Attributes). as_type (kind.record_of at)) (types_entries settings s env h no_attributes fs) x c.1 in
-        from_some h (record_with fs) (record { ty = kind.record_of p.0; gained = [] }) x p.2 (of_record (distinct_from_test (names_of fs) c.0) (found_entries fs h no_attributes p.0 p.1))
+        from_some h (record_with fs) (record { ty = kind.record_of p.0; gained = [] }) x p.2 (of_record (distinct_from_test (keys_in fs) c.0) (found_entries fs h no_attributes p.0 p.1))
 
     found_onto : (es : Expressions) (h : Capabilities) (t v : TypeTree) → types_onto settings s env h t es ≡ Some v → JoinsOnto settings s env h t es v
     found_onto no_more h t v r = let p : t ≡ v = cc in subst (λ (x : TypeTree). JoinsOnto settings s env h t no_more x) p joined_all

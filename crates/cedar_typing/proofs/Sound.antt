@@ -20,7 +20,7 @@ use Rattle.cedar_ast.specs.Expression.{Expression, literal, variable, and, or, i
 use Rattle.cedar_ast.specs.Evaluation.{and_of, or_of, if_of, set_of_values, record_of_pairs, eval, eval_all, eval_entries}
 use Rattle.cedar_ast.specs.Operators.{source, is_empty, decimal_or_error, unary_of, binary_of}
 use Rattle.cedar_policies.specs.Condition.{condition_of}
-use Rattle.cedar_ast.specs.Keys.{AreDistinct}
+use Rattle.cedar_ast.specs.Keys.{AreDistinct, keys_in}
 use Rattle.cedar_types.specs.declared.truth.Truth.{Truth}
 use Rattle.cedar_types.specs.declared.truth.Truth.TheVariants.{True, False, Any}
 use Rattle.cedar_schema.specs.declared.schema.environment.Environment.{Environment}
@@ -31,7 +31,7 @@ use Rattle.cedar_types.specs.Membership.{known, HasTruth, Member, At}
 use Rattle.cedar_schema.specs.WellFormed.{AreTypesApart}
 use Rattle.cedar_schema.specs.Conformance.{Conforms, FitsIn}
 use Rattle.cedar_typing.specs.Capabilities.{Capability, Capabilities, Has, Hold}
-use Rattle.cedar_typing.specs.Typing.{attributes_in, flipped, names_of, TypesWith, of_boolean, of_long, of_text, of_uid, of_principal, of_resource, of_context, of_not, and_false, and_then_false, and_then_true, and_then_any, or_true, or_false, or_any_true, or_any_false, or_any_any, if_true, if_false, if_any, of_negative, of_arithmetic, of_comparison, equal_literals, equal_joined, equal_apart, has_none, has_held, has_required, has_any, of_get, of_like, of_is, in_written, in_related, in_unrelated, of_contains, of_set_comparison, of_is_empty, of_set, of_record, of_decimal, of_any_decimal, of_decimals, JoinsOnto, joined_all, joined_more, AddsOnto, added_all, added_more}
+use Rattle.cedar_typing.specs.Typing.{attributes_in, flipped, TypesWith, of_boolean, of_long, of_text, of_uid, of_principal, of_resource, of_context, of_not, and_false, and_then_false, and_then_true, and_then_any, or_true, or_false, or_any_true, or_any_false, or_any_any, if_true, if_false, if_any, of_negative, of_arithmetic, of_comparison, equal_literals, equal_joined, equal_apart, has_none, has_held, has_required, has_any, of_get, of_like, of_is, in_written, in_related, in_unrelated, of_contains, of_set_comparison, of_is_empty, of_set, of_record, of_decimal, of_any_decimal, of_decimals, JoinsOnto, joined_all, joined_more, AddsOnto, added_all, added_more}
 use Rattle.cedar_types.specs.Lookup.{attribute_at}
 use Rattle.cedar_types.specs.declared.attribute.Attribute.{Attribute}
 use Rattle.cedar_ast.specs.Replacement.{replace, replace_all, replace_entries}
@@ -86,9 +86,9 @@ module _ (settings : Settings) (s : SchemaTree) (env : Environment) (q : Request
   -- a record of the values found, whose keys are those written
   record Found (at : Attributes) (done : List (List ℕ × Datum)) (fs : Entries) (ps : List (List ℕ × Datum)) : Type 0 where
     have : HaveAttributes at (onto done ps)
-    keyed : keys ps ≡ names_of fs
+    keyed : keys ps ≡ keys_in fs
 
-  made : (at : Attributes) (fs : Entries) (ps : List (List ℕ × Datum)) → AreDistinct (names_of fs) → Found at [] fs ps → Member (kind.record_of at) (record_of_pairs ps)
+  made : (at : Attributes) (fs : Entries) (ps : List (List ℕ × Datum)) → AreDistinct (keys_in fs) → Found at [] fs ps → Member (kind.record_of at) (record_of_pairs ps)
   made at fs ps d h = λ k.
       let apart : AreDistinct (keys ps) = subst AreDistinct (sym h.keyed) d in
       subst (λ xs. At at k (value_at k xs)) (sym (pairs_of-fields_of (record_from ps))) (subst (λ o. At at k o) (record_onto k ps apart) (h.have k))

@@ -11,7 +11,7 @@ use Rattle.cedar_ast.specs.declared.operator.UnaryOperator.TheVariants as operat
 use Rattle.cedar_ast.specs.declared.operator.BinaryOperator.{BinaryOperator}
 use Rattle.cedar_ast.specs.declared.operator.BinaryOperator.TheVariants as binary_operator
 use Rattle.cedar_ast.specs.Expression.{Expression, literal, variable, and, or, if_else, unary, binary, set_with, record_with, Expressions, no_more, and_then, Entries, no_entries, entry}
-use Rattle.cedar_ast.specs.Keys.{AreDistinct}
+use Rattle.cedar_ast.specs.Keys.{AreDistinct, keys_in}
 use Rattle.cedar_types.specs.declared.truth.Truth.{Truth}
 use Rattle.cedar_types.specs.declared.truth.Truth.TheVariants.{True, False, Any}
 use Rattle.cedar_schema.specs.declared.schema.environment.Environment.{Environment}
@@ -134,11 +134,6 @@ pub data Target : TypeTree → List ℕ → Type 0 where
   one_entity : {n : List ℕ} → Target (kind.entity n) n
   entity_set : {n : List ℕ} → Target (kind.set (kind.entity n)) n
 
--- The keys that a record writes, in order (Cedar language reference, records).
-abbrev pub names_of : Entries → List (List ℕ)
-names_of no_entries = []
-names_of (entry k e fs) = k ∷ names_of fs
-
 mutual
   -- Under these settings, in an environment of a schema, where these capabilities are held, the expression has the type and
   -- gains the capabilities, which hold where it is true: one rule for each row of the table of strict validation (Cedar
@@ -206,7 +201,7 @@ mutual
     -- a set: its members join; an empty set has no type
     of_set : {h g : Capabilities} {e : Expression} {es : Expressions} {t v : TypeTree} → TypesWith settings s env h e t g → JoinsOnto settings s env h t es v → TypesWith settings s env h (set_with (and_then e es)) (kind.set v) []
     -- a record: each key is required, with its value's type
-    of_record : {h : Capabilities} {fs : Entries} {at : Attributes} → AreDistinct (names_of fs) → AddsOnto settings s env h no_attributes fs at → TypesWith settings s env h (record_with fs) (kind.record_of at) []
+    of_record : {h : Capabilities} {fs : Entries} {at : Attributes} → AreDistinct (keys_in fs) → AddsOnto settings s env h no_attributes fs at → TypesWith settings s env h (record_with fs) (kind.record_of at) []
     -- `decimal`: of one string literal that is a decimal's
     of_decimal : {h : Capabilities} {t : List ℕ} {z : ℤ} → decimal_of t ≡ Some z → TypesWith settings s env h (unary operator.Decimal (literal (text t))) kind.decimal []
     -- with the setting on, also of any text that is not written as a literal

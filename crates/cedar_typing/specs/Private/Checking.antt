@@ -22,10 +22,10 @@ use Rattle.cedar_schema.specs.Declarations.{is_entity_type, is_action}
 use Rattle.cedar_typing.specs.Capabilities.{Capability, Capabilities}
 use Rattle.cedar_typing.specs.Rows.{Typed, as_type, gaining, truth_in, has_row, get_row, unary_row, binary_type}
 use Rattle.cedar_typing.specs.declared.settings.Settings.{Settings}
-use Rattle.cedar_typing.specs.Typing.{names_of}
 use Rattle.cedar_types.specs.declared.attribute.Attribute.{Attribute}
 use Rattle.cedar_types.specs.Ordered.{with_attribute}
 use Rattle.cedar_ast.specs.Replacement.{replace}
+use Rattle.cedar_ast.specs.Keys.{keys_in}
 
 -- Whether two capabilities are equal.
 abbrev pub same_capability : Capability → Capability → Bool
@@ -122,7 +122,7 @@ abbrev mutual
   type_of_with settings s env h (unary op e) = option_and_then (unary_type settings s h op e) (type_of_with settings s env h e)
   type_of_with settings s env h (binary op a b) = on_two (type_of_with settings s env h a) (type_of_with settings s env h b) (binary_type s op a b)
   type_of_with settings s env h (set_with es) = option_and_then (λ t. as_type (kind.set t)) (types_all settings s env h es)
-  type_of_with settings s env h (record_with fs) = only_if (are_distinct (names_of fs)) (option_and_then (λ at. as_type (kind.record_of at)) (types_entries settings s env h no_attributes fs))
+  type_of_with settings s env h (record_with fs) = only_if (are_distinct (keys_in fs)) (option_and_then (λ at. as_type (kind.record_of at)) (types_entries settings s env h no_attributes fs))
 
   -- What the types of one or more members join to.
   pub types_all : Settings → SchemaTree → Environment → Capabilities → Expressions → Option TypeTree

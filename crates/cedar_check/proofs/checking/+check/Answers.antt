@@ -4,11 +4,10 @@ use Rattle.cedar_types.specs.Joining.{only_if}
 use Rattle.cedar_types.specs.Types.{Attributes, no_attributes, record_of}
 use Rattle.cedar_ast.specs.Private.Depth.{depth, list_depth, pairs_depth}
 use Rattle.cedar_ast.specs.Expression.{set_with, record_with, expressions_of, entries_of}
-use Rattle.cedar_ast.specs.Keys.{AreDistinct, keys_of}
+use Rattle.cedar_ast.specs.Keys.{AreDistinct, keys_of, keys_in}
 use Rattle.cedar_ast.proofs.Lists.{member_depth, pair_depth}
 use Rattle.cedar_typing.specs.Rows.{Typed, as_type}
 use Rattle.cedar_typing.specs.Private.Checking.{are_distinct, types_onto, types_entries}
-use Rattle.cedar_typing.specs.Typing.{names_of}
 use Rattle.cedar_rules.specs.View.{held_view, tree_of, typed_view, typing_view}
 use Rattle.cedar_check.proofs.Joined.{member_refused, member_apart, member_joined, entry_refused, entry_added, nothing, distinct_names}
 use Rattle.cedar_check.proofs.checking.+check.Goals as goal
@@ -58,7 +57,7 @@ check_record-returns-in-Refused t c =
     let none = sym c.loop-pair.invariant
     ∙ entry_refused c.args.settings c.args.schema.now c.args.environment.now (held_view c.args.held.now) c.loop-pair.attributes c.args.pairs.now c.loop-pair.pair-index c.pair-item.result c.loop-pair-test.true c.pair-item.is
     (sym c.in_ok-x.ensures ∙ ap typing_view c.in-Refused.is) in
-    sym (ap (λ o. only_if (are_distinct (names_of (entries_of c.args.pairs.now))) (option_and_then (λ (at : Attributes). as_type (record_of at)) o)) none ∙ nothing (are_distinct (names_of (entries_of c.args.pairs.now))))
+    sym (ap (λ o. only_if (are_distinct (keys_in (entries_of c.args.pairs.now))) (option_and_then (λ (at : Attributes). as_type (record_of at)) o)) none ∙ nothing (are_distinct (keys_in (entries_of c.args.pairs.now))))
 
 pub check_record-loop-pair-preserved : goal.check_record-loop-pair-preserved
 check_record-loop-pair-preserved t c =

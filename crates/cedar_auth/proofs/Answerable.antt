@@ -20,17 +20,18 @@ use Rattle.cedar_types.specs.Types as kind
 use Rattle.cedar_policies.specs.Response.{response}
 use Rattle.cedar_schema.specs.Declarations.{IsAction, is_action, ActionsAreDecided}
 use Rattle.cedar_schema.specs.Declaring.{is_record}
-use Rattle.cedar_schema.specs.SchemaTree.{SchemaTree, shape_of, environments_of, IsEnvironmentOf, HasEnvironment}
+use Rattle.cedar_schema.specs.SchemaTree.{SchemaTree, shape_of, environments_of, HasEnvironment}
 use Rattle.cedar_schema.specs.WellFormed.{AreContextsOrdered, IsOrderedRecord}
 use Rattle.cedar_schema.specs.declared.schema.environment.Environment.{Environment}
 use Rattle.cedar_data.specs.Belonging.{ReadValuesBelong}
+use Rattle.cedar_data.specs.Objects.{has_only}
 use Rattle.cedar_data.specs.Uids.{uid_object}
 use Rattle.cedar_data.specs.Values.{value_read}
 use Rattle.cedar_data.specs.WrittenUids.{IsUidObject, WritesUid, UidAt}
 use Rattle.cedar_data.specs.Numbers.{number_of}
 use Rattle.cedar_data.specs.declared.conform_fault.ConformFault.{ConformFault}
 use Rattle.cedar_data.specs.declared.conform_fault.ConformFault.TheVariants.{OutOfMemory, Json, Shape, UnknownType, NoSuchAction, ActionDoesNotApply}
-use Rattle.cedar_conform.specs.Requests.{has_request_keys, Names, Lacks, IsShapeless, context_of, Denotes, HasFault}
+use Rattle.cedar_conform.specs.Requests.{is_request_key, Names, Lacks, IsShapeless, context_of, Denotes, HasFault}
 use Rattle.cedar_auth.specs.AnswerJson.{response_data, refused_data}
 use Rattle.cedar_auth.specs.AnswerLine.{AnswersLine}
 use Rattle.cedar_auth.specs.Ready.{ReadyTree}
@@ -101,25 +102,25 @@ module _ (a : Uid) (p r : List ℕ) where
   Found envs = (t : TypeTree) × Contains envs (record { action = a; principal = p; resource = r; context = t })
 
   NotFound : List Environment → Type 0
-  NotFound envs = (e : Environment) → Contains envs e → IsEnvironmentOf e a p r → ⊥
+  NotFound envs = (t : TypeTree) → Contains envs (record { action = a; principal = p; resource = r; context = t }) → ⊥
 
-  later : (e : Environment) (es : List Environment) → (IsEnvironmentOf e a p r → ⊥) → Found es ⊎ NotFound es → Found (e ∷ es) ⊎ NotFound (e ∷ es)
+  later : (e : Environment) (es : List Environment) → ((t : TypeTree) → e ≡ record { action = a; principal = p; resource = r; context = t } → ⊥) → Found es ⊎ NotFound es → Found (e ∷ es) ⊎ NotFound (e ∷ es)
   unfolding Found NotFound
   later e es n (inl f) = inl (f.0, there e es _ f.1)
-  later e es n (inr g) = inr (λ x m is. ⊎_elim (λ same. n (subst (λ (z : Environment). IsEnvironmentOf z a p r) (sym same) is)) (λ behind. g x behind is) (cases e es x m))
+  later e es n (inr g) = inr (λ t m. ⊎_elim (λ same. n t same) (λ behind. g t behind) (cases e es (record { action = a; principal = p; resource = r; context = t }) m))
 
   found_by : (e : Environment) (es : List Environment) → (e.action ≡ a) ⊎ (e.action ≡ a → ⊥) → (e.principal ≡ p) ⊎ (e.principal ≡ p → ⊥) → (e.resource ≡ r) ⊎ (e.resource ≡ r → ⊥) → Found es ⊎ NotFound es → Found (e ∷ es) ⊎ NotFound (e ∷ es)
   unfolding Found NotFound
   found_by e es (inl x) (inl y) (inl z) rest =
       let this : e ≡ record { action = a; principal = p; resource = r; context = e.context } = λ i. record { action = x i; principal = y i; resource = z i; context = e.context } in
       inl (e.context, subst (λ (f : Environment). Contains (e ∷ es) f) this (here e es))
-  found_by e es (inr n) y z rest = later e es (λ is. n is.action_is) rest
-  found_by e es (inl x) (inr n) z rest = later e es (λ is. n is.principal_is) rest
-  found_by e es (inl x) (inl y) (inr n) rest = later e es (λ is. n is.resource_is) rest
+  found_by e es (inr n) y z rest = later e es (λ t is. n (ap (λ (x : Environment). x.action) is)) rest
+  found_by e es (inl x) (inr n) z rest = later e es (λ t is. n (ap (λ (x : Environment). x.principal) is)) rest
+  found_by e es (inl x) (inl y) (inr n) rest = later e es (λ t is. n (ap (λ (x : Environment). x.resource) is)) rest
 
   environment_or_none : (envs : List Environment) → Found envs ⊎ NotFound envs
   unfolding NotFound
-  environment_or_none [] = inr (λ e m is. nowhere e m)
+  environment_or_none [] = inr (λ t m. nowhere _ m)
   environment_or_none (e ∷ es) =
       found_by e es (uid_by e.action a (same_text e.action.ty a.ty) (same_text e.action.id a.id)) (same_text e.principal p) (same_text e.resource r) (environment_or_none es)
 
@@ -133,7 +134,7 @@ module _ (uids : UidsAreDecided) (names : NamesAreDecided) (actions : ActionsAre
   shapeless : (d : Data) → IsShapeless d → Judged d
   shapeless d h = inr (Shape, λ e. cc, inl (refl, h))
 
-  module _ (d : Data) (keys : has_request_keys d ≡ true) (p a r : Uid) (n : Names d p a r) where
+  module _ (d : Data) (keys : has_only is_request_key d ≡ true) (p a r : Uid) (n : Names d p a r) where
     by_context : (t : TypeTree) → HasEnvironment s.actions a p.ty r.ty t → (fs : List ConformFault) → (value_read t (context_of d)).faults ≡ fs → Others fs → Judged d
     by_context t applies [] e o =
         let kind_of = All-contains (λ (env : Environment). IsOrderedRecord env.context) (environments_of s.actions) (record { action = a; principal = p.ty; resource = r.ty; context = t }) contexts applies in
@@ -162,13 +163,13 @@ module _ (uids : UidsAreDecided) (names : NamesAreDecided) (actions : ActionsAre
     by_principal None e = inr (UnknownType, λ e. cc, inr (inl (p, a, r, n, inl e)))
     by_principal (Some t) e = by_resource (shape_of s r.ty) refl
 
-  by_uids : (d : Data) → has_request_keys d ≡ true → ((u : Uid) × UidAt (codes "principal") d u) ⊎ Lacks (codes "principal") d → ((u : Uid) × UidAt (codes "action") d u) ⊎ Lacks (codes "action") d → ((u : Uid) × UidAt (codes "resource") d u) ⊎ Lacks (codes "resource") d → Judged d
+  by_uids : (d : Data) → has_only is_request_key d ≡ true → ((u : Uid) × UidAt (codes "principal") d u) ⊎ Lacks (codes "principal") d → ((u : Uid) × UidAt (codes "action") d u) ⊎ Lacks (codes "action") d → ((u : Uid) × UidAt (codes "resource") d u) ⊎ Lacks (codes "resource") d → Judged d
   by_uids d keys (inl p) (inl a) (inl r) = by_principal d keys p.0 a.0 r.0 (record { principal_at = p.1; action_at = a.1; resource_at = r.1 }) (shape_of s p.0.ty) refl
   by_uids d keys (inr none) a r = shapeless d (inr (inl none))
   by_uids d keys (inl p) (inr none) r = shapeless d (inr (inr (inl none)))
   by_uids d keys (inl p) (inl a) (inr none) = shapeless d (inr (inr (inr none)))
 
-  by_keys : (d : Data) (b : Bool) → has_request_keys d ≡ b → Judged d
+  by_keys : (d : Data) (b : Bool) → has_only is_request_key d ≡ b → Judged d
   by_keys d true e = by_uids d e (uid_at uids names (codes "principal") d) (uid_at uids names (codes "action") d) (uid_at uids names (codes "resource") d)
   by_keys d false e = shapeless d (inl e)
 
@@ -192,7 +193,7 @@ line_by uids names actions belong r contexts line None e = (
   inr (Json, λ e. cc, subst (λ (o : Option Data). MatchOption o (Json ≡ Json) (λ x. HasFault r.schema x Json)) (sym e) refl, refl),
 )
 line_by uids names actions belong r contexts line (Some d) e =
-    answer_by r line d e (by_keys uids names actions belong r.schema contexts d (has_request_keys d) refl)
+    answer_by r line d e (by_keys uids names actions belong r.schema contexts d (has_only is_request_key d) refl)
 
 pub answerable : UidsAreDecided → NamesAreDecided → ActionsAreDecided → ReadValuesBelong → (r : ReadyTree) → AreContextsOrdered r.schema
     → (line : List ℕ) → (text : List ℕ) × AnswersLine r line text

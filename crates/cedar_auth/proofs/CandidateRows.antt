@@ -1,5 +1,5 @@
 -- What is kept for the environment of a request has just its candidates.
-use Rattle.std.proofs.Common.{◌≡◌, ℕ, Bool, true, false, cond, List, [], ◌∷◌, length, Contains, Option, Some, None, refl, sym, ap, subst, ◌∙◌}
+use Rattle.std.proofs.Common.{◌≡◌, ℕ, ◌<◌, Bool, true, false, cond, List, [], ◌∷◌, length, Contains, Option, Some, None, refl, sym, ap, subst, ◌∙◌}
 use Rattle.std.proofs.lemmas.Map.Views.{tells_apart}
 use Rattle.std.specs.BTreeMap.{get, is_at}
 use Rattle.std.specs.List.{range_with_len}
@@ -26,7 +26,7 @@ use Rattle.cedar_auth.proofs.Environments.{found_at, looked_up}
 use Rattle.cedar_auth.proofs.Listed.{here, there}
 use Rattle.cedar_auth.proofs.Makings.{IsMaking, making_end}
 use Rattle.cedar_auth.proofs.Reached.{unreached_is_false}
-use Rattle.cedar_auth.proofs.Sifts.{both_sifted, alike_sifted, sifted_exactly, sifted_ascends}
+use Rattle.cedar_auth.proofs.Sifts.{both_sifted, alike_sifted, sifted_below, sifted_exactly, sifted_ascends}
 
 -- three look-ups, one after the other
 three : (rows : Rows) (u : Uid) (n m : List ℕ) (row : Row) (cells : Cells) (cell : ListingTree)
@@ -89,6 +89,12 @@ pub positions_for : (s : SchemaTree) (ps : List PolicyTree) (index : IndexTree) 
 positions_for s ps index rows by up q found is env fits =
     let kept = found_for s ps index rows by up q found is env fits in
     subst (λ (o : Option ListingTree). SiftedBy ps (IsCandidate s env) (range_with_len 0 (length ps)) (positions_in o)) (sym kept.is) kept.sifted
+
+-- a policy stands at each of its positions
+pub below_for : (s : SchemaTree) (ps : List PolicyTree) (index : IndexTree) (rows : Rows) → ByAction s ps index rows → IsStrictlySortedBy uid_cmp (keys_of s.actions)
+    → (q : Request) (found : Option ListingTree) → found ≡ cell_at rows q.action q.principal.ty q.resource.ty → Fits s q → (k : ℕ) → Contains (positions_in found) k → k < length ps
+below_for s ps index rows by up q found is fits =
+    sifted_below ps (IsCandidate s fits.0) (positions_in found) (positions_for s ps index rows by up q found is fits.0 fits.1)
 
 -- what is selected from it leaves policies alone that are false
 pub selected_for : (s : SchemaTree) (ps : List PolicyTree) (w : World) (index : IndexTree) (rows : Rows) → AreCandidatesFor s ps index rows → IsStrictlySortedBy uid_cmp (keys_of s.actions) → AreTypesApart s → Conforms s w

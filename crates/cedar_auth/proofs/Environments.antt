@@ -12,7 +12,8 @@ use Rattle.cedar_value.specs.Private.Laws.{uid_total}
 use Rattle.cedar_value.specs.declared.uid.Uid.{Uid}
 use Rattle.cedar_types.specs.Types.{TypeTree}
 use Rattle.cedar_schema.specs.declared.schema.environment.Environment.{Environment}
-use Rattle.cedar_schema.specs.SchemaTree.{ActionTree, environments_of, with_principals, with_resources}
+use Rattle.cedar_schema.specs.SchemaTree.{ActionTree, environments_of}
+use Rattle.cedar_schema.specs.Private.Environments.{with_principals, with_resources}
 use Rattle.cedar_auth.proofs.Listed.{here, there, nowhere, from_mapped}
 
 record ComesFrom (actions : List (Uid × ActionTree)) (e : Environment) : Type 0 where

@@ -104,6 +104,16 @@ in_range n j low =
     subst (λ (k : ℕ). Contains (range_with_len 0 n) k) (get_or-range_with_len 0 n j 0 low ∙ omega arith)
     (Contains-get_or (range_with_len 0 n) j 0 (omega (arith, length-range_with_len 0 n)))
 
+pub from_range : (n j : ℕ) → Contains (range_with_len 0 n) j → j < n
+from_range n j (i, low, e) =
+    let inside : i < n = omega (arith, low, length-range_with_len 0 n) in
+    let same : 0 + i ≡ j = sym (get_or-range_with_len 0 n i j inside) ∙ e in
+    omega (arith, inside, same)
+
+-- a policy stands at each position that was sifted from all
+pub sifted_below : (ps : List PolicyTree) (P : PolicyTree → Type 0) (ks : List ℕ) → SiftedBy ps P (range_with_len 0 (length ps)) ks → (k : ℕ) → Contains ks k → k < length ps
+sifted_below ps P ks s k m = from_range (length ps) k (from_sifted (range_with_len 0 (length ps)) ks s k m).0
+
 of_some : (P : PolicyTree → Type 0) (o : Option PolicyTree) → OfPolicy P o → (p : PolicyTree) × (o ≡ Some p) × P p
 of_some P None h = absurd h
 of_some P (Some p) h = (p, refl, h)

@@ -1,5 +1,5 @@
 -- Lemmas on what the policies gather.
-use Rattle.std.proofs.Common.{◌≡◌, ℕ, ◌+◌, ◌<◌, get_or, Bool, true, false, not, ◌&&◌, if◌then◌else◌, List, [], ◌∷◌, ◌++◌, length, map, filter, take, Option, Some, None, Ok, Err, refl, sym, ap, ◌∙◌, append-nil}
+use Rattle.std.proofs.Common.{◌≡◌, ℕ, ◌+◌, ◌<◌, get_or, Bool, true, false, not, ◌&&◌, if◌then◌else◌, List, [], ◌∷◌, ◌++◌, length, map, filter, take, Option, Some, Ok, Err, refl, sym, ap, ◌∙◌, append-nil}
 use Rattle.std.specs.List.{slice_get, cons_option}
 use Rattle.std.proofs.lemmas.List.{map-append}
 use Rattle.std.proofs.lemmas.List.Elements.{filter-append, filter_map-append}
@@ -63,16 +63,5 @@ tally_of-next q w ps ks i p t t' id effect v low at was is same_id same_effect s
     is
     ∙ rw (was, same_id, same_effect, same_verdict) refl
     ∙ sym (tally_of-append q w (policies_at ps (take i ks)) p)
-    ∙ ap (λ (o : Option PolicyTree). tally_of q w (policies_at ps (take i ks) ++ cons_option o [])) at
-    ∙ ap (tally_of q w) (sym (policies_at-more ps ks i low))
-
--- no policy stands at the position
-pub tally_of-none : (q : Request) (w : World) (ps : List PolicyTree) (ks : List ℕ) (i : ℕ) (t t' : TallyTree)
-    → i < length ks → None ≡ slice_get ps (get_or ks i 0) → t ≡ tally_of q w (policies_at ps (take i ks)) → t' ≡ t
-    → t' ≡ tally_of q w (policies_at ps (take (i + 1) ks))
-tally_of-none q w ps ks i t t' low at was is =
-    is
-    ∙ was
-    ∙ ap (tally_of q w) (sym (append-nil (policies_at ps (take i ks))))
     ∙ ap (λ (o : Option PolicyTree). tally_of q w (policies_at ps (take i ks) ++ cons_option o [])) at
     ∙ ap (tally_of q w) (sym (policies_at-more ps ks i low))

@@ -5,6 +5,7 @@ use Rattle.std.specs.Option.{option_map, option_and_then}
 use Rattle.serde_json.specs.Data.{Num, Data, Items, no_items, item, Members, no_members, member}
 use Rattle.serde_json.specs.Find.{get, as_bool, as_number, as_str, as_array, as_object, as_i64}
 use Rattle.cedar_ext.specs.DecimalOf.{decimal_of}
+use Rattle.cedar_value.specs.Datum.{long, decimal}
 use Rattle.cedar_value.specs.declared.uid.Uid.{Uid}
 use Rattle.cedar_types.specs.declared.truth.Truth.{Truth}
 use Rattle.cedar_types.specs.Types.{TypeTree, Attributes, no_attributes, attribute, names_of}
@@ -13,7 +14,7 @@ use Rattle.cedar_data.specs.declared.conform_fault.ConformFault.{ConformFault}
 use Rattle.cedar_data.specs.declared.conform_fault.ConformFault.TheVariants.{OutOfMemory, WrongType, MissingAttribute, ExtraAttribute, NumberRange}
 use Rattle.cedar_data.specs.Faults.{fault_if}
 use Rattle.cedar_data.specs.Uids.{uid_object}
-use Rattle.cedar_data.specs.Values.{Read, FieldsRead, truth_read, whole_read, long_read, text_read, entity_read, units_read, decimal_text, all_read, set_read, field_read, is_declared, extra_faults, record_read, value_read, fields_read}
+use Rattle.cedar_data.specs.Values.{Read, FieldsRead, fine, needed, truth_read, long_read, text_read, entity_read, decimal_text, all_read, set_read, field_read, is_declared, extra_faults, record_read, value_read, fields_read}
 
 -- each fault is another than want of memory
 abbrev pub Others : List ConformFault → Type 0
@@ -43,7 +44,7 @@ of_truth : (f : Truth) (o : Option Bool) → Others (truth_read f o).faults
 of_truth f None = (wrong, tt)
 of_truth f (Some b) = tested _ WrongType wrong
 
-of_whole : (o : Option ℤ) → Others (whole_read o).faults
+of_whole : (o : Option ℤ) → Others (needed NumberRange (λ z. fine (long z)) o).faults
 of_whole None = (range, tt)
 of_whole (Some z) = tt
 
@@ -59,7 +60,7 @@ of_entity : (n : List ℕ) (o : Option Uid) → Others (entity_read n o).faults
 of_entity n None = (wrong, tt)
 of_entity n (Some u) = tested _ WrongType wrong
 
-of_units : (o : Option ℤ) → Others (units_read o).faults
+of_units : (o : Option ℤ) → Others (needed WrongType (λ z. fine (decimal z)) o).faults
 of_units None = (wrong, tt)
 of_units (Some z) = tt
 

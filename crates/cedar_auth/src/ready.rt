@@ -1,11 +1,11 @@
 //! Policies that are ready to answer.
-ghost use Rattle.std.specs.Prelude.{ℕ, List, ◌≡◌, ◌≢◌, ◌↔◌, ◌<◌, length, Contains, IfErr, IfOk, IsTrue, OnOk};
+ghost use Rattle.std.specs.Prelude.{ℕ, List, ◌≡◌, ◌≢◌, ◌↔◌, ◌<◌, length, Contains, IfErr, IfOk, IsTrue, MatchResult, OnOk};
 ghost use Rattle.std.specs.List.{range_with_len};
 ghost use Rattle.std.specs.List.Sorted.{IsStrictlyIncreasing};
 ghost use Rattle.cedar_policies.specs.Response.{ErringTree, response};
 ghost use Rattle.cedar_data.specs.declared.conform_fault.ConformFault.TheVariants.{OutOfMemory};
 ghost use Rattle.cedar_entities.specs.Bytes.{BytesDenote, BytesHaveFault};
-ghost use Rattle.cedar_conform.specs.Requests.{AnswersRequest, LineDenotes, LineHasFault};
+ghost use Rattle.cedar_conform.specs.Requests.{LineDenotes, LineHasFault};
 ghost use Rattle.cedar_schema.specs.Conformance.{Conforms, Fits, FitsIn};
 ghost use Rattle.cedar_schema.specs.WellFormed.{AreTypesApart};
 ghost use Rattle.cedar_schema.specs.declared.schema.environment.Environment.{Environment as EnvironmentTree};
@@ -165,7 +165,7 @@ impl Ready {
     pub fn read(&self, alloc: Global, line: &[u8]) -> Result<Request, ConformFault>
         ensures denotes { IfOk result (LineDenotes self.now.schema line.now) }
         ensures fits { IfOk result (Fits self.now.schema) }
-        ensures only { (q : RequestTree) → LineDenotes self.now.schema line.now q → AnswersRequest q result }
+        ensures only { (q : RequestTree) → LineDenotes self.now.schema line.now q → MatchResult result (λ found. found ≡ q) (λ e. e ≡ OutOfMemory) }
         ensures refused { IfErr result (λ e. e ≢ OutOfMemory → LineHasFault self.now.schema line.now e) }
     {
         read_request(alloc, self.validated.schema(), line)
@@ -249,6 +249,7 @@ impl Ready {
         requires { Fits self.now.schema request.now }
         ensures ascend { OnOk result (IsStrictlyIncreasing selection.new) }
         ensures others { OnOk result (LeavesFalse self.now.policies.policies request.now self.now.world selection.new) }
+        ensures within { OnOk result ((k : ℕ) → Contains selection.new k → k < length self.now.policies.policies) }
     {
         // A law of schemas, which does nothing.
         self.validated.schema().well_formedness();

@@ -1,5 +1,5 @@
 //! Policies that strict validation accepted.
-ghost use Rattle.std.specs.Prelude.{◌≡◌, IfOk, IfErr, OnOk, option_copied, slice_get};
+ghost use Rattle.std.specs.Prelude.{◌≡◌, ℕ, ◌<◌, length, Contains, IfOk, IfErr, OnOk, option_copied, slice_get};
 ghost use Rattle.cedar_policies.specs.Response.{response};
 ghost use Rattle.cedar_typing.specs.Settings.{default_settings};
 ghost use Rattle.cedar_auth.specs.Validation.{HasFault, HasFaultWith, IsValidated, IsValidatedWith};
@@ -164,15 +164,17 @@ impl Validated {
         positions: &[usize],
         tally: &mut Tally<'v>,
     ) -> Result<(), AllocError>
+        requires within { (k : ℕ) → Contains positions.now k → k < length self.now.policies.policies }
         ensures { OnOk result (tally.new ≡ tally_of request.now (H.world hierarchy.now) (policies_at self.now.policies.policies positions.now)) }
     {
         let mut operands = Operands::new(alloc);
         tally.clear();
         for position in positions {
-            if let Some(part) = self.part(*position) {
-                let verdict = part.verdict(alloc, &mut operands, request, hierarchy)?;
-                tally.enter(part.policy.id().as_str(), part.policy.effect(), verdict)?;
-            }
+            let Some(part) = self.part(*position) else {
+                unreachable!()
+            };
+            let verdict = part.verdict(alloc, &mut operands, request, hierarchy)?;
+            tally.enter(part.policy.id().as_str(), part.policy.effect(), verdict)?;
         }
         Ok(())
     }

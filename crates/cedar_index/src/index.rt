@@ -1,5 +1,5 @@
 //! Policies by the entities that their scopes name.
-ghost use Rattle.std.specs.Prelude.{◌≡◌, IfOk, OnOk};
+ghost use Rattle.std.specs.Prelude.{◌≡◌, ℕ, Contains, IfOk, OnOk};
 ghost use Rattle.std.specs.List.Sorted.{IsStrictlyIncreasing};
 ghost use Rattle.cedar_index.specs.Index.{HasReached, IsIndexOf, IsListingBy};
 
@@ -61,6 +61,8 @@ impl Index {
     ) -> Result<(), AllocError>
         ensures ascend { OnOk result (IsStrictlyIncreasing selection.new) }
         ensures reached { OnOk result (HasReached self.now listing.now request.now store.now selection.new) }
+        // It selects none that the listing lacks.
+        ensures within { OnOk result ((k : ℕ) → Contains selection.new k → Contains listing.now.positions k) }
     {
         selection.clear();
         selection.push_reached(&self.tables.principals, &request.principal, store)?;

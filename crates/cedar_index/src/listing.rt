@@ -1,7 +1,7 @@
 //! Some of the policies of an index.
 ghost use Rattle.std.specs.Prelude.{◌≡◌, ℕ, true, Contains, IfOk};
 ghost use Rattle.cedar_bits.specs.Bits.{has_bit};
-ghost use Rattle.cedar_index.specs.Private.Kept.{HasBits};
+ghost use Rattle.cedar_index.specs.Private.Kept.{HasBits, HasBitsAlone, Holds};
 
 use cedar_bits::{has_bit, insert_bit};
 use std::alloc::{AllocError, Global};
@@ -12,7 +12,7 @@ use std::marker::Model;
 pub struct Listing {
     positions: Vec<usize>,
     unnamed: Vec<usize>,
-    // A bit for each of the positions.
+    // A bit for each of the positions, and for no other.
     row: Vec<u64>,
 }
 
@@ -21,11 +21,11 @@ impl Model for Listing {
 
     ghost Value = { ListingTree };
 
-    ghost use Rattle.cedar_index.specs.Private.Kept.{HasBits};
+    ghost use Rattle.cedar_index.specs.Private.Kept.{IsListed};
 
     ghost view = { λ l. record { positions = l.positions.items; unnamed = l.unnamed.items } };
 
-    ghost invariant = { λ l. HasBits l.row.items l.positions.items };
+    ghost invariant = { λ l. IsListed l.row.items l.positions.items l.unnamed.items };
 }
 
 /// Those of the positions whose bits are set.
@@ -34,7 +34,8 @@ pub(crate) fn with_bits(
     row: &[u64],
     positions: &[usize],
 ) -> Result<Vec<usize>, AllocError>
-    ensures { IfOk result (λ found. (k : ℕ) → Contains positions.now k → has_bit row.now k ≡ true → Contains found.items k) }
+    ensures found { IfOk result (λ found. (k : ℕ) → Contains positions.now k → has_bit row.now k ≡ true → Contains found.items k) }
+    ensures among { IfOk result (λ found. Holds found.items positions.now) }
 {
     let mut found = Vec::new(alloc);
     for position in positions {
@@ -45,9 +46,10 @@ pub(crate) fn with_bits(
     Ok(found)
 }
 
-// A row with a bit for each of the positions.
+// A row with a bit for each of the positions, and for no other.
 fn row_of(alloc: Global, positions: &[usize]) -> Result<Vec<u64>, AllocError>
-    ensures { IfOk result (λ row. HasBits row.items positions.now) }
+    ensures bits { IfOk result (λ row. HasBits row.items positions.now) }
+    ensures alone { IfOk result (λ row. HasBitsAlone row.items positions.now) }
 {
     let mut row = Vec::new(alloc);
     for position in positions {
@@ -63,6 +65,7 @@ impl Listing {
         positions: &[usize],
         unnamed: Vec<usize>,
     ) -> Result<Listing, AllocError>
+        requires { Holds unnamed.items positions.now }
         ensures { IfOk result (λ l. l ≡ record { positions = positions.now; unnamed = unnamed.items }) }
     {
         let row = row_of(alloc, positions)?;
@@ -83,14 +86,16 @@ impl Listing {
 
     /// The positions at which a scope names no entity, lent.
     pub(crate) fn unnamed(&self) -> &[usize]
-        ensures { result.now ≡ self.now.unnamed }
+        ensures value { result.now ≡ self.now.unnamed }
+        ensures among { Holds result.now self.now.positions }
     {
         &self.unnamed
     }
 
-    /// A row with a bit for each of the positions, lent.
+    /// A row with a bit for each of the positions, and for no other, lent.
     pub(crate) fn row(&self) -> &[u64]
-        ensures { HasBits result.now self.now.positions }
+        ensures bits { HasBits result.now self.now.positions }
+        ensures alone { HasBitsAlone result.now self.now.positions }
     {
         &self.row
     }

@@ -96,6 +96,7 @@ impl<'s> Selection<'s> {
     // Puts the positions in order, each once.
     pub(crate) fn sort(&mut self)
         ensures kept { Holds self.old self.new }
+        ensures among { Holds self.new self.old }
         ensures ascend { IsStrictlyIncreasing self.new }
     {
         self.positions.sort_unstable();

@@ -37,6 +37,16 @@ KeepsBits old new = (k : ℕ) → has_bit old k ≡ true → has_bit new k ≡ t
 abbrev pub HasBits : List ℕ → List ℕ → Type 0
 HasBits row ks = (k : ℕ) → Contains ks k → has_bit row k ≡ true
 
+-- no bit is set but those of these positions
+abbrev pub HasBitsAlone : List ℕ → List ℕ → Type 0
+HasBitsAlone row ks = (k : ℕ) → has_bit row k ≡ true → Contains ks k
+
+-- the row has a bit for each of the positions and for no other, and the unnamed are among them
+pub record IsListed (row ks unnamed : List ℕ) : Type 0 where
+  pub bits : HasBits row ks
+  pub alone : HasBitsAlone row ks
+  pub among : Holds unnamed ks
+
 -- what the tables kept they keep still
 pub record KeepsTables (old new : Tables) : Type 0 where
   pub unnamed : KeepsBits old.unnamed.items new.unnamed.items

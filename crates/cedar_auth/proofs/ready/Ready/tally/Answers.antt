@@ -1,10 +1,16 @@
-use Rattle.std.proofs.Common.{◌≡◌, ℕ, List, OnOk, subst, ◌∙◌}
+use Rattle.std.proofs.Common.{◌≡◌, ◌<◌, ℕ, List, length, Contains, OnOk, subst, sym, ◌∙◌}
 use Rattle.std.proofs.lemmas.Result.{on_ok_weaker}
 use Rattle.cedar_auth.specs.Private.Sifting.{policies_at}
 use Rattle.cedar_auth.specs.Private.Tally.{tally_of}
 use Rattle.cedar_auth.specs.Ready.{ReadyTree}
 use Rattle.cedar_auth.proofs.TalliesOfParts.{selected_gather}
 use Rattle.cedar_auth.proofs.ready.Ready.tally.Goals as goal
+
+pub tally-requires : goal.tally-requires
+tally-requires c = record {
+  within = λ k m. subst (λ (r : ReadyTree). k < length r.policies.policies) (sym c.self.view_is)
+      (c.in_ok-select.ensures.within k (subst (λ (js : List ℕ). Contains js k) c.positions.ensures m));
+}
 
 pub returns : goal.returns
 returns c =

@@ -1,11 +1,18 @@
-use Rattle.std.proofs.Common.{◌≡◌, ℕ, List, length, ap, ◌∙◌}
+use Rattle.std.proofs.Common.{◌≡◌, ℕ, List, length, Contains, ap, subst, ◌∙◌}
 use Rattle.std.specs.List.{range_with_len}
 use Rattle.cedar_auth.specs.Private.Sifting.{policies_at}
 use Rattle.cedar_auth.specs.Private.Tally.{response_by, tally_of}
 use Rattle.cedar_auth.specs.Validation.{ValidatedTree}
 use Rattle.cedar_auth.proofs.PoliciesAt.{policies_at-all}
+use Rattle.cedar_auth.proofs.Sifts.{from_range}
 use Rattle.cedar_auth.proofs.Responses.{response_by-tally}
 use Rattle.cedar_auth.proofs.validated.Validated.answer.Goals as goal
+
+pub tally-requires : goal.tally-requires
+tally-requires g c =
+    let ps = c.args.self.now.policies.policies in
+    let all : c.deref.result.now ≡ range_with_len 0 (length ps) = c.deref.ensures.value ∙ c.in_ok-positions.ensures ∙ ap (λ (v : ValidatedTree). range_with_len 0 (length v.policies.policies)) c.self.view_is in
+    record { within = λ k m. from_range (length ps) k (subst (λ (ks : List ℕ). Contains ks k) all m) }
 
 pub returns : goal.returns
 returns g c =

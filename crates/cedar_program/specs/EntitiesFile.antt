@@ -1,5 +1,5 @@
 -- What an entities file holds by a schema, and why it is refused.
-use Rattle.std.specs.Prelude.{◌≡◌, ◌≢◌, ℕ, List, Option, Some, None}
+use Rattle.std.specs.Prelude.{◌≡◌, ◌≢◌, ℕ, List, Option, None, MatchOption}
 use Rattle.cedar_value.specs.World.{World}
 use Rattle.cedar_schema.specs.SchemaTree.{SchemaTree}
 use Rattle.cedar_data.specs.Numbers.{number_of}
@@ -11,12 +11,10 @@ use Rattle.cedar_program.specs.declared.refusal.FileRefusal.{FileRefusal}
 -- The command line names an entities file, and its bytes denote the world by the schema (Cedar documentation, entities and
 -- context in JSON).
 abbrev pub HoldsWorld : SchemaTree → Option (List ℕ) → World → Type 0
-HoldsWorld s None w = ⊥
-HoldsWorld s (Some bytes) w = BytesDenote s bytes w
+HoldsWorld s held w = MatchOption held ⊥ (λ bytes. BytesDenote s bytes w)
 
 -- The command line names an entities file, and this is why it holds no world by the schema: the number, without a place, of a
 -- fault of its bytes; 1, want of memory, is no fault of theirs (own).
 abbrev pub HoldsNoWorld : SchemaTree → Option (List ℕ) → FileRefusal → Type 0
-HoldsNoWorld s None refusal = ⊥
-HoldsNoWorld s (Some bytes) refusal =
-    (fault : ConformFault) × BytesHaveFault s bytes fault × (fault ≢ OutOfMemory) × (refusal ≡ record { number = number_of fault; offset = None })
+HoldsNoWorld s held refusal =
+    MatchOption held ⊥ (λ bytes. (fault : ConformFault) × BytesHaveFault s bytes fault × (fault ≢ OutOfMemory) × (refusal ≡ record { number = number_of fault; offset = None }))

@@ -1,5 +1,5 @@
 -- What a links file makes of the policies of the policy file, and why it is refused.
-use Rattle.std.specs.Prelude.{◌≡◌, ◌≢◌, ◌⊎◌, ℕ, List, [], ◌∷◌, Option, Some, None, Contains}
+use Rattle.std.specs.Prelude.{◌≡◌, ◌≢◌, ◌⊎◌, ℕ, List, [], ◌∷◌, Option, None, MatchOption, Contains}
 use Rattle.cedar_policies.specs.Linking.{HasExtraSlot, HasMissingSlot, IsLinked, IsTemplate}
 use Rattle.cedar_policies.specs.PolicySetTree.{PolicySetTree, ids_in}
 use Rattle.cedar_policies.specs.PolicyTree.{TemplateTree}
@@ -34,13 +34,11 @@ HaveLinkFault set (l ∷ ls) n =
 -- What the policies are with the links of the links file, as it stands: where the command line names none, they are those of the
 -- policy file (own).
 abbrev pub HoldsLinked : Option (List ℕ) → PolicySetTree → PolicySetTree → Type 0
-HoldsLinked None text set = set ≡ text
-HoldsLinked (Some bytes) text set = (ls : List Link) × BytesDenoteLinks bytes ls × AreLinked text ls set
+HoldsLinked held text set = MatchOption held (set ≡ text) (λ bytes. (ls : List Link) × BytesDenoteLinks bytes ls × AreLinked text ls set)
 
 -- The command line names a links file, and this is why its links are not entered behind the policies: the number, without a place,
 -- of a fault of its bytes, or of a link that is refused; 1, want of memory, is no fault of theirs (own).
 abbrev pub HoldsNoLinks : Option (List ℕ) → PolicySetTree → FileRefusal → Type 0
-HoldsNoLinks None text refusal = ⊥
-HoldsNoLinks (Some bytes) text refusal =
-    ((fault : ConformFault) × LinksAreRefused bytes fault × (fault ≢ OutOfMemory) × (refusal ≡ record { number = number_of fault; offset = None }))
-    ⊎ ((ls : List Link) × (n : ℕ) × BytesDenoteLinks bytes ls × HaveLinkFault text ls n × (refusal ≡ record { number = n; offset = None }))
+HoldsNoLinks held text refusal =
+    MatchOption held ⊥ (λ bytes. ((fault : ConformFault) × LinksAreRefused bytes fault × (fault ≢ OutOfMemory) × (refusal ≡ record { number = number_of fault; offset = None }))
+    ⊎ ((ls : List Link) × (n : ℕ) × BytesDenoteLinks bytes ls × HaveLinkFault text ls n × (refusal ≡ record { number = n; offset = None })))

@@ -1,5 +1,5 @@
 -- What a policy file holds, and why it is refused.
-use Rattle.std.specs.Prelude.{◌≡◌, ◌≢◌, ◌⊎◌, ℕ, List, Option, Some, None}
+use Rattle.std.specs.Prelude.{◌≡◌, ◌≢◌, ◌⊎◌, ℕ, List, Option, None, MatchOption}
 use Rattle.std.specs.Str.{IsUtf8}
 use Rattle.cedar_policies.specs.PolicySetTree.{PolicySetTree}
 use Rattle.cedar_tokens.specs.declared.parse_fault.ParseFault.{ParseFault}
@@ -13,8 +13,7 @@ IsPolicyFile bytes set = IsUtf8 bytes × IsPolicyText bytes set
 
 -- The command line names a policy file, and it holds the policies (own).
 abbrev pub HoldsPolicies : Option (List ℕ) → PolicySetTree → Type 0
-HoldsPolicies None set = ⊥
-HoldsPolicies (Some bytes) set = IsPolicyFile bytes set
+HoldsPolicies held set = MatchOption held ⊥ (λ bytes. IsPolicyFile bytes set)
 
 -- The bytes are UTF-8, and as a text they have a fault of this number and this place; 1, want of memory, is no fault of a
 -- text (own).
@@ -25,5 +24,4 @@ HasTextFault bytes refusal =
 -- The command line names a policy file, and this is why it holds no policies: 105 where it is no UTF-8, or the number and the
 -- place of a fault that its text has (own).
 abbrev pub HoldsNoPolicies : Option (List ℕ) → FileRefusal → Type 0
-HoldsNoPolicies None refusal = ⊥
-HoldsNoPolicies (Some bytes) refusal = ((refusal ≡ record { number = 105; offset = None }) × ¬ (IsUtf8 bytes)) ⊎ HasTextFault bytes refusal
+HoldsNoPolicies held refusal = MatchOption held ⊥ (λ bytes. ((refusal ≡ record { number = 105; offset = None }) × ¬ (IsUtf8 bytes)) ⊎ HasTextFault bytes refusal)

@@ -3,7 +3,6 @@ use Rattle.std.specs.Prelude.{ℕ, List, Option, None, Some, codes}
 use Rattle.serde_json.specs.Data.{Data, Members, number, unsigned, string, object, no_members, member}
 use Rattle.cedar_program.specs.declared.files.Role.{Role}
 use Rattle.cedar_program.specs.declared.files.Role.TheVariants.{Schema, Policies, Links, Entities}
-use Rattle.cedar_program.specs.declared.refusal.FileRefusal.{FileRefusal}
 
 -- The word for a file, by its role (own).
 abbrev pub file_name : Role → List ℕ
@@ -21,7 +20,3 @@ with_offset (Some at) others = member (codes "offset") (number (unsigned at)) ot
 abbrev pub refusal_of : Role → Option ℕ → ℕ → Data
 refusal_of role offset n =
     object (member (codes "file") (string (file_name role)) (with_offset offset (member (codes "refused") (number (unsigned n)) no_members)))
-
--- The same of a refusal as it was found (own).
-abbrev pub refusal_data : Role → FileRefusal → Data
-refusal_data role refusal = refusal_of role refusal.offset refusal.number

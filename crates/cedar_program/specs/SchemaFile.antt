@@ -1,5 +1,5 @@
 -- What a schema file holds, and why it is refused.
-use Rattle.std.specs.Prelude.{◌≡◌, ◌≢◌, ℕ, List, Option, Some, None}
+use Rattle.std.specs.Prelude.{◌≡◌, ◌≢◌, ℕ, List, Option, None, MatchOption}
 use Rattle.cedar_schema.specs.SchemaTree.{SchemaTree}
 use Rattle.cedar_schema.specs.Denotes.{BytesAreRefusedWith, BytesDenote}
 use Rattle.cedar_form.specs.Numbers.{number_of}
@@ -9,12 +9,10 @@ use Rattle.cedar_program.specs.declared.refusal.FileRefusal.{FileRefusal}
 
 -- The command line names a schema file, and its bytes denote the schema (Cedar documentation, JSON schema format).
 abbrev pub HoldsSchema : Option (List ℕ) → SchemaTree → Type 0
-HoldsSchema None s = ⊥
-HoldsSchema (Some bytes) s = BytesDenote bytes s
+HoldsSchema held s = MatchOption held ⊥ (λ bytes. BytesDenote bytes s)
 
 -- The command line names a schema file, and this is why it holds no schema: the number, without a place, of a fault of its bytes;
 -- 1, want of memory, is no fault of theirs (own).
 abbrev pub HoldsNoSchema : Option (List ℕ) → FileRefusal → Type 0
-HoldsNoSchema None refusal = ⊥
-HoldsNoSchema (Some bytes) refusal =
-    (fault : SchemaFault) × BytesAreRefusedWith bytes fault × (fault ≢ OutOfMemory) × (refusal ≡ record { number = number_of fault; offset = None })
+HoldsNoSchema held refusal =
+    MatchOption held ⊥ (λ bytes. (fault : SchemaFault) × BytesAreRefusedWith bytes fault × (fault ≢ OutOfMemory) × (refusal ≡ record { number = number_of fault; offset = None }))

@@ -4,7 +4,7 @@ ghost use Rattle.std.specs.Io.KnownBytes.{Keeps};
 ghost use Rattle.serde_json.specs.Written.{compact_text};
 ghost use Rattle.cedar_lines.specs.AnswerText.{Writes};
 ghost use Rattle.cedar_lines.specs.Lines.{line_feed};
-ghost use Rattle.cedar_program.specs.Refusal.{file_name, refusal_of, refusal_data};
+ghost use Rattle.cedar_program.specs.Refusal.{file_name, refusal_of};
 ghost use Rattle.cedar_program.specs.Standing.{BeginsRefusal, IsRefusalLine};
 ghost use Rattle.cedar_program.specs.Private.Tokens.{data_tokens};
 
@@ -82,7 +82,7 @@ fn write_placed(
 }
 
 fn write_refusal(writer: &mut Writer, role: Role, refusal: FileRefusal) -> Result<(), AllocError>
-    ensures tokens { OnOk result (writer.new.tokens ≡ writer.old.tokens ++ data_tokens (refusal_data role refusal)) }
+    ensures tokens { OnOk result (writer.new.tokens ≡ writer.old.tokens ++ data_tokens (refusal_of role refusal.offset refusal.number)) }
     ensures before { writer.new.before ≡ writer.old.before }
 {
     match refusal.offset {
@@ -93,7 +93,7 @@ fn write_refusal(writer: &mut Writer, role: Role, refusal: FileRefusal) -> Resul
 
 /// The line that tells that a file is refused, why and where: `{"file":"policies","offset":43,"refused":104}` and LF.
 pub fn refusal_line(alloc: Global, role: Role, refusal: FileRefusal) -> Result<Vec<u8>, AllocError>
-    ensures { IfOk result (λ line. line.items ≡ compact_text (refusal_data role refusal) ++ line_feed ∷ []) }
+    ensures { IfOk result (λ line. line.items ≡ compact_text (refusal_of role refusal.offset refusal.number) ++ line_feed ∷ []) }
 {
     let mut writer = Writer::new(Vec::new(alloc));
     write_refusal(&mut writer, role, refusal)?;

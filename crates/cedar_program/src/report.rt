@@ -188,10 +188,12 @@ pub fn report_text(
     let mut faults = report.faults.as_slice();
     let mut warnings = report.warnings.as_slice();
     for position in 0..policies.count() {
-        if let Some(policy) = policies.policy(position) {
-            faults = tell_faults(alloc, policy.id(), faults, &mut text)?;
-            warnings = tell_warning(alloc, policy.id(), warnings, &mut text)?;
-        }
+        let Some(policy) = policies.policy(position) else {
+            unreachable!()
+        };
+        let id = policy.id();
+        faults = tell_faults(alloc, id, faults, &mut text)?;
+        warnings = tell_warning(alloc, id, warnings, &mut text)?;
     }
     append_totals(alloc, report.faults.len(), report.warnings.len(), &mut text)?;
     Ok(text)

@@ -97,7 +97,13 @@ const ENTITIES: [(&[u8], &[u8], &[u8]); 7] = [
 ];
 
 /// `authorize` is refused by these files with this text, and answers no line.
-fn assert_refused(rt: &impl Abort, alloc: Global, schema: &[u8], entities: &[u8], text: &[u8]) {
+fn assert_refused<'f>(
+    rt: &impl Abort,
+    alloc: Global,
+    schema: &'f [u8],
+    entities: &'f [u8],
+    text: &[u8],
+) {
     let mut source = SliceSource::new(DELETE);
     let mut sink = VecSink::new(alloc);
     let files = files(schema, ALL, None, Some(entities));

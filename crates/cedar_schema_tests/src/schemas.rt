@@ -331,6 +331,21 @@ fn record_types_have_each_name_once(rt: HostRuntime) -> Result<(), Fail> {
     Ok(())
 }
 
+#[test]
+fn copies_have_the_attributes_of_their_types(rt: HostRuntime) -> Result<(), Fail> {
+    let alloc = rt.alloc();
+    let mut record = RecordType::new(alloc);
+    record.insert(long_at(alloc, "a")?)?;
+    let copy = record.try_clone(alloc)?;
+    assert!(rt; copy.attributes().len() == 1);
+    assert!(rt; is_first(&copy, "a"));
+    let ty = Type::new(TypeKind::Record(record));
+    let copy = ty.try_clone(alloc)?;
+    assert!(rt; copy.attribute("a").is_some());
+    assert!(rt; copy.attribute("b").is_none());
+    Ok(())
+}
+
 // Whether two sets of known Booleans join to the sets of all.
 fn sets_join(alloc: Global) -> Result<bool, SchemaFault> {
     let yes = Type::new(TypeKind::Boolean(Truth::True));

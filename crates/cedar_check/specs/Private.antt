@@ -1,4 +1,5 @@
 -- What only proofs and private contracts use.
 pub mod Condition
 pub mod Mention
+pub mod Signatures
 pub mod View

@@ -1,14 +1,18 @@
 //! Faults of policies.
 ghost use Rattle.std.specs.Prelude.{◌≡◌, ◌++◌, ◌∷◌, [], IfOk, OnOk, cond, is_some, map};
 ghost use Rattle.cedar_policies.specs.Condition.{condition_of};
-ghost use Rattle.cedar_typing.specs.Private.Checking.{form_in_with};
+ghost use Rattle.cedar_schema.specs.SchemaTree.{environments_of};
 ghost use Rattle.cedar_typing.specs.Private.Reporting.{faults_of_with, is_impossible_with, is_known_false};
 ghost use Rattle.cedar_typing.specs.Reports.{fault_at};
 ghost use Rattle.cedar_check.specs.FaultView.{fault_view};
 ghost use Rattle.cedar_check.specs.Private.Condition.{condition_in, IsReady};
+ghost use Rattle.cedar_check.specs.Private.Signatures.{AreKnown, AreNumbered};
+ghost use Rattle.cedar_check.specs.Private.View.{form_view};
 
-use crate::form::{Form, form_of};
+use crate::form::Form;
+use crate::known::{form_at, forms_in};
 use crate::prepared::Prepared;
+use crate::signatures::Signatures;
 use cedar_policies::Policy;
 use cedar_rules::TypeFault;
 use cedar_schema::{Environment, Schema, Truth};
@@ -60,23 +64,19 @@ fn fault_at(
     })
 }
 
-// Adds the policy's fault in an environment, if there is one; whether the condition is known false
-// there.
-fn check_in(
+// Adds the fault of a policy in an environment in which its condition is of this form, if it is one; whether the condition is
+// known false there.
+fn add_fault(
     alloc: Global,
-    settings: Settings,
-    schema: &Schema,
     environment: &Environment,
     policy: &Policy,
-    condition: Prepared<'_>,
+    form: Form,
     faults: &mut Vec<Fault>,
 ) -> Result<bool, AllocError>
-    requires condition { condition_in condition ≡ condition_of policy.now }
-    requires ready { IsReady condition }
-    ensures faults { OnOk result (map fault_view faults.new.items ≡ map fault_view faults.old.items ++ cond (is_some (form_in_with settings schema.now environment.now policy.now)) [] (fault_at policy.now environment.now ∷ [])) }
-    ensures known { IfOk result (λ known. known ≡ is_known_false (form_in_with settings schema.now environment.now policy.now)) }
+    ensures faults { OnOk result (map fault_view faults.new.items ≡ map fault_view faults.old.items ++ cond (is_some (form_view form)) [] (fault_at policy.now environment.now ∷ [])) }
+    ensures known { IfOk result (λ known. known ≡ is_known_false (form_view form)) }
 {
-    match form_of(alloc, settings, schema, environment, condition)? {
+    match form {
         Form::Known(Truth::False) => Ok(true),
         Form::Known(Truth::True) => Ok(false),
         Form::Known(Truth::Any) => Ok(false),
@@ -88,33 +88,55 @@ fn check_in(
     }
 }
 
+// The forms of a condition that are known by signatures: none of one that names the action.
+fn known_forms(
+    alloc: Global,
+    settings: Settings,
+    schema: &Schema,
+    signatures: &Signatures<'_>,
+    condition: Prepared<'_>,
+) -> Result<Vec<Form>, AllocError>
+    requires { IsReady condition }
+    ensures { IfOk result (λ v. AreKnown settings schema.now (condition_in condition.entry) signatures.now.examples.items v.items) }
+{
+    match condition {
+        Prepared::Open(open) => forms_in(alloc, settings, schema, &signatures.examples, open),
+        Prepared::Parts(_) | Prepared::Whole(_) => Ok(Vec::new(alloc)),
+    }
+}
+
 // Adds the faults of a policy, one for each environment in which its condition is not accepted; whether that is known
 // false in each.
 fn check_everywhere(
     alloc: Global,
     settings: Settings,
     schema: &Schema,
+    signatures: &Signatures<'_>,
     policy: &Policy,
     condition: Prepared<'_>,
     faults: &mut Vec<Fault>,
 ) -> Result<bool, AllocError>
+    requires signatures { AreNumbered signatures.now.examples.items signatures.now.numbers.items (environments_of schema.now.actions) }
     requires condition { condition_in condition ≡ condition_of policy.now }
     requires ready { IsReady condition }
     ensures faults { OnOk result (map fault_view faults.new.items ≡ map fault_view faults.old.items ++ faults_of_with settings schema.now policy.now) }
     ensures impossible { IfOk result (λ impossible. impossible ≡ is_impossible_with settings schema.now policy.now) }
 {
+    let known = known_forms(alloc, settings, schema, signatures, condition)?;
     let environments = schema.environments();
     let mut impossible = true;
-    for environment in environments {
-        if !check_in(
+    for (place, environment) in environments.iter().enumerate() {
+        let number = signatures.numbers[place];
+        let form = form_at(
             alloc,
             settings,
             schema,
             environment,
-            policy,
             condition,
-            faults,
-        )? {
+            number,
+            &known,
+        )?;
+        if !add_fault(alloc, environment, policy, form, faults)? {
             impossible = false;
         }
     }
@@ -127,9 +149,11 @@ pub(crate) fn check_policy(
     alloc: Global,
     settings: Settings,
     schema: &Schema,
+    signatures: &Signatures<'_>,
     policy: &Policy,
     faults: &mut Vec<Fault>,
 ) -> Result<bool, AllocError>
+    requires { AreNumbered signatures.now.examples.items signatures.now.numbers.items (environments_of schema.now.actions) }
     ensures faults { OnOk result (map fault_view faults.new.items ≡ map fault_view faults.old.items ++ faults_of_with settings schema.now policy.now) }
     ensures impossible { IfOk result (λ impossible. impossible ≡ is_impossible_with settings schema.now policy.now) }
 {
@@ -138,6 +162,7 @@ pub(crate) fn check_policy(
         alloc,
         settings,
         schema,
+        signatures,
         policy,
         Prepared::new(&condition),
         faults,

@@ -38,6 +38,20 @@ fn form_in(typing: Typing<'_>) -> Form
     }
 }
 
+// The form of a condition in which the variable is nowhere.
+fn form_of_open<'a>(
+    alloc: Global,
+    settings: Settings,
+    schema: &'a Schema,
+    environment: &'a Environment,
+    condition: &'a Expr,
+) -> Result<Form, AllocError>
+    ensures { IfOk result (λ form. form_view form ≡ option_and_then (λ x. truth_in x.ty) (type_of_with settings schema.now environment.now [] condition.now)) }
+{
+    let typing = check(alloc, settings, schema, environment, &[], condition)?;
+    Ok(form_in(typing))
+}
+
 // The form of a condition by its parts, of which that of the action alone is copied.
 fn form_of_parts(
     alloc: Global,
@@ -86,7 +100,7 @@ fn form_of_whole(
 
 /// The form of a condition in an environment, with the environment's action in the place of the
 /// variable.
-#[tactic(auto, using(crate::proofs::Unmentioned::whole_replaced))]
+#[tactic(auto, using(crate::proofs::Unmentioned::unmentioned, crate::proofs::Unmentioned::whole_replaced))]
 pub(crate) fn form_of(
     alloc: Global,
     settings: Settings,
@@ -98,6 +112,7 @@ pub(crate) fn form_of(
     ensures { IfOk result (λ form. form_view form ≡ option_and_then (λ x. truth_in x.ty) (type_of_with settings schema.now environment.now [] (replace environment.now.action (condition_in condition.entry)))) }
 {
     match condition {
+        Prepared::Open(open) => form_of_open(alloc, settings, schema, environment, open),
         Prepared::Parts(parts) => form_of_parts(alloc, settings, schema, environment, parts),
         Prepared::Whole(whole) => form_of_whole(alloc, settings, schema, environment, whole),
     }

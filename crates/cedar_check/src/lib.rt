@@ -22,10 +22,13 @@ mod branches;
 mod checking;
 mod fault;
 mod form;
+mod known;
 mod mention;
 mod prepared;
 mod report;
 mod rows;
+mod signatures;
+mod type_order;
 
 pub use cedar_rules::TypeFault;
 pub use cedar_typing::{Settings, typing_is_determined, typing_is_sound};

@@ -16,21 +16,26 @@ pub(crate) struct Parts<'c> {
     pub(crate) rest: &'c Expr,
 }
 
-/// A condition, with the parts in which the variable `action` does not stand told apart.
+/// A condition, by where the variable `action` is in it.
 #[derive(Clone, Copy)]
 pub(crate) enum Prepared<'c> {
-    /// It stands in what is asked of the action alone.
+    /// Nowhere.
+    Open(&'c Expr),
+    /// In what is asked of the action alone.
     Parts(Parts<'c>),
-    /// It may stand anywhere.
+    /// Somewhere.
     Whole(&'c Expr),
 }
 
 impl<'c> Prepared<'c> {
-    /// The condition, looked at for its parts. Takes no memory.
+    /// The condition, searched for the variable. Takes no memory.
     pub(crate) fn new(condition: &'c Expr) -> Self
         ensures condition { condition_in result ≡ condition.now }
         ensures ready { IsReady result }
     {
+        if !mentions_action(condition) {
+            return Prepared::Open(condition);
+        }
         let ExprKind::And(principal, others) = condition.kind() else {
             return Prepared::Whole(condition);
         };

@@ -3,9 +3,12 @@ ghost use Rattle.std.specs.Prelude.{◌≡◌, ◌++◌, ◌∷◌, [], IfOk, On
 ghost use Rattle.cedar_typing.specs.Private.Reporting.{faults_of_with, is_impossible_with};
 ghost use Rattle.cedar_typing.specs.Reports.{AreFaultsWith, AreWarningsWith};
 ghost use Rattle.cedar_typing.specs.Settings.{default_settings};
+ghost use Rattle.cedar_schema.specs.SchemaTree.{environments_of};
 ghost use Rattle.cedar_check.specs.FaultView.{fault_view};
+ghost use Rattle.cedar_check.specs.Private.Signatures.{AreNumbered};
 
 use crate::fault::{Fault, check_policy};
+use crate::signatures::Signatures;
 use cedar_policies::{Policy, PolicySet};
 use cedar_schema::Schema;
 use cedar_typing::Settings;
@@ -27,14 +30,16 @@ fn check_next(
     alloc: Global,
     settings: Settings,
     schema: &Schema,
+    signatures: &Signatures<'_>,
     policy: &Policy,
     faults: &mut Vec<Fault>,
     impossible: &mut Vec<Text>,
 ) -> Result<(), AllocError>
+    requires { AreNumbered signatures.now.examples.items signatures.now.numbers.items (environments_of schema.now.actions) }
     ensures faults { OnOk result (map fault_view faults.new.items ≡ map fault_view faults.old.items ++ faults_of_with settings schema.now policy.now) }
     ensures warnings { OnOk result (impossible.new.items ≡ impossible.old.items ++ cond (is_impossible_with settings schema.now policy.now) (policy.now.id ∷ []) []) }
 {
-    if check_policy(alloc, settings, schema, policy, faults)? {
+    if check_policy(alloc, settings, schema, signatures, policy, faults)? {
         impossible.push(policy.id().try_clone(alloc)?)?;
     }
     Ok(())
@@ -55,6 +60,7 @@ pub fn check_with(
     ensures faults { IfOk result (λ report. AreFaultsWith settings schema.now policies.now.policies (map fault_view report.faults.items)) }
     ensures warnings { IfOk result (λ report. AreWarningsWith settings schema.now policies.now.policies report.warnings.items) }
 {
+    let signatures = Signatures::new(alloc, schema.environments())?;
     let mut faults = Vec::new(alloc);
     let mut impossible = Vec::new(alloc);
     for position in 0..policies.count() {
@@ -65,6 +71,7 @@ pub fn check_with(
             alloc,
             settings,
             schema,
+            &signatures,
             policy,
             &mut faults,
             &mut impossible,

@@ -26,6 +26,15 @@ pub const TWO_NAMESPACES: &str = r#"{"M":{"actions":{"g":{},"h":{}}},
     "actions":{"view":{"memberOf":[{"id":"g","type":"M::Action"}],
       "appliesTo":{"principalTypes":["U"],"resourceTypes":["R"],"context":{"type":"Record","attributes":{"b":{"type":"Boolean"}}}}}}}}"#;
 
+/// Four actions of a U on an R: `first` and `third` with one type of the context, `second` without attributes, `fourth` with
+/// an optional one. Its environments, in order: first, fourth, second, third.
+pub const FOUR_CONTEXTS: &str = r#"{"":{"entityTypes":{"U":{},"R":{}},
+ "actions":{
+  "first":{"appliesTo":{"principalTypes":["U"],"resourceTypes":["R"],"context":{"type":"Record","attributes":{"n":{"type":"Long"}}}}},
+  "second":{"appliesTo":{"principalTypes":["U"],"resourceTypes":["R"]}},
+  "third":{"appliesTo":{"principalTypes":["U"],"resourceTypes":["R"],"context":{"type":"Record","attributes":{"n":{"type":"Long"}}}}},
+  "fourth":{"appliesTo":{"principalTypes":["U"],"resourceTypes":["R"],"context":{"type":"Record","attributes":{"n":{"type":"Long","required":false}}}}}}}}"#;
+
 fn fault_text(alloc: Global, fault: &Fault) -> Result<String, AllocError> {
     let number = fault.reason.number();
     let policy = fault.policy.as_str();

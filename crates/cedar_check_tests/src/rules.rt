@@ -1,5 +1,7 @@
 //! Policies with their reports, each worked out from the rules of strict validation (Cedar documentation, policy validation).
-use crate::report_text::{DOCUMENTS, TWO_NAMESPACES, check_everywhere, check_reports};
+use crate::report_text::{
+    DOCUMENTS, FOUR_CONTEXTS, TWO_NAMESPACES, check_everywhere, check_reports,
+};
 use cedar_check::Settings;
 use std::test::Fail;
 
@@ -189,6 +191,24 @@ const ANY_DECIMAL: [(&str, u16); 9] = [
     (r#"decimal([]) == decimal("1.0")"#, 605),
     (r#"decimal(resource.name) == resource.name"#, 604),
 ];
+
+/// Policies over actions of which two have one type of the context. Where a policy does not name the action, environments with
+/// the same types are checked once; each has its own line still.
+#[rattlefmt::skip]
+const BY_CONTEXT: [(&str, &str); 6] = [
+    ("permit(principal, action, resource) when { context.n > 0 };", "602 policy0 fourth U R;603 policy0 second U R;"),
+    ("permit(principal, action, resource) when { context has n && context.n > 0 };", ""),
+    ("permit(principal, action, resource) when { context.m > 0 };", "603 policy0 first U R;603 policy0 fourth U R;603 policy0 second U R;603 policy0 third U R;"),
+    ("permit(principal, action, resource) when { context has m };", "650 policy0;"),
+    (r#"permit(principal, action, resource) when { action == Action::"third" && context.n > 0 };"#, ""),
+    (r#"permit(principal, action, resource) when { context.n > 0 && action == Action::"third" };"#, "602 policy0 fourth U R;603 policy0 second U R;"),
+];
+
+#[test]
+fn each_environment_has_its_line(rt: HostRuntime) -> Result<(), Fail> {
+    let alloc = rt.alloc();
+    check_reports(&rt, alloc, FOUR_CONTEXTS, &BY_CONTEXT)
+}
 
 #[test]
 fn policies_have_their_reports(rt: HostRuntime) -> Result<(), Fail> {

@@ -12,10 +12,13 @@ whole p = and p.principal.now (and p.action.now p.rest.now)
 
 -- The condition.
 abbrev pub condition_in : Prepared → Expression
+condition_in (prepared.Open e) = e.now
 condition_in (prepared.Parts p) = whole p
 condition_in (prepared.Whole e) = e.now
 
--- The action stands neither in what is asked of the principal nor in what else is asked, where there are parts.
+-- The action stands nowhere in an open condition, and where there are parts neither in what is asked of the principal nor in
+-- what else is asked.
 abbrev pub IsReady : Prepared → Type 0
+IsReady (prepared.Open e) = mentions e.now ≡ false
 IsReady (prepared.Parts p) = (mentions p.principal.now ≡ false) × (mentions p.rest.now ≡ false)
 IsReady (prepared.Whole e) = Unit {0}

@@ -1,52 +1,62 @@
-use Rattle.std.proofs.Common.{◌≡◌, ◌++◌, ◌&&◌, Bool, map, drop_of_length-le, arith, ap, sym, ◌∙◌}
-use Rattle.std.specs.List.{list_all}
-use Rattle.cedar_typing.specs.Private.Reporting.{faults_in_with}
+use Rattle.std.proofs.Common.{◌≡◌, ◌++◌, ◌&&◌, ◌∷◌, [], Bool, List, cond, length, map, arith, ap, subst, sym, ◌∙◌}
+use Rattle.std.specs.Prelude.{IfSome, is_some, slice_get}
+use Rattle.cedar_schema.specs.SchemaTree.{environments_of}
+use Rattle.cedar_typing.specs.Private.Checking.{form_in_with}
+use Rattle.cedar_typing.specs.Private.Reporting.{is_known_false}
+use Rattle.cedar_typing.specs.Reports.{fault_at}
+use Rattle.cedar_check.specs.declared.form.Form.{Form}
 use Rattle.cedar_check.specs.FaultView.{fault_view}
-use Rattle.cedar_check.proofs.Environments.{known_false, faults_step, impossible_step, not_known, still_known, all_so_far, nil_right}
+use Rattle.cedar_check.specs.Private.Condition.{condition_in}
+use Rattle.cedar_check.specs.Private.Signatures.{AreNumbered, form_with}
+use Rattle.cedar_check.specs.Private.View.{form_view}
+use Rattle.cedar_check.proofs.Environments.{known_false, faults_step, impossible_step, not_known, still_known}
+use Rattle.cedar_check.proofs.Numbers.{known_at, numbered_at, numbered_length}
 use Rattle.cedar_check.proofs.fault.check_everywhere.Goals.{then-not-branch, else-not-branch}
 use Rattle.cedar_check.proofs.fault.check_everywhere.Goals as goal
 
-pub loop-environment-preserved : goal.loop-environment-preserved
-loop-environment-preserved c =
+pub index-number-requires : goal.index-number-requires
+index-number-requires c =
+    let signatures = c.args.signatures.now in
+    let same = numbered_length signatures.examples.items signatures.numbers.items (environments_of c.args.schema.now.actions) c.requires.signatures in
+    omega (arith, same, ap length c.environments-environments.ensures, c.loop-place-test.true)
+
+pub form_at-requires-clause-known : goal.form_at-requires-clause-known
+form_at-requires-clause-known c =
+    let settings = c.args.settings in
+    let s = c.args.schema.now in
+    let e = condition_in c.args.condition in
+    let examples = c.args.signatures.now.examples.items in
+    let numbers = c.args.signatures.now.numbers.items in
+    let envs = c.environments-environments.result.now in
+    let i = c.loop-place.place in
+    let env = c.index-environments-place.result in
+    let number = c.index-number.result.now in
+    let numbered = subst (λ l. AreNumbered examples numbers l) (sym c.environments-environments.ensures) c.requires.signatures in
+    subst (λ (l : List Form). IfSome number (λ n. IfSome (slice_get l n) (λ f. form_view f ≡ form_with settings s env e))) (sym c.deref.ensures.value)
+    (known_at examples settings s e c.in_ok-known.known.items number env c.in_ok-known.ensures
+    (numbered_at examples numbers envs i number env c.loop-place-test.true c.index-number.ensures c.index-environments-place.is numbered))
+
+pub loop-place-preserved : goal.loop-place-preserved
+loop-place-preserved c =
     let settings = c.args.settings in
     let s = c.args.schema.now in
     let p = c.args.policy.now in
     let envs = c.environments-environments.result.now in
-    let i = c.loop-environment.environment-index in
-    let env = c.environment-item.result in
-    let lt = c.loop-environment-test.true in
-    let known = c.in_ok-check_in.ensures.known in
-    let step = λ (now : Bool) (same : now ≡ (c.loop-environment.impossible && known_false settings s p env)). impossible_step settings s p envs i env c.loop-environment.impossible now lt c.environment-item.is same ∙ c.loop-environment.invariant.impossible in
+    let i = c.loop-place.place in
+    let env = c.index-environments-place.result in
+    let lt = c.loop-place-test.true in
+    let old = map fault_view c.loop-place.faults.items in
+    let form : form_view c.in_ok-form.form ≡ form_in_with settings s env p = c.in_ok-form.ensures ∙ ap (form_with settings s env) c.requires.condition in
+    let known = c.in_ok-add_fault.ensures.known ∙ ap is_known_false form in
+    let step = λ (now : Bool) (same : now ≡ (c.loop-place.impossible && known_false settings s p env)). impossible_step settings s p envs i env c.loop-place.impossible now lt c.index-environments-place.is same ∙ c.loop-place.invariant.impossible in
     record {
       faults =
-          faults_step settings s p envs i env (map fault_view c.loop-environment.faults.items) (map fault_view c.check_in.new.faults.items) lt c.environment-item.is c.in_ok-check_in.ensures.faults
-          ∙ c.loop-environment.invariant.faults;
+          faults_step settings s p envs i env old (map fault_view c.add_fault.new.faults.items) lt c.index-environments-place.is
+          (c.in_ok-add_fault.ensures.faults ∙ ap (λ o. old ++ cond (is_some o) [] (fault_at p env ∷ [])) form)
+          ∙ c.loop-place.invariant.faults;
       impossible =
           elim c.if-not-branch.branch [
-            | then-not-branch w ↦ step c.if-not-branch.impossible (w.impossible-is ∙ not_known c.loop-environment.impossible (known_false settings s p env) c.in_ok-check_in.field-0 w.if-not-branch.true known)
-            | else-not-branch w ↦ step c.if-not-branch.impossible (w.impossible-is ∙ still_known c.loop-environment.impossible (known_false settings s p env) c.in_ok-check_in.field-0 w.if-not-branch.false known)
+            | then-not-branch w ↦ step c.if-not-branch.impossible (w.impossible-is ∙ not_known c.loop-place.impossible (known_false settings s p env) c.in_ok-add_fault.field-0 w.if-not-branch.true known)
+            | else-not-branch w ↦ step c.if-not-branch.impossible (w.impossible-is ∙ still_known c.loop-place.impossible (known_false settings s p env) c.in_ok-add_fault.field-0 w.if-not-branch.false known)
           ];
     }
-
-pub returns-clause-faults : goal.returns-clause-faults
-returns-clause-faults c =
-    let settings = c.args.settings in
-    let s = c.args.schema.now in
-    let p = c.args.policy.now in
-    let envs = c.environments-environments.result.now in
-    let all = map fault_view c.loop-environment.faults.items in
-    sym (nil_right all)
-    ∙ sym (ap (λ l. all ++ faults_in_with settings s p l) (drop_of_length-le envs {i = c.loop-environment.environment-index} (omega arith)))
-    ∙ c.loop-environment.invariant.faults
-    ∙ ap (λ l. map fault_view c.args.faults.now.items ++ faults_in_with settings s p l) c.environments-environments.ensures
-
-pub returns-clause-impossible : goal.returns-clause-impossible
-returns-clause-impossible c =
-    let settings = c.args.settings in
-    let s = c.args.schema.now in
-    let p = c.args.policy.now in
-    let envs = c.environments-environments.result.now in
-    sym (all_so_far c.loop-environment.impossible)
-    ∙ sym (ap (λ l. c.loop-environment.impossible && list_all (known_false settings s p) l) (drop_of_length-le envs {i = c.loop-environment.environment-index} (omega arith)))
-    ∙ c.loop-environment.invariant.impossible
-    ∙ ap (list_all (known_false settings s p)) c.environments-environments.ensures

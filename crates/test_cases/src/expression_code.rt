@@ -1,0 +1,58 @@
+//! The codes of expressions and of policies that are given as texts.
+use crate::case_fault::CaseFault;
+use cedar_ast::{Expr, ExprKind};
+use cedar_code::{Code, CodeFault, compile};
+use cedar_parser::parse;
+use cedar_policies::PolicySet;
+use std::alloc::Global;
+
+/// The code of an expression of a policy text.
+pub fn expression_code(alloc: Global, expression: &str) -> Result<Code, CaseFault> {
+    let text = format!(in alloc; "permit(principal, action, resource) when {{ {expression} }};")?;
+    let policies = parse(alloc, text.as_str())?;
+    let code = first_code(alloc, &policies, Part::Condition);
+    drop(policies);
+    code
+}
+
+/// The code of the first policy of a text: its scope before what is written after it.
+pub fn policy_code(alloc: Global, text: &str) -> Result<Code, CaseFault> {
+    let policies = parse(alloc, text)?;
+    let code = first_code(alloc, &policies, Part::Whole);
+    drop(policies);
+    code
+}
+
+// What of a policy is compiled.
+#[derive(Clone, Copy)]
+enum Part {
+    // Its scope and its conditions.
+    Whole,
+    // Its one condition alone, where its scope asks nothing.
+    Condition,
+}
+
+fn first_code(alloc: Global, policies: &PolicySet, part: Part) -> Result<Code, CaseFault> {
+    let Some(policy) = policies.policy(0) else {
+        return Err(CaseFault::Malformed("policies"));
+    };
+    let whole = policy.condition(alloc)?;
+    let code = code_of(alloc, &whole, part);
+    drop(whole);
+    Ok(code?)
+}
+
+fn code_of(alloc: Global, whole: &Expr, part: Part) -> Result<Code, CodeFault> {
+    match part {
+        Part::Whole => compile(alloc, whole),
+        Part::Condition => compile(alloc, behind_and(behind_and(behind_and(whole)))),
+    }
+}
+
+// The right side of an `&&`; anything else as it is.
+fn behind_and(expression: &Expr) -> &Expr {
+    match expression.kind() {
+        ExprKind::And(_, right) => right,
+        _ => expression,
+    }
+}

@@ -1,0 +1,32 @@
+//! `code`: the instructions of the first policy's code, one a line after its place, and the line of its run without entities, as
+//! that of `expr`.
+//!
+//! Takes `policies`, and the request, of which each part may be missing.
+use crate::asked::request_of;
+use crate::case::Case;
+use crate::case_fault::CaseFault;
+use crate::code_text::code_text;
+use crate::expression_code::policy_code;
+use crate::outcome::Outcome;
+use crate::run_text::run_line;
+use cedar_code::Code;
+use cedar_value::NoEntities;
+use std::alloc::Global;
+
+/// What the case's call gives.
+pub fn outcome(alloc: Global, case: &Case) -> Result<Outcome, CaseFault> {
+    let policies = case.text(alloc, "policies")?;
+    let code = policy_code(alloc, policies.as_str())?;
+    let told = told_of(alloc, case, &code);
+    drop(code);
+    Ok(Outcome::text(told?))
+}
+
+fn told_of(alloc: Global, case: &Case, code: &Code) -> Result<String, CaseFault> {
+    let request = request_of(alloc, case)?;
+    let ran = run_line(alloc, code, &request, &NoEntities);
+    drop(request);
+    let mut told = code_text(alloc, code)?;
+    told.push_str(ran?.as_str())?;
+    Ok(told)
+}

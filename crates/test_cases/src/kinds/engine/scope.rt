@@ -1,0 +1,62 @@
+//! `scope`: whether Ann's request over the entities of `staff` meets a policy's scope, and how many instructions the policy's code
+//! has from that of its conditions on: 4 where it has none, which are `Push true` and the test of each of three `&&`.
+//!
+//! Takes `policy`.
+ghost use Rattle.std.specs.Prelude.{◌≡◌, IfOk};
+ghost use Rattle.cedar_policies.specs.Condition.{condition_of};
+ghost use Rattle.cedar_code.specs.Code.{code_of};
+
+use crate::case::Case;
+use crate::case_fault::CaseFault;
+use crate::outcome::Outcome;
+use crate::staff::{request_of_ann, staff};
+use cedar_code::{Code, CodeFault, compile};
+use cedar_parser::parse;
+use cedar_policies::{Policy, PolicySet};
+use cedar_scope::{is_met, place_behind};
+use cedar_store::Store;
+use std::alloc::Global;
+
+/// What the case's call gives.
+pub fn outcome(alloc: Global, case: &Case) -> Result<Outcome, CaseFault> {
+    let text = case.text(alloc, "policy")?;
+    let policies = parse(alloc, text.as_str())?;
+    let told = told_of(alloc, case, &policies);
+    drop(policies);
+    Ok(Outcome::text(told?))
+}
+
+fn told_of(alloc: Global, case: &Case, policies: &PolicySet) -> Result<String, CaseFault> {
+    let Some(policy) = policies.policy(0) else {
+        return Err(CaseFault::Malformed("policy"));
+    };
+    let count = instructions_behind(alloc, policy)?;
+    let store = staff(alloc)?;
+    let is_met = meets(alloc, case, policy, &store);
+    drop(store);
+    let is_met = is_met?;
+    Ok(format!(in alloc; "{is_met} {count}")?)
+}
+
+fn meets(alloc: Global, case: &Case, policy: &Policy, store: &Store) -> Result<bool, CaseFault> {
+    let request = request_of_ann(alloc, case)?;
+    let is_met = is_met(policy.scope(), &request, store);
+    drop(request);
+    Ok(is_met)
+}
+
+fn instructions_behind(alloc: Global, policy: &Policy) -> Result<usize, CodeFault> {
+    let code = code_of(alloc, policy)?;
+    code.well_formedness();
+    let place = place_behind(policy.scope());
+    let behind = code.instructions().len().saturating_sub(place);
+    drop(code);
+    Ok(behind)
+}
+
+fn code_of(alloc: Global, policy: &Policy) -> Result<Code, CodeFault>
+    ensures { IfOk result (λ c. c.instructions ≡ code_of (condition_of policy.now)) }
+{
+    let condition = policy.condition(alloc)?;
+    compile(alloc, &condition)
+}

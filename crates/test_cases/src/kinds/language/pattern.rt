@@ -1,0 +1,51 @@
+//! `pattern`: whether a text matches a pattern and its copy: `true`, `false`, or `the copy differs`. In the pattern a `*` is a star,
+//! and `\` before a character takes that as it is.
+//!
+//! Takes `pattern` and `text`.
+use crate::case::Case;
+use crate::case_fault::CaseFault;
+use crate::outcome::Outcome;
+use cedar_ext::{Element, Pattern};
+use std::alloc::{AllocError, Global};
+
+/// What the case's call gives.
+pub fn outcome(alloc: Global, case: &Case) -> Result<Outcome, CaseFault> {
+    let written = case.text(alloc, "pattern")?;
+    let text = case.text(alloc, "text")?;
+    let told = told(alloc, written.as_str(), text.as_str())?;
+    Ok(Outcome::text(String::from_str(alloc, told)?))
+}
+
+fn told(alloc: Global, written: &str, text: &str) -> Result<&'static str, AllocError> {
+    let pattern = pattern_of(alloc, written)?;
+    let copy = pattern.try_clone(alloc)?;
+    let told = match (pattern.matches(text), copy.matches(text)) {
+        (true, true) => "true",
+        (false, false) => "false",
+        _ => "the copy differs",
+    };
+    Ok(told)
+}
+
+fn pattern_of(alloc: Global, written: &str) -> Result<Pattern, AllocError> {
+    let mut elements = Vec::new(alloc);
+    let mut is_escaped = false;
+    for character in written.chars() {
+        if is_escaped {
+            elements.push(Element::Character(character))?;
+            is_escaped = false;
+        } else if character == '\\' {
+            is_escaped = true;
+        } else {
+            elements.push(element_of(character))?;
+        }
+    }
+    Ok(Pattern::new(elements))
+}
+
+fn element_of(character: char) -> Element {
+    match character {
+        '*' => Element::Star,
+        other => Element::Character(other),
+    }
+}

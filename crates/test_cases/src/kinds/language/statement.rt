@@ -1,0 +1,32 @@
+//! `statement`: the whole condition of the first policy of a text, with what its scope asks, as a tree; or
+//! `refused NUMBER at OFFSET`.
+//!
+//! Takes `policies`.
+use crate::case::Case;
+use crate::case_fault::CaseFault;
+use crate::outcome::Outcome;
+use crate::refusal_text::refused_at;
+use crate::tree_text::tree_text;
+use cedar_parser::parse;
+use cedar_policies::PolicySet;
+use std::alloc::{AllocError, Global};
+
+/// What the case's call gives.
+pub fn outcome(alloc: Global, case: &Case) -> Result<Outcome, CaseFault> {
+    let policies = case.text(alloc, "policies")?;
+    let told = match parse(alloc, policies.as_str()) {
+        Ok(set) => whole_tree(alloc, &set),
+        Err(fault) => refused_at(alloc, fault.number(), fault.offset()),
+    };
+    Ok(Outcome::text(told?))
+}
+
+fn whole_tree(alloc: Global, set: &PolicySet) -> Result<String, AllocError> {
+    let Some(policy) = set.policy(0) else {
+        return String::from_str(alloc, "no policy");
+    };
+    let condition = policy.condition(alloc)?;
+    let tree = tree_text(alloc, &condition);
+    drop(condition);
+    tree
+}

@@ -1,16 +1,11 @@
-//! The tests of expressions and policies and of what they stand on, by their public functions: decimals, patterns and values,
-//! copies of expressions, sets of policies, and links of templates. They stand apart from what they test, since the tests
-//! of a crate are proved with the whole crate once more.
+//! The tests of expressions, values and patterns that are no cases: what a refused record hands back, and what is made by hand.
+//! All else is in the cases of `test_cases`.
 #![tactic(auto)]
 
 #[cfg(test)]
-mod copies;
+mod patterns;
 #[cfg(test)]
-mod decimals_and_patterns;
-#[cfg(test)]
-mod links;
-#[cfg(test)]
-mod policy_sets;
+mod records;
 #[cfg(test)]
 mod uids;
 #[cfg(test)]

@@ -19,10 +19,6 @@ pub const ENTITIES: &[u8] =
  {"uid":{"type":"Admin","id":"eve"},"attrs":{"level":5},"parents":[]},
  {"uid":{"type":"Doc","id":"d"},"attrs":{"owner":{"type":"User","id":"ann"},"name":"a*bxyz"},"parents":[]}]"#;
 
-/// Ann, and her document, whose name is a decimal.
-pub const NAMED: &[u8] = br#"[{"uid":{"type":"User","id":"ann"}},
- {"uid":{"type":"Doc","id":"d"},"attrs":{"owner":{"type":"User","id":"ann"},"name":"1.5"}}]"#;
-
 /// A policy that permits all.
 pub const ALL: &[u8] = b"permit(principal, action, resource);";
 
@@ -37,24 +33,9 @@ pub const UNGUARDED_REPORT: &[u8] =
 {"faults":2,"warnings":0}
 "#;
 
-/// A template for a principal.
-pub const TEMPLATE: &[u8] = br#"@id("t") permit(principal == ?principal, action, resource);"#;
-
-/// The link of that template for Ann.
-pub const ANN: &[u8] =
-    br#"[{"template_id":"t","link_id":"l1","args":{"?principal":"User::\"ann\""}}]"#;
-
 /// Ann deletes the document.
 pub const DELETE: &[u8] =
     br#"{"principal":"User::\"ann\"","action":"Action::\"delete\"","resource":"Doc::\"d\""}"#;
-
-/// Bob deletes the document.
-pub const DELETE_BY_BOB: &[u8] =
-    br#"{"principal":"User::\"bob\"","action":"Action::\"delete\"","resource":"Doc::\"d\""}"#;
-
-/// Ann deletes a document that has no entity.
-pub const DELETE_GONE: &[u8] =
-    br#"{"principal":"User::\"ann\"","action":"Action::\"delete\"","resource":"Doc::\"gone\""}"#;
 
 /// Five lines, of which the last has no LF.
 pub const FIVE_LINES: &[u8] = br#"{"principal":
@@ -69,33 +50,6 @@ pub const FIVE_ANSWERS: &[u8] = br#"{"refused":501}
 {"refused":510}
 {"refused":501}
 {"decision":"allow","determining":["policy0"],"erring":[]}
-"#;
-
-/// The answer of a request that the first policy permits.
-pub const ALLOWED: &[u8] =
-    b"{\"decision\":\"allow\",\"determining\":[\"policy0\"],\"erring\":[]}\n";
-
-/// The answer of a request that no policy permits or forbids.
-pub const DENIED: &[u8] = b"{\"decision\":\"deny\",\"determining\":[],\"erring\":[]}\n";
-
-/// The report on policies that are accepted.
-pub const ACCEPTED: &[u8] = b"{\"faults\":0,\"warnings\":0}\n";
-
-/// The report on a policy that has no type in any environment, since it asks for a decimal of what is no literal, or of one that is
-/// no decimal's.
-pub const NO_LITERAL: &[u8] =
-    br#"{"action":{"id":"delete","type":"Action"},"fault":607,"policy":"policy0","principal":"User","resource":"Doc"}
-{"action":{"id":"view","type":"Action"},"fault":607,"policy":"policy0","principal":"Admin","resource":"Doc"}
-{"action":{"id":"view","type":"Action"},"fault":607,"policy":"policy0","principal":"User","resource":"Doc"}
-{"faults":3,"warnings":0}
-"#;
-
-/// The same, where an operand has another type than its operator takes.
-pub const NO_TYPE: &[u8] =
-    br#"{"action":{"id":"delete","type":"Action"},"fault":606,"policy":"policy0","principal":"User","resource":"Doc"}
-{"action":{"id":"view","type":"Action"},"fault":606,"policy":"policy0","principal":"Admin","resource":"Doc"}
-{"action":{"id":"view","type":"Action"},"fault":606,"policy":"policy0","principal":"User","resource":"Doc"}
-{"faults":3,"warnings":0}
 "#;
 
 /// The files that hold these texts.

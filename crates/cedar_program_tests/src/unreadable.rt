@@ -1,31 +1,11 @@
-//! The order in which files are judged, and files that are not there or can't be read.
-use crate::documents::{ALL, DELETE, DOCUMENTS, UNGUARDED, UNGUARDED_REPORT, files, with_links};
+//! Files that are not named or cannot be read.
+use crate::documents::{ALL, DELETE, with_links};
 use crate::lacking_files::LackingFiles;
 use cedar_lines::{Sink, SliceSource, VecSink};
 use cedar_program::{End, FileFault, Files, Role, authorize, validate};
 use cedar_typing::Settings;
 use std::alloc::Global;
 use std::process::Abort;
-
-/// What is told of files of which several are at fault.
-const SCHEMA_REFUSED: &[u8] = b"{\"file\":\"schema\",\"refused\":302}\n";
-
-const POLICIES_REFUSED: &[u8] = b"{\"file\":\"policies\",\"offset\":6,\"refused\":201}\n";
-
-const LINKS_REFUSED: &[u8] = b"{\"file\":\"links\",\"refused\":502}\n";
-
-const ENTITIES_REFUSED: &[u8] = b"{\"file\":\"entities\",\"refused\":502}\n";
-
-/// Schemas, policies and links beside entities that are no list, and how `authorize` ends: with the refusal of the first file that
-/// is refused, or with faults, which stand before the entities.
-#[rattlefmt::skip]
-const JUDGED: [(&[u8], &[u8], Option<&[u8]>, End, &[u8]); 5] = [
-    (b"[]", b"permit", Some(b"{}"), End::Refused, SCHEMA_REFUSED),
-    (DOCUMENTS, b"permit", Some(b"{}"), End::Refused, POLICIES_REFUSED),
-    (DOCUMENTS, UNGUARDED, Some(b"{}"), End::Refused, LINKS_REFUSED),
-    (DOCUMENTS, UNGUARDED, Some(b"[]"), End::Faults, UNGUARDED_REPORT),
-    (DOCUMENTS, ALL, None, End::Refused, ENTITIES_REFUSED),
-];
 
 /// `authorize` gives this end and this text for a line over these files.
 fn assert_authorizes<F: Files>(
@@ -50,26 +30,7 @@ fn assert_validates<F: Files>(rt: &impl Abort, alloc: Global, files: &F, wanted:
     assert_eq!(rt; sink.bytes(), text);
 }
 
-fn check_judged<'x>(
-    rt: &impl Abort,
-    alloc: Global,
-    rows: &[(&'x [u8], &'x [u8], Option<&'x [u8]>, End, &'x [u8])],
-) {
-    for (schema, policies, links, end, text) in rows {
-        let files = files(schema, policies, *links, Some(b"{}"));
-        assert_authorizes(rt, alloc, &files, *end, text);
-        if links.is_some() {
-            assert_validates(rt, alloc, &files, *end, text);
-        }
-    }
-}
-
-#[test]
-fn judges_the_schema_then_policies_then_links_then_entities(rt: HostRuntime) {
-    check_judged(&rt, rt.alloc(), &JUDGED);
-}
-
-/// The files of a policy that permits all, of which this one is not there, or can't be read.
+/// The files of a policy that permits all, of which this one is not named, or cannot be read.
 fn without(lacking: Role, fault: Option<FileFault>) -> LackingFiles<'static> {
     LackingFiles {
         files: with_links(ALL, None),

@@ -1,6 +1,0 @@
-use Rattle.cedar_scope.proofs.Begun.{scope_short}
-use Rattle.cedar_engine_tests.proofs.met.instructions_behind.Goals as goal
-
-pub place_behind-place-requires : goal.place_behind-place-requires
-place_behind-place-requires c =
-    rw c.scope.ensures (scope_short c.args.policy.now _ c.in_ok-code.ensures c.well_formedness.ensures.fits)

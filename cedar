@@ -4,7 +4,7 @@
 # an hour, and its output, of at most 1 MiB, comes when it has ended.
 set -eu
 top=$(cd "$(dirname "$0")" && pwd)
-folder=$top/crates/cedar_cli
+folder=$top/crates/cedar
 if program=$("$top/tools/current"); then
   exec "$program" "$@"
 fi

@@ -1,4 +1,2 @@
-mod EvaluationExamples
-pub mod KeyLemmas
-pub mod Lists
-pub mod Sizes
+pub mod LinkLemmas
+pub mod PolicyIdLemmas

@@ -1,10 +1,8 @@
-pub mod Answer
-pub mod Evaluation
-pub mod Expression
-pub mod ExprKind
-pub mod Keys
-pub mod Operators
+pub mod AddFault
+pub mod Condition
+pub mod Linking
+pub mod LinkFault
+pub mod PolicySetTree
+pub mod PolicyTree
 pub mod Private
-pub mod RecordFault
-pub mod Replacement
-pub mod SameExpression
+pub mod Response

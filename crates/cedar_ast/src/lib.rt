@@ -1,31 +1,51 @@
-//! Expressions of the Cedar policy language, and what they mean.
+//! Policies of the Cedar policy language, the templates that they may be linked from, and the sets of both.
 //!
 //! ```rust
-//! use cedar_ast::{BinaryOperator, Expr, Variable};
+//! use cedar_ast::{Effect, Expr, Policy, PolicySet, Statement};
 //!
-//! // `principal in resource`
-//! let (low, high) = (Expr::variable(Variable::Principal), Expr::variable(Variable::Resource));
-//! let within = Expr::binary(alloc, BinaryOperator::In, low, high)?;
-//! assert!(rt; within != Expr::literal(Value::boolean(true)));
+//! // `permit(principal, action, resource);`, with the id `policy0` and a scope that asks nothing
+//! let policy = Policy::new(id, annotations, Effect::Permit, scope, conditions);
+//! let condition: Expr = policy.condition(alloc)?;
+//! let mut policies = PolicySet::new(alloc);
+//! policies.add(Statement::Policy(policy))?;
+//! assert!(rt; policies.count() == 1);
 //! ```
 //!
-//! The definitions of expressions and of their evaluation stand in `specs/`.
+//! The definitions of a policy's condition, of a template's links and of the response are in `specs/`. Expressions, and the
+//! definition of their evaluation, are in cedar_ast_expressions and passed on here.
 #![tactic(auto)]
 
-mod entries;
-mod equality;
-mod error;
-mod expression;
-mod keys;
-mod operator;
-mod record_fault;
-mod replacement;
-mod variable;
+mod add_fault;
+mod annotation;
+mod condition;
+mod decision;
+mod effect;
+mod link;
+mod link_fault;
+mod linking;
+mod policy;
+mod policy_set;
+mod scope;
+mod slots;
+mod statement;
+mod template_scope;
+mod uids;
 
-pub use entries::Entries;
-pub use error::EvaluationError;
-pub use expression::{Expr, ExprKind};
-pub use keys::{Keys, first_repeated};
-pub use operator::{BinaryOperator, UnaryOperator};
-pub use record_fault::RecordFault;
-pub use variable::Variable;
+pub use add_fault::AddFault;
+pub use annotation::Annotation;
+pub use cedar_ast_expressions::{
+    BinaryOperator, Entries, EvaluationError, Expr, ExprKind, Keys, RecordFault, UnaryOperator,
+    Variable, first_repeated,
+};
+pub use condition::{Condition, ConditionKind};
+pub use decision::Decision;
+pub use effect::Effect;
+pub use link::Link;
+pub use link_fault::LinkFault;
+pub use policy::{Policy, PolicyOver, Template};
+pub use policy_set::PolicySet;
+pub use scope::{ActionScope, EntityScope, Scope};
+pub use slots::Slots;
+pub use statement::Statement;
+pub use template_scope::{EntityReference, TemplateEntityScope, TemplateScope};
+pub use uids::Uids;

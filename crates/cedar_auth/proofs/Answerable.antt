@@ -8,34 +8,33 @@ use Rattle.std.proofs.lemmas.Slice.Eq.{bytes_eq-Decides}
 use Rattle.serde_json.specs.Data.{Data}
 use Rattle.serde_json.specs.Find.{get, as_str}
 use Rattle.serde_json.specs.Written.{compact_text}
-use Rattle.cedar_json.specs.JsonTree.{json_of}
+use Rattle.base_json.specs.JsonTree.{json_of}
 use Rattle.cedar_value.specs.Datum.{Datum, Fields, no_fields, field, record_of, fields_of, pairs_of}
 use Rattle.cedar_value.specs.Names.{IsName, is_name}
 use Rattle.cedar_value.specs.declared.request.Request.{Request}
 use Rattle.cedar_value.specs.declared.uid.Uid.{Uid}
-use Rattle.cedar_tokens.specs.UidText.{IsUidText}
-use Rattle.cedar_types.specs.Membership.{Member}
-use Rattle.cedar_types.specs.Types.{TypeTree}
-use Rattle.cedar_types.specs.Types as kind
-use Rattle.cedar_policies.specs.Response.{response}
-use Rattle.cedar_schema.specs.Declarations.{IsAction, is_action, ActionsAreDecided}
-use Rattle.cedar_schema.specs.Declaring.{is_record}
-use Rattle.cedar_schema.specs.SchemaTree.{SchemaTree, shape_of, environments_of, HasEnvironment}
-use Rattle.cedar_schema.specs.WellFormed.{AreContextsOrdered, IsOrderedRecord}
-use Rattle.cedar_schema.specs.declared.schema.environment.Environment.{Environment}
-use Rattle.cedar_data.specs.Belonging.{ReadValuesBelong}
-use Rattle.cedar_data.specs.Objects.{has_only}
-use Rattle.cedar_data.specs.Uids.{uid_object}
-use Rattle.cedar_data.specs.Values.{value_read}
-use Rattle.cedar_data.specs.WrittenUids.{IsUidObject, WritesUid, UidAt}
-use Rattle.cedar_data.specs.Numbers.{number_of}
-use Rattle.cedar_data.specs.declared.conform_fault.ConformFault.{ConformFault}
-use Rattle.cedar_data.specs.declared.conform_fault.ConformFault.TheVariants.{OutOfMemory, Json, Shape, UnknownType, NoSuchAction, ActionDoesNotApply}
-use Rattle.cedar_conform.specs.Requests.{is_request_key, Names, Lacks, IsShapeless, context_of, Denotes, HasFault}
+use Rattle.cedar_parser_tokens.specs.UidText.{IsUidText}
+use Rattle.cedar_schema_types.specs.Membership.{Member}
+use Rattle.cedar_schema_types.specs.Types.{TypeTree, is_record}
+use Rattle.cedar_schema_types.specs.Types as kind
+use Rattle.cedar_ast.specs.Response.{response}
+use Rattle.cedar_schema_spec.specs.Declarations.{IsAction, is_action, ActionsAreDecided}
+use Rattle.cedar_schema_spec.specs.SchemaTree.{SchemaTree, shape_of, environments_of, HasEnvironment}
+use Rattle.cedar_schema_spec.specs.WellFormed.{AreContextsOrdered, IsOrderedRecord}
+use Rattle.cedar_schema_spec.specs.declared.environment.Environment.{Environment}
+use Rattle.cedar_conform_values.specs.Belonging.{ReadValuesBelong}
+use Rattle.cedar_conform_values.specs.Objects.{has_only}
+use Rattle.cedar_conform_values.specs.Uids.{uid_object}
+use Rattle.cedar_conform_values.specs.Values.{value_read}
+use Rattle.cedar_conform_values.specs.WrittenUids.{IsUidObject, WritesUid, UidAt}
+use Rattle.cedar_conform_values.specs.Numbers.{number_of}
+use Rattle.cedar_conform_values.specs.declared.conform_fault.ConformFault.{ConformFault}
+use Rattle.cedar_conform_values.specs.declared.conform_fault.ConformFault.TheVariants.{OutOfMemory, Json, Shape, UnknownType, NoSuchAction, ActionDoesNotApply}
+use Rattle.cedar_conform_requests.specs.Requests.{is_request_key, Names, Lacks, IsShapeless, context_of, Denotes, HasFault}
 use Rattle.cedar_auth.specs.AnswerJson.{response_data, refused_data}
 use Rattle.cedar_auth.specs.AnswerLine.{AnswersLine}
 use Rattle.cedar_auth.specs.Ready.{ReadyTree}
-use Rattle.cedar_auth.proofs.Listed.{here, there, cases, nowhere}
+use Rattle.base_reach.proofs.Listed.{here, there, first_or_later, nowhere}
 use Rattle.cedar_auth.proofs.TrueFaults.{Others, of_value}
 
 -- ---- records
@@ -107,7 +106,7 @@ module _ (a : Uid) (p r : List ℕ) where
   later : (e : Environment) (es : List Environment) → ((t : TypeTree) → e ≡ record { action = a; principal = p; resource = r; context = t } → ⊥) → Found es ⊎ NotFound es → Found (e ∷ es) ⊎ NotFound (e ∷ es)
   unfolding Found NotFound
   later e es n (inl f) = inl (f.0, there e es _ f.1)
-  later e es n (inr g) = inr (λ t m. ⊎_elim (λ same. n t same) (λ behind. g t behind) (cases e es (record { action = a; principal = p; resource = r; context = t }) m))
+  later e es n (inr g) = inr (λ t m. ⊎_elim (λ same. n t same) (λ behind. g t behind) (first_or_later e es (record { action = a; principal = p; resource = r; context = t }) m))
 
   found_by : (e : Environment) (es : List Environment) → (e.action ≡ a) ⊎ (e.action ≡ a → ⊥) → (e.principal ≡ p) ⊎ (e.principal ≡ p → ⊥) → (e.resource ≡ r) ⊎ (e.resource ≡ r → ⊥) → Found es ⊎ NotFound es → Found (e ∷ es) ⊎ NotFound (e ∷ es)
   unfolding Found NotFound

@@ -12,18 +12,18 @@ use Rattle.cedar_value.specs.Private.Same.{uid_same}
 use Rattle.cedar_value.specs.World.{World}
 use Rattle.cedar_value.specs.declared.request.Request.{Request}
 use Rattle.cedar_value.specs.declared.uid.Uid.{Uid}
-use Rattle.cedar_policies.specs.PolicyTree.{PolicyTree}
-use Rattle.cedar_schema.specs.declared.schema.environment.Environment.{Environment}
-use Rattle.cedar_schema.specs.SchemaTree.{SchemaTree, ActionTree, action_at}
-use Rattle.cedar_schema.specs.WellFormed.{AreTypesApart}
-use Rattle.cedar_schema.specs.Conformance.{Conforms, Fits, FitsIn}
-use Rattle.cedar_typing.specs.Candidates.{MayMeet, Meets, IsCandidate, CandidatesAreEnough}
+use Rattle.cedar_ast.specs.PolicyTree.{PolicyTree}
+use Rattle.cedar_schema_spec.specs.declared.environment.Environment.{Environment}
+use Rattle.cedar_schema_spec.specs.SchemaTree.{SchemaTree, ActionTree, action_at}
+use Rattle.cedar_schema_spec.specs.WellFormed.{AreTypesApart}
+use Rattle.cedar_schema_spec.specs.Conformance.{Conforms, Fits, FitsIn}
+use Rattle.cedar_check_spec.specs.Candidates.{MayMeet, Meets, IsCandidate, CandidatesAreEnough}
 use Rattle.cedar_auth.specs.Candidates.{AreCandidates, OthersAreFalse}
 use Rattle.cedar_auth.specs.declared.row.Row.{Row}
-use Rattle.cedar_index.specs.Index.{IndexTree, IsListingBy, ListingTree, HasReached}
+use Rattle.cedar_auth_index.specs.Index.{IndexTree, IsListingBy, ListingTree, HasReached}
 use Rattle.cedar_auth.specs.Private.Sifting.{Cells, RowCells, Rows, SiftedBy, LeavesFalse, OfAction, ByAction, AreCandidatesFor, cell_at, positions_in}
 use Rattle.cedar_auth.proofs.Environments.{found_at, looked_up}
-use Rattle.cedar_auth.proofs.Listed.{here, there}
+use Rattle.base_reach.proofs.Listed.{here, there}
 use Rattle.cedar_auth.proofs.Makings.{IsMaking, making_end}
 use Rattle.cedar_auth.proofs.Reached.{unreached_is_false}
 use Rattle.cedar_auth.proofs.Sifts.{both_sifted, alike_sifted, sifted_below, sifted_exactly, sifted_ascends}

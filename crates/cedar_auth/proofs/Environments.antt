@@ -10,11 +10,11 @@ use Rattle.std.specs.Map.{keys_of, lookup}
 use Rattle.cedar_value.specs.Order.{uid_cmp}
 use Rattle.cedar_value.specs.Private.Laws.{uid_total}
 use Rattle.cedar_value.specs.declared.uid.Uid.{Uid}
-use Rattle.cedar_types.specs.Types.{TypeTree}
-use Rattle.cedar_schema.specs.declared.schema.environment.Environment.{Environment}
-use Rattle.cedar_schema.specs.SchemaTree.{ActionTree, environments_of}
-use Rattle.cedar_schema.specs.Private.Environments.{with_principals, with_resources}
-use Rattle.cedar_auth.proofs.Listed.{here, there, nowhere, from_mapped}
+use Rattle.cedar_schema_types.specs.Types.{TypeTree}
+use Rattle.cedar_schema_spec.specs.declared.environment.Environment.{Environment}
+use Rattle.cedar_schema_spec.specs.SchemaTree.{ActionTree, environments_of}
+use Rattle.cedar_schema_spec.specs.Private.Environments.{with_principals, with_resources}
+use Rattle.base_reach.proofs.Listed.{here, there, nowhere, from_mapped}
 
 record ComesFrom (actions : List (Uid × ActionTree)) (e : Environment) : Type 0 where
   action : ActionTree

@@ -4,21 +4,21 @@ use Rattle.std.specs.List.{list_any}
 use Rattle.cedar_value.specs.Datum.{Datum, boolean}
 use Rattle.cedar_value.specs.World.{World}
 use Rattle.cedar_value.specs.declared.request.Request.{Request}
-use Rattle.cedar_policies.specs.declared.effect.Effect.{Effect}
-use Rattle.cedar_policies.specs.declared.effect.Effect.TheVariants.{Permit, Forbid}
-use Rattle.cedar_policies.specs.declared.decision.Decision.TheVariants.{Allow}
-use Rattle.cedar_ast.specs.Answer.{Answer}
-use Rattle.cedar_ast.specs.Expression.{Expression}
-use Rattle.cedar_policies.specs.Condition.{condition_of}
-use Rattle.cedar_policies.specs.PolicyTree.{PolicyTree}
-use Rattle.cedar_policies.specs.Response.{ErringTree, meaning, is_true, is_permit, permits, forbids, erring_by, erring_of, allows, decided, response}
-use Rattle.cedar_typing.specs.Acceptance.{IsAcceptedWith}
-use Rattle.cedar_typing.specs.Soundness.{GoodWith, IsTruth, IsAllowedWith, SoundAcceptanceWith}
-use Rattle.cedar_typing.specs.declared.settings.Settings.{Settings}
-use Rattle.cedar_typing.specs.Soundness as typing
+use Rattle.cedar_ast.specs.declared.effect.Effect.{Effect}
+use Rattle.cedar_ast.specs.declared.effect.Effect.TheVariants.{Permit, Forbid}
+use Rattle.cedar_ast.specs.declared.decision.Decision.TheVariants.{Allow}
+use Rattle.cedar_ast_expressions.specs.Answer.{Answer}
+use Rattle.cedar_ast_expressions.specs.Expression.{Expression}
+use Rattle.cedar_ast.specs.Condition.{condition_of}
+use Rattle.cedar_ast.specs.PolicyTree.{PolicyTree}
+use Rattle.cedar_ast.specs.Response.{ErringTree, meaning, is_true, is_permit, permits, forbids, erring_by, erring_of, allows, decided, response}
+use Rattle.cedar_check_spec.specs.Acceptance.{IsAcceptedWith}
+use Rattle.cedar_check_spec.specs.Soundness.{GoodWith, IsTruth, IsAllowedWith, SoundAcceptanceWith}
+use Rattle.cedar_check_spec.specs.declared.settings.Settings.{Settings}
+use Rattle.cedar_check_spec.specs.Soundness as typing
 use Rattle.cedar_code.specs.Machine.{RunsAsEvaluated, outcome_of}
 use Rattle.cedar_auth.specs.Headline.{IsSafeWith, RunsSafelyWith, IsSatisfied, Errs, SomeIsSatisfied, determining_effect, IsCedars, EngineIsSoundWith, PremisesAreMetWith}
-use Rattle.cedar_auth.proofs.Listed.{cases, nowhere, mapped, from_mapped, filtered, from_filtered, given, from_given, not_true, any_found, any_at}
+use Rattle.base_reach.proofs.Listed.{first_or_later, nowhere, mapped, from_mapped, filter-kept, from_filtered, given, from_given, is_false, any_found, any_at}
 
 -- ---- policies that are satisfied
 
@@ -87,13 +87,13 @@ module _ (q : Request) (w : World) where
   cedars_decision : (ps : List PolicyTree) → (response ps q w).decision ≡ Allow ↔ (SomeIsSatisfied Permit ps q w × ¬ SomeIsSatisfied Forbid ps q w)
   cedars_decision ps = (
     λ e. let d = allowed_by (list_any (forbids q w) ps) (list_any (permits q w) ps) e in ((some_permit ps).0 d.0, none_forbids ps d.1),
-    λ s. allowed_made (list_any (forbids q w) ps) (list_any (permits q w) ps) ((some_permit ps).1 s.0) (not_true (list_any (forbids q w) ps) (λ e. s.1 ((some_forbid ps).0 e))),
+    λ s. allowed_made (list_any (forbids q w) ps) (list_any (permits q w) ps) ((some_permit ps).1 s.0) (is_false (list_any (forbids q w) ps) (λ e. s.1 ((some_forbid ps).0 e))),
   )
 
   -- ---- the determining policies
 
   named_where : (ps : List PolicyTree) (test : PolicyTree → Bool) (p : PolicyTree) (id : List ℕ) → Contains ps p → p.id ≡ id → test p ≡ true → Contains (map (λ p. p.id) (filter test ps)) id
-  named_where ps test p id m e t = subst (λ (i : List ℕ). Contains (map (λ p. p.id) (filter test ps)) i) e (mapped (λ p. p.id) (filter test ps) p (filtered test ps p m t))
+  named_where ps test p id m e t = subst (λ (i : List ℕ). Contains (map (λ p. p.id) (filter test ps)) i) e (mapped (λ p. p.id) (filter test ps) p (filter-kept test ps p m t))
 
   cedars_determining : (ps : List PolicyTree) (b : Bool) (id : List ℕ) → Contains (map (λ p. p.id) (filter (if b then permits q w else forbids q w) ps)) id ↔ ((p : PolicyTree) × Contains ps p × (p.id ≡ id) × (p.effect ≡ determining_effect (decided b)) × IsSatisfied q w p)
   cedars_determining ps true id = (
@@ -152,7 +152,7 @@ module _ (settings : Settings) where
     request = m.request;
     some = λ e. cc;
     apart = m.apart;
-    validated = record { each = λ p h. ⊎_elim (λ e. subst (λ (x : PolicyTree). IsAcceptedWith settings m.schema x) e m.accepted) (λ n. absurd (nowhere p n)) (cases m.policy [] p h) };
+    validated = record { each = λ p h. ⊎_elim (λ e. subst (λ (x : PolicyTree). IsAcceptedWith settings m.schema x) e m.accepted) (λ n. absurd (nowhere p n)) (first_or_later m.policy [] p h) };
     conforms = m.conforms;
     fits = (m.environment, m.fits);
   }

@@ -3,7 +3,6 @@ pub mod CandidateRows
 pub mod CodesBeside
 pub mod Environments
 pub mod Headlines
-pub mod Listed
 pub mod Makings
 pub mod Made
 pub mod OpenActions

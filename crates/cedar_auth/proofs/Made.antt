@@ -6,7 +6,7 @@ use Rattle.std.specs.Map.{lookup}
 use Rattle.std.specs.Ordering.{MatchOrdering, nat_cmp}
 use Rattle.std.specs.declared.cmp.Ordering.{Ordering}
 use Rattle.std.specs.declared.cmp.Ordering.TheVariants.{Equal}
-use Rattle.cedar_auth.proofs.Listed.{nowhere}
+use Rattle.base_reach.proofs.Listed.{nowhere}
 use Rattle.cedar_auth.proofs.Makings.{making_more}
 
 nat_same : (a b : ℕ) → nat_cmp a b ≡ Equal → a ≡ b

@@ -6,7 +6,7 @@ use Rattle.std.specs.Ordering.{is_eq}
 use Rattle.std.specs.declared.cmp.Ordering.{Ordering}
 use Rattle.std.specs.declared.cmp.Ordering.TheVariants.{Less, Equal, Greater}
 use Rattle.std.proofs.lemmas.Cmp.{tied_itself}
-use Rattle.cedar_auth.proofs.Listed.{cases, nowhere}
+use Rattle.base_reach.proofs.Listed.{first_or_later, nowhere}
 
 -- what is there is right, and each key is there or left
 pub record IsMaking {K V : Type 0} (R : K → K → Ordering) (Right : K → V → Type 0) (made : BTreeMap K V) (left all : List K) : Type 0 where
@@ -47,7 +47,7 @@ module _ {K V : Type 0} {R : K → K → Ordering} (o : IsTotalOrder R) (same_at
         (λ (b : Contains before k). ⊎_elim
         (λ (e : n ≡ k). inr (subst (λ (y : K). (x : V) × (get R new y ≡ Some x)) e (v, here_case old new n v (updates.0 n))))
         (λ (l : Contains left k). inl l)
-        (cases n left k (subst (λ (ks : List K). Contains ks k) is b)))
+        (first_or_later n left k (subst (λ (ks : List K). Contains ks k) is b)))
         (λ (h : (x : V) × (get R old k ≡ Some x)). inr (there_case old new n k v (is_at (R n) k) (updates.0 k) h))
         (m.there k c);
   }

@@ -8,16 +8,16 @@ use Rattle.std.specs.Ordering.{is_eq}
 use Rattle.cedar_value.specs.Order.{text_cmp}
 use Rattle.cedar_value.specs.Private.Same.{text_same}
 use Rattle.cedar_value.specs.declared.uid.Uid.{Uid}
-use Rattle.cedar_policies.specs.declared.scope.ActionScope.{ActionScope}
-use Rattle.cedar_policies.specs.declared.scope.ActionScope.TheVariants as action
-use Rattle.cedar_policies.specs.PolicyTree.{PolicyTree}
-use Rattle.cedar_schema.specs.SchemaTree.{SchemaTree, ActionTree}
-use Rattle.cedar_typing.specs.Candidates.{Meets}
-use Rattle.cedar_index.specs.Index.{IndexTree}
+use Rattle.cedar_ast.specs.declared.scope.ActionScope.{ActionScope}
+use Rattle.cedar_ast.specs.declared.scope.ActionScope.TheVariants as action
+use Rattle.cedar_ast.specs.PolicyTree.{PolicyTree}
+use Rattle.cedar_schema_spec.specs.SchemaTree.{SchemaTree, ActionTree}
+use Rattle.cedar_check_spec.specs.Candidates.{Meets}
+use Rattle.cedar_auth_index.specs.Index.{IndexTree}
 use Rattle.cedar_auth.specs.declared.positions.Positions.{Positions}
 use Rattle.cedar_auth.specs.Private.RowMaking.{AppliesWithin}
 use Rattle.cedar_auth.specs.Private.Sifting.{ArePositions, ByPrincipal, LeavesOpen, OfPolicy, RowCells, SiftedBy}
-use Rattle.cedar_auth.proofs.Listed.{any_at, any_found, nowhere}
+use Rattle.base_reach.proofs.Listed.{any_at, any_found, nowhere}
 use Rattle.cedar_auth.proofs.Sifts.{in_sifted, of_alike, sifted_within}
 
 -- what leaves the action open is met by each

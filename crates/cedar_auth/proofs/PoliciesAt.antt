@@ -3,7 +3,7 @@ use Rattle.std.proofs.Common.{◌≡◌, ℕ, zero, suc, ◌+◌, ◌<◌, get_o
 use Rattle.std.specs.List.{slice_get, range_with_len, cons_option}
 use Rattle.std.proofs.lemmas.List.{take_more}
 use Rattle.std.proofs.lemmas.List.Elements.{filter_map-append}
-use Rattle.cedar_policies.specs.PolicyTree.{PolicyTree}
+use Rattle.cedar_ast.specs.PolicyTree.{PolicyTree}
 use Rattle.cedar_auth.specs.Private.Sifting.{policies_at}
 
 pub at_drop : (all : List PolicyTree) (i : ℕ) (p : PolicyTree) (rest : List PolicyTree) → drop i all ≡ p ∷ rest → (slice_get all i ≡ Some p) × (drop (suc i) all ≡ rest)

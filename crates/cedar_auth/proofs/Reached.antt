@@ -8,26 +8,26 @@ use Rattle.cedar_value.specs.World.{World, Below, below}
 use Rattle.cedar_value.proofs.Reach.{below-Decides}
 use Rattle.cedar_value.specs.declared.request.Request.{Request}
 use Rattle.cedar_value.specs.declared.uid.Uid.{Uid}
-use Rattle.cedar_ast.specs.declared.variable.Variable.{Variable}
-use Rattle.cedar_ast.specs.declared.variable.Variable.TheVariants.{Principal, Resource}
-use Rattle.cedar_policies.specs.declared.scope.EntityScope.{EntityScope}
-use Rattle.cedar_policies.specs.declared.scope.EntityScope.TheVariants as entity
-use Rattle.cedar_ast.specs.Answer.{Answer, with_answer}
-use Rattle.cedar_ast.specs.Evaluation.{variable_of, and_of, eval}
-use Rattle.cedar_ast.specs.declared.operator.UnaryOperator.TheVariants as one
-use Rattle.cedar_ast.specs.declared.operator.BinaryOperator.TheVariants as two
-use Rattle.cedar_ast.specs.Operators.{unary_of, binary_of}
-use Rattle.cedar_policies.specs.PolicyTree.{PolicyTree}
-use Rattle.cedar_policies.specs.Condition.{entity_scope_of, conditions_of}
-use Rattle.cedar_policies.specs.Response.{meaning}
-use Rattle.cedar_schema.specs.declared.schema.environment.Environment.{Environment}
-use Rattle.cedar_schema.specs.SchemaTree.{SchemaTree}
-use Rattle.cedar_schema.specs.WellFormed.{AreTypesApart}
-use Rattle.cedar_schema.specs.Conformance.{Conforms, FitsIn}
-use Rattle.cedar_typing.specs.Candidates.{Meets, IsCandidate}
-use Rattle.cedar_typing.proofs.Candidates.{says, entity_tested, action_tested, whole}
-use Rattle.cedar_index.specs.Reached.{uid_in, Reaches, IsReached}
-use Rattle.cedar_typing.proofs.Listed.{either_true}
+use Rattle.cedar_ast_expressions.specs.declared.variable.Variable.{Variable}
+use Rattle.cedar_ast_expressions.specs.declared.variable.Variable.TheVariants.{Principal, Resource}
+use Rattle.cedar_ast.specs.declared.scope.EntityScope.{EntityScope}
+use Rattle.cedar_ast.specs.declared.scope.EntityScope.TheVariants as entity
+use Rattle.cedar_ast_expressions.specs.Answer.{Answer, with_answer}
+use Rattle.cedar_ast_expressions.specs.Evaluation.{variable_of, and_of, eval}
+use Rattle.cedar_ast_expressions.specs.declared.operator.UnaryOperator.TheVariants as one
+use Rattle.cedar_ast_expressions.specs.declared.operator.BinaryOperator.TheVariants as two
+use Rattle.cedar_ast_expressions.specs.Operators.{unary_of, binary_of}
+use Rattle.cedar_ast.specs.PolicyTree.{PolicyTree}
+use Rattle.cedar_ast.specs.Condition.{entity_scope_of, conditions_of}
+use Rattle.cedar_ast.specs.Response.{meaning}
+use Rattle.cedar_schema_spec.specs.declared.environment.Environment.{Environment}
+use Rattle.cedar_schema_spec.specs.SchemaTree.{SchemaTree}
+use Rattle.cedar_schema_spec.specs.WellFormed.{AreTypesApart}
+use Rattle.cedar_schema_spec.specs.Conformance.{Conforms, FitsIn}
+use Rattle.cedar_check_spec.specs.Candidates.{Meets, IsCandidate}
+use Rattle.cedar_check_law.proofs.Candidates.{says, entity_tested, action_tested, whole}
+use Rattle.cedar_auth_index.specs.Reached.{uid_in, Reaches, IsReached}
+use Rattle.base_reach.proofs.Listed.{either_true}
 
 -- what a scope that names no uid asks
 asks_nothing : (w : World) (e : Uid) (scope : EntityScope) → uid_in scope ≡ None → Reaches w e scope

@@ -3,9 +3,9 @@ use Rattle.std.proofs.Common.{◌≡◌, ℕ, suc, ◌==◌, Bool, true, false, 
 use Rattle.std.specs.List.{list_any, filter_map}
 use Rattle.cedar_value.specs.World.{World}
 use Rattle.cedar_value.specs.declared.request.Request.{Request}
-use Rattle.cedar_policies.specs.declared.decision.Decision.TheVariants.{Allow, Deny}
-use Rattle.cedar_policies.specs.PolicyTree.{PolicyTree}
-use Rattle.cedar_policies.specs.Response.{ResponseTree, permits, forbids, erring_of, allows, decided, response}
+use Rattle.cedar_ast.specs.declared.decision.Decision.TheVariants.{Allow, Deny}
+use Rattle.cedar_ast.specs.PolicyTree.{PolicyTree}
+use Rattle.cedar_ast.specs.Response.{ResponseTree, permits, forbids, erring_of, allows, decided, response}
 use Rattle.cedar_auth.specs.Private.Tally.{ids_where, tally_of, response_by}
 
 not_not : (b : Bool) → not (not b) ≡ b

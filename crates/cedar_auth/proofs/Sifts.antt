@@ -4,10 +4,10 @@ use Rattle.std.specs.List.{slice_get, range_with_len}
 use Rattle.std.proofs.lemmas.List.{take_all, take_more}
 use Rattle.std.proofs.lemmas.List.Elements.{Contains-get_or}
 use Rattle.std.proofs.lemmas.List.FromFn.{length-range_with_len, get_or-range_with_len}
-use Rattle.cedar_policies.specs.PolicyTree.{PolicyTree}
+use Rattle.cedar_ast.specs.PolicyTree.{PolicyTree}
 use Rattle.cedar_auth.specs.Candidates.{Ascend}
 use Rattle.cedar_auth.specs.Private.Sifting.{OfPolicy, Sifted, none_left, keeps, drops, SiftedBy}
-use Rattle.cedar_auth.proofs.Listed.{here, there, cases, nowhere}
+use Rattle.base_reach.proofs.Listed.{here, there, first_or_later, nowhere}
 
 -- ---- one more position
 
@@ -86,7 +86,7 @@ from_sifted [] [] none_left j m = absurd (nowhere j m)
 from_sifted [] (y ∷ ys) s j m = elim s [ ]
 from_sifted {Q} (x ∷ xs) (y ∷ ys) (keeps _ _ _ q s) j m = ⊎_elim
     (λ (e : y ≡ j). (subst (λ (z : ℕ). Contains (x ∷ xs) z) e (here x xs), subst Q e q))
-    (λ r. let f = from_sifted xs ys s j r in (there x xs j f.0, f.1)) (cases y ys j m)
+    (λ r. let f = from_sifted xs ys s j r in (there x xs j f.0, f.1)) (first_or_later y ys j m)
 from_sifted (x ∷ xs) ks (drops _ _ _ q s) j m = let f = from_sifted xs ks s j m in (there x xs j f.0, f.1)
 
 pub in_sifted : {Q : ℕ → Type 0} (xs ks : List ℕ) → Sifted Q xs ks → (j : ℕ) → Contains xs j → Q j → Contains ks j
@@ -94,10 +94,10 @@ in_sifted [] [] none_left j m h = m
 in_sifted [] (y ∷ ys) s j m h = elim s [ ]
 in_sifted (x ∷ xs) (y ∷ ys) (keeps _ _ _ q s) j m h = ⊎_elim
     (λ (e : x ≡ j). subst (λ (z : ℕ). Contains (x ∷ ys) z) e (here x ys))
-    (λ r. there x ys j (in_sifted xs ys s j r h)) (cases x xs j m)
+    (λ r. there x ys j (in_sifted xs ys s j r h)) (first_or_later x xs j m)
 in_sifted {Q} (x ∷ xs) ks (drops _ _ _ q s) j m h = ⊎_elim
     (λ (e : x ≡ j). absurd (q (subst Q (sym e) h)))
-    (λ r. in_sifted xs ks s j r h) (cases x xs j m)
+    (λ r. in_sifted xs ks s j r h) (first_or_later x xs j m)
 
 in_range : (n j : ℕ) → j < n → Contains (range_with_len 0 n) j
 in_range n j low =

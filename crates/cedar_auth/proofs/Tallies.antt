@@ -6,11 +6,11 @@ use Rattle.std.proofs.lemmas.List.Elements.{filter-append, filter_map-append}
 use Rattle.cedar_value.specs.Datum.{Datum, boolean}
 use Rattle.cedar_value.specs.World.{World}
 use Rattle.cedar_value.specs.declared.request.Request.{Request}
-use Rattle.cedar_policies.specs.declared.effect.Effect.{Effect}
-use Rattle.cedar_policies.specs.declared.effect.Effect.TheVariants.{Permit, Forbid}
-use Rattle.cedar_ast.specs.Answer.{Answer}
-use Rattle.cedar_policies.specs.PolicyTree.{PolicyTree}
-use Rattle.cedar_policies.specs.Response.{ErringTree, meaning, is_true, is_permit, permits, forbids, erring_by, erring_of}
+use Rattle.cedar_ast.specs.declared.effect.Effect.{Effect}
+use Rattle.cedar_ast.specs.declared.effect.Effect.TheVariants.{Permit, Forbid}
+use Rattle.cedar_ast_expressions.specs.Answer.{Answer}
+use Rattle.cedar_ast.specs.PolicyTree.{PolicyTree}
+use Rattle.cedar_ast.specs.Response.{ErringTree, meaning, is_true, is_permit, permits, forbids, erring_by, erring_of}
 use Rattle.cedar_machine.specs.Verdict.{Verdict, verdict_of}
 use Rattle.cedar_auth.proofs.PoliciesAt.{policies_at-more}
 use Rattle.cedar_auth.specs.Private.Sifting.{policies_at}

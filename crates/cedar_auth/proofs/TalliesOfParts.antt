@@ -5,12 +5,12 @@ use Rattle.std.specs.List.Sorted.{IsStrictlyIncreasing}
 use Rattle.cedar_value.specs.Datum.{Datum, boolean}
 use Rattle.cedar_value.specs.World.{World}
 use Rattle.cedar_value.specs.declared.request.Request.{Request}
-use Rattle.cedar_ast.specs.Answer.{Answer}
-use Rattle.cedar_policies.specs.PolicyTree.{PolicyTree}
-use Rattle.cedar_policies.specs.Response.{ErringTree, meaning, is_true, is_permit, permits, forbids, erring_by, erring_of}
+use Rattle.cedar_ast_expressions.specs.Answer.{Answer}
+use Rattle.cedar_ast.specs.PolicyTree.{PolicyTree}
+use Rattle.cedar_ast.specs.Response.{ErringTree, meaning, is_true, is_permit, permits, forbids, erring_by, erring_of}
 use Rattle.cedar_auth.specs.Private.Sifting.{LeavesFalse, policies_at}
 use Rattle.cedar_auth.specs.Private.Tally.{TallyTree, tally_of}
-use Rattle.cedar_auth.proofs.Listed.{cases, nowhere}
+use Rattle.base_reach.proofs.Listed.{first_or_later, nowhere}
 use Rattle.cedar_auth.proofs.PoliciesAt.{at_drop}
 
 same_tally : (a b c d : List (List ℕ)) (e f : List ErringTree) → a ≡ b → c ≡ d → e ≡ f
@@ -85,7 +85,7 @@ same_or_less (suc i) (suc k) le = ⊎_elim (λ e. inl (ap suc e)) (λ lt. inr (o
 
 not_before : (i : ℕ) (ks : List ℕ) → Rise (suc i) ks → ¬ Contains ks i
 not_before i [] r m = nowhere i m
-not_before i (k ∷ ks) r m = ⊎_elim (λ (e : k ≡ i). absurd (omega (arith, r.0, e))) (λ h. not_before i ks (rise_lower (suc i) (suc k) ks (omega (arith, r.0)) r.1) h) (cases k ks i m)
+not_before i (k ∷ ks) r m = ⊎_elim (λ (e : k ≡ i). absurd (omega (arith, r.0, e))) (λ h. not_before i ks (rise_lower (suc i) (suc k) ks (omega (arith, r.0)) r.1) h) (first_or_later k ks i m)
 
 past_all : (all : List PolicyTree) (i k : ℕ) → drop i all ≡ [] → i ≤ k → slice_get all k ≡ None
 past_all [] i k e le = refl
@@ -113,7 +113,7 @@ module _ (q : Request) (w : World) (all : List PolicyTree) where
       ap (λ (o : Option PolicyTree). tally_of q w (cons_option o (policies_at all ks))) (subst (λ (j : ℕ). slice_get all j ≡ Some p) same d.0)
       ∙ run_too q w p (policies_at all ks) ps
       (from_here ps (i + 1) ks (rw add-one d.1) (rise_lower (i + 1) (suc k) ks (omega arith) r.1)
-      (λ j x le at out. others j x (omega arith) at (λ m. ⊎_elim (λ (h : k ≡ j). omega arith) out (cases k ks j m)))))
+      (λ j x le at out. others j x (omega arith) at (λ m. ⊎_elim (λ (h : k ≡ j). omega arith) out (first_or_later k ks j m)))))
       (λ (lt : i < k).
       let d = at_drop all i p ps e in
       left_out q w p (policies_at all (k ∷ ks)) ps (others i p (omega arith) d.0 (not_before i (k ∷ ks) (rise_on i k ks lt r)))

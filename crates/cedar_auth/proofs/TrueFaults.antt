@@ -1,4 +1,4 @@
--- Want of memory is no fault of a value: what is found in its JSON is always another.
+-- Out of memory is no fault of a value: what is found in its JSON is always another.
 use Rattle.std.proofs.Common.{◌≢◌, ℕ, ℤ, Bool, true, false, not, List, [], ◌∷◌, ◌++◌, Option, Some, None}
 use Rattle.std.specs.List.{AllByRecursion}
 use Rattle.std.specs.Option.{option_map, option_and_then}
@@ -7,16 +7,16 @@ use Rattle.serde_json.specs.Find.{get, as_bool, as_number, as_str, as_array, as_
 use Rattle.cedar_ext.specs.DecimalOf.{decimal_of}
 use Rattle.cedar_value.specs.Datum.{long, decimal}
 use Rattle.cedar_value.specs.declared.uid.Uid.{Uid}
-use Rattle.cedar_types.specs.declared.truth.Truth.{Truth}
-use Rattle.cedar_types.specs.Types.{TypeTree, Attributes, no_attributes, attribute, names_of}
-use Rattle.cedar_types.specs.Types as kind
-use Rattle.cedar_data.specs.declared.conform_fault.ConformFault.{ConformFault}
-use Rattle.cedar_data.specs.declared.conform_fault.ConformFault.TheVariants.{OutOfMemory, WrongType, MissingAttribute, ExtraAttribute, NumberRange}
-use Rattle.cedar_data.specs.Faults.{fault_if}
-use Rattle.cedar_data.specs.Uids.{uid_object}
-use Rattle.cedar_data.specs.Values.{Read, FieldsRead, fine, needed, truth_read, long_read, text_read, entity_read, decimal_text, all_read, set_read, field_read, is_declared, extra_faults, record_read, value_read, fields_read}
+use Rattle.cedar_schema_types.specs.declared.truth.Truth.{Truth}
+use Rattle.cedar_schema_types.specs.Types.{TypeTree, Attributes, no_attributes, attribute, names_of}
+use Rattle.cedar_schema_types.specs.Types as kind
+use Rattle.cedar_conform_values.specs.declared.conform_fault.ConformFault.{ConformFault}
+use Rattle.cedar_conform_values.specs.declared.conform_fault.ConformFault.TheVariants.{OutOfMemory, WrongType, MissingAttribute, ExtraAttribute, NumberRange}
+use Rattle.cedar_conform_values.specs.Faults.{fault_if}
+use Rattle.cedar_conform_values.specs.Uids.{uid_object}
+use Rattle.cedar_conform_values.specs.Values.{Read, FieldsRead, fine, needed, truth_read, long_read, text_read, entity_read, decimal_text, all_read, set_read, field_read, is_declared, extra_faults, record_read, value_read, fields_read}
 
--- each fault is another than want of memory
+-- each fault is another than out of memory
 abbrev pub Others : List ConformFault → Type 0
 Others fs = AllByRecursion (λ f. f ≢ OutOfMemory) fs
 

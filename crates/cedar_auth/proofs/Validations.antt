@@ -1,10 +1,10 @@
 -- Policies without faults are accepted, and a report with faults is one of policies that have some.
 use Rattle.std.proofs.Common.{◌≡◌, ◌≢◌, List, [], ◌∷◌, map, length, arith, refl, sym, subst, ◌∙◌}
-use Rattle.cedar_policies.specs.PolicyTree.{PolicyTree}
-use Rattle.cedar_schema.specs.SchemaTree.{SchemaTree}
-use Rattle.cedar_typing.specs.Determined.{AcceptedHaveNoFaultWith, ReportIsOneWith}
-use Rattle.cedar_typing.specs.Reports.{FaultTree, AreFaultsWith}
-use Rattle.cedar_typing.specs.declared.settings.Settings.{Settings}
+use Rattle.cedar_ast.specs.PolicyTree.{PolicyTree}
+use Rattle.cedar_schema_spec.specs.SchemaTree.{SchemaTree}
+use Rattle.cedar_check_spec.specs.Determined.{AcceptedHaveNoFaultWith, ReportIsOneWith}
+use Rattle.cedar_check_spec.specs.Reports.{FaultTree, AreFaultsWith}
+use Rattle.cedar_check_spec.specs.declared.settings.Settings.{Settings}
 use Rattle.cedar_auth.specs.Validation.{IsValidatedWith}
 
 -- a list that shows nothing, and one that shows something

@@ -2,11 +2,11 @@
 use Rattle.std.specs.Prelude.{ℕ, List, codes, map}
 use Rattle.serde_json.specs.Data.{Data, number, unsigned, string, array, object, no_members, member}
 use Rattle.serde_json.specs.View.{items_of}
-use Rattle.cedar_policies.specs.declared.decision.Decision.{Decision}
-use Rattle.cedar_policies.specs.declared.decision.Decision.TheVariants.{Allow, Deny}
-use Rattle.cedar_ast.specs.declared.error.EvaluationError.{EvaluationError}
-use Rattle.cedar_ast.specs.declared.error.EvaluationError.TheVariants.{Overflow, MissingEntity, MissingAttribute, «Type», Decimal}
-use Rattle.cedar_policies.specs.Response.{ErringTree, ResponseTree}
+use Rattle.cedar_ast.specs.declared.decision.Decision.{Decision}
+use Rattle.cedar_ast.specs.declared.decision.Decision.TheVariants.{Allow, Deny}
+use Rattle.cedar_ast_expressions.specs.declared.error.EvaluationError.{EvaluationError}
+use Rattle.cedar_ast_expressions.specs.declared.error.EvaluationError.TheVariants.{Overflow, MissingEntity, MissingAttribute, «Type», Decimal}
+use Rattle.cedar_ast.specs.Response.{ErringTree, ResponseTree}
 
 -- The word for a decision: `allow` or `deny` (Cedar language reference, authorization).
 abbrev pub decision_name : Decision → List ℕ

@@ -2,11 +2,11 @@
 use Rattle.std.specs.Prelude.{◌≡◌, ◌≢◌, ◌⊎◌, ℕ, List}
 use Rattle.serde_json.specs.Written.{compact_text}
 use Rattle.cedar_value.specs.declared.request.Request.{Request}
-use Rattle.cedar_policies.specs.Response.{response}
-use Rattle.cedar_data.specs.declared.conform_fault.ConformFault.{ConformFault}
-use Rattle.cedar_data.specs.declared.conform_fault.ConformFault.TheVariants.{OutOfMemory}
-use Rattle.cedar_data.specs.Numbers.{number_of}
-use Rattle.cedar_conform.specs.Requests.{LineDenotes, LineHasFault}
+use Rattle.cedar_ast.specs.Response.{response}
+use Rattle.cedar_conform_values.specs.declared.conform_fault.ConformFault.{ConformFault}
+use Rattle.cedar_conform_values.specs.declared.conform_fault.ConformFault.TheVariants.{OutOfMemory}
+use Rattle.cedar_conform_values.specs.Numbers.{number_of}
+use Rattle.cedar_conform_requests.specs.Requests.{LineDenotes, LineHasFault}
 use Rattle.cedar_auth.specs.AnswerJson.{response_data, refused_data}
 use Rattle.cedar_auth.specs.Ready.{ReadyTree}
 
@@ -15,7 +15,7 @@ use Rattle.cedar_auth.specs.Ready.{ReadyTree}
 abbrev pub IsResponse : ReadyTree → List ℕ → List ℕ → Type 0
 IsResponse r line text = (q : Request) × LineDenotes r.schema line q × (text ≡ compact_text (response_data (response r.policies.policies q r.world)))
 
--- The text is the refusal of a fault that the line has by the schema; want of memory is no fault of a line (own).
+-- The text is the refusal of a fault that the line has by the schema; out of memory is not a fault of a line (own).
 abbrev pub IsRefusal : ReadyTree → List ℕ → List ℕ → Type 0
 IsRefusal r line text = (fault : ConformFault) × (fault ≢ OutOfMemory) × LineHasFault r.schema line fault × (text ≡ compact_text (refused_data (number_of fault)))
 

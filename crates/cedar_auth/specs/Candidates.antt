@@ -4,11 +4,11 @@ use Rattle.std.specs.List.{slice_get}
 use Rattle.cedar_value.specs.Datum.{boolean}
 use Rattle.cedar_value.specs.World.{World}
 use Rattle.cedar_value.specs.declared.request.Request.{Request}
-use Rattle.cedar_policies.specs.PolicyTree.{PolicyTree}
-use Rattle.cedar_policies.specs.Response.{meaning}
-use Rattle.cedar_schema.specs.declared.schema.environment.Environment.{Environment}
-use Rattle.cedar_schema.specs.SchemaTree.{SchemaTree}
-use Rattle.cedar_typing.specs.Candidates.{IsCandidate}
+use Rattle.cedar_ast.specs.PolicyTree.{PolicyTree}
+use Rattle.cedar_ast.specs.Response.{meaning}
+use Rattle.cedar_schema_spec.specs.declared.environment.Environment.{Environment}
+use Rattle.cedar_schema_spec.specs.SchemaTree.{SchemaTree}
+use Rattle.cedar_check_spec.specs.Candidates.{IsCandidate}
 
 -- Positions ascend, from low on and below high (own).
 abbrev pub Ascend : ℕ → ℕ → List ℕ → Type 0

@@ -1,9 +1,9 @@
 -- The codes of policies.
 use Rattle.std.specs.Prelude.{◌≡◌, ◌<◌, ℕ, List, length, Contains, Some}
 use Rattle.std.specs.List.{slice_get}
-use Rattle.cedar_policies.specs.declared.effect.Effect.{Effect}
-use Rattle.cedar_policies.specs.PolicyTree.{PolicyTree}
-use Rattle.cedar_policies.specs.Condition.{condition_of}
+use Rattle.cedar_ast.specs.declared.effect.Effect.{Effect}
+use Rattle.cedar_ast.specs.PolicyTree.{PolicyTree}
+use Rattle.cedar_ast.specs.Condition.{condition_of}
 use Rattle.cedar_code.specs.declared.instruction.Instruction.{Instruction}
 use Rattle.cedar_code.specs.Code.{code_of, most_instructions}
 

@@ -4,19 +4,19 @@ use Rattle.std.specs.Prelude.{◌≡◌, ◌≢◌, ◌↔◌, ◌≤◌, ℕ, t
 use Rattle.cedar_value.specs.Datum.{boolean}
 use Rattle.cedar_value.specs.World.{World}
 use Rattle.cedar_value.specs.declared.request.Request.{Request}
-use Rattle.cedar_policies.specs.declared.effect.Effect.{Effect}
-use Rattle.cedar_policies.specs.declared.effect.Effect.TheVariants.{Permit, Forbid}
-use Rattle.cedar_policies.specs.declared.decision.Decision.{Decision}
-use Rattle.cedar_policies.specs.declared.decision.Decision.TheVariants.{Allow, Deny}
-use Rattle.cedar_ast.specs.declared.error.EvaluationError.{EvaluationError}
-use Rattle.cedar_policies.specs.PolicyTree.{PolicyTree}
-use Rattle.cedar_policies.specs.Response.{ErringTree, ResponseTree, meaning, response}
-use Rattle.cedar_schema.specs.SchemaTree.{SchemaTree}
-use Rattle.cedar_schema.specs.WellFormed.{AreTypesApart}
-use Rattle.cedar_schema.specs.Conformance.{Conforms, Fits}
-use Rattle.cedar_typing.specs.Settings.{default_settings}
-use Rattle.cedar_typing.specs.Soundness.{IsAllowedWith, IsTruth}
-use Rattle.cedar_typing.specs.declared.settings.Settings.{Settings}
+use Rattle.cedar_ast.specs.declared.effect.Effect.{Effect}
+use Rattle.cedar_ast.specs.declared.effect.Effect.TheVariants.{Permit, Forbid}
+use Rattle.cedar_ast.specs.declared.decision.Decision.{Decision}
+use Rattle.cedar_ast.specs.declared.decision.Decision.TheVariants.{Allow, Deny}
+use Rattle.cedar_ast_expressions.specs.declared.error.EvaluationError.{EvaluationError}
+use Rattle.cedar_ast.specs.PolicyTree.{PolicyTree}
+use Rattle.cedar_ast.specs.Response.{ErringTree, ResponseTree, meaning, response}
+use Rattle.cedar_schema_spec.specs.SchemaTree.{SchemaTree}
+use Rattle.cedar_schema_spec.specs.WellFormed.{AreTypesApart}
+use Rattle.cedar_schema_spec.specs.Conformance.{Conforms, Fits}
+use Rattle.cedar_check_spec.specs.Settings.{default_settings}
+use Rattle.cedar_check_spec.specs.Soundness.{IsAllowedWith, IsTruth}
+use Rattle.cedar_check_spec.specs.declared.settings.Settings.{Settings}
 use Rattle.cedar_code.specs.declared.outcome.Outcome.{Outcome}
 use Rattle.cedar_code.specs.declared.outcome.Outcome.TheVariants.{Value, Error, StackFault}
 use Rattle.cedar_code.specs.Machine.{Executes, outcome_of}

@@ -1,8 +1,8 @@
 -- What contracts see of policies that are ready to answer.
 use Rattle.cedar_value.specs.World.{World}
-use Rattle.cedar_policies.specs.PolicySetTree.{PolicySetTree}
-use Rattle.cedar_schema.specs.SchemaTree.{SchemaTree}
-use Rattle.cedar_typing.specs.declared.settings.Settings.{Settings}
+use Rattle.cedar_ast.specs.PolicySetTree.{PolicySetTree}
+use Rattle.cedar_schema_spec.specs.SchemaTree.{SchemaTree}
+use Rattle.cedar_check_spec.specs.declared.settings.Settings.{Settings}
 
 -- A schema, the policies that strict validation under these settings accepts for it, beside their templates, and the world
 -- that requests are answered over (Cedar language reference, authorization; own: the settings).

@@ -1,12 +1,12 @@
 -- What strict validation of a set of policies gives.
 use Rattle.std.specs.Prelude.{ℕ, List, [], map, Contains, Option, Some, None}
-use Rattle.cedar_policies.specs.PolicyTree.{PolicyTree}
-use Rattle.cedar_policies.specs.PolicySetTree.{PolicySetTree}
-use Rattle.cedar_schema.specs.SchemaTree.{SchemaTree}
-use Rattle.cedar_typing.specs.Acceptance.{IsAcceptedWith}
-use Rattle.cedar_typing.specs.Reports.{AreFaultsWith, AreWarningsWith}
-use Rattle.cedar_typing.specs.Settings.{default_settings}
-use Rattle.cedar_typing.specs.declared.settings.Settings.{Settings}
+use Rattle.cedar_ast.specs.PolicyTree.{PolicyTree}
+use Rattle.cedar_ast.specs.PolicySetTree.{PolicySetTree}
+use Rattle.cedar_schema_spec.specs.SchemaTree.{SchemaTree}
+use Rattle.cedar_check_spec.specs.Acceptance.{IsAcceptedWith}
+use Rattle.cedar_check_spec.specs.Reports.{AreFaultsWith, AreWarningsWith}
+use Rattle.cedar_check_spec.specs.Settings.{default_settings}
+use Rattle.cedar_check_spec.specs.declared.settings.Settings.{Settings}
 use Rattle.cedar_check.specs.FaultView.{fault_view}
 use Rattle.cedar_check.specs.declared.report.Report.{Report}
 use Rattle.cedar_auth.specs.declared.validation_fault.ValidationFault.{ValidationFault}
@@ -31,7 +31,7 @@ pub record HasReportWith (settings : Settings) (s : SchemaTree) (ps : List Polic
   pub warnings : AreWarningsWith settings s ps report.warnings.items
   pub some : ¬ AreFaultsWith settings s ps []
 
--- Under these settings the schema and the policies have the fault; want of memory is none of theirs (own).
+-- Under these settings the schema and the policies have the fault; out of memory is none of theirs (own).
 abbrev pub HasFaultWith : Settings → SchemaTree → List PolicyTree → ValidationFault → Type 0
 HasFaultWith settings s ps OutOfMemory = Unit {0}
 HasFaultWith settings s ps (Faults report) = HasReportWith settings s ps report
@@ -42,7 +42,7 @@ HasFaultWith settings s ps TooLong = HasLongCode ps
 abbrev pub IsValidated : SchemaTree → List PolicyTree → Type 0
 IsValidated = IsValidatedWith default_settings
 
--- The schema and the policies have the fault, with no setting on; want of memory is none of theirs (own).
+-- The schema and the policies have the fault, with no setting on; out of memory is none of theirs (own).
 abbrev pub HasFault : SchemaTree → List PolicyTree → ValidationFault → Type 0
 HasFault = HasFaultWith default_settings
 

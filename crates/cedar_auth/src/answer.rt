@@ -9,8 +9,8 @@ ghost use Rattle.cedar_auth.specs.Private.Tokens.{data_tokens};
 
 use crate::response::Erring;
 use crate::told::Told;
-use cedar_ast::EvaluationError;
-use cedar_policies::Decision;
+use cedar_ast::Decision;
+use cedar_ast_expressions::EvaluationError;
 use json::Writer;
 use std::alloc::{AllocError, Global};
 use std::mem;

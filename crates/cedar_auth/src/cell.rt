@@ -1,7 +1,7 @@
 //! The candidates of one environment.
 ghost use Rattle.std.specs.Prelude.{◌≡◌, IfOk};
 
-use cedar_index::Listing;
+use cedar_auth_index::Listing;
 use std::alloc::{AllocError, Global};
 use std::marker::Model;
 use std::rc::Rc;
@@ -14,7 +14,7 @@ pub(crate) struct Cell {
 }
 
 impl Model for Cell {
-    ghost use Rattle.cedar_index.specs.Index.{ListingTree};
+    ghost use Rattle.cedar_auth_index.specs.Index.{ListingTree};
 
     ghost Value = { ListingTree };
 

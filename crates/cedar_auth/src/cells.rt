@@ -2,10 +2,10 @@
 ghost use Rattle.std.specs.Prelude.{◌≡◌, IfOk, IfSome, Some};
 ghost use Rattle.std.specs.BTreeMap.{get};
 ghost use Rattle.std.specs.Ordering.{nat_cmp};
-ghost use Rattle.cedar_index.specs.Index.{IsListingBy};
+ghost use Rattle.cedar_auth_index.specs.Index.{IsListingBy};
 
 use crate::cell::Cell;
-use cedar_index::Index;
+use cedar_auth_index::Index;
 use std::alloc::{AllocError, Global};
 use std::collections::BTreeMap;
 use std::hash::{DefaultHasher, Hash, Hasher};
@@ -20,7 +20,7 @@ pub(crate) struct Cells<'i> {
 }
 
 impl<'i> Model for Cells<'i> {
-    ghost use Rattle.cedar_index.specs.Index.{IndexTree};
+    ghost use Rattle.cedar_auth_index.specs.Index.{IndexTree};
 
     ghost Value = { IndexTree };
 

@@ -4,8 +4,8 @@ ghost use Rattle.cedar_code.specs.Code.{most_instructions};
 ghost use Rattle.cedar_auth.specs.Codes.{HasLongCode, policy_code};
 ghost use Rattle.cedar_auth.specs.Private.Kept.{AreCodes};
 
+use cedar_ast::{Policy, PolicySet};
 use cedar_code::{Code, CodeFault, compile};
-use cedar_policies::{Policy, PolicySet};
 use std::alloc::{AllocError, Global};
 
 // The code of a policy's condition.

@@ -1,9 +1,9 @@
 //! The law of the engine.
-ghost use Rattle.cedar_typing.specs.declared.settings.Settings.{Settings};
+ghost use Rattle.cedar_check_spec.specs.declared.settings.Settings.{Settings};
 ghost use Rattle.cedar_auth.specs.Headline.{EngineIsSound, EngineIsSoundWith, PremisesAreMet, PremisesAreMetWith};
 
+use cedar_check_law::typing_is_sound;
 use cedar_code::execution_is_evaluation;
-use cedar_typing::typing_is_sound;
 
 /// For a schema, policies that strict validation accepts, a world that conforms and a request that fits: every
 /// policy's code runs without stack fault, type error, decimal error or missing attribute, in at most as many steps as

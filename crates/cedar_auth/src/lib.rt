@@ -41,7 +41,7 @@ mod told;
 mod validated;
 mod validation_fault;
 
-pub use cedar_lines::{
+pub use base_lines::{
     PiecewiseSink, PiecewiseSource, ReadFailed, ServeFault, Sink, SliceSource, Source, StdSink,
     StdSource, VecSink, WriteFailed,
 };

@@ -1,6 +1,6 @@
 //! Validated policies that got no entities.
 use crate::validated::Validated;
-use cedar_data::ConformFault;
+use cedar_conform_values::ConformFault;
 
 /// Validated policies that were handed in, handed back, and why the entities handed in with them are refused.
 #[derive(Drop)]

@@ -1,6 +1,6 @@
 //! A schema and policies that are not accepted for it.
 use crate::validation_fault::ValidationFault;
-use cedar_policies::PolicySet;
+use cedar_ast::PolicySet;
 use cedar_schema::Schema;
 
 /// A schema and policies that were handed in, handed back, and why they make no `Validated`.

@@ -1,13 +1,13 @@
 //! A policy beside its code.
 ghost use Rattle.std.specs.Prelude.{◌≡◌, IfOk};
-ghost use Rattle.cedar_policies.specs.Response.{meaning};
+ghost use Rattle.cedar_ast.specs.Response.{meaning};
 ghost use Rattle.cedar_machine.specs.Verdict.{verdict_of};
 
-use cedar_ast::EvaluationError;
+use cedar_ast::Policy;
+use cedar_ast_expressions::EvaluationError;
+use cedar_auth_scope::{is_met, place_behind};
 use cedar_code::{Code, true_sides_are_passed};
 use cedar_machine::Operands;
-use cedar_policies::Policy;
-use cedar_scope::{is_met, place_behind};
 use cedar_value::{Hierarchy, Request};
 use std::alloc::{AllocError, Global};
 use std::marker::Model;
@@ -22,8 +22,8 @@ pub(crate) struct Part<'v> {
 impl<'v> Model for Part<'v> {
     ghost use Rattle.std.specs.Prelude.{◌≡◌};
     ghost use Rattle.std.specs.Coded.{codes};
-    ghost use Rattle.cedar_ast.specs.Private.ExpressionCode.{expression_code};
-    ghost use Rattle.cedar_policies.specs.PolicyTree.{PolicyTree};
+    ghost use Rattle.cedar_ast_expressions.specs.Private.ExpressionCode.{expression_code};
+    ghost use Rattle.cedar_ast.specs.PolicyTree.{PolicyTree};
     ghost use Rattle.cedar_auth.specs.Codes.{policy_code};
 
     ghost Value = { PolicyTree };

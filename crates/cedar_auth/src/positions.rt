@@ -5,7 +5,7 @@ ghost use Rattle.cedar_auth.specs.Private.Sifting.{ArePositions};
 
 use crate::question::Question;
 use crate::sifting::sifted;
-use cedar_policies::PolicySet;
+use cedar_ast::PolicySet;
 use cedar_schema::Schema;
 use std::alloc::{AllocError, Global};
 

@@ -2,16 +2,16 @@
 ghost use Rattle.std.specs.Prelude.{ℕ, List, ◌≡◌, ◌≢◌, ◌↔◌, ◌<◌, length, Contains, IfErr, IfOk, IsTrue, MatchResult, OnOk};
 ghost use Rattle.std.specs.List.{range_with_len};
 ghost use Rattle.std.specs.List.Sorted.{IsStrictlyIncreasing};
-ghost use Rattle.cedar_policies.specs.Response.{ErringTree, response};
-ghost use Rattle.cedar_data.specs.declared.conform_fault.ConformFault.TheVariants.{OutOfMemory};
-ghost use Rattle.cedar_entities.specs.Bytes.{BytesDenote, BytesHaveFault};
-ghost use Rattle.cedar_conform.specs.Requests.{LineDenotes, LineHasFault};
-ghost use Rattle.cedar_schema.specs.Conformance.{Conforms, Fits, FitsIn};
-ghost use Rattle.cedar_schema.specs.WellFormed.{AreTypesApart};
-ghost use Rattle.cedar_schema.specs.declared.schema.environment.Environment.{Environment as EnvironmentTree};
+ghost use Rattle.cedar_ast.specs.Response.{ErringTree, response};
+ghost use Rattle.cedar_conform_values.specs.declared.conform_fault.ConformFault.TheVariants.{OutOfMemory};
+ghost use Rattle.cedar_conform_entities.specs.Bytes.{BytesDenote, BytesHaveFault};
+ghost use Rattle.cedar_conform_requests.specs.Requests.{LineDenotes, LineHasFault};
+ghost use Rattle.cedar_schema_spec.specs.Conformance.{Conforms, Fits, FitsIn};
+ghost use Rattle.cedar_schema_spec.specs.WellFormed.{AreTypesApart};
+ghost use Rattle.cedar_schema_spec.specs.declared.environment.Environment.{Environment as EnvironmentTree};
 ghost use Rattle.cedar_value.specs.declared.request.Request.{Request as RequestTree};
-ghost use Rattle.cedar_typing.specs.Candidates.{IsCandidate};
-ghost use Rattle.cedar_typing.specs.Soundness.{IsAllowedWith};
+ghost use Rattle.cedar_check_spec.specs.Candidates.{IsCandidate};
+ghost use Rattle.cedar_check_spec.specs.Soundness.{IsAllowedWith};
 ghost use Rattle.cedar_auth.specs.AnswerLine.{AnswersLine};
 ghost use Rattle.cedar_auth.specs.Candidates.{AreCandidates, OthersAreFalse};
 ghost use Rattle.cedar_auth.specs.Codes.{IsPartAt};
@@ -26,17 +26,17 @@ use crate::not_ready::NotReady;
 use crate::response::Response;
 use crate::tally::Tally;
 use crate::validated::Validated;
+use base_json::JsonReader;
+use cedar_ast::Effect;
+use cedar_auth_index::Selection;
+use cedar_check_law::candidates_are_enough;
+use cedar_check_spec::Settings;
 use cedar_code::Code;
-use cedar_conform::{denoted_requests_fit, read_request, read_request_with};
-use cedar_data::{ConformFault, read_values_belong};
-use cedar_entities::read_entities_owned;
-use cedar_index::Selection;
-use cedar_policies::Effect;
-use cedar_reader::JsonReader;
+use cedar_conform::{denoted_requests_fit, read_entities_owned, read_request, read_request_with};
+use cedar_conform_values::{ConformFault, read_values_belong};
+use cedar_parser_tokens::uid_or_none;
 use cedar_schema::tests_of_schemas_decide;
 use cedar_store::Store;
-use cedar_tokens::uid_or_none;
-use cedar_typing::{Settings, candidates_are_enough};
 use cedar_value::{Request, is_name_tells_names};
 use std::alloc::{AllocError, Global};
 use std::marker::Model;
@@ -53,8 +53,8 @@ pub struct Ready {
 impl Model for Ready {
     ghost use Rattle.std.specs.Coded.{codes};
     ghost use Rattle.cedar_value.specs.Private.DatumCode.{datum_code};
-    ghost use Rattle.cedar_types.specs.Private.TypeCode.{type_code};
-    ghost use Rattle.cedar_ast.specs.Private.ExpressionCode.{expression_code};
+    ghost use Rattle.cedar_schema_types.specs.Private.TypeCode.{type_code};
+    ghost use Rattle.cedar_ast_expressions.specs.Private.ExpressionCode.{expression_code};
     ghost use Rattle.cedar_auth.specs.Ready.{ReadyTree};
     ghost use Rattle.cedar_auth.specs.Private.Kept.{IsReady};
 
@@ -161,7 +161,7 @@ impl Ready {
     }
 
     /// The request that a line denotes by the schema (Cedar documentation, entities and context in JSON). Refused with 1
-    /// for want of memory, and else with 501 to 506 or 509 to 511 only where that fault is in the line.
+    /// when out of memory, and else with 501 to 506 or 509 to 511 only where that fault is in the line.
     pub fn read(&self, alloc: Global, line: &[u8]) -> Result<Request, ConformFault>
         ensures denotes { IfOk result (LineDenotes self.now.schema line.now) }
         ensures fits { IfOk result (Fits self.now.schema) }

@@ -1,6 +1,6 @@
 //! What is answered to a request.
-use cedar_ast::EvaluationError;
-use cedar_policies::Decision;
+use cedar_ast::Decision;
+use cedar_ast_expressions::EvaluationError;
 use std::marker::Model;
 
 /// A policy that erred, and its error. Contracts see it as an `ErringTree`.
@@ -13,7 +13,7 @@ pub struct Erring<'p> {
 }
 
 impl<'p> Model for Erring<'p> {
-    ghost use Rattle.cedar_policies.specs.Response.{ErringTree};
+    ghost use Rattle.cedar_ast.specs.Response.{ErringTree};
 
     ghost Value = { ErringTree };
 
@@ -35,7 +35,7 @@ pub struct Response<'p> {
 
 impl<'p> Model for Response<'p> {
     ghost use Rattle.std.specs.Prelude.{map};
-    ghost use Rattle.cedar_policies.specs.Response.{ResponseTree};
+    ghost use Rattle.cedar_ast.specs.Response.{ResponseTree};
 
     ghost Value = { ResponseTree };
 

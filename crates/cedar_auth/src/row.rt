@@ -6,7 +6,7 @@ use crate::cell::Cell;
 use crate::cells::Cells;
 use crate::question::Question;
 use crate::sifting::sifted;
-use cedar_policies::PolicySet;
+use cedar_ast::PolicySet;
 use cedar_schema::{Action, Schema};
 use cedar_value::Name;
 use std::alloc::{AllocError, Global};

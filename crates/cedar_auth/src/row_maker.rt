@@ -10,7 +10,7 @@ use crate::positions::Positions;
 use crate::question::Question;
 use crate::row::{Row, by_principal};
 use crate::sifting::sifted;
-use cedar_policies::PolicySet;
+use cedar_ast::PolicySet;
 use cedar_schema::{Action, Schema};
 use cedar_value::{Name, Uid};
 use std::alloc::{AllocError, Global};

@@ -2,12 +2,12 @@
 ghost use Rattle.std.specs.Prelude.{ℕ, List, ◌≡◌, ◌≢◌, ◌-◌, ◌^◌, ◌<◌, ◌++◌, IfSome, OnOk, OnErr, IsErrOf};
 ghost use Rattle.serde_json.specs.Written.{compact_text};
 ghost use Rattle.cedar_value.specs.declared.request.Request.{Request as RequestTree};
-ghost use Rattle.cedar_lines.specs.Lines.{lines_of, ended_lines_of};
-ghost use Rattle.cedar_lines.specs.AnswerText.{AnswersEach, AnswersFirst, BeginsAnswers, BeginsAnswerText, IsAnswerText, Receives, Writes};
-ghost use Rattle.cedar_data.specs.declared.conform_fault.ConformFault.TheVariants.{OutOfMemory};
-ghost use Rattle.cedar_data.specs.Numbers.{number_of};
-ghost use Rattle.cedar_conform.specs.Requests.{LineDenotes};
-ghost use Rattle.cedar_schema.specs.Conformance.{Fits};
+ghost use Rattle.base_lines.specs.Lines.{lines_of, ended_lines_of};
+ghost use Rattle.base_lines.specs.AnswerText.{AnswersEach, AnswersFirst, BeginsAnswers, BeginsAnswerText, IsAnswerText, Receives, Writes};
+ghost use Rattle.cedar_conform_values.specs.declared.conform_fault.ConformFault.TheVariants.{OutOfMemory};
+ghost use Rattle.cedar_conform_values.specs.Numbers.{number_of};
+ghost use Rattle.cedar_conform_requests.specs.Requests.{LineDenotes};
+ghost use Rattle.cedar_schema_spec.specs.Conformance.{Fits};
 ghost use Rattle.cedar_auth.specs.AnswerJson.{refused_data};
 ghost use Rattle.cedar_auth.specs.AnswerLine.{AnswersLine};
 ghost use Rattle.cedar_auth.specs.Headline.{IsAnsweredSoundlyWith};
@@ -15,8 +15,8 @@ ghost use Rattle.cedar_auth.specs.Headline.{IsAnsweredSoundlyWith};
 use crate::answer::{append_refusal, append_response};
 use crate::ready::Ready;
 use crate::room::Room;
-use cedar_data::ConformFault;
-use cedar_lines::{Engine, ServeFault, Sink, Source};
+use base_lines::{Engine, ServeFault, Sink, Source};
+use cedar_conform_values::ConformFault;
 use std::alloc::{AllocError, Global};
 
 /// Answers lines by policies that are ready, which lend it their ids.
@@ -25,7 +25,7 @@ struct Answering<'r> {
     ready: &'r Ready,
 }
 
-// Appends the refusal of a fault; want of memory is passed on.
+// Appends the refusal of a fault; out of memory is passed on.
 fn append_fault(alloc: Global, fault: &ConformFault, out: &mut Vec<u8>) -> Result<(), AllocError>
     ensures ok { OnOk result (out.new.items ≡ out.old.items ++ compact_text (refused_data (number_of fault.now))) }
     ensures told { OnOk result (fault.now ≢ OutOfMemory) }
@@ -110,5 +110,5 @@ pub fn serve<S: Source, K: Sink>(
     ready.lines_are_answered_soundly();
     ready.lines_have_answers();
     let mut buffers = Room::new(alloc);
-    cedar_lines::serve(alloc, &Answering { ready }, &mut buffers, source, sink)
+    base_lines::serve(alloc, &Answering { ready }, &mut buffers, source, sink)
 }

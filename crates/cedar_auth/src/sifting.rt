@@ -5,7 +5,7 @@ ghost use Rattle.cedar_auth.specs.Private.Sifting.{Holds, OfPolicy, SiftedBy};
 
 use crate::question::Question;
 use crate::scope_tests::{leaves_open, may_meet, meets};
-use cedar_policies::{Policy, PolicySet};
+use cedar_ast::{Policy, PolicySet};
 use cedar_schema::Schema;
 use std::alloc::{AllocError, Global};
 

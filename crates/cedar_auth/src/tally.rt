@@ -4,8 +4,8 @@ ghost use Rattle.cedar_auth.specs.Private.Tally.{allows, entered, response_by};
 
 use crate::response::{Erring, Response};
 use crate::told::Told;
-use cedar_ast::EvaluationError;
-use cedar_policies::{Decision, Effect};
+use cedar_ast::{Decision, Effect};
+use cedar_ast_expressions::EvaluationError;
 use std::alloc::{AllocError, Global};
 use std::marker::Model;
 

@@ -1,6 +1,6 @@
 //! A response whose lists are lent.
 use crate::response::Erring;
-use cedar_policies::Decision;
+use cedar_ast::Decision;
 use std::marker::Model;
 
 /// A response, as `Response` has it, whose lists are lent by the tally that gathered them, so that a line takes no memory
@@ -14,7 +14,7 @@ pub(crate) struct Told<'t, 'p> {
 
 impl<'t, 'p> Model for Told<'t, 'p> {
     ghost use Rattle.std.specs.Prelude.{map};
-    ghost use Rattle.cedar_policies.specs.Response.{ResponseTree};
+    ghost use Rattle.cedar_ast.specs.Response.{ResponseTree};
 
     ghost Value = { ResponseTree };
 

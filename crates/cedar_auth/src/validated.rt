@@ -1,7 +1,7 @@
 //! Policies that strict validation accepted.
 ghost use Rattle.std.specs.Prelude.{◌≡◌, ℕ, ◌<◌, length, Contains, IfOk, IfErr, OnOk, option_copied, slice_get};
-ghost use Rattle.cedar_policies.specs.Response.{response};
-ghost use Rattle.cedar_typing.specs.Settings.{default_settings};
+ghost use Rattle.cedar_ast.specs.Response.{response};
+ghost use Rattle.cedar_check_spec.specs.Settings.{default_settings};
 ghost use Rattle.cedar_auth.specs.Validation.{HasFault, HasFaultWith, IsValidated, IsValidatedWith};
 ghost use Rattle.cedar_auth.specs.Private.Kept.{AreCodes};
 ghost use Rattle.cedar_auth.specs.Private.Sifting.{policies_at};
@@ -14,12 +14,13 @@ use crate::positions::all_positions;
 use crate::response::Response;
 use crate::tally::Tally;
 use crate::validation_fault::ValidationFault;
+use cedar_ast::PolicySet;
 use cedar_check::check_with;
+use cedar_check_law::typing_is_determined;
+use cedar_check_spec::Settings;
 use cedar_code::{Code, CodeFault};
 use cedar_machine::Operands;
-use cedar_policies::PolicySet;
 use cedar_schema::Schema;
-use cedar_typing::{Settings, typing_is_determined};
 use cedar_value::{Hierarchy, Request};
 use std::alloc::{AllocError, Global};
 use std::marker::Model;
@@ -36,8 +37,8 @@ pub struct Validated {
 
 impl Model for Validated {
     ghost use Rattle.std.specs.Coded.{codes};
-    ghost use Rattle.cedar_types.specs.Private.TypeCode.{type_code};
-    ghost use Rattle.cedar_ast.specs.Private.ExpressionCode.{expression_code};
+    ghost use Rattle.cedar_schema_types.specs.Private.TypeCode.{type_code};
+    ghost use Rattle.cedar_ast_expressions.specs.Private.ExpressionCode.{expression_code};
     ghost use Rattle.cedar_auth.specs.Validation.{ValidatedTree};
     ghost use Rattle.cedar_auth.specs.Private.Kept.{IsKept};
 

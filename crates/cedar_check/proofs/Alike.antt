@@ -1,20 +1,20 @@
 -- Expressions are typed alike in environments with the same types.
 use Rattle.std.proofs.Common.{◌≡◌, true, false, Some, ap, sym, ◌∙◌}
 use Rattle.std.specs.Prelude.{◌++◌, [], option_and_then}
-use Rattle.cedar_ast.specs.declared.variable.Variable.{Variable}
-use Rattle.cedar_ast.specs.declared.variable.Variable.TheVariants.{Principal, Action, Resource, Context}
-use Rattle.cedar_ast.specs.Expression.{Expression, literal, variable, and, or, if_else, unary, binary, set_with, record_with, Expressions, no_more, and_then, Entries, no_entries, entry}
-use Rattle.cedar_ast.specs.Keys.{keys_in}
-use Rattle.cedar_types.specs.Types.{TypeTree, Attributes, no_attributes}
-use Rattle.cedar_types.specs.Types as kind
-use Rattle.cedar_types.specs.Joining.{only_if, join}
-use Rattle.cedar_types.specs.Ordered.{with_attribute}
-use Rattle.cedar_schema.specs.SchemaTree.{SchemaTree}
-use Rattle.cedar_schema.specs.declared.schema.environment.Environment.{Environment}
-use Rattle.cedar_typing.specs.Capabilities.{Capabilities}
-use Rattle.cedar_typing.specs.Rows.{Typed, as_type, truth_in, binary_type}
-use Rattle.cedar_typing.specs.Private.Checking.{type_of_with, types_all, types_onto, types_entries, on_boolean, on_two, and_type, or_type, if_type, unary_type, variable_type, are_distinct}
-use Rattle.cedar_typing.specs.declared.settings.Settings.{Settings}
+use Rattle.cedar_ast_expressions.specs.declared.variable.Variable.{Variable}
+use Rattle.cedar_ast_expressions.specs.declared.variable.Variable.TheVariants.{Principal, Action, Resource, Context}
+use Rattle.cedar_ast_expressions.specs.Expression.{Expression, literal, variable, and, or, if_else, unary, binary, set_with, record_with, Expressions, no_more, and_then, Entries, no_entries, entry}
+use Rattle.cedar_ast_expressions.specs.Keys.{keys_in}
+use Rattle.cedar_schema_types.specs.Types.{TypeTree, Attributes, no_attributes}
+use Rattle.cedar_schema_types.specs.Types as kind
+use Rattle.cedar_schema_types.specs.Joining.{only_if, join}
+use Rattle.cedar_schema_types.specs.Ordered.{with_attribute}
+use Rattle.cedar_schema_spec.specs.SchemaTree.{SchemaTree}
+use Rattle.cedar_schema_spec.specs.declared.environment.Environment.{Environment}
+use Rattle.cedar_check_spec.specs.Capabilities.{Capabilities}
+use Rattle.cedar_check_spec.specs.Rows.{Typed, as_type, truth_in, binary_type}
+use Rattle.cedar_check_spec.specs.Private.Checking.{type_of_with, types_all, types_onto, types_entries, on_boolean, on_two, and_type, or_type, if_type, unary_type, variable_type, are_distinct}
+use Rattle.cedar_check_spec.specs.declared.settings.Settings.{Settings}
 use Rattle.cedar_check.specs.Private.Mention.{mentions}
 use Rattle.cedar_check.specs.Private.Signatures.{AreAlike, form_with}
 use Rattle.cedar_check.proofs.Unmentioned.{unmentioned}

@@ -2,14 +2,14 @@
 use Rattle.std.proofs.Common.{◌≡◌, Bool, true, false, ◌&&◌, ℕ, ◌<◌, ◌+◌, List, [], ◌∷◌, ◌++◌, cond, length, get_or, drop, refl, ap, sym, ◌∙◌}
 use Rattle.std.specs.Prelude.{is_some}
 use Rattle.std.specs.List.{list_all}
-use Rattle.cedar_policies.specs.PolicyTree.{PolicyTree}
-use Rattle.cedar_schema.specs.SchemaTree.{SchemaTree}
-use Rattle.cedar_schema.specs.declared.schema.environment.Environment.{Environment}
-use Rattle.cedar_typing.specs.Private.Checking.{form_in_with}
-use Rattle.cedar_typing.specs.Private.Reporting.{faults_in_with, is_known_false}
-use Rattle.cedar_typing.specs.Reports.{FaultTree, fault_at}
-use Rattle.cedar_rules.proofs.Held.{drop_here}
-use Rattle.cedar_typing.specs.declared.settings.Settings.{Settings}
+use Rattle.cedar_ast.specs.PolicyTree.{PolicyTree}
+use Rattle.cedar_schema_spec.specs.SchemaTree.{SchemaTree}
+use Rattle.cedar_schema_spec.specs.declared.environment.Environment.{Environment}
+use Rattle.cedar_check_spec.specs.Private.Checking.{form_in_with}
+use Rattle.cedar_check_spec.specs.Private.Reporting.{faults_in_with, is_known_false}
+use Rattle.cedar_check_spec.specs.Reports.{FaultTree, fault_at}
+use Rattle.cedar_check_operators.proofs.Held.{drop_here}
+use Rattle.cedar_check_spec.specs.declared.settings.Settings.{Settings}
 
 put : (b : Bool) (x : FaultTree) (old rest : List FaultTree) → (old ++ cond b [] (x ∷ [])) ++ rest ≡ old ++ cond b rest (x ∷ rest)
 put true x [] rest = refl

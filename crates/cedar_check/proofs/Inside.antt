@@ -1,8 +1,8 @@
 -- What is inside a record type.
 use Rattle.std.proofs.Common.{◌≡◌, ℕ, zero, suc, ◌+◌, ◌<◌, ◌≤◌, List, [], ◌∷◌, length, get_or, arith, ap}
-use Rattle.cedar_types.specs.TypeKind.{attributes_of}
-use Rattle.cedar_types.specs.Private.Weight.{weight, attributes_weight}
-use Rattle.cedar_types.specs.declared.attribute.Attribute.{Attribute}
+use Rattle.cedar_schema_types.specs.TypeKind.{attributes_of}
+use Rattle.cedar_schema_types.specs.Private.Weight.{weight, attributes_weight}
+use Rattle.cedar_schema_types.specs.declared.attribute.Attribute.{Attribute}
 
 -- the type of an attribute nests less deep than all of them
 pub weight_here : (a : List Attribute) (i : ℕ) (x : Attribute) → i < length a → x ≡ get_or a i x → weight x.ty + 2 ≤ attributes_weight (attributes_of a)

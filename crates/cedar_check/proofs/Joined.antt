@@ -1,19 +1,19 @@
 -- Types of members and of entries, from a place on.
 use Rattle.std.proofs.Common.{◌≡◌, Bool, true, false, ℕ, ◌<◌, ◌+◌, List, [], ◌∷◌, Some, None, length, get_or, drop, refl, ap, sym, ◌∙◌}
 use Rattle.std.specs.Prelude.{option_and_then}
-use Rattle.cedar_types.specs.Types.{TypeTree, Attributes}
-use Rattle.cedar_types.specs.Joining.{join, only_if}
-use Rattle.cedar_types.specs.Ordered.{with_attribute}
-use Rattle.cedar_ast.specs.Expression.{Expression, expressions_of, entries_of}
-use Rattle.cedar_ast.specs.Keys.{AreDistinct, keys_of, keys_in}
-use Rattle.cedar_schema.specs.SchemaTree.{SchemaTree}
-use Rattle.cedar_schema.specs.declared.schema.environment.Environment.{Environment}
-use Rattle.cedar_typing.specs.Capabilities.{Capabilities}
-use Rattle.cedar_typing.specs.Rows.{Typed}
-use Rattle.cedar_typing.specs.Private.Checking.{type_of_with, types_onto, types_entries, are_distinct}
-use Rattle.cedar_typing.proofs.Trees.{test_from_distinct}
-use Rattle.cedar_rules.proofs.Held.{drop_here}
-use Rattle.cedar_typing.specs.declared.settings.Settings.{Settings}
+use Rattle.cedar_schema_types.specs.Types.{TypeTree, Attributes}
+use Rattle.cedar_schema_types.specs.Joining.{join, only_if}
+use Rattle.cedar_schema_types.specs.Ordered.{with_attribute}
+use Rattle.cedar_ast_expressions.specs.Expression.{Expression, expressions_of, entries_of}
+use Rattle.cedar_ast_expressions.specs.Keys.{AreDistinct, keys_of, keys_in}
+use Rattle.cedar_schema_spec.specs.SchemaTree.{SchemaTree}
+use Rattle.cedar_schema_spec.specs.declared.environment.Environment.{Environment}
+use Rattle.cedar_check_spec.specs.Capabilities.{Capabilities}
+use Rattle.cedar_check_spec.specs.Rows.{Typed}
+use Rattle.cedar_check_spec.specs.Private.Checking.{type_of_with, types_onto, types_entries, are_distinct}
+use Rattle.cedar_check_spec.proofs.Trees.{test_from_distinct}
+use Rattle.cedar_check_operators.proofs.Held.{drop_here}
+use Rattle.cedar_check_spec.specs.declared.settings.Settings.{Settings}
 
 module _ (settings : Settings) (s : SchemaTree) (env : Environment) (h : Capabilities) where
   pub member_refused : (t : TypeTree) (es : List Expression) (i : ℕ) (e : Expression) → i < length es → e ≡ get_or es i e → type_of_with settings s env h e ≡ None → types_onto settings s env h t (expressions_of (drop i es)) ≡ None

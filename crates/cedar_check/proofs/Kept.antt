@@ -1,13 +1,13 @@
--- What the rows of cedar_rules give, as the checker's functions have it.
+-- What the rows of cedar_check_operators give, as the checker's functions have it.
 use Rattle.std.proofs.Common.{◌≡◌, Option}
-use Rattle.cedar_ast.specs.Expression.{Expression}
-use Rattle.cedar_ast.specs.declared.operator.UnaryOperator.{UnaryOperator}
-use Rattle.cedar_schema.specs.SchemaTree.{SchemaTree}
-use Rattle.cedar_typing.specs.Capabilities.{Capabilities, AreKept}
-use Rattle.cedar_typing.specs.Rows.{Typed, IsUnaryRow}
-use Rattle.cedar_typing.specs.Private.Checking.{common, unary_type}
-use Rattle.cedar_typing.specs.declared.settings.Settings.{Settings}
-use Rattle.cedar_typing.proofs.Trees.{kept_common, unary_row_is}
+use Rattle.cedar_ast_expressions.specs.Expression.{Expression}
+use Rattle.cedar_ast_expressions.specs.declared.operator.UnaryOperator.{UnaryOperator}
+use Rattle.cedar_schema_spec.specs.SchemaTree.{SchemaTree}
+use Rattle.cedar_check_spec.specs.Capabilities.{Capabilities, AreKept}
+use Rattle.cedar_check_spec.specs.Rows.{Typed, IsUnaryRow}
+use Rattle.cedar_check_spec.specs.Private.Checking.{common, unary_type}
+use Rattle.cedar_check_spec.specs.declared.settings.Settings.{Settings}
+use Rattle.cedar_check_spec.proofs.Trees.{kept_common, unary_row_is}
 
 pub kept_in : (one two kept : Capabilities) → AreKept one two kept → kept ≡ common one two
 kept_in one two kept h = kept_common one two kept h

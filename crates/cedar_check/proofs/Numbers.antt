@@ -4,10 +4,10 @@ use Rattle.std.specs.Prelude.{Option, Some, None, IfSome, IsSomeAnd, option_map,
 use Rattle.std.specs.List.{AllZip}
 use Rattle.std.proofs.lemmas.List.{take_more}
 use Rattle.std.proofs.lemmas.Option.{slice_get-map}
-use Rattle.cedar_ast.specs.Expression.{Expression}
-use Rattle.cedar_schema.specs.SchemaTree.{SchemaTree}
-use Rattle.cedar_schema.specs.declared.schema.environment.Environment.{Environment}
-use Rattle.cedar_typing.specs.declared.settings.Settings.{Settings}
+use Rattle.cedar_ast_expressions.specs.Expression.{Expression}
+use Rattle.cedar_schema_spec.specs.SchemaTree.{SchemaTree}
+use Rattle.cedar_schema_spec.specs.declared.environment.Environment.{Environment}
+use Rattle.cedar_check_spec.specs.declared.settings.Settings.{Settings}
 use Rattle.cedar_check.specs.declared.form.Form.{Form}
 use Rattle.cedar_check.specs.Private.Mention.{mentions}
 use Rattle.cedar_check.specs.Private.Signatures.{AreAlike, AreKnown, AreNumbered, form_with, IsNumberOf}

@@ -2,12 +2,12 @@
 use Rattle.std.proofs.Common.{◌≡◌, Bool, true, false, ℕ, zero, suc, ◌<◌, ◌+◌, List, [], ◌∷◌, ◌++◌, cond, length, map, drop, Some, None, arith, refl, ap, sym, ◌∙◌}
 use Rattle.std.specs.Prelude.{filter, slice_get}
 use Rattle.std.proofs.lemmas.Option.{slice_get_within, get_or_from_slice_get}
-use Rattle.cedar_policies.specs.PolicyTree.{PolicyTree}
-use Rattle.cedar_schema.specs.SchemaTree.{SchemaTree}
-use Rattle.cedar_typing.specs.Private.Reporting.{faults_of_with, all_faults_with, is_impossible_with, warnings_with}
-use Rattle.cedar_typing.specs.Reports.{FaultTree}
-use Rattle.cedar_rules.proofs.Held.{drop_here}
-use Rattle.cedar_typing.specs.declared.settings.Settings.{Settings}
+use Rattle.cedar_ast.specs.PolicyTree.{PolicyTree}
+use Rattle.cedar_schema_spec.specs.SchemaTree.{SchemaTree}
+use Rattle.cedar_check_spec.specs.Private.Reporting.{faults_of_with, all_faults_with, is_impossible_with, warnings_with}
+use Rattle.cedar_check_spec.specs.Reports.{FaultTree}
+use Rattle.cedar_check_operators.proofs.Held.{drop_here}
+use Rattle.cedar_check_spec.specs.declared.settings.Settings.{Settings}
 
 drop_got : (ps : List PolicyTree) (i : ℕ) (p : PolicyTree) → slice_get ps i ≡ Some p → drop i ps ≡ p ∷ drop (i + 1) ps
 drop_got ps i p e = drop_here ps i p (slice_get_within ps i p e) (sym (get_or_from_slice_get ps i p p e))

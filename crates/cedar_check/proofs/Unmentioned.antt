@@ -2,9 +2,9 @@
 use Rattle.std.proofs.Common.{◌≡◌, Bool, true, false, refl, ap, ap₂}
 use Rattle.std.specs.Prelude.{◌||◌}
 use Rattle.cedar_value.specs.declared.uid.Uid.{Uid}
-use Rattle.cedar_ast.specs.declared.variable.Variable.TheVariants.{Principal, Action, Resource, Context}
-use Rattle.cedar_ast.specs.Expression.{Expression, literal, variable, and, or, if_else, unary, binary, set_with, record_with, Expressions, no_more, and_then, Entries, no_entries, entry}
-use Rattle.cedar_ast.specs.Replacement.{replace, replace_all, replace_entries}
+use Rattle.cedar_ast_expressions.specs.declared.variable.Variable.TheVariants.{Principal, Action, Resource, Context}
+use Rattle.cedar_ast_expressions.specs.Expression.{Expression, literal, variable, and, or, if_else, unary, binary, set_with, record_with, Expressions, no_more, and_then, Entries, no_entries, entry}
+use Rattle.cedar_ast_expressions.specs.Replacement.{replace, replace_all, replace_entries}
 use Rattle.cedar_check.specs.Private.Mention.{mentions, any_mentions, entries_mention}
 
 first : (a b : Bool) → (a || b) ≡ false → a ≡ false

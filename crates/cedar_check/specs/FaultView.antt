@@ -1,5 +1,5 @@
 -- What contracts see of a fault.
-use Rattle.cedar_typing.specs.Reports.{FaultTree}
+use Rattle.cedar_check_spec.specs.Reports.{FaultTree}
 use Rattle.cedar_check.specs.declared.fault.Fault.{Fault}
 
 -- The policy and the environment of a fault, without its reason, which tests fix (own).

@@ -1,9 +1,11 @@
 //! The row of `if`, by its branches.
 ghost use Rattle.std.specs.Prelude.{◌≡◌, IfOk, option_and_then, option_map};
-ghost use Rattle.cedar_rules.specs.View.{held_view, typed_view, typing_view};
+ghost use Rattle.cedar_check_operators.specs.View.{held_view, typed_view, typing_view};
 ghost use Rattle.cedar_check.specs.Private.View.{joined_branches, kept_branch};
 
-use cedar_rules::{Capability, TypeFault, Typed, Typing, common, extended, join_types, together};
+use cedar_check_operators::{
+    Capability, TypeFault, Typed, Typing, common, extended, join_types, together,
+};
 use std::alloc::{AllocError, Global};
 
 /// The first branch, behind a condition that is known true: it gains what the condition gains too. It takes

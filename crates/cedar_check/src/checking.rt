@@ -1,19 +1,19 @@
 //! The typing of an expression, one function for each form.
 ghost use Rattle.std.specs.Prelude.{◌≡◌, ◌++◌, [], IfOk};
-ghost use Rattle.cedar_ast.specs.Expression.{and, entries_of, expressions_of, if_else, or, record_with, set_with, unary, binary};
-ghost use Rattle.cedar_ast.specs.Keys.{AreDistinct, keys_of};
-ghost use Rattle.cedar_typing.specs.Private.Checking.{type_of_with, types_onto};
-ghost use Rattle.cedar_rules.specs.View.{element_view, held_view, tree_of, typing_view};
+ghost use Rattle.cedar_ast_expressions.specs.Expression.{and, entries_of, expressions_of, if_else, or, record_with, set_with, unary, binary};
+ghost use Rattle.cedar_ast_expressions.specs.Keys.{AreDistinct, keys_of};
+ghost use Rattle.cedar_check_spec.specs.Private.Checking.{type_of_with, types_onto};
+ghost use Rattle.cedar_check_operators.specs.View.{element_view, held_view, tree_of, typing_view};
 
 use crate::branches::{if_joined, if_known};
 use crate::rows::{and_right, boolean_alone, literal_type, or_right, unary_fault, variable_type};
-use cedar_ast::{BinaryOperator, Expr, ExprKind, UnaryOperator};
-use cedar_rules::{
+use cedar_ast_expressions::{BinaryOperator, Expr, ExprKind, UnaryOperator};
+use cedar_check_operators::{
     Capability, LentType, TypeFault, Typing, add_attribute, binary_type, extended, join_types,
     set_type, unary_type,
 };
+use cedar_check_spec::Settings;
 use cedar_schema::{Environment, RecordType, Schema, Truth, Type, TypeKind};
-use cedar_typing::Settings;
 use cedar_value::SharedText;
 use std::alloc::{AllocError, Global};
 

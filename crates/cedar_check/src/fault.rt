@@ -1,9 +1,9 @@
 //! Faults of policies.
 ghost use Rattle.std.specs.Prelude.{◌≡◌, ◌++◌, ◌∷◌, [], IfOk, OnOk, cond, is_some, map};
-ghost use Rattle.cedar_policies.specs.Condition.{condition_of};
-ghost use Rattle.cedar_schema.specs.SchemaTree.{environments_of};
-ghost use Rattle.cedar_typing.specs.Private.Reporting.{faults_of_with, is_impossible_with, is_known_false};
-ghost use Rattle.cedar_typing.specs.Reports.{fault_at};
+ghost use Rattle.cedar_ast.specs.Condition.{condition_of};
+ghost use Rattle.cedar_schema_spec.specs.SchemaTree.{environments_of};
+ghost use Rattle.cedar_check_spec.specs.Private.Reporting.{faults_of_with, is_impossible_with, is_known_false};
+ghost use Rattle.cedar_check_spec.specs.Reports.{fault_at};
 ghost use Rattle.cedar_check.specs.FaultView.{fault_view};
 ghost use Rattle.cedar_check.specs.Private.Condition.{condition_in, IsReady};
 ghost use Rattle.cedar_check.specs.Private.Signatures.{AreKnown, AreNumbered};
@@ -13,10 +13,10 @@ use crate::form::Form;
 use crate::known::{form_at, forms_in};
 use crate::prepared::Prepared;
 use crate::signatures::Signatures;
-use cedar_policies::Policy;
-use cedar_rules::TypeFault;
+use cedar_ast::Policy;
+use cedar_check_operators::TypeFault;
+use cedar_check_spec::Settings;
 use cedar_schema::{Environment, Schema, Truth};
-use cedar_typing::Settings;
 use cedar_value::{Name, Text, Uid};
 use std::alloc::{AllocError, Global};
 
@@ -36,7 +36,7 @@ pub struct Fault {
 }
 
 impl Fault {
-    ghost use Rattle.cedar_rules.specs.Numbers.{number_of};
+    ghost use Rattle.cedar_check_operators.specs.Numbers.{number_of};
 
     /// The number of the reason, from 601 to 607 (own).
     pub fn number(&self) -> u16

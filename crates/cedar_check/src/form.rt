@@ -1,19 +1,19 @@
 //! What is known of a policy's condition in an environment.
 ghost use Rattle.std.specs.Prelude.{◌≡◌, [], IfOk, option_and_then};
-ghost use Rattle.cedar_ast.specs.Expression.{and};
-ghost use Rattle.cedar_ast.specs.Replacement.{replace};
-ghost use Rattle.cedar_typing.specs.Rows.{truth_in};
-ghost use Rattle.cedar_typing.specs.Private.Checking.{type_of_with};
+ghost use Rattle.cedar_ast_expressions.specs.Expression.{and};
+ghost use Rattle.cedar_ast_expressions.specs.Replacement.{replace};
+ghost use Rattle.cedar_check_spec.specs.Rows.{truth_in};
+ghost use Rattle.cedar_check_spec.specs.Private.Checking.{type_of_with};
 ghost use Rattle.cedar_check.specs.Private.Condition.{condition_in, IsReady};
-ghost use Rattle.cedar_rules.specs.View.{typing_view};
+ghost use Rattle.cedar_check_operators.specs.View.{typing_view};
 ghost use Rattle.cedar_check.specs.Private.View.{form_view};
 
 use crate::checking::{check, check_scoped};
 use crate::prepared::{Parts, Prepared};
-use cedar_ast::Expr;
-use cedar_rules::{TypeFault, Typing};
+use cedar_ast_expressions::Expr;
+use cedar_check_operators::{TypeFault, Typing};
+use cedar_check_spec::Settings;
 use cedar_schema::{Environment, Schema, Truth};
-use cedar_typing::Settings;
 use std::alloc::{AllocError, Global};
 
 /// What is known of a condition, or why it has no type of Booleans.

@@ -7,9 +7,9 @@ ghost use Rattle.cedar_check.specs.Private.View.{form_view};
 
 use crate::form::{Form, form_of};
 use crate::prepared::Prepared;
-use cedar_ast::Expr;
+use cedar_ast_expressions::Expr;
+use cedar_check_spec::Settings;
 use cedar_schema::{Environment, Schema};
-use cedar_typing::Settings;
 use std::alloc::{AllocError, Global};
 
 /// The forms of a condition that does not name the action, one for each signature, by an environment of each. 1: memory was

@@ -11,11 +11,11 @@
 //! settings.
 //!
 //! A report is a relation: a fault for each pair of a policy and an environment in which the policy is not
-//! accepted, and a warning for each policy that no request can satisfy. It follows from the rules of cedar_typing,
+//! accepted, and a warning for each policy that no request can satisfy. It follows from the rules of cedar_check_spec,
 //! whose laws are passed on here: `typing_is_sound` and `typing_is_determined`.
 //!
 //! A condition is typed in one pass, with a function for each row of those rules. The rows of operators, which
-//! depend on the types of their operands, and the types themselves are in cedar_rules.
+//! depend on the types of their operands, and the types themselves are in cedar_check_operators.
 #![tactic(auto)]
 
 mod branches;
@@ -30,7 +30,8 @@ mod rows;
 mod signatures;
 mod type_order;
 
-pub use cedar_rules::TypeFault;
-pub use cedar_typing::{Settings, typing_is_determined, typing_is_sound};
+pub use cedar_check_law::{typing_is_determined, typing_is_sound};
+pub use cedar_check_operators::TypeFault;
+pub use cedar_check_spec::Settings;
 pub use fault::Fault;
 pub use report::{Report, check, check_with};

@@ -1,9 +1,9 @@
 //! Where the variable `action` stands.
 ghost use Rattle.std.specs.Prelude.{◌≡◌};
-ghost use Rattle.cedar_ast.specs.Expression.{entries_of, expressions_of};
+ghost use Rattle.cedar_ast_expressions.specs.Expression.{entries_of, expressions_of};
 ghost use Rattle.cedar_check.specs.Private.Mention.{is_action, mentions, any_mentions, entries_mention};
 
-use cedar_ast::{Expr, ExprKind, Variable};
+use cedar_ast_expressions::{Expr, ExprKind, Variable};
 use cedar_value::SharedText;
 
 // Whether the variable is the action.

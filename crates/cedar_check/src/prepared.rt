@@ -3,7 +3,7 @@ ghost use Rattle.std.specs.Prelude.{◌≡◌};
 ghost use Rattle.cedar_check.specs.Private.Condition.{condition_in, IsReady};
 
 use crate::mention::mentions_action;
-use cedar_ast::{Expr, ExprKind};
+use cedar_ast_expressions::{Expr, ExprKind};
 
 /// The parts of a condition `principal && (action && rest)`.
 #[derive(Clone, Copy)]

@@ -1,17 +1,17 @@
 //! Reports on a set of policies.
 ghost use Rattle.std.specs.Prelude.{◌≡◌, ◌++◌, ◌∷◌, [], IfOk, OnOk, cond, map};
-ghost use Rattle.cedar_typing.specs.Private.Reporting.{faults_of_with, is_impossible_with};
-ghost use Rattle.cedar_typing.specs.Reports.{AreFaultsWith, AreWarningsWith};
-ghost use Rattle.cedar_typing.specs.Settings.{default_settings};
-ghost use Rattle.cedar_schema.specs.SchemaTree.{environments_of};
+ghost use Rattle.cedar_check_spec.specs.Private.Reporting.{faults_of_with, is_impossible_with};
+ghost use Rattle.cedar_check_spec.specs.Reports.{AreFaultsWith, AreWarningsWith};
+ghost use Rattle.cedar_check_spec.specs.Settings.{default_settings};
+ghost use Rattle.cedar_schema_spec.specs.SchemaTree.{environments_of};
 ghost use Rattle.cedar_check.specs.FaultView.{fault_view};
 ghost use Rattle.cedar_check.specs.Private.Signatures.{AreNumbered};
 
 use crate::fault::{Fault, check_policy};
 use crate::signatures::Signatures;
-use cedar_policies::{Policy, PolicySet};
+use cedar_ast::{Policy, PolicySet};
+use cedar_check_spec::Settings;
 use cedar_schema::Schema;
-use cedar_typing::Settings;
 use cedar_value::Text;
 use std::alloc::{AllocError, Global};
 

@@ -1,15 +1,17 @@
 //! The rows of strict typing that type no part of the expression.
 ghost use Rattle.std.specs.Prelude.{◌≡◌, IfOk};
-ghost use Rattle.cedar_types.specs.Types.{boolean};
+ghost use Rattle.cedar_schema_types.specs.Types.{boolean};
 ghost use Rattle.cedar_value.specs.Datum.{uid as uid_datum};
-ghost use Rattle.cedar_typing.specs.Rows.{gaining};
-ghost use Rattle.cedar_typing.specs.Private.Checking.{and_right, literal_type, on_boolean, or_right, variable_type};
-ghost use Rattle.cedar_rules.specs.View.{held_view, typing_view};
+ghost use Rattle.cedar_check_spec.specs.Rows.{gaining};
+ghost use Rattle.cedar_check_spec.specs.Private.Checking.{and_right, literal_type, on_boolean, or_right, variable_type};
+ghost use Rattle.cedar_check_operators.specs.View.{held_view, typing_view};
 
-use cedar_ast::{UnaryOperator, Variable};
-use cedar_rules::{Capability, LentType, TypeFault, Typed, Typing, common, is_action, together};
+use cedar_ast_expressions::{UnaryOperator, Variable};
+use cedar_check_operators::{
+    Capability, LentType, TypeFault, Typed, Typing, common, is_action, together,
+};
+use cedar_check_spec::Settings;
 use cedar_schema::{Environment, Schema, Truth};
-use cedar_typing::Settings;
 use cedar_value::{Uid, Value, ValueKind};
 use std::alloc::{AllocError, Global};
 

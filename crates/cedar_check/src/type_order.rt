@@ -1,7 +1,7 @@
 //! An order of types, by which equal ones are found.
 ghost use Rattle.std.specs.Prelude.{◌≡◌};
 ghost use Rattle.std.specs.declared.cmp.Ordering.TheVariants.{Equal};
-ghost use Rattle.cedar_types.specs.TypeKind.{attributes_of};
+ghost use Rattle.cedar_schema_types.specs.TypeKind.{attributes_of};
 
 use cedar_schema::{Attribute, Truth, Type, TypeKind};
 use cedar_value::Name;

@@ -1,6 +1,6 @@
 //! The compiler.
 ghost use Rattle.std.specs.Prelude.{◌≡◌, ◌+◌, ◌<◌, ◌≤◌, min, [], ◌∷◌, ◌++◌, length, IfOk, IfErr, OnOk, slice_set};
-ghost use Rattle.cedar_ast.specs.Expression.{expressions_of, entries_of};
+ghost use Rattle.cedar_ast_expressions.specs.Expression.{expressions_of, entries_of};
 ghost use Rattle.cedar_code.specs.Code.{code_at, code_all, code_entries, code_of, height_of, height_all, height_entries, size, size_all, size_entries, most_instructions};
 
 use crate::code::Code;
@@ -8,7 +8,7 @@ use crate::fault::CodeFault;
 use crate::instruction::Instruction;
 use crate::literal::Literal;
 use crate::literal_set::literal_sets;
-use cedar_ast::{Expr, ExprKind};
+use cedar_ast_expressions::{Expr, ExprKind};
 use cedar_value::SharedText;
 use std::alloc::{AllocError, Global};
 

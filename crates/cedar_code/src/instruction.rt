@@ -1,6 +1,6 @@
 //! Instructions.
 use crate::literal::Literal;
-use cedar_ast::{BinaryOperator, Keys, UnaryOperator, Variable};
+use cedar_ast_expressions::{BinaryOperator, Keys, UnaryOperator, Variable};
 
 /// One instruction of flat code. Places count from 0, and a jump goes forward.
 #[derive(Drop)]

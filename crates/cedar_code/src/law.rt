@@ -2,7 +2,7 @@
 ghost use Rattle.std.specs.Prelude.{◌≡◌, ℕ, List, length};
 ghost use Rattle.cedar_value.specs.World.{World};
 ghost use Rattle.cedar_value.specs.declared.request.Request.{Request};
-ghost use Rattle.cedar_ast.specs.Expression.{Expression};
+ghost use Rattle.cedar_ast_expressions.specs.Expression.{Expression};
 ghost use Rattle.cedar_code.specs.Code.{code_at, code_of, size};
 ghost use Rattle.cedar_code.specs.Jumps.{JumpsForward};
 ghost use Rattle.cedar_code.specs.Machine.{RunsAsEvaluated};

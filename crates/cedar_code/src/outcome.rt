@@ -1,5 +1,5 @@
 //! How an execution ends.
-use cedar_ast::EvaluationError;
+use cedar_ast_expressions::EvaluationError;
 use cedar_value::Value;
 
 /// How an execution ends.

@@ -16,7 +16,7 @@
 //! ```
 //!
 //! What contracts see of a machine stands in `specs/`; the steps of an execution stand in `cedar_code`, its operand stack
-//! and the operators on it in `cedar_operators`.
+//! and the operators on it in `cedar_machine_stack`.
 #![tactic(auto)]
 
 mod deciding;

@@ -1,22 +1,22 @@
 //! One instruction over operands that borrow nothing.
 ghost use Rattle.std.specs.Prelude.{List, ◌≡◌, ◌<◌, ◌≤◌, ◌∷◌, length, IfOk, OnErr};
 ghost use Rattle.cedar_value.specs.Glance.{datum_seen};
-ghost use Rattle.cedar_ast.specs.Operators.{unary_of, source, get_in};
+ghost use Rattle.cedar_ast_expressions.specs.Operators.{unary_of, source, get_in};
 ghost use Rattle.cedar_code.specs.Machine.{arrive, give, next, on_top};
 ghost use Rattle.cedar_code.specs.declared.instruction.Instruction.{Instruction as InstructionTree};
 ghost use Rattle.cedar_machine.specs.Private.State.{led_to};
-ghost use Rattle.cedar_operators.specs.Access.{IsNoAccess};
+ghost use Rattle.cedar_machine_stack.specs.Access.{IsNoAccess};
 
 use crate::making::{make_record, make_set};
 use crate::performing::{and_else, branch, combine, give, or_else, test};
 use crate::state::Move;
-use cedar_ast::UnaryOperator;
+use cedar_ast_expressions::UnaryOperator;
 use cedar_code::Instruction;
-use cedar_operators::{Entry, Stack, attribute_copy, unary_but_get};
+use cedar_machine_stack::{Operand, Stack, attribute_copy, unary_but_get};
 use cedar_value::{Glance, Hierarchy, Request};
 use std::alloc::{AllocError, Global};
 
-/// One instruction at a place, which copies what the code, the request or an entity would lend. Want of memory leaves the
+/// One instruction at a place, which copies what the code, the request or an entity would lend. Out of memory leaves the
 /// operands as they were.
 pub fn perform_owned<H: Hierarchy>(
     alloc: Global,
@@ -61,8 +61,8 @@ fn push_copy(
     ensures configuration { IfOk result (λ s. (code : List InstructionTree) → led_to code s stack.new.values ≡ arrive code next (datum_seen value.entry ∷ stack.old.values)) }
     ensures refused { OnErr result (stack.new.values ≡ stack.old.values) }
 {
-    let entry = Entry::owned(alloc, value)?;
-    stack.push(entry);
+    let operand = Operand::owned(alloc, value)?;
+    stack.push(operand);
     Ok(Move::To(next))
 }
 

@@ -4,38 +4,38 @@ ghost use Rattle.cedar_code.specs.Machine.{arrive, give, and_else, or_else, bran
 ghost use Rattle.cedar_code.specs.declared.instruction.Instruction.{Instruction as InstructionTree};
 ghost use Rattle.cedar_machine.specs.Private.State.{led_to, Pushes};
 ghost use Rattle.cedar_machine.specs.Progress.{TakesNoMemory};
-ghost use Rattle.cedar_ast.specs.Operators.{unary_of, binary_of};
+ghost use Rattle.cedar_ast_expressions.specs.Operators.{unary_of, binary_of};
 
 use crate::made_sets::MadeSets;
 use crate::making::{make_record, make_set};
 use crate::state::Move;
-use cedar_ast::{BinaryOperator, EvaluationError, UnaryOperator};
+use cedar_ast_expressions::{BinaryOperator, EvaluationError, UnaryOperator};
 use cedar_code::Instruction;
-use cedar_operators::{Entry, Stack, of_two, unary};
+use cedar_machine_stack::{Operand, Stack, of_two, unary};
 use cedar_value::{Hierarchy, Request};
 use std::alloc::{AllocError, Global};
 
-/// Pushes an entry, or ends with an error.
+/// Pushes an operand, or ends with an error.
 #[inline(always)]
 pub fn give<'a>(
     place: usize,
     stack: &mut Stack<'a>,
-    answer: Result<Entry<'a>, EvaluationError>,
+    answer: Result<Operand<'a>, EvaluationError>,
 ) -> Move
     requires { length stack.old.values < stack.old.capacity }
     ensures configuration { (code : List InstructionTree) → led_to code result stack.new.values ≡ give code place stack.old.values answer.entry }
     ensures capacity { stack.new.capacity ≡ stack.old.capacity }
 {
     match answer {
-        Ok(entry) => {
-            stack.push(entry);
+        Ok(operand) => {
+            stack.push(operand);
             Move::To(place)
         }
         Err(error) => Move::Failed(error),
     }
 }
 
-/// One instruction at a place. Want of memory leaves the stack as it was; only sets and records take memory.
+/// One instruction at a place. Out of memory leaves the stack as it was; only sets and records take memory.
 #[inline(always)]
 pub fn perform<'a, H: Hierarchy>(
     alloc: Global,
@@ -58,11 +58,11 @@ pub fn perform<'a, H: Hierarchy>(
     };
     let moved = match instruction {
         Instruction::Push(value) => {
-            stack.push(Entry::lent(value.glance()));
+            stack.push(Operand::lent(value.glance()));
             Move::To(place + 1)
         }
         Instruction::Var(variable) => {
-            stack.push(Entry::lent(variable.of(request)));
+            stack.push(Operand::lent(variable.of(request)));
             Move::To(place + 1)
         }
         Instruction::Unary(operator) => apply(place + 1, stack, hierarchy, operator),
@@ -96,7 +96,7 @@ pub fn apply<'a, H: Hierarchy>(
     give(next, stack, unary(hierarchy, operator, operand))
 }
 
-/// An operator on the two topmost entries.
+/// An operator on the two topmost operands.
 pub fn combine<H: Hierarchy>(
     next: usize,
     stack: &mut Stack<'_>,

@@ -9,7 +9,7 @@ use crate::machine::Progress;
 use crate::owning::perform_owned;
 use crate::state::{State, settle};
 use cedar_code::{Code, Outcome, jumps_go_forward};
-use cedar_operators::Stack;
+use cedar_machine_stack::Stack;
 use cedar_value::{Hierarchy, Request};
 use std::alloc::{AllocError, Global};
 use std::marker::Model;

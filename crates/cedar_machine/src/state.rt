@@ -3,9 +3,9 @@ ghost use Rattle.std.specs.Prelude.{◌≡◌};
 ghost use Rattle.cedar_code.specs.Machine.{arrive};
 ghost use Rattle.cedar_machine.specs.Private.State.{configuration_of, led_to};
 
-use cedar_ast::EvaluationError;
+use cedar_ast_expressions::EvaluationError;
 use cedar_code::Instruction;
-use cedar_operators::Stack;
+use cedar_machine_stack::Stack;
 
 /// Where a machine is.
 #[derive(Clone, Copy, PartialEq, Eq, Debug)]

@@ -1,13 +1,13 @@
 -- As many expressions are made of arguments as there are arguments.
 use Rattle.std.proofs.Common.{◌≡◌, ℕ, suc, List, [], ◌∷◌, Option, Some, None, IsSome, length, refl, sym, ap, subst, ◌∙◌, option_map}
-use Rattle.cedar_ast.specs.declared.operator.UnaryOperator.{UnaryOperator}
-use Rattle.cedar_ast.specs.Expression as e
-use Rattle.cedar_ast.specs.Expression.{Expression, Expressions, expressions_of}
-use Rattle.cedar_written.specs.Written.{Members, no_members, member}
-use Rattle.cedar_conditions.specs.declared.functions.Method.{Method}
-use Rattle.cedar_conditions.specs.declared.side_condition.SideCondition.TheVariants.{Counts}
-use Rattle.cedar_conditions.specs.Meaning.{to_expressions}
-use Rattle.cedar_conditions.specs.Limits.{count_of, arity_of, HasArity}
+use Rattle.cedar_ast_expressions.specs.declared.operator.UnaryOperator.{UnaryOperator}
+use Rattle.cedar_ast_expressions.specs.Expression as e
+use Rattle.cedar_ast_expressions.specs.Expression.{Expression, Expressions, expressions_of}
+use Rattle.cedar_parser_tree.specs.Written.{Members, no_members, member}
+use Rattle.cedar_parser_limits.specs.declared.functions.Method.{Method}
+use Rattle.cedar_parser_limits.specs.declared.side_condition.SideCondition.TheVariants.{Counts}
+use Rattle.cedar_parser_limits.specs.Meaning.{to_expressions}
+use Rattle.cedar_parser_limits.specs.Limits.{count_of, arity_of, HasArity}
 
 -- how many expressions there are
 abbrev count : Expressions → ℕ

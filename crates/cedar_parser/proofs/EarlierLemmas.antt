@@ -1,11 +1,11 @@
 -- What was read before is read as it was.
 use Rattle.std.proofs.Common.{◌≡◌, ℕ, List, [], All, ◌∙◌}
-use Rattle.cedar_policies.specs.PolicySetTree.{PolicySetTree, no_policies}
-use Rattle.cedar_written.specs.declared.written_statement.WrittenCondition.{WrittenCondition}
-use Rattle.cedar_written.specs.StatementTree.{StatementTree}
-use Rattle.cedar_grammar.proofs.EarlierReadings.{statements_within}
-use Rattle.cedar_grammar.proofs.EarlierPaths.{AskForNoPath, statements_free}
-use Rattle.cedar_conditions.specs.StatementLimits.{IsWithinLimits}
+use Rattle.cedar_ast.specs.PolicySetTree.{PolicySetTree, no_policies}
+use Rattle.cedar_parser_tree.specs.declared.written_statement.WrittenCondition.{WrittenCondition}
+use Rattle.cedar_parser_tree.specs.StatementTree.{StatementTree}
+use Rattle.cedar_parser_statements.proofs.EarlierReadings.{statements_within}
+use Rattle.cedar_parser_statements.proofs.EarlierPaths.{AskForNoPath, statements_free}
+use Rattle.cedar_parser_limits.specs.StatementLimits.{IsWithinLimits}
 use Rattle.cedar_parser.specs.PolicyText.{IsPolicyText}
 use Rattle.cedar_parser.specs.Earlier.{UsesEarlier, WasWithinLimits, IsEarlierPolicyText}
 use Rattle.cedar_parser.proofs.EarlierMeanings.{same_entered}

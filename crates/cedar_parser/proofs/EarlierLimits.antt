@@ -2,30 +2,30 @@
 use Rattle.std.proofs.Common.{◌≡◌, ℕ, ◌≤◌, List, [], ◌∷◌, Option, Some, IsSome, IsTrue, All, codes, refl, sym, subst, option_map}
 use Rattle.std.proofs.lemmas.List.Elements.{All-head, All-tail}
 use Rattle.std.specs.Str.{bytes_eq}
-use Rattle.cedar_ast.specs.declared.operator.UnaryOperator.{UnaryOperator}
-use Rattle.cedar_ast.specs.declared.variable.Variable.{Variable}
-use Rattle.cedar_ast.specs.declared.variable.Variable.TheVariants.{Principal, Resource}
-use Rattle.cedar_policies.specs.Condition.{condition_of}
-use Rattle.cedar_policies.specs.PolicyTree.{PolicyTree}
-use Rattle.cedar_tokens.specs.Content.{Content}
-use Rattle.cedar_tokens.specs.declared.content.WrittenUid.{WrittenUid}
-use Rattle.cedar_written.specs.declared.written_statement.Reference.{Reference}
-use Rattle.cedar_written.specs.declared.written_statement.Reference.TheVariants as reference
-use Rattle.cedar_written.specs.declared.written_statement.WrittenAnnotation.{WrittenAnnotation}
-use Rattle.cedar_written.specs.declared.written_statement.WrittenCondition.{WrittenCondition}
-use Rattle.cedar_written.specs.declared.written_statement.WrittenEntityScope.{WrittenEntityScope}
-use Rattle.cedar_written.specs.declared.written_statement.WrittenEntityScope.TheVariants as written
-use Rattle.cedar_written.specs.declared.written_statement.WrittenActionScope.{WrittenActionScope}
-use Rattle.cedar_written.specs.declared.written_statement.WrittenActionScope.TheVariants as written_action
-use Rattle.cedar_written.specs.Written.{Written, truth, number, negative, text, entity, variable, slot, group, not, negated, relation, has, like, is, is_in, chain, choice, set, record_of, call, Links, no_links, operand, attribute, method, Members, no_members, member, Fields, no_fields, field}
-use Rattle.cedar_written.specs.StatementTree.{StatementTree}
-use Rattle.cedar_grammar.proofs.EarlierPaths.{AskForNoPath}
-use Rattle.cedar_conditions.specs.declared.functions.Method.{Method}
-use Rattle.cedar_conditions.specs.declared.side_condition.SideCondition.{SideCondition}
-use Rattle.cedar_conditions.specs.declared.side_condition.SideCondition.TheVariants.{Strings, Numbers, Keys, Names, Counts, Slots, Annotations}
-use Rattle.cedar_conditions.specs.Meaning.{function_of, method_of}
-use Rattle.cedar_conditions.specs.Limits.{Stands, Fits, FitsNegative, IsKnown, count_of, arity_of, function_arity, method_arity, HasArity, HasDistinctKeys, HasNoSlot, Keeps, KeepLinks, KeepMembers, KeepFields, size_of, max_height, max_nodes}
-use Rattle.cedar_conditions.specs.StatementLimits.{IsOwn, KeepsReference, KeepsEntityScope, KeepUids, KeepsActionScope, HasDistinctNames, KeepAnnotations, KeepConditions, KeepsStatement, condition_size, IsWithinLimits}
+use Rattle.cedar_ast_expressions.specs.declared.operator.UnaryOperator.{UnaryOperator}
+use Rattle.cedar_ast_expressions.specs.declared.variable.Variable.{Variable}
+use Rattle.cedar_ast_expressions.specs.declared.variable.Variable.TheVariants.{Principal, Resource}
+use Rattle.cedar_ast.specs.Condition.{condition_of}
+use Rattle.cedar_ast.specs.PolicyTree.{PolicyTree}
+use Rattle.cedar_parser_tokens.specs.Content.{Content}
+use Rattle.cedar_parser_tokens.specs.declared.content.WrittenUid.{WrittenUid}
+use Rattle.cedar_parser_tree.specs.declared.written_statement.Reference.{Reference}
+use Rattle.cedar_parser_tree.specs.declared.written_statement.Reference.TheVariants as reference
+use Rattle.cedar_parser_tree.specs.declared.written_statement.WrittenAnnotation.{WrittenAnnotation}
+use Rattle.cedar_parser_tree.specs.declared.written_statement.WrittenCondition.{WrittenCondition}
+use Rattle.cedar_parser_tree.specs.declared.written_statement.WrittenEntityScope.{WrittenEntityScope}
+use Rattle.cedar_parser_tree.specs.declared.written_statement.WrittenEntityScope.TheVariants as written
+use Rattle.cedar_parser_tree.specs.declared.written_statement.WrittenActionScope.{WrittenActionScope}
+use Rattle.cedar_parser_tree.specs.declared.written_statement.WrittenActionScope.TheVariants as written_action
+use Rattle.cedar_parser_tree.specs.Written.{Written, truth, number, negative, text, entity, variable, slot, group, not, negated, relation, has, like, is, is_in, chain, choice, set, record_of, call, Links, no_links, operand, attribute, method, Members, no_members, member, Fields, no_fields, field}
+use Rattle.cedar_parser_tree.specs.StatementTree.{StatementTree}
+use Rattle.cedar_parser_statements.proofs.EarlierPaths.{AskForNoPath}
+use Rattle.cedar_parser_limits.specs.declared.functions.Method.{Method}
+use Rattle.cedar_parser_limits.specs.declared.side_condition.SideCondition.{SideCondition}
+use Rattle.cedar_parser_limits.specs.declared.side_condition.SideCondition.TheVariants.{Strings, Numbers, Keys, Names, Counts, Slots, Annotations}
+use Rattle.cedar_parser_limits.specs.Meaning.{function_of, method_of}
+use Rattle.cedar_parser_limits.specs.Limits.{Stands, Fits, FitsNegative, IsKnown, count_of, arity_of, function_arity, method_arity, HasArity, HasDistinctKeys, HasNoSlot, Keeps, KeepLinks, KeepMembers, KeepFields, size_of, max_height, max_nodes}
+use Rattle.cedar_parser_limits.specs.StatementLimits.{IsOwn, KeepsReference, KeepsEntityScope, KeepUids, KeepsActionScope, HasDistinctNames, KeepAnnotations, KeepConditions, KeepsStatement, condition_size, IsWithinLimits}
 use Rattle.cedar_parser.specs.EarlierMeaning.{earlier_method_of}
 use Rattle.cedar_parser.specs.Earlier.{UsesEarlier, LinksUseEarlier, MembersUseEarlier, FieldsUseEarlier, WasWithinLimits}
 use Rattle.cedar_parser.proofs.EarlierMeanings.{known_method, earlier_method, earlier_function, same_policy}

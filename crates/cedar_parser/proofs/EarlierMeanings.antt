@@ -2,29 +2,29 @@
 use Rattle.std.proofs.Common.{◌≡◌, ℕ, ◌+◌, List, [], ◌∷◌, Bool, true, false, cond, Option, Some, None, IsSome, IsTrue, All, codes, refl, sym, subst, ap, ◌∙◌, map}
 use Rattle.std.proofs.lemmas.List.Elements.{All-head, All-tail}
 use Rattle.std.specs.Str.{bytes_eq}
-use Rattle.cedar_ast.specs.declared.operator.UnaryOperator.{UnaryOperator}
-use Rattle.cedar_ast.specs.declared.operator.UnaryOperator.TheVariants.{Not, Negate, Has, Get, Like, Is, Decimal}
-use Rattle.cedar_ast.specs.declared.operator.BinaryOperator.{BinaryOperator}
-use Rattle.cedar_ast.specs.declared.operator.BinaryOperator.TheVariants as operator
-use Rattle.cedar_ast.specs.Expression as e
-use Rattle.cedar_ast.specs.Expression.{Expression, Expressions}
-use Rattle.cedar_policies.specs.declared.condition.Condition.{Condition}
-use Rattle.cedar_policies.specs.declared.statement.Statement.{Statement}
-use Rattle.cedar_policies.specs.declared.statement.Statement.TheVariants as statement
-use Rattle.cedar_policies.specs.PolicySetTree.{PolicySetTree, entered}
-use Rattle.cedar_tokens.specs.Content.{text_of}
-use Rattle.cedar_written.specs.declared.sign.ChainSign.{ChainSign}
-use Rattle.cedar_written.specs.declared.sign.ChainSign.TheVariants as chain_sign
-use Rattle.cedar_written.specs.declared.sign.RelationSign.{RelationSign}
-use Rattle.cedar_written.specs.declared.sign.RelationSign.TheVariants as relation_sign
-use Rattle.cedar_written.specs.declared.written_statement.WrittenCondition.{WrittenCondition}
-use Rattle.cedar_written.specs.Written.{Written, truth, number, negative, text, entity, variable, slot, group, not, negated, relation, has, like, is, is_in, chain, choice, set, record_of, call, Links, no_links, operand, attribute, method, Members, no_members, member, Fields, no_fields, field}
-use Rattle.cedar_written.specs.StatementTree.{StatementTree}
-use Rattle.cedar_grammar.proofs.EarlierPaths.{HasNoPath, LinksHaveNoPath, MembersHaveNoPath, FieldsHaveNoPath, AskForNoPath}
-use Rattle.cedar_conditions.specs.declared.functions.Method.{Method}
-use Rattle.cedar_conditions.specs.declared.functions.Method.TheVariants.{IsEmpty, Binary}
-use Rattle.cedar_conditions.specs.Meaning.{linked, related, function_of, method_of, called, applied, asked_of, to_expression, to_expressions, to_entries, grouped}
-use Rattle.cedar_conditions.specs.StatementMeaning.{to_condition, to_policy, to_template, to_statement, statement_of, id_at, has_slot, entered_from}
+use Rattle.cedar_ast_expressions.specs.declared.operator.UnaryOperator.{UnaryOperator}
+use Rattle.cedar_ast_expressions.specs.declared.operator.UnaryOperator.TheVariants.{Not, Negate, Has, Get, Like, Is, Decimal}
+use Rattle.cedar_ast_expressions.specs.declared.operator.BinaryOperator.{BinaryOperator}
+use Rattle.cedar_ast_expressions.specs.declared.operator.BinaryOperator.TheVariants as operator
+use Rattle.cedar_ast_expressions.specs.Expression as e
+use Rattle.cedar_ast_expressions.specs.Expression.{Expression, Expressions}
+use Rattle.cedar_ast.specs.declared.condition.Condition.{Condition}
+use Rattle.cedar_ast.specs.declared.statement.Statement.{Statement}
+use Rattle.cedar_ast.specs.declared.statement.Statement.TheVariants as statement
+use Rattle.cedar_ast.specs.PolicySetTree.{PolicySetTree, entered}
+use Rattle.cedar_parser_tokens.specs.Content.{text_of}
+use Rattle.cedar_parser_tree.specs.declared.sign.ChainSign.{ChainSign}
+use Rattle.cedar_parser_tree.specs.declared.sign.ChainSign.TheVariants as chain_sign
+use Rattle.cedar_parser_tree.specs.declared.sign.RelationSign.{RelationSign}
+use Rattle.cedar_parser_tree.specs.declared.sign.RelationSign.TheVariants as relation_sign
+use Rattle.cedar_parser_tree.specs.declared.written_statement.WrittenCondition.{WrittenCondition}
+use Rattle.cedar_parser_tree.specs.Written.{Written, truth, number, negative, text, entity, variable, slot, group, not, negated, relation, has, like, is, is_in, chain, choice, set, record_of, call, Links, no_links, operand, attribute, method, Members, no_members, member, Fields, no_fields, field}
+use Rattle.cedar_parser_tree.specs.StatementTree.{StatementTree}
+use Rattle.cedar_parser_statements.proofs.EarlierPaths.{HasNoPath, LinksHaveNoPath, MembersHaveNoPath, FieldsHaveNoPath, AskForNoPath}
+use Rattle.cedar_parser_limits.specs.declared.functions.Method.{Method}
+use Rattle.cedar_parser_limits.specs.declared.functions.Method.TheVariants.{IsEmpty, Binary}
+use Rattle.cedar_parser_limits.specs.Meaning.{linked, related, function_of, method_of, called, applied, asked_of, to_expression, to_expressions, to_entries, grouped}
+use Rattle.cedar_parser_limits.specs.StatementMeaning.{to_condition, to_policy, to_template, to_statement, statement_of, id_at, has_slot, entered_from}
 use Rattle.cedar_parser.specs.EarlierMeaning.{earlier_method_of, earlier_linked, earlier_related, earlier_call, earlier_applied, earlier_expression, earlier_expressions, earlier_entries, earlier_grouped, earlier_condition, earlier_policy, earlier_template, earlier_statement, earlier_entered}
 use Rattle.cedar_parser.specs.Earlier.{UsesEarlier, LinksUseEarlier, MembersUseEarlier, FieldsUseEarlier}
 

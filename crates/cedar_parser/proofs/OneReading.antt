@@ -1,18 +1,18 @@
 -- No text is read in two ways.
 use Rattle.std.proofs.Common.{◌≡◌, refl, sym, ap, subst, ◌∙◌, ℕ, ◌<◌, List, [], ◌∷◌, length, Ok, Err, arith}
-use Rattle.cedar_policies.specs.PolicySetTree.{PolicySetTree, no_policies}
+use Rattle.cedar_ast.specs.PolicySetTree.{PolicySetTree, no_policies}
 use Rattle.cedar_text.specs.Lexeme.{Lexemes}
 use Rattle.cedar_text.specs.Tokens.{AreTokens}
-use Rattle.cedar_tokens.specs.Marks.{Marks, IsMarked}
-use Rattle.cedar_tokens.specs.Reading.{Syntax, TooDeep, Outcome}
-use Rattle.cedar_tokens.proofs.MarkLemmas.{OneSpelling, all_same}
-use Rattle.cedar_grammar.specs.Statements.{Statement, Statements, end, next}
-use Rattle.cedar_written.specs.StatementTree.{StatementTree}
-use Rattle.cedar_grammar.specs.StatementReading as r
-use Rattle.cedar_expressions.proofs.Moves.{shorter}
-use Rattle.cedar_grammar.proofs.StatementMoves.{statement_moves}
-use Rattle.cedar_grammar.proofs.StatementsComplete.{statement_same, statement_none, statement_too_deep}
-use Rattle.cedar_conditions.specs.StatementMeaning.{entered_from}
+use Rattle.cedar_parser_tokens.specs.Marks.{Marks, IsMarked}
+use Rattle.cedar_parser_tokens.specs.Reading.{Syntax, TooDeep, Outcome}
+use Rattle.cedar_parser_tokens.proofs.MarkLemmas.{OneSpelling, all_same}
+use Rattle.cedar_parser_statements.specs.Statements.{Statement, Statements, end, next}
+use Rattle.cedar_parser_tree.specs.StatementTree.{StatementTree}
+use Rattle.cedar_parser_statements.specs.StatementReading as r
+use Rattle.cedar_parser_expressions.proofs.Moves.{shorter}
+use Rattle.cedar_parser_statements.proofs.StatementMoves.{statement_moves}
+use Rattle.cedar_parser_statements.proofs.StatementsComplete.{statement_same, statement_none, statement_too_deep}
+use Rattle.cedar_parser_limits.specs.StatementMeaning.{entered_from}
 use Rattle.cedar_parser.specs.PolicyText.{ArePolicies, IsPolicyText}
 use Rattle.cedar_parser.proofs.TextLemmas.{comes_next}
 use Rattle.cedar_parser.proofs.Refusals.{nothing_behind}

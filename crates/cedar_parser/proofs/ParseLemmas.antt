@@ -1,12 +1,12 @@
 -- From a text to its tokens with their letters, and from these to what is answered.
 use Rattle.std.proofs.Common.{◌≡◌, refl, sym, subst, ℕ, List, [], Result, Ok, Err}
 use Rattle.std.specs.Prelude.{IfOk, IfErr, MatchResult}
-use Rattle.cedar_policies.specs.PolicySetTree.{PolicySetTree}
-use Rattle.cedar_tokens.specs.Marks.{Marks}
-use Rattle.cedar_tokens.specs.Spelling.{HasMarks, HasMarksFault}
-use Rattle.cedar_tokens.specs.declared.parse_fault.ParseFault.{ParseFault}
-use Rattle.cedar_tokens.specs.declared.parse_fault.ParseFault.TheVariants as f
-use Rattle.cedar_tokens.proofs.UidLemmas.{IsText}
+use Rattle.cedar_ast.specs.PolicySetTree.{PolicySetTree}
+use Rattle.cedar_parser_tokens.specs.Marks.{Marks}
+use Rattle.cedar_parser_tokens.specs.Spelling.{HasMarks, HasMarksFault}
+use Rattle.cedar_parser_tokens.specs.declared.parse_fault.ParseFault.{ParseFault}
+use Rattle.cedar_parser_tokens.specs.declared.parse_fault.ParseFault.TheVariants as f
+use Rattle.cedar_parser_tokens.proofs.UidLemmas.{IsText}
 use Rattle.cedar_parser.specs.PolicyText.{ArePolicies, IsPolicyText, TokensFault, HasFault}
 
 pub parsed : (source : List ℕ) (ms : Marks) (r : Result PolicySetTree ParseFault) → IsText source ms → IfOk r (ArePolicies ms []) → IfOk r (IsPolicyText source)

@@ -4,29 +4,29 @@ use Rattle.std.proofs.Common.{Bool, true, false, cond, eqb, ◌≡◌, refl, sym
 use Rattle.std.specs.Prelude.{All, Contains, IfErr, IsSome, unwrap_or, codes, decimal}
 use Rattle.std.specs.Str.{bytes_eq}
 use Rattle.std.proofs.lemmas.List.{append-nil, get_or_append_left}
-use Rattle.cedar_ast.specs.Keys.{AreDistinct}
-use Rattle.cedar_policies.specs.PolicySetTree.{PolicySetTree, no_policies, ids_in, id_of}
-use Rattle.cedar_policies.specs.declared.statement.Statement.{Statement as Entry}
-use Rattle.cedar_tokens.specs.Marks.{Marks}
-use Rattle.cedar_conditions.specs.declared.side_condition.SideCondition.TheVariants.{Strings, Numbers, Keys, Names, Counts, Slots, Annotations}
-use Rattle.cedar_tokens.specs.declared.parse_fault.ParseFault.{ParseFault}
-use Rattle.cedar_tokens.specs.declared.parse_fault.ParseFault.TheVariants as f
-use Rattle.cedar_grammar.specs.Statements.{Statement, Statements, end, next}
-use Rattle.cedar_written.specs.StatementTree.{StatementTree}
-use Rattle.cedar_conditions.specs.StatementMeaning.{id_in, id_at, written_id, written_ids_from, entered_from, ids_from}
-use Rattle.cedar_tokens.specs.Content.{Content, text_of}
-use Rattle.cedar_written.specs.declared.written_statement.WrittenAnnotation.{WrittenAnnotation}
-use Rattle.cedar_conditions.specs.StatementLimits.{KeepAnnotations, IsWithinLimits, Breaks}
+use Rattle.cedar_ast_expressions.specs.Keys.{AreDistinct}
+use Rattle.cedar_ast.specs.PolicySetTree.{PolicySetTree, no_policies, ids_in, id_of}
+use Rattle.cedar_ast.specs.declared.statement.Statement.{Statement as Entry}
+use Rattle.cedar_parser_tokens.specs.Marks.{Marks}
+use Rattle.cedar_parser_limits.specs.declared.side_condition.SideCondition.TheVariants.{Strings, Numbers, Keys, Names, Counts, Slots, Annotations}
+use Rattle.cedar_parser_tokens.specs.declared.parse_fault.ParseFault.{ParseFault}
+use Rattle.cedar_parser_tokens.specs.declared.parse_fault.ParseFault.TheVariants as f
+use Rattle.cedar_parser_statements.specs.Statements.{Statement, Statements, end, next}
+use Rattle.cedar_parser_tree.specs.StatementTree.{StatementTree}
+use Rattle.cedar_parser_limits.specs.StatementMeaning.{id_in, id_at, written_id, written_ids_from, entered_from, ids_from}
+use Rattle.cedar_parser_tokens.specs.Content.{Content, text_of}
+use Rattle.cedar_parser_tree.specs.declared.written_statement.WrittenAnnotation.{WrittenAnnotation}
+use Rattle.cedar_parser_limits.specs.StatementLimits.{KeepAnnotations, IsWithinLimits, Breaks}
 use Rattle.cedar_parser.specs.PolicyText.{ArePolicies, BreaksLimit, TokensFault}
-use Rattle.cedar_tokens.specs.Reading.{Syntax, TooDeep}
-use Rattle.cedar_grammar.specs.StatementReading as st
-use Rattle.cedar_tokens.specs.Contract.{Refuses}
+use Rattle.cedar_parser_tokens.specs.Reading.{Syntax, TooDeep}
+use Rattle.cedar_parser_statements.specs.StatementReading as st
+use Rattle.cedar_parser_tokens.specs.Contract.{Refuses}
 use Rattle.cedar_parser.specs.Private.Entering.{RefusesEntry, RefusesAdd, RefusesWhere, refusal_for}
-use Rattle.cedar_tokens.proofs.Outcomes.{Meets}
-use Rattle.cedar_expressions.proofs.Moves.{shorter, IsOver, over_after, over_deep}
-use Rattle.cedar_grammar.proofs.StatementMoves.{statement_moves}
-use Rattle.cedar_grammar.proofs.StatementsSound.{statement_reads, statement_is}
-use Rattle.cedar_grammar.proofs.StatementsComplete.{statement_none, statement_too_deep}
+use Rattle.cedar_parser_tokens.proofs.Outcomes.{Meets}
+use Rattle.cedar_parser_expressions.proofs.Moves.{shorter, IsOver, over_after, over_deep}
+use Rattle.cedar_parser_statements.proofs.StatementMoves.{statement_moves}
+use Rattle.cedar_parser_statements.proofs.StatementsSound.{statement_reads, statement_is}
+use Rattle.cedar_parser_statements.proofs.StatementsComplete.{statement_none, statement_too_deep}
 use Rattle.cedar_parser.proofs.TextLemmas.{IsReadSoFar, GoesOn, comes_next, goes_more, one_behind, ids-append, from_statements}
 
 -- ---- the end

@@ -10,21 +10,21 @@ use Rattle.std.proofs.lemmas.Map.Views.{Contains-from_any}
 use Rattle.std.proofs.lemmas.Slice.Eq.{bytes_eq-Decides}
 use Rattle.cedar_value.specs.Private.Equality.{text_equivalence}
 use Rattle.std.proofs.lemmas.List.Elements.{All-append, All-cons, All-nil, Contains-append_cases}
-use Rattle.cedar_policies.specs.declared.statement.Statement.{Statement as Entry}
-use Rattle.cedar_policies.specs.declared.statement.Statement.TheVariants as entry
-use Rattle.cedar_policies.specs.PolicyTree.{PolicyTree}
-use Rattle.cedar_policies.specs.PolicyTree.{TemplateTree}
-use Rattle.cedar_ast.specs.Keys.{AreDistinct}
-use Rattle.cedar_policies.specs.PolicySetTree.{PolicySetTree, no_policies, entered, ids_in, ids_of, id_of}
-use Rattle.cedar_tokens.specs.Marks.{Marks}
-use Rattle.cedar_grammar.specs.Statements.{Statement, Statements, end, next}
-use Rattle.cedar_written.specs.StatementTree.{StatementTree}
-use Rattle.cedar_conditions.specs.StatementMeaning.{has_slot, to_policy, to_template, statement_of, id_at, entered_from, ids_from}
-use Rattle.cedar_conditions.specs.StatementLimits.{IsWithinLimits}
-use Rattle.cedar_grammar.specs.StatementReading as r
-use Rattle.cedar_tokens.proofs.MarkLemmas.{none_left}
-use Rattle.cedar_grammar.proofs.StatementsSound.{statement_is}
-use Rattle.cedar_grammar.proofs.StatementsComplete.{statement_same}
+use Rattle.cedar_ast.specs.declared.statement.Statement.{Statement as Entry}
+use Rattle.cedar_ast.specs.declared.statement.Statement.TheVariants as entry
+use Rattle.cedar_ast.specs.PolicyTree.{PolicyTree}
+use Rattle.cedar_ast.specs.PolicyTree.{TemplateTree}
+use Rattle.cedar_ast_expressions.specs.Keys.{AreDistinct}
+use Rattle.cedar_ast.specs.PolicySetTree.{PolicySetTree, no_policies, entered, ids_in, ids_of, id_of}
+use Rattle.cedar_parser_tokens.specs.Marks.{Marks}
+use Rattle.cedar_parser_statements.specs.Statements.{Statement, Statements, end, next}
+use Rattle.cedar_parser_tree.specs.StatementTree.{StatementTree}
+use Rattle.cedar_parser_limits.specs.StatementMeaning.{has_slot, to_policy, to_template, statement_of, id_at, entered_from, ids_from}
+use Rattle.cedar_parser_limits.specs.StatementLimits.{IsWithinLimits}
+use Rattle.cedar_parser_statements.specs.StatementReading as r
+use Rattle.cedar_parser_tokens.proofs.MarkLemmas.{none_left}
+use Rattle.cedar_parser_statements.proofs.StatementsSound.{statement_is}
+use Rattle.cedar_parser_statements.proofs.StatementsComplete.{statement_same}
 use Rattle.cedar_parser.specs.PolicyText.{ArePolicies}
 
 pub All-one : (s : StatementTree) → IsWithinLimits s → All IsWithinLimits (s ∷ [])

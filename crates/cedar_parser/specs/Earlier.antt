@@ -3,20 +3,20 @@
 -- reference, grammar).
 use Rattle.std.specs.Prelude.{◌≡◌, ℕ, suc, ◌≤◌, List, [], All, codes, IsSome, IsTrue}
 use Rattle.std.specs.Str.{bytes_eq}
-use Rattle.cedar_ast.specs.Keys.{AreDistinct}
-use Rattle.cedar_policies.specs.Condition.{condition_of}
-use Rattle.cedar_policies.specs.PolicySetTree.{PolicySetTree, no_policies}
-use Rattle.cedar_tokens.specs.Marks.{Marks, IsMarked}
-use Rattle.cedar_written.specs.Written.{Written, group, not, negated, relation, has, like, is, is_in, chain, choice, set, record_of, call, Links, no_links, operand, attribute, method, Members, no_members, member, Fields, no_fields, field}
-use Rattle.cedar_written.specs.StatementTree.{StatementTree}
-use Rattle.cedar_grammar.specs.StatementText.{max_open}
-use Rattle.cedar_grammar.specs.Earlier.{EarlierStatements}
-use Rattle.cedar_conditions.specs.declared.side_condition.SideCondition.{SideCondition}
-use Rattle.cedar_conditions.specs.declared.side_condition.SideCondition.TheVariants.{Names, Counts}
-use Rattle.cedar_conditions.specs.declared.size.Size.{Size}
-use Rattle.cedar_conditions.specs.StatementMeaning.{ids_from}
-use Rattle.cedar_conditions.specs.StatementLimits.{KeepsStatement}
-use Rattle.cedar_conditions.specs.Limits.{count_of, size_of, max_height, max_nodes}
+use Rattle.cedar_ast_expressions.specs.Keys.{AreDistinct}
+use Rattle.cedar_ast.specs.Condition.{condition_of}
+use Rattle.cedar_ast.specs.PolicySetTree.{PolicySetTree, no_policies}
+use Rattle.cedar_parser_tokens.specs.Marks.{Marks, IsMarked}
+use Rattle.cedar_parser_tree.specs.Written.{Written, group, not, negated, relation, has, like, is, is_in, chain, choice, set, record_of, call, Links, no_links, operand, attribute, method, Members, no_members, member, Fields, no_fields, field}
+use Rattle.cedar_parser_tree.specs.StatementTree.{StatementTree}
+use Rattle.cedar_parser_statements.specs.StatementText.{max_open}
+use Rattle.cedar_parser_statements.specs.Earlier.{EarlierStatements}
+use Rattle.cedar_parser_limits.specs.declared.side_condition.SideCondition.{SideCondition}
+use Rattle.cedar_parser_limits.specs.declared.side_condition.SideCondition.TheVariants.{Names, Counts}
+use Rattle.cedar_parser_limits.specs.declared.size.Size.{Size}
+use Rattle.cedar_parser_limits.specs.StatementMeaning.{ids_from}
+use Rattle.cedar_parser_limits.specs.StatementLimits.{KeepsStatement}
+use Rattle.cedar_parser_limits.specs.Limits.{count_of, size_of, max_height, max_nodes}
 use Rattle.cedar_parser.specs.EarlierMeaning.{earlier_method_of, earlier_policy, earlier_entered}
 
 abbrev mutual

@@ -4,26 +4,26 @@
 use Rattle.std.specs.Prelude.{ℕ, ◌+◌, false, pos, neg_ℤ, List, [], ◌∷◌, Option, Some, None, map, codes, if◌then◌else◌}
 use Rattle.std.specs.Str.{bytes_eq}
 use Rattle.cedar_value.specs.Datum as datum
-use Rattle.cedar_ast.specs.declared.operator.UnaryOperator.TheVariants.{Not, Negate, Has, Get, Like, Is, Decimal}
-use Rattle.cedar_ast.specs.declared.operator.BinaryOperator.{BinaryOperator}
-use Rattle.cedar_ast.specs.declared.operator.BinaryOperator.TheVariants as operator
-use Rattle.cedar_ast.specs.Expression as e
-use Rattle.cedar_ast.specs.Expression.{Expression, Expressions, Entries}
-use Rattle.cedar_policies.specs.declared.condition.Condition.{Condition}
-use Rattle.cedar_policies.specs.declared.statement.Statement.{Statement}
-use Rattle.cedar_policies.specs.declared.statement.Statement.TheVariants as statement
-use Rattle.cedar_policies.specs.PolicyTree.{PolicyTree, TemplateTree}
-use Rattle.cedar_policies.specs.PolicySetTree.{PolicySetTree, entered}
-use Rattle.cedar_tokens.specs.Content.{text_of}
-use Rattle.cedar_tokens.specs.Names.{to_uid}
-use Rattle.cedar_written.specs.declared.sign.ChainSign.{ChainSign}
-use Rattle.cedar_written.specs.declared.sign.ChainSign.TheVariants as chain_sign
-use Rattle.cedar_written.specs.declared.sign.RelationSign.{RelationSign}
-use Rattle.cedar_written.specs.declared.sign.RelationSign.TheVariants as relation_sign
-use Rattle.cedar_written.specs.declared.written_statement.WrittenCondition.{WrittenCondition}
-use Rattle.cedar_written.specs.Written.{Written, truth, number, negative, text, entity, variable, slot, group, not, negated, relation, has, like, is, is_in, chain, choice, set, record_of, call, Links, no_links, operand, attribute, method, Members, no_members, member, Fields, no_fields, field}
-use Rattle.cedar_written.specs.StatementTree.{StatementTree}
-use Rattle.cedar_conditions.specs.StatementMeaning.{to_policy, to_template, has_slot, id_at}
+use Rattle.cedar_ast_expressions.specs.declared.operator.UnaryOperator.TheVariants.{Not, Negate, Has, Get, Like, Is, Decimal}
+use Rattle.cedar_ast_expressions.specs.declared.operator.BinaryOperator.{BinaryOperator}
+use Rattle.cedar_ast_expressions.specs.declared.operator.BinaryOperator.TheVariants as operator
+use Rattle.cedar_ast_expressions.specs.Expression as e
+use Rattle.cedar_ast_expressions.specs.Expression.{Expression, Expressions, Entries}
+use Rattle.cedar_ast.specs.declared.condition.Condition.{Condition}
+use Rattle.cedar_ast.specs.declared.statement.Statement.{Statement}
+use Rattle.cedar_ast.specs.declared.statement.Statement.TheVariants as statement
+use Rattle.cedar_ast.specs.PolicyTree.{PolicyTree, TemplateTree}
+use Rattle.cedar_ast.specs.PolicySetTree.{PolicySetTree, entered}
+use Rattle.cedar_parser_tokens.specs.Content.{text_of}
+use Rattle.cedar_parser_tokens.specs.Names.{to_uid}
+use Rattle.cedar_parser_tree.specs.declared.sign.ChainSign.{ChainSign}
+use Rattle.cedar_parser_tree.specs.declared.sign.ChainSign.TheVariants as chain_sign
+use Rattle.cedar_parser_tree.specs.declared.sign.RelationSign.{RelationSign}
+use Rattle.cedar_parser_tree.specs.declared.sign.RelationSign.TheVariants as relation_sign
+use Rattle.cedar_parser_tree.specs.declared.written_statement.WrittenCondition.{WrittenCondition}
+use Rattle.cedar_parser_tree.specs.Written.{Written, truth, number, negative, text, entity, variable, slot, group, not, negated, relation, has, like, is, is_in, chain, choice, set, record_of, call, Links, no_links, operand, attribute, method, Members, no_members, member, Fields, no_fields, field}
+use Rattle.cedar_parser_tree.specs.StatementTree.{StatementTree}
+use Rattle.cedar_parser_limits.specs.StatementMeaning.{to_policy, to_template, has_slot, id_at}
 
 -- The operator of each method that there was (Cedar language reference, operators; functions).
 abbrev pub earlier_method_of : List ℕ → Option BinaryOperator

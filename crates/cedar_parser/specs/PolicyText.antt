@@ -1,17 +1,17 @@
 -- What a policy text is, and why a text is not one (Cedar language reference, grammar; policies).
 use Rattle.std.specs.Prelude.{◌≡◌, ℕ, suc, List, [], ◌∷◌, ◌++◌, length, Some, All, Contains}
-use Rattle.cedar_ast.specs.Keys.{AreDistinct}
-use Rattle.cedar_policies.specs.PolicySetTree.{PolicySetTree, no_policies}
-use Rattle.cedar_tokens.specs.Faults.{LacksTokens}
-use Rattle.cedar_tokens.specs.Marks.{Marks, IsMarked}
-use Rattle.cedar_grammar.specs.Statements.{Statements}
-use Rattle.cedar_grammar.specs.StatementText.{max_open}
-use Rattle.cedar_written.specs.StatementTree.{StatementTree}
-use Rattle.cedar_conditions.specs.StatementMeaning.{entered_from, ids_from, written_id, written_ids_from}
-use Rattle.cedar_conditions.specs.StatementLimits.{IsWithinLimits, Breaks}
-use Rattle.cedar_expressions.specs.Nesting.{IsDeep}
-use Rattle.cedar_tokens.specs.declared.parse_fault.ParseFault.{ParseFault}
-use Rattle.cedar_tokens.specs.declared.parse_fault.ParseFault.TheVariants as f
+use Rattle.cedar_ast_expressions.specs.Keys.{AreDistinct}
+use Rattle.cedar_ast.specs.PolicySetTree.{PolicySetTree, no_policies}
+use Rattle.cedar_parser_tokens.specs.Faults.{LacksTokens}
+use Rattle.cedar_parser_tokens.specs.Marks.{Marks, IsMarked}
+use Rattle.cedar_parser_statements.specs.Statements.{Statements}
+use Rattle.cedar_parser_statements.specs.StatementText.{max_open}
+use Rattle.cedar_parser_tree.specs.StatementTree.{StatementTree}
+use Rattle.cedar_parser_limits.specs.StatementMeaning.{entered_from, ids_from, written_id, written_ids_from}
+use Rattle.cedar_parser_limits.specs.StatementLimits.{IsWithinLimits, Breaks}
+use Rattle.cedar_parser_expressions.specs.Nesting.{IsDeep}
+use Rattle.cedar_parser_tokens.specs.declared.parse_fault.ParseFault.{ParseFault}
+use Rattle.cedar_parser_tokens.specs.declared.parse_fault.ParseFault.TheVariants as f
 
 -- The tokens from ts up to us are statements within the limits, each with an id of its own, and this is the set of their
 -- policies and templates (Cedar language reference, grammar; policies).

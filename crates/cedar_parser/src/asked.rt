@@ -1,13 +1,13 @@
 //! What `has` asks along a path of attributes.
 ghost use Rattle.std.specs.Prelude.{◌≡◌, IfOk};
-ghost use Rattle.cedar_ast.specs.Expression.{unary, and};
-ghost use Rattle.cedar_ast.specs.declared.operator.UnaryOperator.TheVariants.{Has, Get};
-ghost use Rattle.cedar_tokens.specs.Content.{text_of};
-ghost use Rattle.cedar_conditions.specs.Meaning.{asked_of};
+ghost use Rattle.cedar_ast_expressions.specs.Expression.{unary, and};
+ghost use Rattle.cedar_ast_expressions.specs.declared.operator.UnaryOperator.TheVariants.{Has, Get};
+ghost use Rattle.cedar_parser_tokens.specs.Content.{text_of};
+ghost use Rattle.cedar_parser_limits.specs.Meaning.{asked_of};
 
-use cedar_ast::{Expr, UnaryOperator};
+use cedar_ast_expressions::{Expr, UnaryOperator};
 use cedar_value::Text;
-use cedar_written::AttributePath;
+use cedar_parser_tree::AttributePath;
 use std::alloc::{AllocError, Global};
 
 /// Whether an operand has the attribute, and that the next one, and so on to the end of the path (Cedar language

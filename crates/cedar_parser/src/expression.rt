@@ -1,25 +1,25 @@
 //! The expression that is written.
 ghost use Rattle.std.specs.Prelude.{◌≡◌, ◌≤◌, ◌^◌, ◌++◌, ◌∷◌, [], IfOk, OnOk, IsSome, Some, length, pos, neg_ℤ};
-ghost use Rattle.cedar_ast.specs.Expression.{expressions_of, entries_of, unary, binary, and, record_with};
-ghost use Rattle.cedar_ast.specs.Keys.{AreDistinct, keys_of};
-ghost use Rattle.cedar_ast.specs.declared.operator.UnaryOperator.TheVariants.{Not, Get, Is};
-ghost use Rattle.cedar_ast.specs.declared.operator.BinaryOperator.TheVariants.{In};
-ghost use Rattle.cedar_conditions.specs.declared.side_condition.SideCondition.TheVariants.{Strings, Numbers, Keys, Names, Counts, Slots};
-ghost use Rattle.cedar_written.specs.Written as tree;
-ghost use Rattle.cedar_written.specs.Written.{chain, members_of};
-ghost use Rattle.cedar_written.specs.WrittenKind.{links_of, fields_of};
-ghost use Rattle.cedar_conditions.specs.Meaning.{to_expression, to_expressions, to_entries, related, linked, called, applied, function_of, method_of};
-ghost use Rattle.cedar_conditions.specs.declared.functions.Method.TheVariants.{IsEmpty, Binary};
-ghost use Rattle.cedar_tokens.specs.Content.{text_of};
-ghost use Rattle.cedar_conditions.specs.Limits.{Keeps, KeepMembers, KeepFields, arity_of};
-ghost use Rattle.cedar_conditions.specs.Private.Parts.{KeepLink, behind, pairs_of};
+ghost use Rattle.cedar_ast_expressions.specs.Expression.{expressions_of, entries_of, unary, binary, and, record_with};
+ghost use Rattle.cedar_ast_expressions.specs.Keys.{AreDistinct, keys_of};
+ghost use Rattle.cedar_ast_expressions.specs.declared.operator.UnaryOperator.TheVariants.{Not, Get, Is};
+ghost use Rattle.cedar_ast_expressions.specs.declared.operator.BinaryOperator.TheVariants.{In};
+ghost use Rattle.cedar_parser_limits.specs.declared.side_condition.SideCondition.TheVariants.{Strings, Numbers, Keys, Names, Counts, Slots};
+ghost use Rattle.cedar_parser_tree.specs.Written as tree;
+ghost use Rattle.cedar_parser_tree.specs.Written.{chain, members_of};
+ghost use Rattle.cedar_parser_tree.specs.WrittenKind.{links_of, fields_of};
+ghost use Rattle.cedar_parser_limits.specs.Meaning.{to_expression, to_expressions, to_entries, related, linked, called, applied, function_of, method_of};
+ghost use Rattle.cedar_parser_limits.specs.declared.functions.Method.TheVariants.{IsEmpty, Binary};
+ghost use Rattle.cedar_parser_tokens.specs.Content.{text_of};
+ghost use Rattle.cedar_parser_limits.specs.Limits.{Keeps, KeepMembers, KeepFields, arity_of};
+ghost use Rattle.cedar_parser_limits.specs.Private.Parts.{KeepLink, behind, pairs_of};
 
 use crate::asked::asked;
-use cedar_ast::{BinaryOperator, Expr, RecordFault, UnaryOperator};
-use cedar_conditions::{Method, function_of, method_of};
-use cedar_tokens::Content;
+use cedar_ast_expressions::{BinaryOperator, Expr, RecordFault, UnaryOperator};
+use cedar_parser_limits::{Method, function_of, method_of};
+use cedar_parser_tokens::Content;
 use cedar_value::{Name, SharedText, Value};
-use cedar_written::{ChainSign, Field, Link, RelationSign, Written, WrittenKind};
+use cedar_parser_tree::{ChainSign, Field, Link, RelationSign, Written, WrittenKind};
 use std::alloc::{AllocError, Global};
 
 /// The expression that is written.
@@ -269,7 +269,7 @@ fn applied(
 }
 
 // Whether a set has no members; there are no arguments.
-#[tactic(auto, using(cedar_conditions::proofs::PartLemmas::empty_all))]
+#[tactic(auto, using(cedar_parser_limits::proofs::PartLemmas::empty_all))]
 fn is_empty(alloc: Global, left: Expr, arguments: Vec<Expr>) -> Result<Expr, AllocError>
     requires { length arguments.items ≡ 0 }
     ensures { IfOk result (λ e. e ≡ applied (Some IsEmpty) left (expressions_of arguments.items)) }

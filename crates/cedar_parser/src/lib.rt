@@ -5,8 +5,8 @@
 //! assert_eq!(rt; set.count(), 1);
 //! ```
 //!
-//! The grammar is defined in cedar_grammar, the expression that is written and the policy or template that a statement is in
-//! cedar_conditions, with side conditions and limits. What a policy text is by all of it is said in `specs/PolicyText.antt`.
+//! The grammar is defined in cedar_parser_statements, the expression that is written and the policy or template that a statement is in
+//! cedar_parser_limits, with side conditions and limits. What a policy text is by all of it is said in `specs/PolicyText.antt`.
 #![tactic(auto)]
 
 mod asked;
@@ -14,5 +14,5 @@ mod expression;
 mod parser;
 mod policy;
 
-pub use cedar_tokens::{ParseFault, read_uid};
+pub use cedar_parser_tokens::{ParseFault, read_uid};
 pub use parser::{earlier_texts, one_policy_set, parse};

@@ -1,29 +1,29 @@
 //! Policy texts.
 ghost use Rattle.std.specs.Prelude.{◌≡◌, [], ℕ, List, Some, IfOk, OnOk, IfErr, MatchResult, Contains};
-ghost use Rattle.cedar_policies.specs.PolicySetTree.{PolicySetTree, entered, id_of, ids_in};
+ghost use Rattle.cedar_ast.specs.PolicySetTree.{PolicySetTree, entered, id_of, ids_in};
 ghost use Rattle.cedar_parser.specs.PolicyText.{ArePolicies, IsPolicyText, TokensFault, HasFault};
 ghost use Rattle.cedar_parser.specs.Private.Entering.{RefusesEntry, RefusesAdd, refusal_for};
-ghost use Rattle.cedar_policies.specs.AddFault.{number_of};
-ghost use Rattle.cedar_conditions.specs.StatementMeaning.{statement_of, id_at};
-ghost use Rattle.cedar_conditions.specs.StatementLimits.{IsWithinLimits};
-ghost use Rattle.cedar_ast.specs.Expression.{unary};
-ghost use Rattle.cedar_ast.specs.declared.operator.BinaryOperator.{BinaryOperator};
-ghost use Rattle.cedar_ast.specs.declared.operator.UnaryOperator.TheVariants.{Has};
-ghost use Rattle.cedar_written.specs.Written.{Written, has};
-ghost use Rattle.cedar_tokens.specs.Content.{Content, text_of};
-ghost use Rattle.cedar_tokens.specs.declared.parse_fault.ParseFault.TheVariants.{OutOfMemory};
-ghost use Rattle.cedar_conditions.specs.declared.functions.Method.TheVariants.{Binary};
-ghost use Rattle.cedar_conditions.specs.Meaning.{to_expression, method_of};
+ghost use Rattle.cedar_ast.specs.AddFault.{number_of};
+ghost use Rattle.cedar_parser_limits.specs.StatementMeaning.{statement_of, id_at};
+ghost use Rattle.cedar_parser_limits.specs.StatementLimits.{IsWithinLimits};
+ghost use Rattle.cedar_ast_expressions.specs.Expression.{unary};
+ghost use Rattle.cedar_ast_expressions.specs.declared.operator.BinaryOperator.{BinaryOperator};
+ghost use Rattle.cedar_ast_expressions.specs.declared.operator.UnaryOperator.TheVariants.{Has};
+ghost use Rattle.cedar_parser_tree.specs.Written.{Written, has};
+ghost use Rattle.cedar_parser_tokens.specs.Content.{Content, text_of};
+ghost use Rattle.cedar_parser_tokens.specs.declared.parse_fault.ParseFault.TheVariants.{OutOfMemory};
+ghost use Rattle.cedar_parser_limits.specs.declared.functions.Method.TheVariants.{Binary};
+ghost use Rattle.cedar_parser_limits.specs.Meaning.{to_expression, method_of};
 ghost use Rattle.cedar_parser.specs.Earlier.{IsEarlierPolicyText};
 ghost use Rattle.cedar_parser.specs.EarlierMeaning.{earlier_method_of};
 
 use crate::policy::{id_of, to_statement};
-use cedar_conditions::judge;
-use cedar_grammar::statement;
-use cedar_policies::{AddFault, PolicySet, Statement};
+use cedar_parser_limits::judge;
+use cedar_parser_statements::statement;
+use cedar_ast::{AddFault, PolicySet, Statement};
 use cedar_text::{one_list, one_spelling};
-use cedar_tokens::{Cursor, ParseFault, spelled_tokens};
-use cedar_written::WrittenStatement;
+use cedar_parser_tokens::{Cursor, ParseFault, spelled_tokens};
+use cedar_parser_tree::WrittenStatement;
 use std::alloc::{AllocError, Global};
 
 /// The policies and templates of a text, in order (Cedar language reference, grammar). The statement at position N, from

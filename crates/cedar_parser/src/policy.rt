@@ -1,19 +1,19 @@
 //! The policy or template that a statement is.
 ghost use Rattle.std.specs.Prelude.{◌≡◌, ◌++◌, ◌∷◌, [], false, IfOk, OnOk, map, option_map};
-ghost use Rattle.cedar_conditions.specs.declared.side_condition.SideCondition.TheVariants.{Strings, Numbers, Keys, Names, Counts, Slots};
-ghost use Rattle.cedar_tokens.specs.Content.{text_of};
-ghost use Rattle.cedar_tokens.specs.Names.{to_uid};
-ghost use Rattle.cedar_conditions.specs.StatementMeaning.{to_entity, to_reference, to_entity_scope, to_template_entity_scope, to_action_scope, to_scope, to_template_scope, is_slot, asks_slot, has_slot, to_annotation, to_condition, to_policy, to_template, to_statement, id_in, id_at};
-ghost use Rattle.cedar_conditions.specs.StatementLimits.{KeepConditions};
+ghost use Rattle.cedar_parser_limits.specs.declared.side_condition.SideCondition.TheVariants.{Strings, Numbers, Keys, Names, Counts, Slots};
+ghost use Rattle.cedar_parser_tokens.specs.Content.{text_of};
+ghost use Rattle.cedar_parser_tokens.specs.Names.{to_uid};
+ghost use Rattle.cedar_parser_limits.specs.StatementMeaning.{to_entity, to_reference, to_entity_scope, to_template_entity_scope, to_action_scope, to_scope, to_template_scope, is_slot, asks_slot, has_slot, to_annotation, to_condition, to_policy, to_template, to_statement, id_in, id_at};
+ghost use Rattle.cedar_parser_limits.specs.StatementLimits.{KeepConditions};
 
 use crate::expression::to_expression;
-use cedar_policies::{
+use cedar_ast::{
     ActionScope, Annotation, Condition, EntityReference, EntityScope, Policy, Scope, Statement,
     Template, TemplateEntityScope, TemplateScope, Uids,
 };
-use cedar_tokens::WrittenUid;
+use cedar_parser_tokens::WrittenUid;
 use cedar_value::{Text, Uid};
-use cedar_written::{
+use cedar_parser_tree::{
     Reference, WrittenActionScope, WrittenAnnotation, WrittenCondition, WrittenEntityScope,
     WrittenScope, WrittenStatement,
 };

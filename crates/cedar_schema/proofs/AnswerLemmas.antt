@@ -3,16 +3,16 @@ use Rattle.std.proofs.Common.{◌≡◌, ◌≢◌, ℕ, List, [], ◌++◌, Res
 use Rattle.std.proofs.lemmas.List.Elements.{Contains-append_right}
 use Rattle.serde_json.specs.Data.{Members}
 use Rattle.cedar_value.specs.declared.uid.Uid.{Uid}
-use Rattle.cedar_form.specs.declared.schema_fault.SchemaFault.{SchemaFault}
-use Rattle.cedar_form.specs.declared.schema_fault.SchemaFault.TheVariants.{OutOfMemory}
-use Rattle.cedar_form.specs.Faults.{Told}
-use Rattle.cedar_form.specs.Entries.{EntryTree, whole_names, root_faults}
-use Rattle.cedar_schema.specs.SchemaTree.{SchemaTree, EntityTypeTree, ActionTree}
+use Rattle.cedar_schema_json.specs.declared.schema_fault.SchemaFault.{SchemaFault}
+use Rattle.cedar_schema_json.specs.declared.schema_fault.SchemaFault.TheVariants.{OutOfMemory}
+use Rattle.cedar_schema_json.specs.Faults.{Told}
+use Rattle.cedar_schema_json.specs.Entries.{EntryTree, whole_names, root_faults}
+use Rattle.cedar_schema_spec.specs.SchemaTree.{SchemaTree, EntityTypeTree, ActionTree}
 use Rattle.cedar_schema.specs.Each.{each_faults, each_onto}
 use Rattle.cedar_schema.specs.Schemas.{Setting, Sections, sections_of, setting_of, schema_in, schema_of, setting_faults, sections_faults, written_faults, common_faults, expansion_faults, entity_faults, one_action_faults, add_entity, add_action, forms_of, uids_onto}
 use Rattle.cedar_schema.specs.Denotes.{IsThere}
 use Rattle.cedar_schema.specs.Private.Answers.{Answers}
-use Rattle.cedar_form.proofs.FormLemmas.{told_first, told_then}
+use Rattle.cedar_schema_json.proofs.FormLemmas.{told_first, told_then}
 
 abbrev pub Refuses : List SchemaFault → SchemaTree → SchemaFault → Type 0
 Refuses faults tree e = e ≢ OutOfMemory → IsThere faults tree e

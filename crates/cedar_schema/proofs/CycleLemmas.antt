@@ -3,13 +3,13 @@ use Rattle.std.proofs.Common.{◌≡◌, ◌≢◌, ◌⊎◌, inl, inr, ⊎_eli
 use Rattle.std.specs.List.{slice_get}
 use Rattle.std.proofs.lemmas.Option.{slice_get-get_or, slice_get_within, get_or_from_slice_get}
 use Rattle.std.proofs.lemmas.List.Elements.{Contains-append_left, Contains-append_right, Contains-append_cases}
-use Rattle.cedar_closure.specs.Closure.{LeadsTo, one_link, more_links}
-use Rattle.cedar_closure.proofs.Chains.{chain_among}
-use Rattle.cedar_closure.proofs.Listed.{here, there, first_or_later, nowhere, filter-kept}
-use Rattle.cedar_form.specs.declared.schema_fault.SchemaFault.{SchemaFault}
-use Rattle.cedar_form.specs.declared.schema_fault.SchemaFault.TheVariants.{UnknownType, CommonCycle, TooLarge}
-use Rattle.cedar_form.specs.Forms.{FormTree, no_form, boolean_form, long_form, string_form, decimal_form, entity_form, set_form, record_form, common_form, FormRows, no_form_rows, form_row}
-use Rattle.cedar_form.specs.Expansion.{Table, form_faults, rows_faults, cycle_faults, limit_faults, size, typed}
+use Rattle.base_reach.specs.Closure.{LeadsTo, one_link, more_links}
+use Rattle.base_reach.proofs.Chains.{chain_among}
+use Rattle.base_reach.proofs.Listed.{here, there, first_or_later, nowhere, filter-kept}
+use Rattle.cedar_schema_json.specs.declared.schema_fault.SchemaFault.{SchemaFault}
+use Rattle.cedar_schema_json.specs.declared.schema_fault.SchemaFault.TheVariants.{UnknownType, CommonCycle, TooLarge}
+use Rattle.cedar_schema_json.specs.Forms.{FormTree, no_form, boolean_form, long_form, string_form, decimal_form, entity_form, set_form, record_form, common_form, FormRows, no_form_rows, form_row}
+use Rattle.cedar_schema_json.specs.Expansion.{Table, form_faults, rows_faults, cycle_faults, limit_faults, size, typed}
 use Rattle.cedar_schema.specs.Each.{each_faults}
 use Rattle.cedar_schema.specs.Schemas.{expansion_faults}
 use Rattle.cedar_schema.specs.Cycles.{named_in, named_in_rows, named_by, CyclesAreFound}

@@ -17,25 +17,25 @@ use Rattle.cedar_value.specs.Private.Laws.{uid_total}
 use Rattle.cedar_value.specs.Order.{text_cmp, uid_cmp}
 use Rattle.cedar_value.specs.Private.Same.{text_same, uid_same}
 use Rattle.cedar_value.specs.declared.uid.Uid.{Uid}
-use Rattle.cedar_form.specs.declared.schema_fault.SchemaFault.{SchemaFault}
-use Rattle.cedar_form.specs.declared.schema_fault.SchemaFault.TheVariants.{Shape}
-use Rattle.cedar_schema.specs.declared.schema.environment.Environment.{Environment}
-use Rattle.cedar_form.specs.Naming.{qualified, or_else, listed, place_from, resolved}
-use Rattle.cedar_form.specs.Reading.{Scope, text_at}
-use Rattle.cedar_form.specs.Entries.{EntryTree, whole_names, entity_key_faults, unless_null}
+use Rattle.cedar_schema_json.specs.declared.schema_fault.SchemaFault.{SchemaFault}
+use Rattle.cedar_schema_json.specs.declared.schema_fault.SchemaFault.TheVariants.{Shape}
+use Rattle.cedar_schema_spec.specs.declared.environment.Environment.{Environment}
+use Rattle.cedar_schema_json.specs.Naming.{qualified, or_else, listed, place_from, resolved}
+use Rattle.cedar_schema_json.specs.Reading.{Scope, text_at}
+use Rattle.cedar_schema_json.specs.Entries.{EntryTree, whole_names, entity_key_faults, unless_null}
 use Rattle.cedar_schema.specs.Each.{each_faults, each_onto}
-use Rattle.cedar_form.specs.Lists.{ListRead, each_read, list_at, name_read, some_name, names_at, set_onto}
+use Rattle.cedar_schema_json.specs.Lists.{ListRead, each_read, list_at, name_read, some_name, names_at, set_onto}
 use Rattle.cedar_schema.specs.Declaring.{applies_read, unspecified, listed_uid, with_type, typed_uid, found_uid, by_type, by_id, by_member, member_read, entity_type_of, entity_type_faults, action_of, uid_of}
-use Rattle.cedar_schema.specs.SchemaTree.{SchemaTree, EntityTypeTree, ActionTree, environments_of, parents_of_action}
-use Rattle.cedar_schema.specs.Private.Environments.{with_principals, with_resources}
+use Rattle.cedar_schema_spec.specs.SchemaTree.{SchemaTree, EntityTypeTree, ActionTree, environments_of, parents_of_action}
+use Rattle.cedar_schema_spec.specs.Private.Environments.{with_principals, with_resources}
 use Rattle.cedar_schema.specs.Schemas.{Setting, schema_in, add_entity, add_action, entity_faults, one_action_faults, scope_in, uids_onto}
-use Rattle.cedar_closure.specs.Closure.{one_link, more_links}
-use Rattle.cedar_schema.specs.Descents.{ActionDescends}
+use Rattle.base_reach.specs.Closure.{one_link, more_links}
+use Rattle.cedar_schema_spec.specs.Descents.{ActionDescends}
 use Rattle.cedar_schema.specs.Private.NamedForms.{FormNames}
 use Rattle.cedar_schema.specs.Private.SettingView.{IsSettingOf}
-use Rattle.cedar_schema.specs.WellFormed.{IsOrderedRecord, AreMembersDeclared, AreActionContextsOrdered, AreContextsOrdered, NamesOnly, IsWellFormed}
+use Rattle.cedar_schema_spec.specs.WellFormed.{IsOrderedRecord, AreMembersDeclared, AreActionContextsOrdered, AreContextsOrdered, NamesOnly, IsWellFormed}
 use Rattle.cedar_schema.proofs.ExpandedOrder.{shape_ordered, context_ordered}
-use Rattle.cedar_schema.specs.Private.Linked.{actions_listed}
+use Rattle.cedar_schema_spec.specs.Private.Linked.{actions_listed}
 use Rattle.cedar_schema.proofs.InsertedKeys.{here, there, all_keys, kept_key, new_key, sorted_more}
 use Rattle.cedar_schema.proofs.NameEnds.{no_first, no_second, is_no_action}
 use Rattle.cedar_schema.proofs.NamedTypes.{names_more, shape_named, context_named}

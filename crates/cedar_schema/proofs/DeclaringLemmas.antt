@@ -3,21 +3,21 @@ use Rattle.std.proofs.Common.{◌≡◌, ℕ, codes, List, [], ◌∷◌, ◌++�
 use Rattle.serde_json.specs.Data.{Data, Members}
 use Rattle.serde_json.specs.Find.{get, as_object}
 use Rattle.cedar_value.specs.declared.uid.Uid.{Uid}
-use Rattle.cedar_form.specs.declared.schema_fault.SchemaFault.{SchemaFault}
-use Rattle.cedar_form.specs.declared.schema_fault.SchemaFault.TheVariants.{Shape, Unspecified}
-use Rattle.cedar_form.specs.declared.json.part.Part.TheVariants.{EntityType, Action, AppliesTo}
+use Rattle.cedar_schema_json.specs.declared.schema_fault.SchemaFault.{SchemaFault}
+use Rattle.cedar_schema_json.specs.declared.schema_fault.SchemaFault.TheVariants.{Shape, Unspecified}
+use Rattle.cedar_schema_json.specs.declared.json.part.Part.TheVariants.{EntityType, Action, AppliesTo}
 use Rattle.cedar_schema.specs.declared.schema.action.AppliesTo.{AppliesTo as CodeApplies}
-use Rattle.cedar_form.specs.Faults.{Told}
-use Rattle.cedar_types.specs.Types.{TypeTree}
-use Rattle.cedar_form.specs.Entries.{EntryTree, part_faults, belongs, entity_key_faults, unless_null}
-use Rattle.cedar_form.specs.Naming.{fault_if}
-use Rattle.cedar_form.specs.Reading.{Scope, key_faults}
-use Rattle.cedar_form.specs.Expansion.{Table}
+use Rattle.cedar_schema_json.specs.Faults.{Told}
+use Rattle.cedar_schema_types.specs.Types.{TypeTree}
+use Rattle.cedar_schema_json.specs.Entries.{EntryTree, part_faults, belongs, entity_key_faults, unless_null}
+use Rattle.cedar_schema_json.specs.Naming.{fault_if}
+use Rattle.cedar_schema_json.specs.Reading.{Scope, key_faults}
+use Rattle.cedar_schema_json.specs.Expansion.{Table}
 use Rattle.cedar_schema.specs.Private.ReadsApplies.{IsApplies}
-use Rattle.cedar_form.specs.Lists.{names_at, list_at, set_onto}
-use Rattle.cedar_form.specs.Shapes.{record_or_empty, record_type, empty_faults}
+use Rattle.cedar_schema_json.specs.Lists.{names_at, list_at, set_onto}
+use Rattle.cedar_schema_json.specs.Shapes.{record_or_empty, record_type, empty_faults}
 use Rattle.cedar_schema.specs.Declaring.{unspecified, member_read, entity_type_of, entity_type_faults, applies_read, Applies, action_of, action_faults}
-use Rattle.cedar_form.proofs.FormLemmas.{told_first, told_then}
+use Rattle.cedar_schema_json.proofs.FormLemmas.{told_first, told_then}
 
 module _ (sc : Scope) (t : Table) (e : EntryTree) where
   pub entity_key : (f : SchemaFault) → Told (entity_key_faults e.key) f → Told (entity_type_faults sc t e) f

@@ -1,12 +1,12 @@
 -- A list is gone through one by one.
 use Rattle.std.proofs.Common.{◌≡◌, ℕ, ◌+◌, ◌<◌, List, [], ◌∷◌, ◌++◌, drop, length, get_or, refl, sym, ap, ◌∙◌, subst}
-use Rattle.cedar_form.specs.declared.schema_fault.SchemaFault.{SchemaFault}
-use Rattle.cedar_form.specs.declared.json.entry.Entry.{Entry}
-use Rattle.cedar_form.specs.Faults.{Told}
+use Rattle.cedar_schema_json.specs.declared.schema_fault.SchemaFault.{SchemaFault}
+use Rattle.cedar_schema_json.specs.declared.json.entry.Entry.{Entry}
+use Rattle.cedar_schema_json.specs.Faults.{Told}
 use Rattle.cedar_schema.specs.Each.{each_faults, each_onto}
-use Rattle.cedar_form.specs.EntryView.{entries_view, entry_of}
-use Rattle.cedar_form.proofs.FormLemmas.{told_first}
-use Rattle.cedar_form.proofs.Lookups.{drop_here}
+use Rattle.cedar_schema_json.specs.EntryView.{entries_view, entry_of}
+use Rattle.cedar_schema_json.proofs.FormLemmas.{told_first}
+use Rattle.cedar_schema_json.proofs.Lookups.{drop_here}
 
 pub entries_here : (xs : List Entry) (i : ℕ) (x : Entry) → i < length xs → x ≡ get_or xs i x → entries_view (drop i xs) ≡ entry_of x ∷ entries_view (drop (i + 1) xs)
 entries_here xs i x h e = ap entries_view (drop_here xs i x h e)

@@ -9,15 +9,15 @@ use Rattle.std.specs.BTreeSet.{BTreeSet, contains, insert_key}
 use Rattle.std.specs.List.{list_any}
 use Rattle.std.specs.List.Sorted.{IsStrictlySortedBy}
 use Rattle.std.specs.Map.{keys_of, lookup}
-use Rattle.cedar_closure.proofs.Listed.{here, there, first_or_later, nowhere, mapped, from_mapped, both_true}
+use Rattle.base_reach.proofs.Listed.{here, there, first_or_later, nowhere, mapped, from_mapped, both_true}
 use Rattle.cedar_value.specs.Order.{text_cmp, uid_cmp}
 use Rattle.cedar_value.specs.Private.Laws.{uid_total}
 use Rattle.cedar_value.specs.Private.Same.{text_same, uid_same}
 use Rattle.cedar_value.specs.declared.uid.Uid.{Uid}
-use Rattle.cedar_types.specs.Types.{TypeTree}
-use Rattle.cedar_schema.specs.declared.schema.environment.Environment.{Environment}
-use Rattle.cedar_schema.specs.SchemaTree.{ActionTree, environments_of, HasEnvironment, HasNoEnvironment}
-use Rattle.cedar_schema.specs.Private.Environments.{with_principals, with_resources}
+use Rattle.cedar_schema_types.specs.Types.{TypeTree}
+use Rattle.cedar_schema_spec.specs.declared.environment.Environment.{Environment}
+use Rattle.cedar_schema_spec.specs.SchemaTree.{ActionTree, environments_of, HasEnvironment, HasNoEnvironment}
+use Rattle.cedar_schema_spec.specs.Private.Environments.{with_principals, with_resources}
 use Rattle.cedar_schema.specs.Private.Kept.{types_onto, HasTypes}
 use Rattle.cedar_schema.proofs.InsertedKeys.{all_keys, kept_key, new_key}
 

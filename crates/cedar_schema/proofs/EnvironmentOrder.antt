@@ -9,11 +9,11 @@ use Rattle.std.specs.Ordering.{ordering_then}
 use Rattle.cedar_value.specs.Order.{text_cmp, uid_cmp}
 use Rattle.cedar_value.specs.Private.Laws.{uid_total}
 use Rattle.cedar_value.specs.declared.uid.Uid.{Uid}
-use Rattle.cedar_types.specs.Types.{TypeTree}
-use Rattle.cedar_schema.specs.declared.schema.environment.Environment.{Environment}
-use Rattle.cedar_schema.specs.SchemaTree.{SchemaTree, ActionTree, environments_of}
-use Rattle.cedar_schema.specs.Private.Environments.{with_principals, with_resources}
-use Rattle.cedar_schema.specs.WellFormed.{environment_cmp, AreEnvironmentsInOrder, AreListsDeclared, AreDeclaredTypes, IsListedInOrder}
+use Rattle.cedar_schema_types.specs.Types.{TypeTree}
+use Rattle.cedar_schema_spec.specs.declared.environment.Environment.{Environment}
+use Rattle.cedar_schema_spec.specs.SchemaTree.{SchemaTree, ActionTree, environments_of}
+use Rattle.cedar_schema_spec.specs.Private.Environments.{with_principals, with_resources}
+use Rattle.cedar_schema_spec.specs.WellFormed.{environment_cmp, AreEnvironmentsInOrder, AreListsDeclared, AreDeclaredTypes, IsListedInOrder}
 
 -- ---- lists one after the other
 

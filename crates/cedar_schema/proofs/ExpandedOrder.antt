@@ -4,20 +4,20 @@ use Rattle.std.specs.List.{slice_get}
 use Rattle.serde_json.specs.Data.{Data}
 use Rattle.serde_json.specs.Find.{get}
 use Rattle.cedar_value.specs.declared.uid.Uid.{Uid}
-use Rattle.cedar_types.specs.Types.{TypeTree, Attributes, no_attributes, set, record_of}
-use Rattle.cedar_types.specs.Ordered.{Ascends}
-use Rattle.cedar_types.proofs.Inserted.{one_more, none_yet}
-use Rattle.cedar_form.specs.declared.json.part.Part.TheVariants.{EntityType, Action, AppliesTo}
-use Rattle.cedar_form.specs.declared.schema_fault.SchemaFault.TheVariants.{Shape}
-use Rattle.cedar_form.specs.Naming.{fault_if}
-use Rattle.cedar_form.specs.Forms.{FormTree, no_form, boolean_form, long_form, string_form, decimal_form, entity_form, set_form, record_form, common_form, FormRows, no_form_rows, form_row}
-use Rattle.cedar_form.specs.Reading.{Scope, type_read}
-use Rattle.cedar_form.specs.Expansion.{Table, form_type, rows_type, with_row, common_type, typed}
-use Rattle.cedar_form.specs.Entries.{unless_null, EntryTree, part_faults, entity_key_faults}
-use Rattle.cedar_form.specs.Lists.{names_at, list_at}
-use Rattle.cedar_form.specs.Shapes.{record_type, is_record, record_or_empty}
+use Rattle.cedar_schema_types.specs.Types.{TypeTree, Attributes, no_attributes, set, record_of, is_record}
+use Rattle.cedar_schema_types.specs.Ordered.{Ascends}
+use Rattle.cedar_schema_types.proofs.Inserted.{one_more, none_yet}
+use Rattle.cedar_schema_json.specs.declared.json.part.Part.TheVariants.{EntityType, Action, AppliesTo}
+use Rattle.cedar_schema_json.specs.declared.schema_fault.SchemaFault.TheVariants.{Shape}
+use Rattle.cedar_schema_json.specs.Naming.{fault_if}
+use Rattle.cedar_schema_json.specs.Forms.{FormTree, no_form, boolean_form, long_form, string_form, decimal_form, entity_form, set_form, record_form, common_form, FormRows, no_form_rows, form_row}
+use Rattle.cedar_schema_json.specs.Reading.{Scope, type_read}
+use Rattle.cedar_schema_json.specs.Expansion.{Table, form_type, rows_type, with_row, common_type, typed}
+use Rattle.cedar_schema_json.specs.Entries.{unless_null, EntryTree, part_faults, entity_key_faults}
+use Rattle.cedar_schema_json.specs.Lists.{names_at, list_at}
+use Rattle.cedar_schema_json.specs.Shapes.{record_type, record_or_empty}
 use Rattle.cedar_schema.specs.Declaring.{unspecified, member_read, applies_read, entity_type_of, entity_type_faults, action_of, action_faults}
-use Rattle.cedar_schema.specs.WellFormed.{IsOrderedRecord}
+use Rattle.cedar_schema_spec.specs.WellFormed.{IsOrderedRecord}
 use Rattle.cedar_schema.proofs.NameEnds.{no_first, no_second}
 
 -- ---- expansion

@@ -1,7 +1,6 @@
 pub mod AnswerLemmas
 pub mod CycleLemmas
 pub mod DeclaredLemmas
-pub mod DeclaredTests
 pub mod DeclaringLemmas
 pub mod EachLemmas
 pub mod EnvironmentLemmas

@@ -2,10 +2,10 @@
 use Rattle.std.proofs.Common.{◌≡◌, ◌==◌, ◌||◌, codes, ℕ, Bool, true, false, cond, nat_eq, bytes_eq, List, [], ◌∷◌, ◌++◌, length, refl, sym, ap, ◌∙◌, append_assoc}
 use Rattle.std.specs.List.{list_any}
 use Rattle.std.proofs.lemmas.Slice.Eq.{bytes_eq-Decides}
-use Rattle.cedar_form.specs.declared.schema_fault.SchemaFault.{SchemaFault}
-use Rattle.cedar_form.specs.declared.schema_fault.SchemaFault.TheVariants.{Shape, ReservedName}
-use Rattle.cedar_form.specs.Naming.{qualified, fault_if, text_faults}
-use Rattle.cedar_form.specs.Entries.{key_text_faults, entity_key_faults}
+use Rattle.cedar_schema_json.specs.declared.schema_fault.SchemaFault.{SchemaFault}
+use Rattle.cedar_schema_json.specs.declared.schema_fault.SchemaFault.TheVariants.{Shape, ReservedName}
+use Rattle.cedar_schema_json.specs.Naming.{qualified, fault_if, text_faults}
+use Rattle.cedar_schema_json.specs.Entries.{key_text_faults, entity_key_faults}
 
 abbrev has_colon : List ℕ → Bool
 has_colon = list_any (nat_eq 58)

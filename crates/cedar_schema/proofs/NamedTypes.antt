@@ -7,19 +7,19 @@ use Rattle.serde_json.specs.Data.{Data, null, boolean, number, string, array, ob
 use Rattle.serde_json.specs.Find.{get}
 use Rattle.cedar_value.specs.Order.{text_cmp}
 use Rattle.cedar_value.specs.declared.uid.Uid.{Uid}
-use Rattle.cedar_types.specs.Types.{TypeTree, Attributes, no_attributes, attribute}
-use Rattle.cedar_types.specs.Types as kind
-use Rattle.cedar_types.specs.Ordered.{with_attribute}
-use Rattle.cedar_form.specs.declared.schema_fault.SchemaFault.TheVariants.{UnknownType}
-use Rattle.cedar_form.specs.Naming.{Declared, resolved, text_faults}
-use Rattle.cedar_form.specs.Forms.{FormTree, no_form, boolean_form, long_form, string_form, decimal_form, entity_form, set_form, record_form, common_form, FormRows, no_form_rows, form_row}
-use Rattle.cedar_form.specs.Reading.{Read, RowsRead, Scope, fine, no_rows_read, of_kind, of_type, kind_named, text_at, needed, set_of, record_of, entity_read, extension_named, type_read, read_at, rows_at, rows_read, all_rows}
-use Rattle.cedar_form.specs.Expansion.{Table, form_type, rows_type, with_row, common_type, typed}
-use Rattle.cedar_form.specs.Entries.{EntryTree, unless_null}
-use Rattle.cedar_form.specs.Shapes.{record_type, record_or_empty}
+use Rattle.cedar_schema_types.specs.Types.{TypeTree, Attributes, no_attributes, attribute}
+use Rattle.cedar_schema_types.specs.Types as kind
+use Rattle.cedar_schema_types.specs.Ordered.{with_attribute}
+use Rattle.cedar_schema_json.specs.declared.schema_fault.SchemaFault.TheVariants.{UnknownType}
+use Rattle.cedar_schema_json.specs.Naming.{Declared, resolved, text_faults}
+use Rattle.cedar_schema_json.specs.Forms.{FormTree, no_form, boolean_form, long_form, string_form, decimal_form, entity_form, set_form, record_form, common_form, FormRows, no_form_rows, form_row}
+use Rattle.cedar_schema_json.specs.Reading.{Read, RowsRead, Scope, fine, no_rows_read, of_kind, of_type, kind_named, text_at, needed, set_of, record_of, entity_read, extension_named, type_read, read_at, rows_at, rows_read, all_rows}
+use Rattle.cedar_schema_json.specs.Expansion.{Table, form_type, rows_type, with_row, common_type, typed}
+use Rattle.cedar_schema_json.specs.Entries.{EntryTree, unless_null}
+use Rattle.cedar_schema_json.specs.Shapes.{record_type, record_or_empty}
 use Rattle.cedar_schema.specs.Declaring.{applies_read, entity_type_of, action_of}
 use Rattle.cedar_schema.specs.Schemas.{scope_at, forms_of}
-use Rattle.cedar_schema.specs.WellFormed.{NamesOnly, AttributesNameOnly}
+use Rattle.cedar_schema_spec.specs.WellFormed.{NamesOnly, AttributesNameOnly}
 use Rattle.cedar_schema.specs.Private.NamedForms.{FormNames, RowsName}
 use Rattle.cedar_schema.proofs.ResolvedNames.{IsOf, resolved_in}
 

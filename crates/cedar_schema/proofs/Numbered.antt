@@ -9,11 +9,11 @@ use Rattle.std.proofs.lemmas.Bool.{eq-eqb}
 use Rattle.std.proofs.lemmas.List.Elements.{Contains-push}
 use Rattle.std.proofs.lemmas.Nat.Bits.{bit_at-zero}
 use Rattle.std.proofs.lemmas.Option.{same_Some}
-use Rattle.cedar_bits.specs.Bits.{has_bit}
-use Rattle.cedar_closure.specs.Closure.{LeadsTo, one_link, more_links, IsClosure, AreListed}
-use Rattle.cedar_closure.proofs.Chains.{first_link}
-use Rattle.cedar_closure.proofs.Listed.{first_or_later, nowhere}
-use Rattle.cedar_closure.proofs.Searching.{Gains, IsSearching}
+use Rattle.base_bits.specs.Bits.{has_bit}
+use Rattle.base_reach.specs.Closure.{LeadsTo, one_link, more_links, IsClosure, AreListed}
+use Rattle.base_reach.proofs.Chains.{first_link}
+use Rattle.base_reach.proofs.Listed.{first_or_later, nowhere}
+use Rattle.base_reach.proofs.Searching.{Gains, IsSearching}
 use Rattle.cedar_schema.specs.declared.schema.descents.Descents.{Descents}
 use Rattle.cedar_schema.specs.Private.Kept.{AreApart, AreFound, AreNumbered, AreRows, KeepsKeys, bit_told, has_row, in_row}
 use Rattle.cedar_schema.proofs.Joins.{Joins, or_left, or_right, or_cases}

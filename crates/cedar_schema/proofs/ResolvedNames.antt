@@ -2,7 +2,7 @@
 use Rattle.std.proofs.Common.{◌≡◌, ℕ, suc, bytes_eq, Bool, true, false, cond, nat_eq, List, [], ◌∷◌, Option, Some, None, option_map, IfSome, Contains, refl, subst}
 use Rattle.std.proofs.lemmas.Slice.Eq.{bytes_eq-Decides}
 use Rattle.std.specs.List.{list_any}
-use Rattle.cedar_form.specs.Naming.{qualified, or_else, listed, place_from, resolved}
+use Rattle.cedar_schema_json.specs.Naming.{qualified, or_else, listed, place_from, resolved}
 use Rattle.cedar_schema.proofs.InsertedKeys.{here, there}
 
 placed : (names : List (List ℕ)) (i : ℕ) (name : List ℕ) → IfSome (option_map (λ place. (name, place)) (place_from i name names)) (λ (n : List ℕ × ℕ). Contains names n.0)

@@ -10,9 +10,9 @@ use Rattle.std.proofs.lemmas.List.Elements.{All-contains}
 use Rattle.std.proofs.lemmas.List.Folds.{Any-from_list_any}
 use Rattle.std.proofs.lemmas.Option.{same_Some}
 use Rattle.std.proofs.lemmas.Slice.Eq.{bytes_eq-Decides}
-use Rattle.cedar_bits.specs.Bits.{has_bit}
-use Rattle.cedar_closure.proofs.Listed.{is_false}
-use Rattle.cedar_closure.specs.Closure.{LeadsTo}
+use Rattle.base_bits.specs.Bits.{has_bit}
+use Rattle.base_reach.proofs.Listed.{is_false}
+use Rattle.base_reach.specs.Closure.{LeadsTo}
 use Rattle.cedar_value.specs.Order.{text_cmp, uid_cmp}
 use Rattle.cedar_value.specs.Private.Same.{text_same, uid_same}
 use Rattle.cedar_value.specs.declared.uid.Uid.{Uid}

@@ -6,16 +6,16 @@ use Rattle.std.specs.BTreeSet.{insert_key}
 use Rattle.std.specs.BTreeMap.{insert_entry}
 use Rattle.std.specs.Ordering.{match_ordering}
 use Rattle.serde_json.specs.Data.{Members}
-use Rattle.cedar_closure.proofs.Listed.{here, there, first_or_later, nowhere, mapped}
+use Rattle.base_reach.proofs.Listed.{here, there, first_or_later, nowhere, mapped}
 use Rattle.cedar_value.specs.Order.{text_cmp, uid_cmp}
 use Rattle.cedar_value.specs.Private.Same.{text_same, uid_same}
 use Rattle.cedar_value.specs.declared.uid.Uid.{Uid}
-use Rattle.cedar_form.specs.Naming.{qualified}
-use Rattle.cedar_form.specs.Entries.{EntryTree, entries}
-use Rattle.cedar_form.specs.Lists.{set_onto}
+use Rattle.cedar_schema_json.specs.Naming.{qualified}
+use Rattle.cedar_schema_json.specs.Entries.{EntryTree, entries}
+use Rattle.cedar_schema_json.specs.Lists.{set_onto}
 use Rattle.cedar_schema.specs.Each.{each_onto}
 use Rattle.cedar_schema.specs.Declaring.{uid_of, entity_type_of, action_of}
-use Rattle.cedar_schema.specs.SchemaTree.{EntityTypeTree, ActionTree}
+use Rattle.cedar_schema_spec.specs.SchemaTree.{EntityTypeTree, ActionTree}
 use Rattle.cedar_schema.specs.Schemas.{Setting, sections_of, setting_of, scope_in, schema_in, uids_onto}
 use Rattle.cedar_schema.specs.Written.{IsWrittenType, IsWrittenAction, TypesAreWritten, ActionsAreWritten, NamesAreKept, UidsAreKept}
 use Rattle.cedar_schema.proofs.InsertedKeys.{all_keys, kept_key, new_key}

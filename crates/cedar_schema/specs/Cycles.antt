@@ -1,10 +1,10 @@
 -- Common types that lead back to themselves.
 use Rattle.std.specs.Prelude.{◌↔◌, ℕ, List, [], ◌∷◌, ◌++◌, option_map, unwrap_or, Contains}
 use Rattle.std.specs.List.{slice_get}
-use Rattle.cedar_closure.specs.Closure.{LeadsTo}
-use Rattle.cedar_form.specs.declared.schema_fault.SchemaFault.TheVariants.{CommonCycle}
-use Rattle.cedar_form.specs.Forms.{FormTree, no_form, boolean_form, long_form, string_form, decimal_form, entity_form, set_form, record_form, common_form, FormRows, no_form_rows, form_row}
-use Rattle.cedar_form.specs.Expansion.{Table}
+use Rattle.base_reach.specs.Closure.{LeadsTo}
+use Rattle.cedar_schema_json.specs.declared.schema_fault.SchemaFault.TheVariants.{CommonCycle}
+use Rattle.cedar_schema_json.specs.Forms.{FormTree, no_form, boolean_form, long_form, string_form, decimal_form, entity_form, set_form, record_form, common_form, FormRows, no_form_rows, form_row}
+use Rattle.cedar_schema_json.specs.Expansion.{Table}
 use Rattle.cedar_schema.specs.Each.{each_faults}
 use Rattle.cedar_schema.specs.Schemas.{expansion_faults}
 

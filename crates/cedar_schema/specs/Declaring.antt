@@ -6,18 +6,17 @@ use Rattle.serde_json.specs.Find.{get, as_object, as_str}
 use Rattle.std.specs.BTreeMap.{is_at}
 use Rattle.cedar_value.specs.Order.{uid_cmp}
 use Rattle.cedar_value.specs.declared.uid.Uid.{Uid}
-use Rattle.cedar_form.specs.declared.schema_fault.SchemaFault.{SchemaFault}
-use Rattle.cedar_form.specs.declared.schema_fault.SchemaFault.TheVariants.{Shape, UnknownType, Unspecified}
-use Rattle.cedar_form.specs.declared.json.part.Part.TheVariants.{EntityType, Action, AppliesTo, Member}
-use Rattle.cedar_types.specs.Types.{TypeTree, record_of, no_attributes}
-use Rattle.cedar_form.specs.Naming.{text_faults, qualified, fault_if, or_else}
-use Rattle.cedar_form.specs.Reading.{Scope, text_at}
-use Rattle.cedar_form.specs.Expansion.{Table}
-use Rattle.cedar_form.specs.Entries.{EntryTree, unless_null, part_faults, entity_key_faults}
-use Rattle.cedar_form.specs.Lists.{ListRead, list_at, names_at, set_onto}
-use Rattle.cedar_form.specs.Shapes.{record_type, record_or_empty, empty_faults}
-pub use Rattle.cedar_form.specs.Shapes.{is_record}
-use Rattle.cedar_schema.specs.SchemaTree.{EntityTypeTree, ActionTree}
+use Rattle.cedar_schema_json.specs.declared.schema_fault.SchemaFault.{SchemaFault}
+use Rattle.cedar_schema_json.specs.declared.schema_fault.SchemaFault.TheVariants.{Shape, UnknownType, Unspecified}
+use Rattle.cedar_schema_json.specs.declared.json.part.Part.TheVariants.{EntityType, Action, AppliesTo, Member}
+use Rattle.cedar_schema_types.specs.Types.{TypeTree, record_of, no_attributes}
+use Rattle.cedar_schema_json.specs.Naming.{text_faults, qualified, fault_if, or_else}
+use Rattle.cedar_schema_json.specs.Reading.{Scope, text_at}
+use Rattle.cedar_schema_json.specs.Expansion.{Table}
+use Rattle.cedar_schema_json.specs.Entries.{EntryTree, unless_null, part_faults, entity_key_faults}
+use Rattle.cedar_schema_json.specs.Lists.{ListRead, list_at, names_at, set_onto}
+use Rattle.cedar_schema_json.specs.Shapes.{record_type, record_or_empty, empty_faults}
+use Rattle.cedar_schema_spec.specs.SchemaTree.{EntityTypeTree, ActionTree}
 
 -- ---- entity types
 

@@ -1,6 +1,6 @@
 -- What is said one by one of a list.
 use Rattle.std.specs.Prelude.{List, [], ◌∷◌, ◌++◌}
-use Rattle.cedar_form.specs.declared.schema_fault.SchemaFault.{SchemaFault}
+use Rattle.cedar_schema_json.specs.declared.schema_fault.SchemaFault.{SchemaFault}
 
 -- The faults of each element, one after the other (own).
 unfoldable pub each_faults : {A : Type 0} → (A → List SchemaFault) → List A → List SchemaFault

@@ -1,12 +1,7 @@
-pub mod Conformance
 pub mod Cycles
-pub mod Declarations
 pub mod Declaring
 pub mod Denotes
-pub mod Descents
 pub mod Each
 pub mod Private
-pub mod SchemaTree
 pub mod Schemas
-pub mod WellFormed
 pub mod Written

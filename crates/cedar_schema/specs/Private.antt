@@ -1,9 +1,7 @@
 -- What proofs, models and private contracts of this crate use.
 pub mod Answers
-pub mod Environments
 pub mod Kept
 pub mod KeptSchema
-pub mod Linked
 pub mod NamedForms
 pub mod ReadsApplies
 pub mod SettingView

@@ -5,15 +5,15 @@ use Rattle.std.specs.BTreeSet.{insert_key}
 use Rattle.serde_json.specs.Data.{Members}
 use Rattle.cedar_value.specs.Order.{text_cmp, uid_cmp}
 use Rattle.cedar_value.specs.declared.uid.Uid.{Uid}
-use Rattle.cedar_form.specs.declared.schema_fault.SchemaFault.{SchemaFault}
-use Rattle.cedar_form.specs.Reading.{Scope, type_read}
-use Rattle.cedar_form.specs.Expansion.{Table, typed}
-use Rattle.cedar_form.specs.Forms.{FormTree}
+use Rattle.cedar_schema_json.specs.declared.schema_fault.SchemaFault.{SchemaFault}
+use Rattle.cedar_schema_json.specs.Reading.{Scope, type_read}
+use Rattle.cedar_schema_json.specs.Expansion.{Table, typed}
+use Rattle.cedar_schema_json.specs.Forms.{FormTree}
 use Rattle.cedar_schema.specs.Each.{each_faults, each_onto}
-use Rattle.cedar_form.specs.Naming.{qualified}
-use Rattle.cedar_form.specs.Entries.{EntryTree, entries, whole_names, root_faults, common_key_faults}
+use Rattle.cedar_schema_json.specs.Naming.{qualified}
+use Rattle.cedar_schema_json.specs.Entries.{EntryTree, entries, whole_names, root_faults, common_key_faults}
 use Rattle.cedar_schema.specs.Declaring.{uid_of, entity_type_of, entity_type_faults, action_of, action_faults}
-use Rattle.cedar_schema.specs.SchemaTree.{EntityTypeTree, ActionTree, SchemaTree}
+use Rattle.cedar_schema_spec.specs.SchemaTree.{EntityTypeTree, ActionTree, SchemaTree}
 
 -- What is declared: the names of the entity types and of the common types, these as they are written, and the uids of the
 -- actions, ascending (Cedar documentation, JSON schema format: namespaces).

@@ -2,11 +2,11 @@
 use Rattle.std.specs.Prelude.{◌≡◌, ◌≢◌, ◌↔◌, ℕ, List, [], map, codes, AllPairs, Contains}
 use Rattle.serde_json.specs.Data.{Members}
 use Rattle.cedar_value.specs.declared.uid.Uid.{Uid}
-use Rattle.cedar_form.specs.Naming.{qualified}
-use Rattle.cedar_form.specs.Entries.{EntryTree, entries, whole_names}
-use Rattle.cedar_form.specs.Lists.{set_onto}
+use Rattle.cedar_schema_json.specs.Naming.{qualified}
+use Rattle.cedar_schema_json.specs.Entries.{EntryTree, entries, whole_names}
+use Rattle.cedar_schema_json.specs.Lists.{set_onto}
 use Rattle.cedar_schema.specs.Declaring.{uid_of, entity_type_of, action_of}
-use Rattle.cedar_schema.specs.SchemaTree.{EntityTypeTree, ActionTree}
+use Rattle.cedar_schema_spec.specs.SchemaTree.{EntityTypeTree, ActionTree}
 use Rattle.cedar_schema.specs.Schemas.{sections_of, setting_of, scope_in, schema_of, uids_onto}
 
 -- Some entry of a section `entityTypes` has this whole name, and says this of the entity type (Cedar documentation, JSON

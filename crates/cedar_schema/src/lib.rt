@@ -9,16 +9,18 @@
 //! }
 //! ```
 //!
-//! A contract sees a schema as a `SchemaTree`. Types come from cedar_types, names and types as they are written from cedar_form.
+//! A contract sees a schema as a `SchemaTree` of cedar_schema_spec. Types come from cedar_schema_types, names and types as
+//! they are written from cedar_schema_json.
 #![tactic(auto)]
 
 mod laws;
 mod schema;
 
-pub use cedar_form::SchemaFault;
-pub use cedar_types::{
+pub use cedar_schema_json::SchemaFault;
+pub use cedar_schema_spec::{Environment, actions_conform, tests_of_schemas_decide};
+pub use cedar_schema_types::{
     Attribute, RecordType, Truth, Type, TypeKind, join, join_is_the_relation,
     members_of_joined_types,
 };
-pub use laws::{actions_conform, cycles_are_found, schemas_are_written, tests_of_schemas_decide};
-pub use schema::{Action, Environment, Schema};
+pub use laws::{cycles_are_found, schemas_are_written};
+pub use schema::{Action, Schema};

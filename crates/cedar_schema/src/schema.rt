@@ -1,12 +1,12 @@
 //! Schemas.
 ghost use Rattle.std.specs.Prelude.{◌≡◌, ◌≢◌, ◌↔◌, IfOk, IfErr, IfSome, IsTrue, MatchOption, is_some, option_copied, []};
-ghost use Rattle.cedar_form.specs.declared.schema_fault.SchemaFault.TheVariants.{OutOfMemory};
-ghost use Rattle.cedar_schema.specs.Declarations.{IsAction, IsActionType};
+ghost use Rattle.cedar_schema_json.specs.declared.schema_fault.SchemaFault.TheVariants.{OutOfMemory};
+ghost use Rattle.cedar_schema_spec.specs.Declarations.{IsAction, IsActionType};
 ghost use Rattle.cedar_schema.specs.Denotes.{BytesAreRefusedWith, BytesDenote};
 ghost use Rattle.cedar_schema.specs.Private.Answers.{Answers};
-ghost use Rattle.cedar_schema.specs.Descents.{ActionDescends, ActionTypeDescends, EntityTypeDescends, TypeDescends};
-ghost use Rattle.cedar_schema.specs.SchemaTree.{HasEnvironment, HasNoEnvironment, action_at, environments_of, shape_of};
-ghost use Rattle.cedar_schema.specs.WellFormed.{AreActionContextsOrdered, AreContextsOrdered, AreEnvironmentsInOrder, AreListsDeclared, AreMembersDeclared, AreParentsDeclared, AreShapesOrdered, AreTypesApart, AreTypesDeclared, IsHierarchy, IsListedInOrder, IsWellFormed};
+ghost use Rattle.cedar_schema_spec.specs.Descents.{ActionDescends, ActionTypeDescends, EntityTypeDescends, TypeDescends};
+ghost use Rattle.cedar_schema_spec.specs.SchemaTree.{HasEnvironment, HasNoEnvironment, action_at, environments_of, shape_of};
+ghost use Rattle.cedar_schema_spec.specs.WellFormed.{AreActionContextsOrdered, AreContextsOrdered, AreEnvironmentsInOrder, AreListsDeclared, AreMembersDeclared, AreParentsDeclared, AreShapesOrdered, AreTypesApart, AreTypesDeclared, IsHierarchy, IsListedInOrder, IsWellFormed};
 
 mod action;
 mod ancestors;
@@ -29,11 +29,11 @@ use crate::schema::reading::read_schema;
 use crate::schema::row::Row;
 use crate::schema::rows::{action_rows, action_types, some_descends, type_rows};
 pub use action::Action;
-use cedar_form::SchemaFault;
-use cedar_json::read_json;
-use cedar_types::Type;
+use base_json::read_json;
+use cedar_schema_json::SchemaFault;
+use cedar_schema_spec::Environment;
+use cedar_schema_types::Type;
 use cedar_value::{Name, Uid};
-pub use environment::Environment;
 use std::alloc::Global;
 use std::collections::btree_map::Iter;
 use std::collections::{BTreeMap, BTreeSet};
@@ -54,8 +54,8 @@ pub struct Schema {
 
 impl Model for Schema {
     ghost use Rattle.std.specs.Coded.{codes};
-    ghost use Rattle.cedar_types.specs.Private.TypeCode.{type_code};
-    ghost use Rattle.cedar_schema.specs.SchemaTree.{SchemaTree};
+    ghost use Rattle.cedar_schema_types.specs.Private.TypeCode.{type_code};
+    ghost use Rattle.cedar_schema_spec.specs.SchemaTree.{SchemaTree};
     ghost use Rattle.cedar_schema.specs.Private.KeptSchema.{IsKept};
 
     ghost Value = { SchemaTree };
@@ -68,8 +68,8 @@ impl Model for Schema {
 }
 
 impl Schema {
-    /// The schema that the bytes write (Cedar documentation, JSON schema format). Refused with 1 for
-    /// want of memory, and else with 301 to 309 only where that fault is in the bytes.
+    /// The schema that the bytes write (Cedar documentation, JSON schema format). Refused with 1 when
+    /// out of memory, and else with 301 to 309 only where that fault is in the bytes.
     pub fn read(alloc: Global, bytes: &[u8]) -> Result<Self, SchemaFault>
         ensures denotes { IfOk result (BytesDenote bytes.now) }
         ensures refused { IfErr result (λ e. e ≢ OutOfMemory → BytesAreRefusedWith bytes.now e) }

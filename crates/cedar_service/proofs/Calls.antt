@@ -1,10 +1,10 @@
 -- The events of a service's calls.
 use Rattle.std.proofs.Common.{◌≡◌, ℕ, Bool, true, false, List, [], ◌∷◌, Option, Some, None, refl, subst}
-use Rattle.cedar_policies.specs.PolicyTree.{PolicyTree}
-use Rattle.cedar_policies.specs.Response.{ResponseTree}
-use Rattle.cedar_histories.specs.Results.{decided_by}
-use Rattle.cedar_histories.specs.Jobs.{JobTree, job_at, are_none, is_finished}
-use Rattle.cedar_histories.specs.Service.{ServiceState, StepsLeft, StepsJob, TakesLeft, TakesJob, RefusesStepLeft, RefusesStep, RefusesTakeLeft, RefusesTake, ChangesJob}
+use Rattle.cedar_ast.specs.PolicyTree.{PolicyTree}
+use Rattle.cedar_ast.specs.Response.{ResponseTree}
+use Rattle.cedar_service_law.specs.Results.{decided_by}
+use Rattle.cedar_service_law.specs.Jobs.{JobTree, job_at, are_none, is_finished}
+use Rattle.cedar_service_law.specs.Service.{ServiceState, StepsLeft, StepsJob, TakesLeft, TakesJob, RefusesStepLeft, RefusesStep, RefusesTakeLeft, RefusesTake, ChangesJob}
 use Rattle.cedar_service.specs.Private.Steps.{StepsTo}
 use Rattle.cedar_machine.specs.RestingView.{RestingView}
 use Rattle.cedar_service.specs.Runs.{IsRunOf, IsRunAt}

@@ -6,9 +6,9 @@ use Rattle.std.specs.Prelude.{Ok, if◌then◌else◌}
 use Rattle.std.proofs.lemmas.List.{drop_more, drop_all}
 use Rattle.std.proofs.lemmas.List.Elements.{All-get_or}
 use Rattle.std.proofs.lemmas.Bool.Decides.{nat_tests}
-use Rattle.cedar_policies.specs.declared.effect.Effect.{Effect}
-use Rattle.cedar_policies.specs.PolicyTree.{PolicyTree}
-use Rattle.cedar_policies.specs.Response.{is_true}
+use Rattle.cedar_ast.specs.declared.effect.Effect.{Effect}
+use Rattle.cedar_ast.specs.PolicyTree.{PolicyTree}
+use Rattle.cedar_ast.specs.Response.{is_true}
 use Rattle.cedar_code.specs.declared.instruction.Instruction.{Instruction}
 use Rattle.cedar_code.specs.declared.outcome.Outcome.{Outcome}
 use Rattle.cedar_code.specs.declared.outcome.Outcome.TheVariants.{Value, Error, StackFault}
@@ -16,8 +16,8 @@ use Rattle.cedar_code.specs.Machine.{Configuration, going, ended, start}
 use Rattle.cedar_machine.specs.RestingView.{RestingView, RestsAfter}
 use Rattle.cedar_machine.specs.Verdict.{Verdict}
 use Rattle.cedar_auth.specs.Codes.{policy_code}
-use Rattle.cedar_histories.specs.Results.{Results, satisfied, entered}
-use Rattle.cedar_histories.specs.Jobs.{JobTree, Advances, are_none, is_finished}
+use Rattle.cedar_service_law.specs.Results.{Results, satisfied, entered}
+use Rattle.cedar_service_law.specs.Jobs.{JobTree, Advances, are_none, is_finished}
 use Rattle.cedar_service.specs.Private.Kept.{configuration_of, IsBegun, IsReached}
 use Rattle.cedar_service.specs.Private.Parts.{policies_at}
 use Rattle.cedar_service.specs.Private.Steps.{StepsTo}

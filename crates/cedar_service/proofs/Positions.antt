@@ -5,10 +5,10 @@ use Rattle.std.specs.List.{All, slice_get, cons_option}
 use Rattle.std.proofs.lemmas.List.Elements.{All-nil, All-cons, Contains-append_cases, Contains-push_cases}
 use Rattle.cedar_value.specs.World.{World}
 use Rattle.cedar_value.specs.declared.request.Request.{Request}
-use Rattle.cedar_policies.specs.PolicyTree.{PolicyTree}
-use Rattle.cedar_policies.specs.Response.{meaning}
+use Rattle.cedar_ast.specs.PolicyTree.{PolicyTree}
+use Rattle.cedar_ast.specs.Response.{meaning}
 use Rattle.cedar_auth.specs.Candidates.{Ascend, OthersAreFalse}
-use Rattle.cedar_histories.specs.Jobs.{tells, IsPartToRun, none_to_run, runs, leaves_out}
+use Rattle.cedar_service_law.specs.Jobs.{tells, IsPartToRun, none_to_run, runs, leaves_out}
 use Rattle.cedar_service.specs.Private.Parts.{policies_at}
 
 contains_none : {X : Type 0} → (x : X) → Contains [] x → ⊥

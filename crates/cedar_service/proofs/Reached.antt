@@ -4,24 +4,24 @@ use mathlib.Core.Logic.{inl, inr}
 use Rattle.std.specs.List.{slice_get}
 use Rattle.std.proofs.lemmas.List.Elements.{Contains-push_cases}
 use Rattle.cedar_value.specs.declared.request.Request.{Request}
-use Rattle.cedar_policies.specs.declared.effect.Effect.{Effect}
-use Rattle.cedar_policies.specs.declared.effect.Effect.TheVariants.{Permit, Forbid}
-use Rattle.cedar_ast.specs.declared.error.EvaluationError.{EvaluationError}
-use Rattle.cedar_policies.specs.PolicyTree.{PolicyTree}
-use Rattle.cedar_policies.specs.Response.{ErringTree}
+use Rattle.cedar_ast.specs.declared.effect.Effect.{Effect}
+use Rattle.cedar_ast.specs.declared.effect.Effect.TheVariants.{Permit, Forbid}
+use Rattle.cedar_ast_expressions.specs.declared.error.EvaluationError.{EvaluationError}
+use Rattle.cedar_ast.specs.PolicyTree.{PolicyTree}
+use Rattle.cedar_ast.specs.Response.{ErringTree}
 use Rattle.cedar_code.specs.declared.instruction.Instruction.{Instruction}
 use Rattle.cedar_code.specs.declared.outcome.Outcome.{Outcome}
 use Rattle.cedar_code.specs.declared.outcome.Outcome.TheVariants.{Value, Error, StackFault}
 use Rattle.cedar_code.specs.Machine.{Configuration, going, ended, start, Step, Steps}
 use Rattle.cedar_machine.specs.RestingView.{RestingView, RestsAfter}
 use Rattle.cedar_machine.specs.Verdict.{Verdict}
-use Rattle.cedar_typing.specs.Soundness.{IsAllowedWith}
-use Rattle.cedar_typing.specs.declared.settings.Settings.{Settings}
+use Rattle.cedar_check_spec.specs.Soundness.{IsAllowedWith}
+use Rattle.cedar_check_spec.specs.declared.settings.Settings.{Settings}
 use Rattle.cedar_auth.specs.Codes.{policy_code}
 use Rattle.cedar_auth.specs.Headline.{IsAnsweredSoundlyWith, IsSafeWith}
 use Rattle.cedar_auth.specs.Ready.{ReadyTree}
-use Rattle.cedar_histories.specs.Results.{Results, no_results}
-use Rattle.cedar_histories.specs.Jobs.{RunsEndAsEvaluated}
+use Rattle.cedar_service_law.specs.Results.{Results, no_results}
+use Rattle.cedar_service_law.specs.Jobs.{RunsEndAsEvaluated}
 use Rattle.cedar_service.specs.Private.Kept.{IsBegun, IsReached, AreAllowed}
 use Rattle.cedar_service.specs.Private.Verdicts.{verdict_of, verdict_at, with_verdict}
 

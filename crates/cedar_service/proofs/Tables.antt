@@ -4,7 +4,7 @@ use native.Mathlib.Decide.{ℕ_discrete}
 use Rattle.std.proofs.lemmas.Bool.Decides.{nat_tests}
 use Rattle.std.specs.HashMap.{HashMap, UpdatesBy}
 use Rattle.std.specs.Map.{lookup, set_value}
-use Rattle.cedar_histories.specs.Jobs.{JobTree, Jobs, job_at, ChangesAt}
+use Rattle.cedar_service_law.specs.Jobs.{JobTree, Jobs, job_at, ChangesAt}
 
 same_test : (a b : ℕ) → a ≡ b → (b == a) ≡ true
 same_test a b e = grind (arith, nat_tests)

@@ -1,6 +1,6 @@
 -- The numbers of a service's refusals.
 use Rattle.std.specs.Prelude.{ℕ}
-use Rattle.cedar_data.specs.Numbers.{number_of as line_number}
+use Rattle.cedar_conform_values.specs.Numbers.{number_of as line_number}
 use Rattle.cedar_service.specs.declared.service_fault.ServiceFault.{ServiceFault}
 use Rattle.cedar_service.specs.declared.service_fault.ServiceFault.TheVariants.{OutOfMemory, Line, NoSuchJob, NotFinished, NoMoreNumbers}
 

@@ -1,9 +1,9 @@
 -- The run that a service lends of a job.
 use Rattle.std.specs.Prelude.{◌≡◌, true, false, List, [], ◌∷◌, Option, Some, None}
-use Rattle.cedar_policies.specs.PolicyTree.{PolicyTree}
+use Rattle.cedar_ast.specs.PolicyTree.{PolicyTree}
 use Rattle.cedar_code.specs.Machine.{start, Steps}
 use Rattle.cedar_auth.specs.Codes.{policy_code}
-use Rattle.cedar_histories.specs.Jobs.{JobTree, is_finished}
+use Rattle.cedar_service_law.specs.Jobs.{JobTree, is_finished}
 use Rattle.cedar_machine.specs.RestingView.{RestingView}
 
 -- The run is where the code of the first of these policies comes, from its start, by as many steps as the run counts (own).

@@ -1,11 +1,11 @@
 //! Jobs: requests that are being answered.
 ghost use Rattle.std.specs.Prelude.{◌≡◌, ◌<◌, nat_lt, length, All, Contains, IfOk, IsOk, OnErr, is_some, option_copied};
-ghost use Rattle.cedar_policies.specs.Response.{ErringTree};
+ghost use Rattle.cedar_ast.specs.Response.{ErringTree};
 ghost use Rattle.cedar_code.specs.Machine.{start};
-ghost use Rattle.cedar_schema.specs.Conformance.{Fits};
-ghost use Rattle.cedar_typing.specs.Soundness.{IsAllowedWith};
-ghost use Rattle.cedar_histories.specs.Jobs.{IsFresh, is_finished};
-ghost use Rattle.cedar_histories.specs.Results.{decided_by};
+ghost use Rattle.cedar_schema_spec.specs.Conformance.{Fits};
+ghost use Rattle.cedar_check_spec.specs.Soundness.{IsAllowedWith};
+ghost use Rattle.cedar_service_law.specs.Jobs.{IsFresh, is_finished};
+ghost use Rattle.cedar_service_law.specs.Results.{decided_by};
 ghost use Rattle.cedar_service.specs.Private.Kept.{IsBegun};
 ghost use Rattle.cedar_service.specs.Private.Steps.{StepsTo};
 ghost use Rattle.cedar_service.specs.Runs.{IsRunOf};
@@ -13,11 +13,11 @@ ghost use Rattle.cedar_service.specs.Private.Verdicts.{verdict_of, verdict_at};
 
 use crate::response::Response;
 use crate::results::Results;
-use cedar_ast::EvaluationError;
+use cedar_ast_expressions::EvaluationError;
 use cedar_auth::Ready;
 use cedar_code::Outcome;
-use cedar_histories::runs_end_as_evaluated;
 use cedar_machine::Resting;
+use cedar_service_law::runs_end_as_evaluated;
 use cedar_value::{Request, ValueKind};
 use std::alloc::{AllocError, Global};
 use std::marker::Model;
@@ -39,9 +39,9 @@ impl Model for Job {
     ghost use Rattle.std.specs.Prelude.{drop};
     ghost use Rattle.std.specs.Coded.{codes};
     ghost use Rattle.cedar_value.specs.Private.DatumCode.{datum_code};
-    ghost use Rattle.cedar_types.specs.Private.TypeCode.{type_code};
-    ghost use Rattle.cedar_ast.specs.Private.ExpressionCode.{expression_code};
-    ghost use Rattle.cedar_histories.specs.Jobs.{JobTree};
+    ghost use Rattle.cedar_schema_types.specs.Private.TypeCode.{type_code};
+    ghost use Rattle.cedar_ast_expressions.specs.Private.ExpressionCode.{expression_code};
+    ghost use Rattle.cedar_service_law.specs.Jobs.{JobTree};
     ghost use Rattle.cedar_service.specs.Private.Parts.{policies_at};
     ghost use Rattle.cedar_service.specs.Private.Kept.{configuration_of, IsKept};
 

@@ -10,7 +10,7 @@
 //! ```
 //!
 //! A host calls it between its own waits: no thread, no lock and no socket stands here. Each call is one event of
-//! cedar_histories, whose law says what all of them promise together.
+//! cedar_service_law, whose law says what all of them promise together.
 #![tactic(auto)]
 
 mod job;
@@ -20,7 +20,7 @@ mod results;
 mod service;
 mod service_fault;
 
-pub use cedar_histories::histories_are_fair;
+pub use cedar_service_law::histories_are_fair;
 pub use not_published::NotPublished;
 pub use response::{Erring, Response};
 pub use service::{JobId, Service};

@@ -1,6 +1,6 @@
 //! What is answered to a job's request.
-use cedar_ast::EvaluationError;
-use cedar_policies::Decision;
+use cedar_ast::Decision;
+use cedar_ast_expressions::EvaluationError;
 use cedar_value::Text;
 use std::marker::Model;
 
@@ -14,7 +14,7 @@ pub struct Erring {
 }
 
 impl Model for Erring {
-    ghost use Rattle.cedar_policies.specs.Response.{ErringTree};
+    ghost use Rattle.cedar_ast.specs.Response.{ErringTree};
 
     ghost Value = { ErringTree };
 
@@ -35,7 +35,7 @@ pub struct Response {
 }
 
 impl Model for Response {
-    ghost use Rattle.cedar_policies.specs.Response.{ResponseTree};
+    ghost use Rattle.cedar_ast.specs.Response.{ResponseTree};
 
     ghost Value = { ResponseTree };
 

@@ -1,11 +1,11 @@
 //! What is gathered while the policies of a job run.
 ghost use Rattle.std.specs.Prelude.{◌≡◌, OnOk, OnErr};
-ghost use Rattle.cedar_histories.specs.Results.{no_results, allowed_by, decided_by};
+ghost use Rattle.cedar_service_law.specs.Results.{no_results, allowed_by, decided_by};
 ghost use Rattle.cedar_service.specs.Private.Verdicts.{with_verdict};
 
 use crate::response::{Erring, Response};
-use cedar_ast::EvaluationError;
-use cedar_policies::{Decision, Effect};
+use cedar_ast::{Decision, Effect};
+use cedar_ast_expressions::EvaluationError;
 use cedar_value::Text;
 use std::alloc::{AllocError, Global};
 use std::marker::Model;
@@ -19,7 +19,7 @@ pub(crate) struct Results {
 }
 
 impl Model for Results {
-    ghost use Rattle.cedar_histories.specs.Results.{Results as ResultsTree};
+    ghost use Rattle.cedar_service_law.specs.Results.{Results as ResultsTree};
 
     ghost Value = { ResultsTree };
 

@@ -1,8 +1,8 @@
 //! The service.
 ghost use Rattle.std.specs.Prelude.{◌≡◌, IfOk, IfErr, OnOk, OnErr, Some, nat_eq, option_copied};
 ghost use Rattle.std.specs.HashMap.{Updates};
-ghost use Rattle.cedar_histories.specs.Service.{first_state, publish, open_job, step, take_answer, published, opened, stepped, taken, refused, Happens};
-ghost use Rattle.cedar_histories.specs.Jobs.{job_at};
+ghost use Rattle.cedar_service_law.specs.Service.{first_state, publish, open_job, step, take_answer, published, opened, stepped, taken, refused, Happens};
+ghost use Rattle.cedar_service_law.specs.Jobs.{job_at};
 ghost use Rattle.cedar_service.specs.Errors.{NamesAllowed};
 ghost use Rattle.cedar_service.specs.Numbers.{number_of};
 ghost use Rattle.cedar_service.specs.Runs.{IsRunAt};
@@ -36,9 +36,9 @@ pub struct Service {
 impl Model for Service {
     ghost use Rattle.std.specs.Coded.{codes};
     ghost use Rattle.cedar_value.specs.Private.DatumCode.{datum_code};
-    ghost use Rattle.cedar_types.specs.Private.TypeCode.{type_code};
-    ghost use Rattle.cedar_ast.specs.Private.ExpressionCode.{expression_code};
-    ghost use Rattle.cedar_histories.specs.Service.{ServiceState};
+    ghost use Rattle.cedar_schema_types.specs.Private.TypeCode.{type_code};
+    ghost use Rattle.cedar_ast_expressions.specs.Private.ExpressionCode.{expression_code};
+    ghost use Rattle.cedar_service_law.specs.Service.{ServiceState};
 
     ghost Value = { ServiceState };
 

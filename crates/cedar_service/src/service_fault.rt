@@ -1,5 +1,5 @@
 //! Why a call of a service is refused.
-use cedar_data::ConformFault;
+use cedar_conform_values::ConformFault;
 use std::alloc::AllocError;
 use std::fmt;
 use thiserror::Error;
@@ -61,7 +61,7 @@ impl From<AllocError> for ServiceFault {
 
 impl From<ConformFault> for ServiceFault {
     ghost use Rattle.std.specs.Prelude.{◌≡◌};
-    ghost use Rattle.cedar_data.specs.Numbers.{number_of as line_number};
+    ghost use Rattle.cedar_conform_values.specs.Numbers.{number_of as line_number};
     ghost use Rattle.cedar_service.specs.Numbers.{number_of};
 
     ghost from_gives = { λ fault refusal. number_of refusal ≡ line_number fault };

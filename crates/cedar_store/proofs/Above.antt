@@ -3,7 +3,7 @@ use Rattle.std.proofs.Common.{◌≡◌, ◌↔◌, ℕ, Bool, true, false, ◌|
 use Rattle.std.specs.Bool.{one_answer}
 use Rattle.std.specs.List.{slice_get, list_any}
 use Rattle.std.proofs.lemmas.List.Folds.{Any-from_list_any, list_any_at}
-use Rattle.cedar_closure.proofs.Chains.{first_link}
+use Rattle.base_reach.proofs.Chains.{first_link}
 use Rattle.cedar_value.proofs.Reach.{below-Decides}
 use Rattle.cedar_value.specs.Datum.{Datum, boolean, long, text, uid, set, record_of, decimal}
 use Rattle.cedar_value.specs.World.{World, Below, below, below_any, below_datum}

@@ -5,7 +5,7 @@ use Rattle.std.specs.Option.{is_some, IfSome}
 use Rattle.std.proofs.lemmas.Bool.{cases_eq, cases_lt}
 use Rattle.std.proofs.lemmas.List.{length-map}
 use Rattle.std.proofs.lemmas.Option.{same_Some, slice_get-get_or, slice_get_past, slice_get_within}
-use Rattle.cedar_closure.proofs.Chains.{first_link}
+use Rattle.base_reach.proofs.Chains.{first_link}
 use Rattle.cedar_value.specs.World.{EntityTree, World, Below}
 use Rattle.cedar_value.specs.declared.uid.Uid.{Uid}
 use Rattle.cedar_store.specs.Entities.{uids_of, IsAcyclic}

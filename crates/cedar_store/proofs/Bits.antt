@@ -4,8 +4,8 @@ use Rattle.std.specs.List.{position}
 use Rattle.std.proofs.lemmas.Bool.{eq-eqb}
 use Rattle.std.proofs.lemmas.List.Quantifiers.{position-Some}
 use Rattle.std.proofs.lemmas.Nat.Bits.{bit_at-zero}
-use Rattle.cedar_bits.specs.Bits.{has_bit}
-use Rattle.cedar_closure.proofs.Searching.{Gains}
+use Rattle.base_bits.specs.Bits.{has_bit}
+use Rattle.base_reach.proofs.Searching.{Gains}
 use Rattle.cedar_value.specs.Datum.{same_uid}
 use Rattle.cedar_value.specs.Private.Equality.{same_uid-Decides}
 use Rattle.cedar_value.specs.declared.uid.Uid.{Uid}

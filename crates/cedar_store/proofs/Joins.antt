@@ -2,9 +2,9 @@
 use Rattle.std.proofs.Common.{◌≡◌, ◌+◌, ◌<◌, ◌≤◌, ◌⊎◌, ◌||◌, inl, inr, ⊎_elim, Bool, true, false, cond, Bor, List, [], ◌∷◌, ◌++◌, length, refl, sym, ap, subst, ◌∙◌, arith, Contains}
 use Rattle.std.proofs.lemmas.List.Elements.{Contains-append_left, Contains-push, Contains-push_cases}
 use Rattle.std.proofs.lemmas.List.{length-append}
-use Rattle.cedar_closure.specs.Closure.{LeadsTo, one_link, IsClosure}
-use Rattle.cedar_closure.proofs.Chains.{link_more, chain_on}
-use Rattle.cedar_closure.proofs.Searching.{Gains, IsMet, IsSearching, links_left, search_known}
+use Rattle.base_reach.specs.Closure.{LeadsTo, one_link, IsClosure}
+use Rattle.base_reach.proofs.Chains.{link_more, chain_on}
+use Rattle.base_reach.proofs.Searching.{Gains, IsMet, IsSearching, links_left, search_known}
 
 pub or_left : (a b c : Bool) → c ≡ (a || b) → a ≡ true → c ≡ true
 or_left true b c e h = e

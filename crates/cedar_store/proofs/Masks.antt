@@ -5,7 +5,7 @@ use Rattle.std.proofs.lemmas.List.Folds.{list_any_more}
 use Rattle.std.specs.List.{list_any}
 use Rattle.cedar_value.specs.Datum.{Datum}
 use Rattle.cedar_value.specs.declared.uid.Uid.{Uid}
-use Rattle.cedar_bits.specs.Bits.{has_bit}
+use Rattle.base_bits.specs.Bits.{has_bit}
 use Rattle.cedar_store.specs.Private.Mask.{is_numbered}
 
 pub inside : (number first m : ℕ) → first ≤ number → nat_eq number (first + m) ≡ nat_eq (number - first) m

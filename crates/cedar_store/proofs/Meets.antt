@@ -10,7 +10,7 @@ use Rattle.std.proofs.lemmas.Nat.Bits.{bit_at-zero}
 use Rattle.std.proofs.lemmas.Simd.{get_or-chunk}
 use Rattle.cedar_value.specs.Datum.{Datum, boolean, long, text, uid, set, record_of, decimal, same_uid}
 use Rattle.cedar_value.specs.declared.uid.Uid.{Uid}
-use Rattle.cedar_bits.specs.Bits.{has_bit, HasBit, HaveCommonBit}
+use Rattle.base_bits.specs.Bits.{has_bit, HasBit, HaveCommonBit}
 use Rattle.cedar_store.specs.Private.Kept.{bit_told, in_row, has_datum}
 use Rattle.cedar_store.specs.Private.Mask.{is_numbered, number_told}
 use Rattle.cedar_store.proofs.Masks.{IsMask}

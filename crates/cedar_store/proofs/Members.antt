@@ -9,10 +9,10 @@ use Rattle.std.proofs.lemmas.List.Quantifiers.{all_pairs_push, position-Some}
 use Rattle.std.proofs.lemmas.List.Sums.{position_or_len_is}
 use Rattle.std.proofs.lemmas.Map.Keys.{apart_from_distinct}
 use Rattle.std.proofs.lemmas.Option.{get_or_from_slice_get, same_Some, slice_get_within, slice_get-get_or}
-use Rattle.cedar_bits.specs.Bits.{has_bit, IsNextBit}
-use Rattle.cedar_closure.specs.Private.Lent.{lent}
-use Rattle.cedar_closure.proofs.Listed.{nowhere}
-use Rattle.cedar_closure.proofs.Searching.{lent-push}
+use Rattle.base_bits.specs.Bits.{has_bit, IsNextBit}
+use Rattle.base_reach.specs.Private.Lent.{lent}
+use Rattle.base_reach.proofs.Listed.{nowhere}
+use Rattle.base_reach.proofs.Searching.{lent-push}
 use Rattle.cedar_value.specs.Datum.{same_uid}
 use Rattle.cedar_value.specs.Private.Equality.{same_uid-Decides}
 use Rattle.cedar_value.specs.World.{World, Below}

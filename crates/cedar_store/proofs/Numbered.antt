@@ -3,9 +3,9 @@ use Rattle.std.proofs.Common.{◌≡◌, inl, inr, Bool, true, false, cond, List
 use Rattle.std.specs.Option.{option_map}
 use Rattle.std.proofs.lemmas.List.Elements.{Contains-push, Contains-push_cases}
 use Rattle.indexmap.specs.IndexSet.{IndexSet, contains, Updates}
-use Rattle.cedar_closure.specs.Closure.{LeadsTo, one_link, more_links}
-use Rattle.cedar_closure.proofs.Listed.{here, there, nowhere}
-use Rattle.cedar_closure.proofs.Searching.{IsSearching}
+use Rattle.base_reach.specs.Closure.{LeadsTo, one_link, more_links}
+use Rattle.base_reach.proofs.Listed.{here, there, nowhere}
+use Rattle.base_reach.proofs.Searching.{IsSearching}
 use Rattle.cedar_value.specs.Datum.{same_uid}
 use Rattle.cedar_value.specs.World.{EntityTree, World, entry_of, parents_of}
 use Rattle.cedar_value.specs.Private.Parents.{IsParent}

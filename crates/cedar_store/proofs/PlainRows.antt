@@ -4,7 +4,7 @@ use Rattle.std.specs.BTreeSet.{BTreeSet, contains}
 use Rattle.std.specs.List.{AllZip, slice_get}
 use Rattle.std.specs.Option.{MatchOption, option_copied}
 use Rattle.std.proofs.lemmas.Option.{same_Some}
-use Rattle.cedar_closure.proofs.Chains.{first_link}
+use Rattle.base_reach.proofs.Chains.{first_link}
 use Rattle.cedar_value.specs.Order.{uid_cmp}
 use Rattle.cedar_value.specs.World.{EntityTree, World, Below}
 use Rattle.cedar_value.specs.declared.uid.Uid.{Uid}

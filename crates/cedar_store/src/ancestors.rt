@@ -4,7 +4,7 @@ ghost use Rattle.cedar_store.specs.Private.Gained.{AddsMembers};
 
 use crate::numbers::Numbers;
 use crate::row::Row;
-use cedar_bits::next_bit;
+use base_bits::next_bit;
 use cedar_value::Uid;
 use std::alloc::AllocError;
 

@@ -9,7 +9,7 @@ ghost use Rattle.cedar_store.specs.Private.Kept.{ArePlaces};
 use crate::entity::Entity;
 use crate::store_fault::StoreFault;
 use crate::uid_hashing::UidHashing;
-use cedar_closure::Links;
+use base_reach::Links;
 use cedar_value::Uid;
 use indexmap::IndexMap;
 use std::alloc::Global;

@@ -29,7 +29,7 @@ mod store_fault;
 mod uid_hasher;
 mod uid_hashing;
 
-pub use cedar_bits::any_common;
+pub use base_bits::any_common;
 pub use cedar_value::{Hierarchy, NoEntities, below_is_a_chain_of_links};
 pub use entity::Entity;
 pub use plain_store::PlainStore;

@@ -1,12 +1,12 @@
 //! The numbers of the members of a set, as a mask.
 ghost use Rattle.std.specs.Prelude.{◌≡◌, ◌+◌, ◌%◌, ◌<◌, ◌≤◌, ℕ, IfSome, false, nat_eq, true};
 ghost use Rattle.std.specs.List.{list_any};
-ghost use Rattle.cedar_bits.specs.Bits.{has_bit};
+ghost use Rattle.base_bits.specs.Bits.{has_bit};
 ghost use Rattle.cedar_store.specs.Private.Kept.{has_datum, in_row};
 ghost use Rattle.cedar_store.specs.Private.Mask.{is_numbered, number_told};
 
 use crate::numbers::Numbers;
-use cedar_bits::{any_common, set_bit};
+use base_bits::{any_common, set_bit};
 use cedar_value::{Value, ValueKind, ValueSet};
 
 // How many words a mask has, and how many numbers.

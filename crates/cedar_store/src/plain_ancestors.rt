@@ -7,7 +7,7 @@ ghost use Rattle.cedar_store.specs.Private.Kept.{HasAncestors};
 
 use crate::entity_table::EntityTable;
 use crate::store_fault::StoreFault;
-use cedar_closure::closure_from;
+use base_reach::closure_from;
 use cedar_value::Uid;
 use std::alloc::Global;
 use std::collections::BTreeSet;

@@ -1,7 +1,7 @@
 //! What lies above each entity, as rows of bits.
 ghost use Rattle.std.specs.Prelude.{◌≡◌, ◌++◌, ◌<◌, ℕ, Some, length, IfOk, IfErr, IfSome, IfNone, OnOk};
 ghost use Rattle.std.specs.List.{slice_get};
-ghost use Rattle.cedar_closure.specs.Private.Lent.{lent};
+ghost use Rattle.base_reach.specs.Private.Lent.{lent};
 ghost use Rattle.cedar_store.specs.Entities.{uids_of, IsAcyclic};
 ghost use Rattle.cedar_store.specs.Faults.{IsThere};
 ghost use Rattle.cedar_store.specs.Private.Kept.{AreAncestors, AreNumbered, AreRows, IsKnownAt, IsRow, IsRowOf, in_row};
@@ -11,7 +11,7 @@ use crate::numbers::{Numbers, has_uid, number_of};
 use crate::order::order_of;
 use crate::row::Row;
 use crate::store_fault::StoreFault;
-use cedar_closure::Links;
+use base_reach::Links;
 use cedar_value::Uid;
 use std::alloc::{AllocError, Global};
 

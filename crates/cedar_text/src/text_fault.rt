@@ -38,7 +38,7 @@ impl TextFault {
         }
     }
 
-    /// Where the fault is, in bytes from 0; want of memory is nowhere.
+    /// Where the fault is, in bytes from 0; out of memory is nowhere.
     pub fn offset(self) -> Option<usize>
         ensures { result ≡ offset_of self }
     {

@@ -1,7 +1,7 @@
 -- Nothing is below anything in the world without entities.
 use Rattle.std.proofs.Common.{◌≡◌, false, ◌||◌, List, [], ◌∷◌, refl, ap, ◌∙◌}
 use Rattle.cedar_value.specs.Datum.{Datum, boolean, long, text, uid, set, record_of, decimal}
-use Rattle.cedar_closure.specs.Closure.{leads}
+use Rattle.base_reach.specs.Closure.{leads}
 use Rattle.cedar_value.specs.World.{below, below_any, below_datum}
 use Rattle.cedar_value.specs.declared.uid.Uid.{Uid}
 

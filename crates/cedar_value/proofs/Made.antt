@@ -9,7 +9,7 @@ use Rattle.std.specs.List.Sorted.{IsStrictlySortedBy}
 use Rattle.std.specs.Ordering.{ordering_then}
 use Rattle.std.specs.declared.cmp.Ordering.{Ordering}
 use Rattle.std.specs.declared.cmp.Ordering.TheVariants.{Less, Equal, Greater}
-use Rattle.cedar_closure.proofs.Listed.{here, there, first_or_later, nowhere, mapped}
+use Rattle.base_reach.proofs.Listed.{here, there, first_or_later, nowhere, mapped}
 use Rattle.cedar_value.specs.Datum.{Datum}
 use Rattle.cedar_value.specs.Order.{AreKeysAscending, IsAscending, text_cmp, pair_cmp, datum_cmp}
 use Rattle.cedar_value.specs.Private.Laws.{pair_total}

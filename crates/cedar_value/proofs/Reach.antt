@@ -3,9 +3,9 @@ use Rattle.std.proofs.Common.{◌≡◌, Bool, true, false, cond, List, [], ◌�
 use Rattle.std.specs.Bool.{Decides}
 use Rattle.std.specs.Option.{option_map}
 use Rattle.std.proofs.Math.ListN.{length-map}
-use Rattle.cedar_closure.proofs.Chains.{leads-Decides}
-use Rattle.cedar_closure.proofs.Listed.{here, there, nowhere}
-use Rattle.cedar_closure.specs.Closure.{AreListed, leads}
+use Rattle.base_reach.proofs.Chains.{leads-Decides}
+use Rattle.base_reach.proofs.Listed.{here, there, nowhere}
+use Rattle.base_reach.specs.Closure.{AreListed, leads}
 use Rattle.cedar_value.specs.Datum.{same_uid}
 use Rattle.cedar_value.specs.Private.Equality.{same_uid-Decides}
 use Rattle.cedar_value.specs.World.{EntityTree, World, entry_of, parents_of, Below, below}

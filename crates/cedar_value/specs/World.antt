@@ -3,8 +3,8 @@
 use Rattle.std.specs.Prelude.{ℕ, Bool, false, List, [], ◌∷◌, length, Option, Some, None, is_some, unwrap_or, if◌then◌else◌}
 use Rattle.std.specs.Option.{option_map}
 use Rattle.std.specs.List.{list_any}
-pub use Rattle.cedar_closure.specs.Closure.{LeadsTo}
-unfoldable pub use Rattle.cedar_closure.specs.Closure.{leads}
+pub use Rattle.base_reach.specs.Closure.{LeadsTo}
+unfoldable pub use Rattle.base_reach.specs.Closure.{leads}
 use Rattle.cedar_value.specs.Datum.{Datum, uid, same_uid}
 use Rattle.cedar_value.specs.declared.uid.Uid.{Uid}
 

@@ -6,7 +6,7 @@ ghost use Rattle.std.specs.Str.{bytes_eq};
 
 use crate::shared_text::SharedText;
 use crate::text::Text;
-use cedar_closure::Key;
+use base_reach::Key;
 use std::alloc::{AllocError, Global};
 use std::cmp::Ordering;
 use std::hash::{Hash, Hasher};

@@ -4,7 +4,7 @@ ghost use Rattle.cedar_value.specs.Datum.{same_uid};
 
 use crate::name::Name;
 use crate::text::Text;
-use cedar_closure::Key;
+use base_reach::Key;
 use std::alloc::{AllocError, Global};
 use std::cmp::Ordering;
 use std::hash::{Hash, Hasher};

@@ -4,7 +4,7 @@ use crate::case_fault::CaseFault;
 use crate::expression_code::expression_code;
 use cedar_code::{Code, Outcome};
 use cedar_machine::run;
-use cedar_tokens::read_uid;
+use cedar_parser_tokens::read_uid;
 use cedar_value::{NoEntities, Record, Request, Uid, Value, ValueKind};
 use std::alloc::Global;
 

@@ -1,6 +1,6 @@
 //! A case.
 use crate::case_fault::CaseFault;
-use cedar_json::read_json;
+use base_json::read_json;
 use serde_json::Value;
 use std::alloc::{AllocError, Global};
 

@@ -1,8 +1,8 @@
 //! Why a case cannot be run.
 use cedar_code::CodeFault;
-use cedar_form::SchemaFault;
+use cedar_schema_json::SchemaFault;
 use cedar_store::StoreFault;
-use cedar_tokens::ParseFault;
+use cedar_parser_tokens::ParseFault;
 use std::alloc::{AllocError, AllocFailed};
 use thiserror::Error;
 

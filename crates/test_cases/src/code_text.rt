@@ -1,6 +1,6 @@
 //! Codes as texts.
 use crate::value_text::value_text;
-use cedar_ast::{BinaryOperator, UnaryOperator, Variable};
+use cedar_ast_expressions::{BinaryOperator, UnaryOperator, Variable};
 use cedar_code::{Code, Instruction, Literal};
 use std::alloc::{AllocError, Global};
 

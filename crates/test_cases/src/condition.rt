@@ -1,8 +1,8 @@
 //! The condition of a policy.
 use crate::case_fault::CaseFault;
-use cedar_ast::Expr;
+use cedar_ast_expressions::Expr;
 use cedar_parser::parse;
-use cedar_policies::PolicySet;
+use cedar_ast::PolicySet;
 use std::alloc::Global;
 
 /// The whole condition of the policy `permit(principal, action, resource) when { CONDITION };`.

@@ -3,9 +3,9 @@
 use crate::asked::value_of;
 use crate::case::Case;
 use crate::case_fault::CaseFault;
-use cedar_json::read_json;
+use base_json::read_json;
 use cedar_store::Entity;
-use cedar_tokens::read_uid;
+use cedar_parser_tokens::read_uid;
 use cedar_value::{Record, SharedText, Uid, Value};
 use serde_json::Value as Json;
 use std::alloc::Global;

@@ -1,9 +1,9 @@
 //! The codes of expressions and of policies that are given as texts.
 use crate::case_fault::CaseFault;
-use cedar_ast::{Expr, ExprKind};
+use cedar_ast_expressions::{Expr, ExprKind};
 use cedar_code::{Code, CodeFault, compile};
 use cedar_parser::parse;
-use cedar_policies::PolicySet;
+use cedar_ast::PolicySet;
 use std::alloc::Global;
 
 /// The code of an expression of a policy text.

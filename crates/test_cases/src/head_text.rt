@@ -1,7 +1,7 @@
 //! The heads of policies and templates as texts.
 use crate::tree_text::quoted;
 use crate::word_list::add_word;
-use cedar_policies::{Annotation, Effect};
+use cedar_ast::{Annotation, Effect};
 use cedar_value::Text;
 use std::alloc::{AllocError, Global};
 

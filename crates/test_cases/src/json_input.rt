@@ -1,7 +1,7 @@
 //! The JSON that a text of a case is.
 use crate::case::Case;
 use crate::case_fault::CaseFault;
-use cedar_json::read_json;
+use base_json::read_json;
 use serde_json::Value;
 use std::alloc::Global;
 

@@ -1,7 +1,7 @@
 //! The policies and templates of a set as lines.
 use crate::head_text::head_text;
 use crate::tree_text::tree_text;
-use cedar_policies::{Policy, PolicySet, Template};
+use cedar_ast::{Policy, PolicySet, Template};
 use std::alloc::{AllocError, Global};
 
 /// A line for each policy with its head and, after `: `, the tree of its whole condition; then one for each template, `template` and

@@ -1,8 +1,8 @@
 //! The files and the settings that a run of the program is given.
 use crate::case::Case;
 use crate::case_fault::CaseFault;
-use cedar_program::MemoryFiles;
-use cedar_typing::Settings;
+use cedar_cli::MemoryFiles;
+use cedar_check_spec::Settings;
 use std::alloc::Global;
 
 /// The files of a case, by `schema`, `policies`, `links` and `entities`, each none where its key is missing. A key with `_hex`

@@ -4,9 +4,9 @@ use crate::case_fault::CaseFault;
 use crate::program_files::settings_of;
 use cedar_auth::{NotReady, NotValidated, Ready, Validated, ValidationFault};
 use cedar_parser::parse;
-use cedar_policies::PolicySet;
+use cedar_ast::PolicySet;
 use cedar_schema::Schema;
-use cedar_typing::Settings;
+use cedar_check_spec::Settings;
 use std::alloc::Global;
 
 /// The policies of the case, ready to answer over its entities by its `schema`, under the settings of its `args`.

@@ -1,6 +1,6 @@
 //! Responses as texts.
 use crate::run_text::error_name;
-use cedar_policies::Decision;
+use cedar_ast::Decision;
 use std::alloc::{AllocError, Global};
 
 /// The decision's name.

@@ -2,7 +2,7 @@
 use crate::case_fault::CaseFault;
 use crate::tree_text::quoted;
 use crate::value_text::value_text;
-use cedar_ast::EvaluationError;
+use cedar_ast_expressions::EvaluationError;
 use cedar_code::{Code, Outcome};
 use cedar_machine::{Run, run};
 use cedar_store::Hierarchy;

@@ -3,7 +3,7 @@ use crate::bytes_input::bytes_of;
 use crate::case::Case;
 use crate::case_fault::CaseFault;
 use crate::named_schemas::named_schema;
-use cedar_conform::written_uid;
+use cedar_conform_requests::written_uid;
 use cedar_schema::Schema;
 use cedar_value::{Name, Text, Uid};
 use std::alloc::{AllocError, Global};

@@ -1,7 +1,7 @@
 //! The scopes of templates as texts.
 use crate::tree_text::uid_text;
 use crate::word_list::add_after;
-use cedar_policies::{ActionScope, EntityReference, TemplateEntityScope};
+use cedar_ast::{ActionScope, EntityReference, TemplateEntityScope};
 use cedar_value::Uid;
 use std::alloc::{AllocError, Global};
 

@@ -1,7 +1,7 @@
 //! Policies and templates that are made of their parts and not of a text.
 use crate::case_fault::CaseFault;
 use crate::value_json::uid_of;
-use cedar_policies::{
+use cedar_ast::{
     ActionScope, Effect, EntityReference, EntityScope, Policy, Scope, Statement, Template,
     TemplateEntityScope, TemplateScope,
 };

@@ -2,7 +2,7 @@
 use crate::case::Case;
 use crate::case_fault::CaseFault;
 use crate::schema_input::schema_of;
-use cedar_entities::read_entities_owned;
+use cedar_conform_entities::read_entities_owned;
 use cedar_schema::Schema;
 use cedar_store::Store;
 use std::alloc::Global;

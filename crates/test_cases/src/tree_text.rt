@@ -1,6 +1,6 @@
 //! An expression as a text in which every operator has its brackets, so that no two trees of policy texts are written
 //! alike.
-use cedar_ast::{BinaryOperator, Expr, ExprKind, UnaryOperator, Variable};
+use cedar_ast_expressions::{BinaryOperator, Expr, ExprKind, UnaryOperator, Variable};
 use cedar_ext::{Element, Pattern};
 use cedar_value::{SharedText, Uid, Value, ValueKind};
 use std::alloc::{AllocError, Global};

@@ -1,14 +1,14 @@
 -- What a `Validated` and a `Ready` keep.
 use Rattle.std.specs.Prelude.{◌≡◌, List, map}
 use Rattle.cedar_value.specs.World.{World}
-use Rattle.cedar_policies.specs.PolicyTree.{PolicyTree}
-use Rattle.cedar_schema.specs.SchemaTree.{SchemaTree}
-use Rattle.cedar_schema.specs.Conformance.{Conforms}
+use Rattle.cedar_ast.specs.PolicyTree.{PolicyTree}
+use Rattle.cedar_schema_spec.specs.SchemaTree.{SchemaTree}
+use Rattle.cedar_schema_spec.specs.Conformance.{Conforms}
 use Rattle.cedar_code.specs.CodeView.{CodeView}
-use Rattle.cedar_typing.specs.declared.settings.Settings.{Settings}
+use Rattle.cedar_check_spec.specs.declared.settings.Settings.{Settings}
 use Rattle.cedar_auth.specs.Codes.{policy_code}
 use Rattle.cedar_auth.specs.Validation.{IsValidatedWith}
-use Rattle.cedar_index.specs.Index.{IndexTree}
+use Rattle.cedar_auth_index.specs.Index.{IndexTree}
 use Rattle.cedar_auth.specs.Private.Sifting.{AreCandidatesFor, Rows}
 
 -- the codes are those of the policies, one by one

@@ -2,9 +2,9 @@
 use Rattle.std.specs.Prelude.{◌≡◌, ℕ, List, Contains, Some}
 use Rattle.std.specs.BTreeMap.{BTreeMap, get}
 use Rattle.std.specs.Ordering.{nat_cmp}
-use Rattle.cedar_policies.specs.PolicyTree.{PolicyTree}
-use Rattle.cedar_schema.specs.SchemaTree.{SchemaTree, ActionTree}
-use Rattle.cedar_index.specs.Index.{IndexTree}
+use Rattle.cedar_ast.specs.PolicyTree.{PolicyTree}
+use Rattle.cedar_schema_spec.specs.SchemaTree.{SchemaTree, ActionTree}
+use Rattle.cedar_auth_index.specs.Index.{IndexTree}
 use Rattle.cedar_auth.specs.declared.row_maker.MadeRow.{MadeRow}
 use Rattle.cedar_auth.specs.Private.Sifting.{ByPrincipal}
 

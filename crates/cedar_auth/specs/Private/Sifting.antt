@@ -8,13 +8,13 @@ use Rattle.cedar_value.specs.Order.{text_cmp, uid_cmp}
 use Rattle.cedar_value.specs.World.{World}
 use Rattle.cedar_value.specs.declared.request.Request.{Request}
 use Rattle.cedar_value.specs.declared.uid.Uid.{Uid}
-use Rattle.cedar_policies.specs.declared.scope.ActionScope.{ActionScope}
-use Rattle.cedar_policies.specs.declared.scope.ActionScope.TheVariants as action
-use Rattle.cedar_policies.specs.PolicyTree.{PolicyTree}
-use Rattle.cedar_policies.specs.Response.{meaning}
-use Rattle.cedar_schema.specs.SchemaTree.{SchemaTree, ActionTree, action_at}
-use Rattle.cedar_typing.specs.Candidates.{MayMeet, Meets}
-use Rattle.cedar_index.specs.Index.{IndexTree, IsIndexOf, IsListingBy, ListingTree}
+use Rattle.cedar_ast.specs.declared.scope.ActionScope.{ActionScope}
+use Rattle.cedar_ast.specs.declared.scope.ActionScope.TheVariants as action
+use Rattle.cedar_ast.specs.PolicyTree.{PolicyTree}
+use Rattle.cedar_ast.specs.Response.{meaning}
+use Rattle.cedar_schema_spec.specs.SchemaTree.{SchemaTree, ActionTree, action_at}
+use Rattle.cedar_check_spec.specs.Candidates.{MayMeet, Meets}
+use Rattle.cedar_auth_index.specs.Index.{IndexTree, IsIndexOf, IsListingBy, ListingTree}
 use Rattle.cedar_auth.specs.declared.positions.Positions.{Positions}
 use Rattle.cedar_auth.specs.declared.row.Row.{Row}
 use Rattle.cedar_auth.specs.declared.question.Question.{Question}

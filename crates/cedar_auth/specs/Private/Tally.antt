@@ -3,12 +3,12 @@ use Rattle.std.specs.Prelude.{ℕ, Bool, true, false, ◌==◌, not, ◌&&◌, i
 use Rattle.std.specs.List.{filter_map}
 use Rattle.cedar_value.specs.World.{World}
 use Rattle.cedar_value.specs.declared.request.Request.{Request}
-use Rattle.cedar_policies.specs.declared.effect.Effect.{Effect}
-use Rattle.cedar_policies.specs.declared.effect.Effect.TheVariants.{Permit, Forbid}
-use Rattle.cedar_policies.specs.declared.decision.Decision.TheVariants.{Allow, Deny}
-use Rattle.cedar_policies.specs.PolicyTree.{PolicyTree}
+use Rattle.cedar_ast.specs.declared.effect.Effect.{Effect}
+use Rattle.cedar_ast.specs.declared.effect.Effect.TheVariants.{Permit, Forbid}
+use Rattle.cedar_ast.specs.declared.decision.Decision.TheVariants.{Allow, Deny}
+use Rattle.cedar_ast.specs.PolicyTree.{PolicyTree}
 use Rattle.cedar_machine.specs.Verdict.{Verdict}
-use Rattle.cedar_policies.specs.Response.{ErringTree, ResponseTree, permits, forbids, erring_of}
+use Rattle.cedar_ast.specs.Response.{ErringTree, ResponseTree, permits, forbids, erring_of}
 
 -- the ids of the satisfied permits and forbids, and the policies that erred
 pub record TallyTree : Type 0 where

@@ -1,6 +1,6 @@
 -- What prepared conditions stand for.
 use Rattle.std.specs.Prelude.{◌≡◌, false}
-use Rattle.cedar_ast.specs.Expression.{Expression, and}
+use Rattle.cedar_ast_expressions.specs.Expression.{Expression, and}
 use Rattle.cedar_check.specs.declared.prepared.Parts.{Parts}
 use Rattle.cedar_check.specs.declared.prepared.Prepared.{Prepared}
 use Rattle.cedar_check.specs.declared.prepared.Prepared.TheVariants as prepared

@@ -1,8 +1,8 @@
 -- Where the variable `action` stands in expressions.
 use Rattle.std.specs.Prelude.{Bool, true, false, ◌||◌}
-use Rattle.cedar_ast.specs.declared.variable.Variable.{Variable}
-use Rattle.cedar_ast.specs.declared.variable.Variable.TheVariants.{Principal, Action, Resource, Context}
-use Rattle.cedar_ast.specs.Expression.{Expression, literal, variable, and, or, if_else, unary, binary, set_with, record_with, Expressions, no_more, and_then, Entries, no_entries, entry}
+use Rattle.cedar_ast_expressions.specs.declared.variable.Variable.{Variable}
+use Rattle.cedar_ast_expressions.specs.declared.variable.Variable.TheVariants.{Principal, Action, Resource, Context}
+use Rattle.cedar_ast_expressions.specs.Expression.{Expression, literal, variable, and, or, if_else, unary, binary, set_with, record_with, Expressions, no_more, and_then, Entries, no_entries, entry}
 
 -- Whether the variable is the action.
 abbrev pub is_action : Variable → Bool

@@ -2,14 +2,14 @@
 use Rattle.std.specs.Prelude.{◌≡◌, ℕ, List, Option, Some, IfSome, IsSomeAnd, option_and_then, slice_get, []}
 use Rattle.std.specs.Borrow.{Bor}
 use Rattle.std.specs.List.{AllZip}
-use Rattle.cedar_ast.specs.Expression.{Expression}
-use Rattle.cedar_ast.specs.Replacement.{replace}
-use Rattle.cedar_types.specs.declared.truth.Truth.{Truth}
-use Rattle.cedar_schema.specs.SchemaTree.{SchemaTree}
-use Rattle.cedar_schema.specs.declared.schema.environment.Environment.{Environment}
-use Rattle.cedar_typing.specs.Rows.{truth_in}
-use Rattle.cedar_typing.specs.Private.Checking.{type_of_with}
-use Rattle.cedar_typing.specs.declared.settings.Settings.{Settings}
+use Rattle.cedar_ast_expressions.specs.Expression.{Expression}
+use Rattle.cedar_ast_expressions.specs.Replacement.{replace}
+use Rattle.cedar_schema_types.specs.declared.truth.Truth.{Truth}
+use Rattle.cedar_schema_spec.specs.SchemaTree.{SchemaTree}
+use Rattle.cedar_schema_spec.specs.declared.environment.Environment.{Environment}
+use Rattle.cedar_check_spec.specs.Rows.{truth_in}
+use Rattle.cedar_check_spec.specs.Private.Checking.{type_of_with}
+use Rattle.cedar_check_spec.specs.declared.settings.Settings.{Settings}
 use Rattle.cedar_check.specs.declared.form.Form.{Form}
 use Rattle.cedar_check.specs.Private.View.{form_view}
 

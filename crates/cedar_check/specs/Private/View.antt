@@ -1,10 +1,10 @@
 -- What the checker's values stand for.
 use Rattle.std.specs.Prelude.{◌++◌, option_map, Option, Some, None}
-use Rattle.cedar_types.specs.Joining.{join}
-use Rattle.cedar_types.specs.declared.truth.Truth.{Truth}
-use Rattle.cedar_typing.specs.Capabilities as spec
-use Rattle.cedar_typing.specs.Rows.{Typed}
-use Rattle.cedar_typing.specs.Private.Checking.{common}
+use Rattle.cedar_schema_types.specs.Joining.{join}
+use Rattle.cedar_schema_types.specs.declared.truth.Truth.{Truth}
+use Rattle.cedar_check_spec.specs.Capabilities as spec
+use Rattle.cedar_check_spec.specs.Rows.{Typed}
+use Rattle.cedar_check_spec.specs.Private.Checking.{common}
 use Rattle.cedar_check.specs.declared.form.Form.{Form}
 use Rattle.cedar_check.specs.declared.form.Form.TheVariants as form
 

@@ -1,12 +1,12 @@
 -- What entering a statement ensures.
 use Rattle.std.specs.Prelude.{ℕ, ◌==◌, if◌then◌else◌, Contains}
-use Rattle.cedar_policies.specs.PolicySetTree.{PolicySetTree, id_of, ids_in}
-use Rattle.cedar_policies.specs.declared.statement.Statement.{Statement}
-use Rattle.cedar_tokens.specs.declared.parse_fault.ParseFault.{ParseFault}
-use Rattle.cedar_tokens.specs.declared.parse_fault.ParseFault.TheVariants as f
-use Rattle.cedar_written.specs.StatementTree.{StatementTree}
-use Rattle.cedar_conditions.specs.StatementMeaning.{id_at}
-use Rattle.cedar_conditions.specs.StatementLimits.{IsWithinLimits, Breaks}
+use Rattle.cedar_ast.specs.PolicySetTree.{PolicySetTree, id_of, ids_in}
+use Rattle.cedar_ast.specs.declared.statement.Statement.{Statement}
+use Rattle.cedar_parser_tokens.specs.declared.parse_fault.ParseFault.{ParseFault}
+use Rattle.cedar_parser_tokens.specs.declared.parse_fault.ParseFault.TheVariants as f
+use Rattle.cedar_parser_tree.specs.StatementTree.{StatementTree}
+use Rattle.cedar_parser_limits.specs.StatementMeaning.{id_at}
+use Rattle.cedar_parser_limits.specs.StatementLimits.{IsWithinLimits, Breaks}
 
 -- why the policy or template of a statement is not added to a set
 abbrev pub RefusesEntry : PolicySetTree → ℕ → StatementTree → ParseFault → Type 0
@@ -14,7 +14,7 @@ RefusesEntry set position statement f.OutOfMemory = Unit {0}
 RefusesEntry set position statement (f.DuplicateId at) = IsWithinLimits statement × Contains (ids_in set) (id_at position statement)
 RefusesEntry set position statement fault = Breaks statement fault
 
--- a refusal for want of memory, or of an id for which P holds
+-- a refusal when out of memory, or of an id for which P holds
 abbrev pub RefusesWhere : Type 0 → ParseFault → Type 0
 RefusesWhere P f.OutOfMemory = Unit {0}
 RefusesWhere P (f.DuplicateId at) = P

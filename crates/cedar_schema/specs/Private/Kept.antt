@@ -3,10 +3,10 @@ use Rattle.std.specs.Prelude.{◌≡◌, ◌↔◌, ◌<◌, IsTrue, IsSome, Boo
 use Rattle.std.specs.BTreeMap.{BTreeMap, get, btree_map_len}
 use Rattle.std.specs.BTreeSet.{BTreeSet, contains, insert_key}
 use Rattle.std.specs.declared.cmp.Ordering.{Ordering}
-use Rattle.cedar_bits.specs.Bits.{has_bit}
+use Rattle.base_bits.specs.Bits.{has_bit}
 use Rattle.cedar_value.specs.Order.{text_cmp, uid_cmp}
 use Rattle.cedar_value.specs.declared.uid.Uid.{Uid}
-use Rattle.cedar_closure.specs.Closure.{LeadsTo, IsClosure}
+use Rattle.base_reach.specs.Closure.{LeadsTo, IsClosure}
 use Rattle.cedar_schema.specs.declared.schema.descents.Descents.{Descents}
 
 -- ---- numbers

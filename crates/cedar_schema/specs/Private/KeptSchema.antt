@@ -6,11 +6,11 @@ use Rattle.std.specs.BTreeSet.{BTreeSet}
 use Rattle.cedar_value.specs.Order.{text_cmp, uid_cmp}
 use Rattle.cedar_value.specs.declared.uid.Uid.{Uid}
 use Rattle.cedar_schema.specs.declared.schema.descents.Descents.{Descents}
-use Rattle.cedar_schema.specs.declared.schema.environment.Environment.{Environment}
+use Rattle.cedar_schema_spec.specs.declared.environment.Environment.{Environment}
 use Rattle.cedar_schema.specs.Private.Kept.{AreRows, AreTypeRows, HasTypes}
-use Rattle.cedar_schema.specs.Descents.{ActionDescends}
-use Rattle.cedar_schema.specs.WellFormed.{IsWellFormed}
-use Rattle.cedar_schema.specs.SchemaTree.{SchemaTree, environments_of, parents_of_type, parents_of_action}
+use Rattle.cedar_schema_spec.specs.Descents.{ActionDescends}
+use Rattle.cedar_schema_spec.specs.WellFormed.{IsWellFormed}
+use Rattle.cedar_schema_spec.specs.SchemaTree.{SchemaTree, environments_of, parents_of_type, parents_of_action}
 
 abbrev pub IsKept : SchemaTree → List Environment → Descents (List ℕ) → Descents Uid → BTreeSet (List ℕ) → BTreeMap (List ℕ) (List ℕ) → Type 0
 IsKept s environments types actions action_types type_rows =

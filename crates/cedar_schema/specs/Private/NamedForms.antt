@@ -1,6 +1,6 @@
 -- Which entity types a form names.
 use Rattle.std.specs.Prelude.{ℕ, List, Contains}
-use Rattle.cedar_form.specs.Forms.{FormTree, no_form, boolean_form, long_form, string_form, decimal_form, entity_form, set_form, record_form, common_form, FormRows, no_form_rows, form_row}
+use Rattle.cedar_schema_json.specs.Forms.{FormTree, no_form, boolean_form, long_form, string_form, decimal_form, entity_form, set_form, record_form, common_form, FormRows, no_form_rows, form_row}
 
 -- each entity type that a form names is one of these
 abbrev mutual

@@ -1,8 +1,8 @@
 -- What reading an `appliesTo` answers.
 use Rattle.std.specs.Prelude.{◌≡◌, [], Result, MatchResult}
-use Rattle.cedar_form.specs.declared.schema_fault.SchemaFault.{SchemaFault}
+use Rattle.cedar_schema_json.specs.declared.schema_fault.SchemaFault.{SchemaFault}
 use Rattle.cedar_schema.specs.declared.schema.action.AppliesTo.{AppliesTo}
-use Rattle.cedar_form.specs.Faults.{Told}
+use Rattle.cedar_schema_json.specs.Faults.{Told}
 use Rattle.cedar_schema.specs.Declaring.{Applies}
 
 -- what the action applies to

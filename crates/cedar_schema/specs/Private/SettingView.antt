@@ -1,12 +1,12 @@
 -- What settings and sections of the code stand for.
 use Rattle.std.specs.Prelude.{◌≡◌, List, []}
 use Rattle.std.specs.List.{AllByRecursion}
-use Rattle.cedar_form.specs.Entries.{EntryTree, whole_names}
-use Rattle.cedar_form.specs.declared.json.entry.Entry.{Entry}
-use Rattle.cedar_form.specs.EntryView.{entries_view}
+use Rattle.cedar_schema_json.specs.Entries.{EntryTree, whole_names}
+use Rattle.cedar_schema_json.specs.declared.json.entry.Entry.{Entry}
+use Rattle.cedar_schema_json.specs.EntryView.{entries_view}
 use Rattle.cedar_schema.specs.declared.schema.declarations.Setting.{Setting as CodeSetting}
 use Rattle.cedar_schema.specs.Schemas.{Setting, Sections, uids_onto}
-use Rattle.cedar_form.specs.TableView.{table_of}
+use Rattle.cedar_schema_json.specs.TableView.{table_of}
 use Rattle.cedar_schema.specs.Private.NamedForms.{FormNames}
 
 abbrev pub setting_view : CodeSetting → Setting

@@ -1,20 +1,20 @@
 //! Actions.
 ghost use Rattle.std.specs.Prelude.{◌≡◌, ◌↔◌, Contains, IsTrue, [], map, codes, IfOk, MatchResult, Some, None, option_map};
 ghost use Rattle.serde_json.specs.View.{view};
-ghost use Rattle.cedar_form.specs.Faults.{Told};
-ghost use Rattle.cedar_form.specs.Reads.{scope_of};
-ghost use Rattle.cedar_form.specs.Ends.{AreEnds};
-ghost use Rattle.cedar_form.specs.TableView.{table_of};
-ghost use Rattle.cedar_form.specs.EntryView.{entry_of};
+ghost use Rattle.cedar_schema_json.specs.Faults.{Told};
+ghost use Rattle.cedar_schema_json.specs.Reads.{scope_of};
+ghost use Rattle.cedar_schema_json.specs.Ends.{AreEnds};
+ghost use Rattle.cedar_schema_json.specs.TableView.{table_of};
+ghost use Rattle.cedar_schema_json.specs.EntryView.{entry_of};
 ghost use Rattle.cedar_schema.specs.Declaring.{applies_read, action_of, action_faults};
 ghost use Rattle.cedar_schema.specs.Private.ReadsApplies.{ReadsApplies};
 
 use crate::schema::members::read_members_at;
-use cedar_form::{
+use cedar_schema_json::{
     Entry, Part, SchemaFault, Scope, Table, check_empty, check_part, present, read_names_at,
     read_record_type, set_of,
 };
-use cedar_types::{RecordType, Type, TypeKind};
+use cedar_schema_types::{RecordType, Type, TypeKind};
 use cedar_value::{Name, Uid};
 use serde_json::Value;
 use std::alloc::Global;
@@ -32,8 +32,8 @@ pub struct Action {
 
 impl Model for Action {
     ghost use Rattle.std.specs.Coded.{codes};
-    ghost use Rattle.cedar_types.specs.Private.TypeCode.{type_code};
-    ghost use Rattle.cedar_schema.specs.SchemaTree.{ActionTree};
+    ghost use Rattle.cedar_schema_types.specs.Private.TypeCode.{type_code};
+    ghost use Rattle.cedar_schema_spec.specs.SchemaTree.{ActionTree};
 
     ghost Value = { ActionTree };
 

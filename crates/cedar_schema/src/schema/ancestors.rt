@@ -1,13 +1,13 @@
 //! What entity types and actions descend from: all that chains of links lead to.
 ghost use Rattle.std.specs.Prelude.{◌≡◌, IfOk};
 ghost use Rattle.cedar_value.specs.Order.{text_cmp, uid_cmp};
-ghost use Rattle.cedar_schema.specs.SchemaTree.{parents_of_type, parents_of_action};
+ghost use Rattle.cedar_schema_spec.specs.SchemaTree.{parents_of_type, parents_of_action};
 ghost use Rattle.cedar_schema.specs.Private.Kept.{AreRows};
 
 use crate::schema::action::Action;
 use crate::schema::descents::{Descents, descents_of};
 use crate::schema::entity_type::EntityType;
-use cedar_closure::Links;
+use base_reach::Links;
 use cedar_value::{Name, Uid};
 use std::alloc::{AllocError, Global};
 use std::collections::BTreeMap;
@@ -20,8 +20,8 @@ struct TypeLinks<'a> {
 
 impl Links<Name> for TypeLinks<'_> {
     ghost use Rattle.std.specs.Map.{keys_of};
-    ghost use Rattle.cedar_schema.specs.SchemaTree.{parents_of_type};
-    ghost use Rattle.cedar_schema.specs.Private.Linked.{types_listed};
+    ghost use Rattle.cedar_schema_spec.specs.SchemaTree.{parents_of_type};
+    ghost use Rattle.cedar_schema_spec.specs.Private.Linked.{types_listed};
 
     ghost links = { λ graph. parents_of_type graph.declared.now.entries };
 
@@ -45,8 +45,8 @@ struct ActionLinks<'a> {
 
 impl Links<Uid> for ActionLinks<'_> {
     ghost use Rattle.std.specs.Map.{keys_of};
-    ghost use Rattle.cedar_schema.specs.SchemaTree.{parents_of_action};
-    ghost use Rattle.cedar_schema.specs.Private.Linked.{actions_listed};
+    ghost use Rattle.cedar_schema_spec.specs.SchemaTree.{parents_of_action};
+    ghost use Rattle.cedar_schema_spec.specs.Private.Linked.{actions_listed};
 
     ghost links = { λ graph. parents_of_action graph.declared.now.entries };
 

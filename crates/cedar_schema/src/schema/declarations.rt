@@ -1,12 +1,12 @@
 //! What a schema's entries declare, entry by entry.
 ghost use Rattle.std.specs.Prelude.{◌≡◌, [], false, MatchResult};
-ghost use Rattle.cedar_form.specs.Faults.{Told};
-ghost use Rattle.cedar_form.specs.Reading.{type_read};
-ghost use Rattle.cedar_form.specs.FormView.{form_of};
-ghost use Rattle.cedar_form.specs.Ends.{AreEnds};
-ghost use Rattle.cedar_form.specs.TableView.{table_of};
+ghost use Rattle.cedar_schema_json.specs.Faults.{Told};
+ghost use Rattle.cedar_schema_json.specs.Reading.{type_read};
+ghost use Rattle.cedar_schema_json.specs.FormView.{form_of};
+ghost use Rattle.cedar_schema_json.specs.Ends.{AreEnds};
+ghost use Rattle.cedar_schema_json.specs.TableView.{table_of};
 ghost use Rattle.cedar_schema.specs.Each.{each_faults, each_onto};
-ghost use Rattle.cedar_form.specs.EntryView.{entries_view, entry_of};
+ghost use Rattle.cedar_schema_json.specs.EntryView.{entries_view, entry_of};
 ghost use Rattle.cedar_schema.specs.Schemas.{add_action, add_entity, common_faults, entity_faults, expansion_faults, forms_of, one_action_faults, scope_at, scope_in};
 ghost use Rattle.cedar_schema.specs.Declaring.{action_of, entity_type_of};
 ghost use Rattle.cedar_schema.specs.Private.SettingView.{setting_view};
@@ -14,7 +14,7 @@ ghost use Rattle.cedar_schema.specs.Private.SettingView.{setting_view};
 use crate::schema::action::{Action, read_action};
 use crate::schema::entity_type::{EntityType, read_entity_type};
 use crate::schema::members::uid_of;
-use cedar_form::{
+use cedar_schema_json::{
     Entry, Form, NameTable, SchemaFault, Scope, Table, check_common_key, judge, qualified,
     read_type,
 };

@@ -2,14 +2,14 @@
 ghost use Rattle.std.specs.Prelude.{◌≡◌, ◌++◌, Contains, IfOk, IsSome, OnOk};
 ghost use Rattle.std.specs.BTreeMap.{get};
 ghost use Rattle.std.specs.Map.{keys_of};
-ghost use Rattle.cedar_closure.specs.Closure.{IsClosure};
-ghost use Rattle.cedar_closure.specs.Private.Lent.{lent};
+ghost use Rattle.base_reach.specs.Closure.{IsClosure};
+ghost use Rattle.base_reach.specs.Private.Lent.{lent};
 ghost use Rattle.cedar_schema.specs.Private.Kept.{AreFound, AreNumbered, AreRows, KeepsKeys, has_row, in_row};
 
 use crate::schema::numbers::{number_of, numbers_of};
 use crate::schema::order::order_of;
 use crate::schema::row::Row;
-use cedar_closure::{Key, Links};
+use base_reach::{Key, Links};
 use std::alloc::{AllocError, Global};
 use std::collections::BTreeMap;
 

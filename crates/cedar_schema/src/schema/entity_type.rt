@@ -1,17 +1,17 @@
 //! Entity types.
 ghost use Rattle.std.specs.Prelude.{◌≡◌, [], MatchResult};
-ghost use Rattle.cedar_form.specs.Faults.{Told};
-ghost use Rattle.cedar_form.specs.Reads.{scope_of};
-ghost use Rattle.cedar_form.specs.Ends.{AreEnds};
-ghost use Rattle.cedar_form.specs.TableView.{table_of};
-ghost use Rattle.cedar_form.specs.EntryView.{entry_of};
+ghost use Rattle.cedar_schema_json.specs.Faults.{Told};
+ghost use Rattle.cedar_schema_json.specs.Reads.{scope_of};
+ghost use Rattle.cedar_schema_json.specs.Ends.{AreEnds};
+ghost use Rattle.cedar_schema_json.specs.TableView.{table_of};
+ghost use Rattle.cedar_schema_json.specs.EntryView.{entry_of};
 ghost use Rattle.cedar_schema.specs.Declaring.{entity_type_of, entity_type_faults};
 
-use cedar_form::{
+use cedar_schema_json::{
     Entry, Part, SchemaFault, Scope, Table, check_entity_key, check_part, read_names_at,
     read_record_type,
 };
-use cedar_types::Type;
+use cedar_schema_types::Type;
 use cedar_value::Name;
 use std::alloc::Global;
 use std::marker::Model;
@@ -25,8 +25,8 @@ pub(crate) struct EntityType {
 
 impl Model for EntityType {
     ghost use Rattle.std.specs.Coded.{codes};
-    ghost use Rattle.cedar_types.specs.Private.TypeCode.{type_code};
-    ghost use Rattle.cedar_schema.specs.SchemaTree.{EntityTypeTree};
+    ghost use Rattle.cedar_schema_types.specs.Private.TypeCode.{type_code};
+    ghost use Rattle.cedar_schema_spec.specs.SchemaTree.{EntityTypeTree};
 
     ghost Value = { EntityTypeTree };
 

@@ -1,27 +1,13 @@
 //! Environments.
 ghost use Rattle.std.specs.Prelude.{◌≡◌, ◌++◌, IfOk, OnOk};
-ghost use Rattle.cedar_schema.specs.SchemaTree.{environments_of};
-ghost use Rattle.cedar_schema.specs.Private.Environments.{with_principals, with_resources};
+ghost use Rattle.cedar_schema_spec.specs.SchemaTree.{environments_of};
+ghost use Rattle.cedar_schema_spec.specs.Private.Environments.{with_principals, with_resources};
 
 use crate::schema::action::Action;
-use cedar_types::Type;
+use cedar_schema_spec::Environment;
 use cedar_value::{Name, Uid};
 use std::alloc::{AllocError, Global};
 use std::collections::BTreeMap;
-
-/// What a request may be of: an action with a type of principals, a type of resources and the type of
-/// its context (Cedar documentation, JSON schema format: appliesTo).
-#[derive(Drop)]
-pub struct Environment {
-    /// The action.
-    pub action: Uid,
-    /// The type of the principal.
-    pub principal: Name,
-    /// The type of the resource.
-    pub resource: Name,
-    /// The type of the context, a record.
-    pub context: Type,
-}
 
 /// The environments of the actions, ascending by the action's uid, then by the type of the principal,
 /// then by that of the resource.

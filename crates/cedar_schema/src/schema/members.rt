@@ -1,13 +1,15 @@
 //! The members of `memberOf`.
 ghost use Rattle.std.specs.Prelude.{◌≡◌, ◌∷◌, [], map, codes, IfOk, Some, None, option_map};
 ghost use Rattle.serde_json.specs.View.{view, items_view};
-ghost use Rattle.cedar_form.specs.Lists.{each_read, list_at};
+ghost use Rattle.cedar_schema_json.specs.Lists.{each_read, list_at};
 ghost use Rattle.cedar_schema.specs.Declaring.{by_id, by_type, listed_uid, member_read, typed_uid, action_type, with_type, uid_of};
 ghost use Rattle.cedar_schema.specs.Schemas.{uids_onto};
-ghost use Rattle.cedar_form.specs.EntryView.{entries_view, entry_of};
-ghost use Rattle.cedar_form.specs.ReadsLists.{ReadsList, ReadsItem};
+ghost use Rattle.cedar_schema_json.specs.EntryView.{entries_view, entry_of};
+ghost use Rattle.cedar_schema_json.specs.ReadsLists.{ReadsList, ReadsItem};
 
-use cedar_form::{Entry, Part, SchemaFault, check_part, has_colon, qualified, read_name, text_at};
+use cedar_schema_json::{
+    Entry, Part, SchemaFault, check_part, has_colon, qualified, read_name, text_at,
+};
 use cedar_value::{Name, Text, Uid};
 use serde_json::Value;
 use std::alloc::{AllocError, Global};

@@ -4,7 +4,7 @@ ghost use Rattle.std.specs.BTreeMap.{get};
 ghost use Rattle.std.specs.Map.{keys_of};
 ghost use Rattle.cedar_schema.specs.Private.Kept.{AreApart, AreNumbered, KeepsKeys};
 
-use cedar_closure::{Key, Links};
+use base_reach::{Key, Links};
 use std::alloc::{AllocError, Global};
 use std::collections::BTreeMap;
 

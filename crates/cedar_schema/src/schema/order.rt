@@ -1,5 +1,5 @@
 //! The order in which rows are best found.
-use cedar_closure::{Key, Links};
+use base_reach::{Key, Links};
 use std::alloc::{AllocError, Global};
 use std::collections::BTreeMap;
 

@@ -1,20 +1,20 @@
 //! From the JSON of a schema to the schema.
 ghost use Rattle.std.specs.Prelude.{◌≡◌, ◌≢◌, [], IfOk, MatchResult};
 ghost use Rattle.serde_json.specs.View.{view, members_view};
-ghost use Rattle.cedar_form.specs.declared.schema_fault.SchemaFault.TheVariants.{OutOfMemory};
+ghost use Rattle.cedar_schema_json.specs.declared.schema_fault.SchemaFault.TheVariants.{OutOfMemory};
 ghost use Rattle.cedar_schema.specs.Denotes.{Denotes, IsRefusedWith};
 ghost use Rattle.cedar_schema.specs.Private.Answers.{Answers};
-ghost use Rattle.cedar_form.specs.Entries.{whole_names};
-ghost use Rattle.cedar_form.specs.EntryView.{entries_view};
-ghost use Rattle.cedar_form.specs.Ends.{AreEnds};
+ghost use Rattle.cedar_schema_json.specs.Entries.{whole_names};
+ghost use Rattle.cedar_schema_json.specs.EntryView.{entries_view};
+ghost use Rattle.cedar_schema_json.specs.Ends.{AreEnds};
 ghost use Rattle.cedar_schema.specs.Private.SettingView.{IsSettingOf, setting_view, sections_view};
-ghost use Rattle.cedar_form.specs.TableView.{table_of};
+ghost use Rattle.cedar_schema_json.specs.TableView.{table_of};
 ghost use Rattle.cedar_schema.specs.Schemas.{schema_in, schema_of, sections_faults, setting_faults, setting_of, written_faults};
 
 use crate::schema::Schema;
 use crate::schema::declarations::{Setting, judge_forms, read_actions, read_entities, read_forms};
 use crate::schema::members::uids_of;
-use cedar_form::{
+use cedar_schema_json::{
     Entry, NameTable, SchemaFault, Table, check_spaces, ends_of, entries_of, names_of,
 };
 use serde_json::{Map, Value};

@@ -1,8 +1,8 @@
 //! Rows of bits.
 ghost use Rattle.std.specs.Prelude.{◌≡◌, ℕ, ◌||◌, [], nat_eq, OnOk};
-ghost use Rattle.cedar_bits.specs.Bits.{has_bit};
+ghost use Rattle.base_bits.specs.Bits.{has_bit};
 
-use cedar_bits::{has_bit, insert_bit, join};
+use base_bits::{has_bit, insert_bit, join};
 use std::alloc::{AllocError, Global};
 use std::marker::Model;
 

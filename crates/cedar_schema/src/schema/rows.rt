@@ -3,19 +3,19 @@ ghost use Rattle.std.specs.Prelude.{◌≡◌, ◌≢◌, ◌||◌, ◌&&◌, �
 ghost use Rattle.std.specs.List.{list_any};
 ghost use Rattle.std.specs.BTreeMap.{get};
 ghost use Rattle.std.specs.Map.{keys_of};
-ghost use Rattle.cedar_bits.specs.Bits.{has_bit};
+ghost use Rattle.base_bits.specs.Bits.{has_bit};
 ghost use Rattle.cedar_value.specs.Order.{uid_cmp};
 ghost use Rattle.cedar_value.specs.declared.uid.Uid.{Uid as UidTree};
-ghost use Rattle.cedar_schema.specs.SchemaTree.{parents_of_action};
-ghost use Rattle.cedar_closure.specs.Closure.{LeadsTo};
+ghost use Rattle.cedar_schema_spec.specs.SchemaTree.{parents_of_action};
+ghost use Rattle.base_reach.specs.Closure.{LeadsTo};
 ghost use Rattle.cedar_schema.specs.Private.Kept.{AreRows, AreTypeRows, HasTypes, has_number, type_bit};
-ghost use Rattle.cedar_form.specs.declared.schema_fault.SchemaFault.TheVariants.{OutOfMemory, ActionCycle};
+ghost use Rattle.cedar_schema_json.specs.declared.schema_fault.SchemaFault.TheVariants.{OutOfMemory, ActionCycle};
 
 use crate::schema::action::Action;
 use crate::schema::ancestors::actions_above;
 use crate::schema::descents::Descents;
 use crate::schema::row::Row;
-use cedar_form::SchemaFault;
+use cedar_schema_json::SchemaFault;
 use cedar_value::{Name, Uid};
 use std::alloc::{AllocError, Global};
 use std::collections::{BTreeMap, BTreeSet};

@@ -1,16 +1,16 @@
 -- What holds of a job as it is kept.
 use Rattle.std.specs.Prelude.{◌≡◌, ℕ, ◌<◌, nat_lt, List, ◌∷◌, length, drop, All, Contains, Option, Some, None, is_some}
 use Rattle.cedar_value.specs.declared.request.Request.{Request}
-use Rattle.cedar_policies.specs.PolicyTree.{PolicyTree}
-use Rattle.cedar_policies.specs.Response.{ErringTree}
+use Rattle.cedar_ast.specs.PolicyTree.{PolicyTree}
+use Rattle.cedar_ast.specs.Response.{ErringTree}
 use Rattle.cedar_code.specs.Machine.{Configuration, start, Steps}
 use Rattle.cedar_machine.specs.RestingView.{RestingView}
-use Rattle.cedar_schema.specs.Conformance.{Fits}
-use Rattle.cedar_typing.specs.Soundness.{IsAllowedWith}
-use Rattle.cedar_typing.specs.declared.settings.Settings.{Settings}
+use Rattle.cedar_schema_spec.specs.Conformance.{Fits}
+use Rattle.cedar_check_spec.specs.Soundness.{IsAllowedWith}
+use Rattle.cedar_check_spec.specs.declared.settings.Settings.{Settings}
 use Rattle.cedar_auth.specs.Codes.{policy_code}
 use Rattle.cedar_auth.specs.Ready.{ReadyTree}
-use Rattle.cedar_histories.specs.Results.{Results}
+use Rattle.cedar_service_law.specs.Results.{Results}
 use Rattle.cedar_service.specs.Private.Parts.{policies_at}
 
 -- the configuration of the run under way, if there is one

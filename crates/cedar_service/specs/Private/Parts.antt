@@ -1,7 +1,7 @@
 -- Parts of the policies, by their positions.
 use Rattle.std.specs.Prelude.{ℕ, List, [], ◌∷◌, slice_get}
 use Rattle.std.specs.List.{cons_option}
-use Rattle.cedar_policies.specs.PolicyTree.{PolicyTree}
+use Rattle.cedar_ast.specs.PolicyTree.{PolicyTree}
 
 -- the policies at these positions
 abbrev pub policies_at : List PolicyTree → List ℕ → List PolicyTree

@@ -1,7 +1,7 @@
 -- One step of a job.
 use Rattle.std.specs.Prelude.{◌≡◌, Bool, true, List, [], ◌∷◌}
-use Rattle.cedar_policies.specs.PolicyTree.{PolicyTree}
-use Rattle.cedar_histories.specs.Jobs.{JobTree, Advances, is_finished}
+use Rattle.cedar_ast.specs.PolicyTree.{PolicyTree}
+use Rattle.cedar_service_law.specs.Jobs.{JobTree, Advances, is_finished}
 
 -- a finished job stays as it is; another one advances, and it is told whether none is left
 abbrev pub StepsTo : JobTree → List PolicyTree → Bool → JobTree → Type 0

@@ -1,12 +1,12 @@
 -- What the end of a policy's run says.
 use Rattle.std.specs.Prelude.{ℕ, true, false, List, [], ◌∷◌, ◌++◌, Option, Some, None, Ok, Err}
-use Rattle.cedar_policies.specs.declared.effect.Effect.{Effect}
-use Rattle.cedar_policies.specs.Response.{is_true}
+use Rattle.cedar_ast.specs.declared.effect.Effect.{Effect}
+use Rattle.cedar_ast.specs.Response.{is_true}
 use Rattle.cedar_code.specs.declared.outcome.Outcome.{Outcome}
 use Rattle.cedar_code.specs.declared.outcome.Outcome.TheVariants.{Value, Error, StackFault}
 use Rattle.cedar_code.specs.Machine.{Configuration, going, ended}
 use Rattle.cedar_machine.specs.Verdict.{Verdict}
-use Rattle.cedar_histories.specs.Results.{Results, satisfied}
+use Rattle.cedar_service_law.specs.Results.{Results, satisfied}
 
 abbrev pub verdict_of : Outcome → Verdict
 verdict_of (Value v) = Ok (is_true (Ok v))

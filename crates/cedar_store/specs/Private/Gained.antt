@@ -1,7 +1,7 @@
 -- What a list of uids gains from a row.
 use Rattle.std.specs.Prelude.{◌≡◌, ◌≢◌, ◌↔◌, ◌++◌, ℕ, List, Contains, AllPairs, IsTrue}
 use Rattle.std.specs.Borrow.{Bor}
-use Rattle.cedar_closure.specs.Private.Lent.{lent}
+use Rattle.base_reach.specs.Private.Lent.{lent}
 use Rattle.cedar_value.specs.declared.uid.Uid.{Uid}
 use Rattle.cedar_store.specs.Private.Kept.{in_row}
 

@@ -3,8 +3,8 @@ use Rattle.std.specs.Prelude.{◌≡◌, ◌↔◌, ℕ, Bool, false, true, List
 use Rattle.std.specs.BTreeSet.{BTreeSet, contains}
 use Rattle.std.specs.List.{slice_get, list_any}
 use Rattle.indexmap.specs.IndexMap.{IndexMap, get}
-use Rattle.cedar_bits.specs.Bits.{has_bit}
-use Rattle.cedar_closure.specs.Closure.{IsClosure}
+use Rattle.base_bits.specs.Bits.{has_bit}
+use Rattle.base_reach.specs.Closure.{IsClosure}
 use Rattle.cedar_value.specs.Datum.{Datum, uid, same_uid}
 use Rattle.cedar_value.specs.Order.{uid_cmp}
 use Rattle.cedar_value.specs.World.{EntityTree, World, parents_of}

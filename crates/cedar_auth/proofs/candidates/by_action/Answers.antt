@@ -5,13 +5,13 @@ use Rattle.cedar_value.specs.Order.{uid_cmp}
 use Rattle.cedar_value.specs.Private.Laws.{uid_total}
 use Rattle.cedar_value.specs.Private.Same.{uid_same}
 use Rattle.cedar_value.specs.declared.uid.Uid.{Uid}
-use Rattle.cedar_schema.specs.SchemaTree.{ActionTree, action_at}
-use Rattle.cedar_index.specs.Index.{IndexTree}
+use Rattle.cedar_schema_spec.specs.SchemaTree.{ActionTree, action_at}
+use Rattle.cedar_auth_index.specs.Index.{IndexTree}
 use Rattle.cedar_auth.specs.declared.row.Row.{Row}
 use Rattle.cedar_auth.specs.Private.RowMaking.{AreRight}
 use Rattle.cedar_auth.specs.Private.Sifting.{OfAction}
 use Rattle.cedar_auth.proofs.CandidateRows.{row_right, rows_made}
-use Rattle.cedar_auth.proofs.Listed.{here, there}
+use Rattle.base_reach.proofs.Listed.{here, there}
 use Rattle.cedar_auth.proofs.Makings.{making_more}
 use Rattle.cedar_auth.proofs.candidates.by_action.Goals as goal
 

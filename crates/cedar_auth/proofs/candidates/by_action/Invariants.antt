@@ -2,7 +2,7 @@ use Rattle.std.proofs.Common.{◌≡◌, Contains, Some}
 use Rattle.std.specs.Map.{keys_of}
 use Rattle.cedar_value.specs.Order.{uid_cmp}
 use Rattle.cedar_value.specs.declared.uid.Uid.{Uid}
-use Rattle.cedar_schema.specs.SchemaTree.{ActionTree, action_at}
+use Rattle.cedar_schema_spec.specs.SchemaTree.{ActionTree, action_at}
 use Rattle.cedar_auth.specs.declared.row.Row.{Row}
 use Rattle.cedar_auth.specs.Private.RowMaking.{AreRight}
 use Rattle.cedar_auth.specs.Private.Sifting.{OfAction}

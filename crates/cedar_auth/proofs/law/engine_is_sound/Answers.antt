@@ -1,4 +1,4 @@
-use Rattle.cedar_typing.specs.Settings.{default_settings}
+use Rattle.cedar_check_spec.specs.Settings.{default_settings}
 use Rattle.cedar_auth.proofs.Headlines.{engine_is_sound, premises_are_met}
 use Rattle.cedar_auth.proofs.law.engine_is_sound.Goals as goal
 

@@ -3,7 +3,7 @@ use Rattle.std.specs.BTreeMap.{Updates}
 use Rattle.std.proofs.lemmas.Cmp.{nat_list_cmp_total}
 use Rattle.cedar_value.specs.Order.{text_cmp}
 use Rattle.cedar_value.specs.Private.Same.{text_same}
-use Rattle.cedar_index.specs.Index.{IndexTree}
+use Rattle.cedar_auth_index.specs.Index.{IndexTree}
 use Rattle.cedar_auth.specs.Private.Sifting.{OfResource}
 use Rattle.cedar_auth.proofs.Makings.{making_more, making_end}
 use Rattle.cedar_auth.proofs.row.by_resource.Goals as goal

@@ -1,5 +1,5 @@
 use Rattle.std.proofs.Common.{ℕ, List, sym, subst, ◌∙◌}
-use Rattle.cedar_typing.specs.Candidates.{MayMeet}
+use Rattle.cedar_check_spec.specs.Candidates.{MayMeet}
 use Rattle.cedar_auth.specs.Private.Sifting.{SiftedBy}
 use Rattle.cedar_auth.proofs.row.of_resource.Goals as goal
 

@@ -1,5 +1,5 @@
 use Rattle.std.proofs.Common.{take}
-use Rattle.cedar_typing.specs.Typing.{IsInOne}
+use Rattle.cedar_check_spec.specs.Typing.{IsInOne}
 use Rattle.cedar_auth.proofs.scope_tests.is_within_one.Given as goal
 
 abbrev pub invariant-loop-uid : goal.invariant-loop-uid

@@ -1,14 +1,14 @@
 use Rattle.std.proofs.Common.{◌≡◌, ◌+◌, suc, drop, drop_of_length-le, arith, ap, subst, sym, ◌∙◌}
 use Rattle.std.specs.Prelude.{option_and_then, option_map}
-use Rattle.cedar_types.specs.Joining.{only_if}
-use Rattle.cedar_types.specs.Types.{Attributes, no_attributes, record_of}
-use Rattle.cedar_ast.specs.Private.Depth.{depth, list_depth, pairs_depth}
-use Rattle.cedar_ast.specs.Expression.{set_with, record_with, expressions_of, entries_of}
-use Rattle.cedar_ast.specs.Keys.{AreDistinct, keys_of, keys_in}
-use Rattle.cedar_ast.proofs.Lists.{member_depth, pair_depth}
-use Rattle.cedar_typing.specs.Rows.{Typed, as_type}
-use Rattle.cedar_typing.specs.Private.Checking.{are_distinct, types_onto, types_entries}
-use Rattle.cedar_rules.specs.View.{held_view, tree_of, typed_view, typing_view}
+use Rattle.cedar_schema_types.specs.Joining.{only_if}
+use Rattle.cedar_schema_types.specs.Types.{Attributes, no_attributes, record_of}
+use Rattle.cedar_ast_expressions.specs.Private.Depth.{depth, list_depth, pairs_depth}
+use Rattle.cedar_ast_expressions.specs.Expression.{set_with, record_with, expressions_of, entries_of}
+use Rattle.cedar_ast_expressions.specs.Keys.{AreDistinct, keys_of, keys_in}
+use Rattle.cedar_ast_expressions.proofs.Lists.{member_depth, pair_depth}
+use Rattle.cedar_check_spec.specs.Rows.{Typed, as_type}
+use Rattle.cedar_check_spec.specs.Private.Checking.{are_distinct, types_onto, types_entries}
+use Rattle.cedar_check_operators.specs.View.{held_view, tree_of, typed_view, typing_view}
 use Rattle.cedar_check.proofs.Joined.{member_refused, member_apart, member_joined, entry_refused, entry_added, nothing, distinct_names}
 use Rattle.cedar_check.proofs.checking.+check.Goals as goal
 

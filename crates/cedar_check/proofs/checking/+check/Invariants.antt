@@ -1,9 +1,9 @@
 use Rattle.std.proofs.Common.{◌≡◌, suc, max, ◌+◌, ◌*◌, drop}
-use Rattle.cedar_types.specs.Types.{no_attributes}
-use Rattle.cedar_ast.specs.Expression.{entries_of, expressions_of}
-use Rattle.cedar_ast.specs.Private.Depth.{depth, list_depth, pairs_depth}
-use Rattle.cedar_typing.specs.Private.Checking.{types_entries, types_onto}
-use Rattle.cedar_rules.specs.View.{held_view, tree_of}
+use Rattle.cedar_schema_types.specs.Types.{no_attributes}
+use Rattle.cedar_ast_expressions.specs.Expression.{entries_of, expressions_of}
+use Rattle.cedar_ast_expressions.specs.Private.Depth.{depth, list_depth, pairs_depth}
+use Rattle.cedar_check_spec.specs.Private.Checking.{types_entries, types_onto}
+use Rattle.cedar_check_operators.specs.View.{held_view, tree_of}
 use Rattle.cedar_check.proofs.checking.+check.Given as goal
 
 abbrev pub decreases-check : goal.decreases-check

@@ -1,17 +1,17 @@
 use Rattle.std.proofs.Common.{◌≡◌, false, [], Option, Some, sym, ap, subst, ◌∙◌}
 use Rattle.std.specs.Prelude.{IfOk, option_and_then}
 use denote.Enum.Bare.{sameb}
-use Rattle.cedar_types.specs.contracts.truth.Truth.{the_type}
-use Rattle.cedar_types.specs.declared.truth.Truth.{Truth}
-use Rattle.cedar_types.specs.declared.truth.Truth.TheVariants.{True, False, Any}
-use Rattle.cedar_ast.specs.Expression.{Expression, and}
-use Rattle.cedar_schema.specs.SchemaTree.{SchemaTree}
-use Rattle.cedar_schema.specs.declared.schema.environment.Environment.{Environment}
-use Rattle.cedar_typing.specs.Rows.{Typed, truth_in}
-use Rattle.cedar_typing.specs.Private.Checking.{and_right, and_type, on_boolean, type_of_with}
-use Rattle.cedar_rules.specs.View.{held_view, tree_of, typed_view, typing_view}
+use Rattle.cedar_schema_types.specs.contracts.truth.Truth.{the_type}
+use Rattle.cedar_schema_types.specs.declared.truth.Truth.{Truth}
+use Rattle.cedar_schema_types.specs.declared.truth.Truth.TheVariants.{True, False, Any}
+use Rattle.cedar_ast_expressions.specs.Expression.{Expression, and}
+use Rattle.cedar_schema_spec.specs.SchemaTree.{SchemaTree}
+use Rattle.cedar_schema_spec.specs.declared.environment.Environment.{Environment}
+use Rattle.cedar_check_spec.specs.Rows.{Typed, truth_in}
+use Rattle.cedar_check_spec.specs.Private.Checking.{and_right, and_type, on_boolean, type_of_with}
+use Rattle.cedar_check_operators.specs.View.{held_view, tree_of, typed_view, typing_view}
 use Rattle.cedar_check.proofs.checking.check_scoped.Goals as goal
-use Rattle.cedar_typing.specs.declared.settings.Settings.{Settings}
+use Rattle.cedar_check_spec.specs.declared.settings.Settings.{Settings}
 
 opened : (settings : Settings) (s : SchemaTree) (env : Environment) (p q : Expression) (x : Typed) (t : Truth) → type_of_with settings s env [] p ≡ Some x → truth_in x.ty ≡ Some t → type_of_with settings s env [] (and p q) ≡ and_type [] (λ k. type_of_with settings s env k q) t x.gained
 opened settings s env p q x t typed known =

@@ -1,9 +1,9 @@
 use Rattle.std.proofs.Common.{◌≡◌, ◌++◌, ◌&&◌, ◌∷◌, [], Bool, List, cond, length, map, arith, ap, subst, sym, ◌∙◌}
 use Rattle.std.specs.Prelude.{IfSome, is_some, slice_get}
-use Rattle.cedar_schema.specs.SchemaTree.{environments_of}
-use Rattle.cedar_typing.specs.Private.Checking.{form_in_with}
-use Rattle.cedar_typing.specs.Private.Reporting.{is_known_false}
-use Rattle.cedar_typing.specs.Reports.{fault_at}
+use Rattle.cedar_schema_spec.specs.SchemaTree.{environments_of}
+use Rattle.cedar_check_spec.specs.Private.Checking.{form_in_with}
+use Rattle.cedar_check_spec.specs.Private.Reporting.{is_known_false}
+use Rattle.cedar_check_spec.specs.Reports.{fault_at}
 use Rattle.cedar_check.specs.declared.form.Form.{Form}
 use Rattle.cedar_check.specs.FaultView.{fault_view}
 use Rattle.cedar_check.specs.Private.Condition.{condition_in}

@@ -1,6 +1,6 @@
 use Rattle.std.proofs.Common.{◌≡◌, ◌++◌, ◌&&◌, map, drop}
 use Rattle.std.specs.List.{list_all}
-use Rattle.cedar_typing.specs.Private.Reporting.{faults_in_with}
+use Rattle.cedar_check_spec.specs.Private.Reporting.{faults_in_with}
 use Rattle.cedar_check.specs.FaultView.{fault_view}
 use Rattle.cedar_check.proofs.Environments.{known_false}
 use Rattle.cedar_check.proofs.fault.check_everywhere.Given as goal

@@ -1,5 +1,5 @@
 use Rattle.std.proofs.Common.{Bor, map, take_all, ap, ◌∙◌}
-use Rattle.cedar_schema.specs.declared.schema.environment.Environment.{Environment}
+use Rattle.cedar_schema_spec.specs.declared.environment.Environment.{Environment}
 use Rattle.cedar_check.specs.Private.Signatures.{form_with}
 use Rattle.cedar_check.proofs.Numbers.{known_from}
 use Rattle.cedar_check.proofs.known.forms_in.Goals as goal

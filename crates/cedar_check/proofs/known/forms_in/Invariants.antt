@@ -1,5 +1,5 @@
 use Rattle.std.proofs.Common.{◌≡◌, Bor, map, take}
-use Rattle.cedar_schema.specs.declared.schema.environment.Environment.{Environment}
+use Rattle.cedar_schema_spec.specs.declared.environment.Environment.{Environment}
 use Rattle.cedar_check.specs.Private.Signatures.{form_with}
 use Rattle.cedar_check.specs.Private.View.{form_view}
 use Rattle.cedar_check.proofs.known.forms_in.Given as goal

@@ -1,5 +1,5 @@
 use Rattle.std.proofs.Common.{arith}
-use Rattle.cedar_ast.proofs.Lists.{member_depth, pair_depth}
+use Rattle.cedar_ast_expressions.proofs.Lists.{member_depth, pair_depth}
 use Rattle.cedar_check.proofs.mention.+mention.Goals as goal
 
 pub members_mention-mentions_action-requires : goal.members_mention-mentions_action-requires

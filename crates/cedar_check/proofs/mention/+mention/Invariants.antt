@@ -1,6 +1,6 @@
 use Rattle.std.proofs.Common.{◌≡◌, drop}
-use Rattle.cedar_ast.specs.Expression.{entries_of, expressions_of}
-use Rattle.cedar_ast.specs.Private.Depth.{depth, list_depth, pairs_depth}
+use Rattle.cedar_ast_expressions.specs.Expression.{entries_of, expressions_of}
+use Rattle.cedar_ast_expressions.specs.Private.Depth.{depth, list_depth, pairs_depth}
 use Rattle.cedar_check.specs.Private.Mention.{any_mentions, entries_mention}
 use Rattle.cedar_check.proofs.mention.+mention.Given as goal
 

@@ -1,9 +1,9 @@
 use Rattle.std.proofs.Common.{map, drop_of_length-le, arith, ap, sym, subst, ◌∙◌, ◌++◌}
 use Rattle.std.specs.Prelude.{option_copied}
 use Rattle.cedar_check.specs.FaultView.{fault_view}
-use Rattle.cedar_typing.specs.Private.Reporting.{all_faults_with, warnings_with}
-use Rattle.cedar_typing.specs.Reports.{AreFaultsWith, AreWarningsWith}
-use Rattle.cedar_typing.proofs.Reports.{are_faults, are_warnings}
+use Rattle.cedar_check_spec.specs.Private.Reporting.{all_faults_with, warnings_with}
+use Rattle.cedar_check_spec.specs.Reports.{AreFaultsWith, AreWarningsWith}
+use Rattle.cedar_check_law.proofs.Reports.{are_faults, are_warnings}
 use Rattle.cedar_check.proofs.Environments.{nil_right}
 use Rattle.cedar_check.proofs.Policies.{more_faults, more_warnings, not_past}
 use Rattle.cedar_check.proofs.report.check_with.Goals as goal

@@ -1,5 +1,5 @@
 use Rattle.std.proofs.Common.{◌≡◌, ◌++◌, map, drop}
-use Rattle.cedar_typing.specs.Private.Reporting.{all_faults_with, warnings_with}
+use Rattle.cedar_check_spec.specs.Private.Reporting.{all_faults_with, warnings_with}
 use Rattle.cedar_check.specs.FaultView.{fault_view}
 use Rattle.cedar_check.proofs.report.check_with.Given as goal
 

@@ -1,6 +1,6 @@
 use Rattle.std.proofs.Common.{◌≡◌, ◌+◌, length, drop}
-use Rattle.cedar_types.specs.TypeKind.{attributes_of}
-use Rattle.cedar_types.specs.Private.Weight.{weight, attributes_weight}
+use Rattle.cedar_schema_types.specs.TypeKind.{attributes_of}
+use Rattle.cedar_schema_types.specs.Private.Weight.{weight, attributes_weight}
 use Rattle.cedar_check.proofs.type_order.+order.Given as goal
 
 -- what is left being equal, all is

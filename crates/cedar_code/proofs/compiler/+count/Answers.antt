@@ -1,7 +1,7 @@
 use Rattle.std.proofs.Common.{◌≡◌, ◌+◌, suc, take, ap, ◌∙◌, sym, arith}
-use Rattle.cedar_ast.specs.Private.Depth.{depth, list_depth, pairs_depth, most_doubled}
-use Rattle.cedar_ast.specs.Expression.{set_with, record_with, expressions_of, entries_of}
-use Rattle.cedar_ast.specs.declared.entries.Entries.TheDeep.{size-Expr}
+use Rattle.cedar_ast_expressions.specs.Private.Depth.{depth, list_depth, pairs_depth, most_doubled}
+use Rattle.cedar_ast_expressions.specs.Expression.{set_with, record_with, expressions_of, entries_of}
+use Rattle.cedar_ast_expressions.specs.declared.entries.Entries.TheDeep.{size-Expr}
 use Rattle.cedar_code.specs.Code.{size, size_all, size_entries}
 use Rattle.cedar_code.proofs.Falls.{size_low, most_pairs, pair_size}
 use Rattle.cedar_code.proofs.Sizes.{size_all-snoc, size_entries-snoc}

@@ -1,5 +1,5 @@
 use Rattle.std.proofs.Common.{◌≡◌, min, take}
-use Rattle.cedar_ast.specs.Expression.{expressions_of, entries_of}
+use Rattle.cedar_ast_expressions.specs.Expression.{expressions_of, entries_of}
 use Rattle.cedar_code.specs.Code.{size_all, size_entries}
 use Rattle.cedar_code.proofs.compiler.+count.Given as goal
 

@@ -1,9 +1,9 @@
 use Rattle.std.proofs.Common.{◌≡◌, ◌∙◌, ◌++◌, suc, length, take, ap, sym, arith}
 use Rattle.std.proofs.lemmas.Result.{on_ok_weaker}
 use Rattle.std.proofs.lemmas.List.{take_all}
-use Rattle.cedar_ast.specs.Private.Depth.{depth, list_depth, pairs_depth, most_doubled}
-use Rattle.cedar_ast.specs.Expression.{set_with, record_with, expressions_of, entries_of}
-use Rattle.cedar_ast.specs.declared.entries.Entries.TheDeep.{size-Expr}
+use Rattle.cedar_ast_expressions.specs.Private.Depth.{depth, list_depth, pairs_depth, most_doubled}
+use Rattle.cedar_ast_expressions.specs.Expression.{set_with, record_with, expressions_of, entries_of}
+use Rattle.cedar_ast_expressions.specs.declared.entries.Entries.TheDeep.{size-Expr}
 use Rattle.cedar_code.specs.declared.instruction.Instruction.TheVariants.{And, Or}
 use Rattle.cedar_code.specs.Code.{code_all, code_entries}
 use Rattle.cedar_code.proofs.Emitted.{emitted_binary, emitted_short_circuit, emitted_branches, emitted_member, emitted_entry, emitted_set, emitted_record}

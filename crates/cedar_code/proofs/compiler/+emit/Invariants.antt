@@ -1,5 +1,5 @@
 use Rattle.std.proofs.Common.{◌≡◌, ◌++◌, length, take}
-use Rattle.cedar_ast.specs.Expression.{expressions_of, entries_of}
+use Rattle.cedar_ast_expressions.specs.Expression.{expressions_of, entries_of}
 use Rattle.cedar_code.specs.Code.{code_all, code_entries}
 use Rattle.cedar_code.proofs.compiler.+emit.Given as goal
 

@@ -1,5 +1,5 @@
 use Rattle.std.proofs.Common.{◌<◌, ◌∙◌, sym, length, arith}
-use Rattle.cedar_conditions.proofs.AskedLemmas.{asked_next, asked_end}
+use Rattle.cedar_parser_limits.proofs.AskedLemmas.{asked_next, asked_end}
 use Rattle.cedar_parser.proofs.asked.asked_along.Goals as goal
 
 pub loop-name-preserved : goal.loop-name-preserved

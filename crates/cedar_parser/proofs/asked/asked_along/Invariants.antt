@@ -1,5 +1,5 @@
 use Rattle.std.proofs.Common.{◌≡◌, drop}
-use Rattle.cedar_conditions.specs.Meaning.{asked_from, asked_of}
+use Rattle.cedar_parser_limits.specs.Meaning.{asked_from, asked_of}
 use Rattle.cedar_parser.proofs.asked.asked_along.Given as goal
 
 abbrev pub invariant-loop-name : goal.invariant-loop-name

@@ -1,15 +1,15 @@
 use Rattle.std.proofs.Common.{◌≡◌, List, sym, ap, subst, ◌∙◌, ◌<◌, length, arith}
 use Rattle.std.specs.Prelude.{IfOk}
-use Rattle.cedar_ast.specs.Expression.{Expression, Entries, expressions_of, entries_of, record_with}
-use Rattle.cedar_ast.specs.Keys.{AreDistinct, keys_of}
-use Rattle.cedar_conditions.specs.declared.side_condition.SideCondition.TheVariants.{Strings, Numbers, Keys, Names, Counts, Slots}
-use Rattle.cedar_written.specs.Written.{Written, members_of}
-use Rattle.cedar_written.specs.WrittenKind.{written_of}
-use Rattle.cedar_written.specs.declared.written.WrittenKind.{WrittenKind}
-use Rattle.cedar_conditions.specs.Meaning.{to_expression, to_expressions, function_of, method_of}
-use Rattle.cedar_conditions.specs.Limits.{Keeps}
-use Rattle.cedar_conditions.specs.Private.Parts.{KeepLink}
-use Rattle.cedar_conditions.proofs.PartLemmas.{link_lighter, member_lighter, field_lighter, links_here, members_here, fields_here, behind_all, expressions_next, keys_of_pairs, entries_of_pairs}
+use Rattle.cedar_ast_expressions.specs.Expression.{Expression, Entries, expressions_of, entries_of, record_with}
+use Rattle.cedar_ast_expressions.specs.Keys.{AreDistinct, keys_of}
+use Rattle.cedar_parser_limits.specs.declared.side_condition.SideCondition.TheVariants.{Strings, Numbers, Keys, Names, Counts, Slots}
+use Rattle.cedar_parser_tree.specs.Written.{Written, members_of}
+use Rattle.cedar_parser_tree.specs.WrittenKind.{written_of}
+use Rattle.cedar_parser_tree.specs.declared.written.WrittenKind.{WrittenKind}
+use Rattle.cedar_parser_limits.specs.Meaning.{to_expression, to_expressions, function_of, method_of}
+use Rattle.cedar_parser_limits.specs.Limits.{Keeps}
+use Rattle.cedar_parser_limits.specs.Private.Parts.{KeepLink}
+use Rattle.cedar_parser_limits.proofs.PartLemmas.{link_lighter, member_lighter, field_lighter, links_here, members_here, fields_here, behind_all, expressions_next, keys_of_pairs, entries_of_pairs}
 use Rattle.cedar_parser.proofs.CallLemmas.{method_arguments, function_argument}
 use Rattle.cedar_parser.proofs.expression.+expression.Goals as goal
 

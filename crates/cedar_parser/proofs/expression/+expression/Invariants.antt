@@ -1,12 +1,12 @@
 use Rattle.std.proofs.Common.{◌≡◌, suc, ◌+◌, ◌*◌, take, drop, fold}
-use Rattle.cedar_ast.specs.Expression.{expressions_of}
-use Rattle.cedar_conditions.specs.declared.side_condition.SideCondition.TheVariants.{Strings, Numbers, Keys, Names, Counts, Slots}
-use Rattle.cedar_written.specs.WrittenKind.{links_of, fields_of}
-use Rattle.cedar_written.specs.Written.{parts, link_parts, member_parts, field_parts, members_of}
-use Rattle.cedar_conditions.specs.Meaning.{to_expression, to_expressions}
-use Rattle.cedar_conditions.specs.Limits.{KeepLinks, KeepMembers, KeepFields}
-use Rattle.cedar_conditions.specs.Private.Parts.{behind, pairs_of}
-use Rattle.cedar_conditions.proofs.PartLemmas.{link_weight}
+use Rattle.cedar_ast_expressions.specs.Expression.{expressions_of}
+use Rattle.cedar_parser_limits.specs.declared.side_condition.SideCondition.TheVariants.{Strings, Numbers, Keys, Names, Counts, Slots}
+use Rattle.cedar_parser_tree.specs.WrittenKind.{links_of, fields_of}
+use Rattle.cedar_parser_tree.specs.Written.{parts, link_parts, member_parts, field_parts, members_of}
+use Rattle.cedar_parser_limits.specs.Meaning.{to_expression, to_expressions}
+use Rattle.cedar_parser_limits.specs.Limits.{KeepLinks, KeepMembers, KeepFields}
+use Rattle.cedar_parser_limits.specs.Private.Parts.{behind, pairs_of}
+use Rattle.cedar_parser_limits.proofs.PartLemmas.{link_weight}
 use Rattle.cedar_parser.proofs.expression.+expression.Given as goal
 
 abbrev pub decreases-to_expression : goal.decreases-to_expression

@@ -1,6 +1,6 @@
 use Rattle.std.specs.Prelude.{Contains}
-use Rattle.cedar_policies.specs.AddFault.{number_of}
-use Rattle.cedar_policies.specs.PolicySetTree.{id_of, ids_in}
+use Rattle.cedar_ast.specs.AddFault.{number_of}
+use Rattle.cedar_ast.specs.PolicySetTree.{id_of, ids_in}
 use Rattle.cedar_parser.proofs.Refusals.{refused_where}
 use Rattle.cedar_parser.proofs.parser.add.Goals as goal
 

@@ -1,7 +1,7 @@
 use Rattle.std.proofs.Common.{subst, ap, ◌∙◌, List, ℕ}
 use Rattle.std.proofs.lemmas.Result.{err_from_is_err_and}
 use Rattle.std.specs.Prelude.{OnOk, Contains}
-use Rattle.cedar_policies.specs.PolicySetTree.{id_of, ids_in}
+use Rattle.cedar_ast.specs.PolicySetTree.{id_of, ids_in}
 use Rattle.cedar_parser.proofs.TextLemmas.{id_of_statement}
 use Rattle.cedar_parser.proofs.Refusals.{not_entered, judged}
 use Rattle.cedar_parser.proofs.parser.enter.Goals as goal

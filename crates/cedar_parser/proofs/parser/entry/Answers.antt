@@ -1,4 +1,4 @@
-use Rattle.cedar_conditions.specs.declared.side_condition.SideCondition.TheVariants.{Strings, Numbers, Keys, Names, Counts, Slots}
+use Rattle.cedar_parser_limits.specs.declared.side_condition.SideCondition.TheVariants.{Strings, Numbers, Keys, Names, Counts, Slots}
 use Rattle.cedar_parser.proofs.parser.entry.Goals as goal
 
 pub to_statement-requires-clause-numbers : goal.to_statement-requires-clause-numbers

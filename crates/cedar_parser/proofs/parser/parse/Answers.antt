@@ -1,6 +1,6 @@
 use Rattle.std.proofs.Common.{◌≡◌}
 use Rattle.std.proofs.lemmas.Result.{err_from_is_err_and}
-use Rattle.cedar_tokens.proofs.UidLemmas.{IsText}
+use Rattle.cedar_parser_tokens.proofs.UidLemmas.{IsText}
 use Rattle.cedar_parser.proofs.ParseLemmas.{parsed, parsed_only, parsed_fault, unread_answers, unread_text}
 use Rattle.cedar_parser.proofs.parser.parse.Goals as goal
 

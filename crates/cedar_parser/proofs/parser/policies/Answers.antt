@@ -1,8 +1,8 @@
 use Rattle.std.proofs.Common.{arith}
 use Rattle.std.proofs.lemmas.Result.{err_from_is_err_and}
-use Rattle.cedar_expressions.proofs.Moves.{shorter}
-use Rattle.cedar_grammar.proofs.StatementMoves.{statement_moves}
-use Rattle.cedar_grammar.proofs.StatementsSound.{statement_is}
+use Rattle.cedar_parser_expressions.proofs.Moves.{shorter}
+use Rattle.cedar_parser_statements.proofs.StatementMoves.{statement_moves}
+use Rattle.cedar_parser_statements.proofs.StatementsSound.{statement_is}
 use Rattle.cedar_parser.proofs.TextLemmas.{read_none, read_more, read_all}
 use Rattle.cedar_parser.proofs.Refusals.{read_only, unread_only, unread_fault, unentered_only, unentered_fault}
 use Rattle.cedar_parser.proofs.parser.policies.Goals as goal

@@ -1,5 +1,5 @@
 use Rattle.std.proofs.Common.{◌≡◌, drop}
-use Rattle.cedar_conditions.specs.StatementMeaning.{id_in}
+use Rattle.cedar_parser_limits.specs.StatementMeaning.{id_in}
 use Rattle.cedar_parser.proofs.policy.annotated_id.Given as goal
 
 abbrev pub invariant-loop-annotation : goal.invariant-loop-annotation

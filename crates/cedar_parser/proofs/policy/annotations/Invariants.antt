@@ -1,5 +1,5 @@
 use Rattle.std.proofs.Common.{◌≡◌, take, map}
-use Rattle.cedar_conditions.specs.StatementMeaning.{to_annotation}
+use Rattle.cedar_parser_limits.specs.StatementMeaning.{to_annotation}
 use Rattle.cedar_parser.proofs.policy.annotations.Given as goal
 
 abbrev pub invariant-loop-annotation : goal.invariant-loop-annotation

@@ -1,7 +1,7 @@
 use Rattle.std.proofs.Common.{◌≡◌, take, drop, map}
-use Rattle.cedar_conditions.specs.declared.side_condition.SideCondition.TheVariants.{Strings, Numbers, Keys, Names, Counts, Slots}
-use Rattle.cedar_conditions.specs.StatementMeaning.{to_condition}
-use Rattle.cedar_conditions.specs.StatementLimits.{KeepConditions}
+use Rattle.cedar_parser_limits.specs.declared.side_condition.SideCondition.TheVariants.{Strings, Numbers, Keys, Names, Counts, Slots}
+use Rattle.cedar_parser_limits.specs.StatementMeaning.{to_condition}
+use Rattle.cedar_parser_limits.specs.StatementLimits.{KeepConditions}
 use Rattle.cedar_parser.proofs.policy.conditions.Given as goal
 
 abbrev pub invariant-loop-condition : goal.invariant-loop-condition

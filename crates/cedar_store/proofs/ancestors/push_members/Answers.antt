@@ -2,7 +2,7 @@ use Rattle.std.proofs.Common.{◌≡◌, ◌++◌, ◌∷◌, [], not, if◌then
 use Rattle.std.specs.List.{slice_get}
 use Rattle.std.proofs.lemmas.Option.{slice_get-get_or}
 use Rattle.std.proofs.Math.Seq.{take-append_seam}
-use Rattle.cedar_bits.specs.Bits.{HasNoBitFrom, IsNextBit}
+use Rattle.base_bits.specs.Bits.{HasNoBitFrom, IsNextBit}
 use Rattle.cedar_value.specs.declared.uid.Uid.{Uid}
 use Rattle.cedar_store.proofs.Members.{HasGained-none, HasGained-begun, HasGained-more, HasGained-all}
 use Rattle.cedar_store.proofs.ancestors.push_members.Goals as goal

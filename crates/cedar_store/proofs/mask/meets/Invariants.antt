@@ -1,6 +1,6 @@
 use Rattle.std.proofs.Common.{◌≡◌, ℕ, ◌*◌, ◌<◌, true, false}
 use Rattle.std.specs.List.{list_any}
-use Rattle.cedar_bits.specs.Bits.{has_bit}
+use Rattle.base_bits.specs.Bits.{has_bit}
 use Rattle.cedar_store.specs.Private.Mask.{is_numbered}
 use Rattle.cedar_store.proofs.mask.meets.Given as goal
 

@@ -1,6 +1,6 @@
 use Rattle.std.proofs.Common.{◌≡◌, ℕ, ◌*◌, ◌/◌, ◌-◌, ◌≤◌, List, length, take, drop, sym, subst, arith, length-drop}
 use Rattle.std.proofs.lemmas.List.{take_all}
-use Rattle.cedar_bits.specs.Bits.{HaveCommonBit}
+use Rattle.base_bits.specs.Bits.{HaveCommonBit}
 use Rattle.cedar_store.proofs.Meets.{common_found, none_common}
 use Rattle.cedar_store.proofs.mask.meets_in.Goals as goal
 

@@ -1,6 +1,6 @@
 use Rattle.std.proofs.Common.{ℕ, ◌++◌, List, true, false, refl, sym, ap, subst, ◌∙◌, arith}
-use Rattle.cedar_closure.specs.Private.Lent.{lent}
-use Rattle.cedar_closure.proofs.Searching.{IsSearching, search_start, search_new, search_end, search_smaller, lent-push, none_lent}
+use Rattle.base_reach.specs.Private.Lent.{lent}
+use Rattle.base_reach.proofs.Searching.{IsSearching, search_start, search_new, search_end, search_smaller, lent-push, none_lent}
 use Rattle.cedar_value.proofs.Reach.{parents-listed}
 use Rattle.cedar_value.specs.World.{parents_of}
 use Rattle.cedar_store.specs.Entities.{uids_of}

@@ -1,8 +1,8 @@
 use Rattle.std.proofs.Common.{◌≡◌, suc, ap, ◌∙◌, sym, arith}
-use Rattle.cedar_ast.specs.Private.Depth.{depth, list_depth, pairs_depth, most_doubled}
-use Rattle.cedar_ast.specs.Expression.{set_with, record_with, expressions_of, entries_of}
-use Rattle.cedar_ast.specs.declared.entries.Entries.TheDeep.{size-Expr}
-use Rattle.cedar_ast.proofs.Sizes.{size_low, most_pairs, pair_size}
+use Rattle.cedar_ast_expressions.specs.Private.Depth.{depth, list_depth, pairs_depth, most_doubled}
+use Rattle.cedar_ast_expressions.specs.Expression.{set_with, record_with, expressions_of, entries_of}
+use Rattle.cedar_ast_expressions.specs.declared.entries.Entries.TheDeep.{size-Expr}
+use Rattle.cedar_ast_expressions.proofs.Sizes.{size_low, most_pairs, pair_size}
 use Rattle.test_cases.proofs.tree_text.+writing.Goals as goal
 
 pub tree_text-members_text-requires : goal.tree_text-members_text-requires

@@ -11,7 +11,7 @@ use crate::report_text::report_text;
 use crate::schema_input::schema_of;
 use cedar_check::{Report, Settings, check, check_with};
 use cedar_parser::parse;
-use cedar_policies::PolicySet;
+use cedar_ast::PolicySet;
 use cedar_schema::Schema;
 use std::alloc::{AllocError, Global};
 

@@ -7,7 +7,7 @@ use crate::case::Case;
 use crate::case_fault::CaseFault;
 use crate::outcome::Outcome;
 use crate::schema_input::schema_of;
-use cedar_entities::read_entities;
+use cedar_conform_entities::read_entities;
 use cedar_schema::Schema;
 use std::alloc::{AllocError, Global};
 

@@ -7,8 +7,8 @@ use crate::case_fault::CaseFault;
 use crate::outcome::Outcome;
 use crate::schema_input::schema_of;
 use crate::value_text::plain_uid_text;
-use cedar_conform::ConformFault;
-use cedar_entities::read_entities;
+use cedar_conform_requests::ConformFault;
+use cedar_conform_entities::read_entities;
 use cedar_schema::Schema;
 use std::alloc::{AllocError, Global};
 

@@ -6,7 +6,7 @@ use crate::case::Case;
 use crate::case_fault::CaseFault;
 use crate::outcome::Outcome;
 use crate::schema_input::schema_named_at;
-use cedar_conform::{fits, read_request};
+use cedar_conform_requests::{fits, read_request};
 use cedar_schema::Schema;
 use cedar_value::Request;
 use std::alloc::Global;

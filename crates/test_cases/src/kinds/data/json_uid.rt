@@ -6,7 +6,7 @@ use crate::case_fault::CaseFault;
 use crate::json_input::json_at;
 use crate::outcome::Outcome;
 use crate::value_text::plain_uid_text;
-use cedar_conform::{uid_of_object, written_uid};
+use cedar_conform_requests::{uid_of_object, written_uid};
 use cedar_value::Uid;
 use serde_json::Value as Json;
 use std::alloc::{AllocError, Global};

@@ -6,8 +6,8 @@ use crate::case::Case;
 use crate::case_fault::CaseFault;
 use crate::outcome::Outcome;
 use crate::value_text::plain_uid_text;
-use cedar_conform::read_links;
-use cedar_policies::Link;
+use cedar_conform_requests::read_links;
+use cedar_ast::Link;
 use cedar_value::Uid;
 use std::alloc::{AllocError, Global};
 

@@ -8,7 +8,7 @@ use crate::case_fault::CaseFault;
 use crate::json_input::json_at;
 use crate::outcome::Outcome;
 use crate::type_input::type_at;
-use cedar_conform::{is_member, read_value};
+use cedar_conform_requests::{is_member, read_value};
 use cedar_schema::Type;
 use cedar_value::Value;
 use std::alloc::Global;

@@ -5,7 +5,7 @@
 use crate::case::Case;
 use crate::case_fault::CaseFault;
 use crate::outcome::Outcome;
-use cedar_reader::ObjectReader;
+use base_json::ObjectReader;
 use std::alloc::{AllocError, Global};
 
 // More than any list of a case has.

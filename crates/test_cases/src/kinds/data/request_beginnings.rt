@@ -7,7 +7,7 @@ use crate::case::Case;
 use crate::case_fault::CaseFault;
 use crate::outcome::Outcome;
 use crate::schema_input::schema_of;
-use cedar_conform::read_request;
+use cedar_conform_requests::read_request;
 use cedar_schema::Schema;
 use std::alloc::{AllocError, Global};
 

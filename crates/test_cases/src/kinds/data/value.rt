@@ -8,7 +8,7 @@ use crate::json_input::json_at;
 use crate::outcome::Outcome;
 use crate::type_input::type_at;
 use crate::value_text::value_text;
-use cedar_conform::read_value;
+use cedar_conform_requests::read_value;
 use cedar_schema::Type;
 use serde_json::Value as Json;
 use std::alloc::{AllocError, Global};

@@ -6,8 +6,8 @@ use crate::case::Case;
 use crate::case_fault::CaseFault;
 use crate::outcome::Outcome;
 use crate::program_files::{ProgramFiles, settings_of};
-use cedar_lines::{SliceSource, VecSink};
-use cedar_program::authorize;
+use base_lines::{SliceSource, VecSink};
+use cedar_cli::authorize;
 use std::alloc::Global;
 
 /// What the case's call gives.

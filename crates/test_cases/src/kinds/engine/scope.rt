@@ -3,7 +3,7 @@
 //!
 //! Takes `policy`.
 ghost use Rattle.std.specs.Prelude.{◌≡◌, IfOk};
-ghost use Rattle.cedar_policies.specs.Condition.{condition_of};
+ghost use Rattle.cedar_ast.specs.Condition.{condition_of};
 ghost use Rattle.cedar_code.specs.Code.{code_of};
 
 use crate::case::Case;
@@ -12,8 +12,8 @@ use crate::outcome::Outcome;
 use crate::staff::{request_of_ann, staff};
 use cedar_code::{Code, CodeFault, compile};
 use cedar_parser::parse;
-use cedar_policies::{Policy, PolicySet};
-use cedar_scope::{is_met, place_behind};
+use cedar_ast::{Policy, PolicySet};
+use cedar_auth_scope::{is_met, place_behind};
 use cedar_store::Store;
 use std::alloc::Global;
 

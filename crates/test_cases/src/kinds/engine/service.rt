@@ -19,7 +19,7 @@ use crate::ready_files::{ready_of, ready_with};
 use crate::response_line::response_line;
 use cedar_auth::Ready;
 use cedar_service::{JobId, NotPublished, Response, Service, ServiceFault};
-use cedar_typing::Settings;
+use cedar_check_spec::Settings;
 use std::alloc::{AllocError, Global};
 
 /// What the case's call gives.

@@ -6,10 +6,10 @@ use crate::case::Case;
 use crate::case_fault::CaseFault;
 use crate::outcome::Outcome;
 use crate::run_text::sized_line;
-use cedar_ast::Expr;
+use cedar_ast_expressions::Expr;
 use cedar_code::{Code, compile};
 use cedar_machine::{Run, run};
-use cedar_tokens::read_uid;
+use cedar_parser_tokens::read_uid;
 use cedar_value::{NoEntities, Record, Request, Value, ValueKind};
 use std::alloc::{AllocError, Global};
 

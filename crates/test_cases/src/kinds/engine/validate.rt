@@ -6,8 +6,8 @@ use crate::case::Case;
 use crate::case_fault::CaseFault;
 use crate::outcome::Outcome;
 use crate::program_files::{ProgramFiles, settings_of};
-use cedar_lines::VecSink;
-use cedar_program::validate;
+use base_lines::VecSink;
+use cedar_cli::validate;
 use std::alloc::Global;
 
 /// What the case's call gives.

@@ -4,7 +4,7 @@
 use crate::case::Case;
 use crate::case_fault::CaseFault;
 use crate::outcome::Outcome;
-use cedar_program::{Subcommand, Words, words};
+use cedar_cli::{Subcommand, Words, words};
 use std::alloc::{AllocError, Global};
 
 /// What the case's call gives.

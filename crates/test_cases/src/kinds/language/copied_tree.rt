@@ -8,7 +8,7 @@ use crate::condition::condition_of;
 use crate::outcome::Outcome;
 use crate::tree_text::tree_text;
 use crate::value_json::uid_of;
-use cedar_ast::Expr;
+use cedar_ast_expressions::Expr;
 use cedar_value::Uid;
 use std::alloc::{AllocError, Global};
 

@@ -7,7 +7,7 @@ use crate::case_fault::CaseFault;
 use crate::condition::condition_of;
 use crate::list_text::texts_of;
 use crate::outcome::Outcome;
-use cedar_ast::Expr;
+use cedar_ast_expressions::Expr;
 use std::alloc::Global;
 
 /// What the case's call gives.

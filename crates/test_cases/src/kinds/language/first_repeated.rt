@@ -5,7 +5,7 @@ use crate::case::Case;
 use crate::case_fault::CaseFault;
 use crate::list_text::texts_of;
 use crate::outcome::Outcome;
-use cedar_ast::first_repeated;
+use cedar_ast_expressions::first_repeated;
 use std::alloc::{AllocError, Global};
 
 /// What the case's call gives.

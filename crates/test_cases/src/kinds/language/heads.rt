@@ -9,7 +9,7 @@ use crate::outcome::Outcome;
 use crate::policy_lines::push_templates;
 use crate::refusal_text::refused_at;
 use cedar_parser::parse;
-use cedar_policies::{Policy, PolicySet};
+use cedar_ast::{Policy, PolicySet};
 use std::alloc::{AllocError, Global};
 
 /// What the case's call gives.

@@ -7,7 +7,7 @@ use crate::case_fault::CaseFault;
 use crate::outcome::Outcome;
 use crate::refusal_text::refusal_line;
 use cedar_parser::{ParseFault, parse};
-use cedar_policies::PolicySet;
+use cedar_ast::PolicySet;
 use std::alloc::{AllocError, Global};
 
 /// What the case's call gives.

@@ -12,7 +12,7 @@ use crate::policy_lines::policy_lines;
 use crate::statements_by_hand::{policy, slotless, template};
 use crate::value_json::uid_of;
 use cedar_parser::parse;
-use cedar_policies::{AddFault, Effect, PolicySet, Slots, Statement};
+use cedar_ast::{AddFault, Effect, PolicySet, Slots, Statement};
 use cedar_value::Uid;
 use serde_json::Value;
 use std::alloc::{AllocError, Global};

@@ -8,7 +8,7 @@ use crate::outcome::Outcome;
 use crate::refusal_text::refused_at;
 use crate::tree_text::tree_text;
 use cedar_parser::parse;
-use cedar_policies::PolicySet;
+use cedar_ast::PolicySet;
 use std::alloc::{AllocError, Global};
 
 /// What the case's call gives.

@@ -5,9 +5,9 @@ use crate::case::Case;
 use crate::case_fault::CaseFault;
 use crate::outcome::Outcome;
 use crate::tree_text::tree_text;
-use cedar_ast::{Expr, ExprKind};
+use cedar_ast_expressions::{Expr, ExprKind};
 use cedar_parser::{ParseFault, parse};
-use cedar_policies::PolicySet;
+use cedar_ast::PolicySet;
 use std::alloc::{AllocError, Global};
 
 /// What the case's call gives.

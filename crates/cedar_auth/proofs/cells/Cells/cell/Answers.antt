@@ -1,5 +1,5 @@
 use Rattle.std.proofs.Common.{subst, sym, ◌∙◌}
-use Rattle.cedar_index.specs.Index.{IndexTree, IsListingBy, ListingTree}
+use Rattle.cedar_auth_index.specs.Index.{IndexTree, IsListingBy, ListingTree}
 use Rattle.cedar_auth.proofs.Made.{more_made, same_made}
 use Rattle.cedar_auth.proofs.cells.Cells.cell.Goals as goal
 

@@ -1,8 +1,8 @@
 use Rattle.std.proofs.Common.{sym, ap}
 use Rattle.std.proofs.lemmas.Result.{IfOk-weaker}
-use Rattle.cedar_policies.specs.Condition.{condition_of, conditions_of}
+use Rattle.cedar_ast.specs.Condition.{condition_of, conditions_of}
 use Rattle.cedar_machine.specs.Verdict.{verdict_of}
-use Rattle.cedar_scope.proofs.Begun.{scope_short, comes_behind}
+use Rattle.cedar_auth_scope.proofs.Begun.{scope_short, comes_behind}
 use Rattle.cedar_auth.proofs.part.Part.verdict.Goals as goal
 
 pub place_behind-first-requires : goal.place_behind-first-requires

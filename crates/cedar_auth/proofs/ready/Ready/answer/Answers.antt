@@ -1,5 +1,5 @@
 use Rattle.std.proofs.Common.{Contains, ap, subst, ◌∙◌}
-use Rattle.cedar_policies.specs.Response.{ResponseTree}
+use Rattle.cedar_ast.specs.Response.{ResponseTree}
 use Rattle.cedar_auth.specs.Private.Tally.{response_by}
 use Rattle.cedar_auth.proofs.Responses.{response_by-tally}
 use Rattle.cedar_auth.proofs.ready.Ready.answer.Goals as goal

@@ -1,7 +1,7 @@
 use Rattle.std.proofs.Common.{◌≢◌, ℕ, List, subst}
 use Rattle.std.specs.Prelude.{IfErr, IfOk}
-use Rattle.cedar_data.specs.declared.conform_fault.ConformFault.TheVariants.{OutOfMemory}
-use Rattle.cedar_entities.specs.Bytes.{BytesDenote, BytesHaveFault}
+use Rattle.cedar_conform_values.specs.declared.conform_fault.ConformFault.TheVariants.{OutOfMemory}
+use Rattle.cedar_conform_entities.specs.Bytes.{BytesDenote, BytesHaveFault}
 use Rattle.cedar_auth.proofs.ready.Ready.new.Goals as goal
 
 pub returns-in-Ok-clause-denotes : goal.returns-in-Ok-clause-denotes

@@ -1,9 +1,9 @@
 use Rattle.std.proofs.Common.{◌≢◌, subst}
-use Rattle.cedar_policies.specs.PolicySetTree.{PolicySetTree}
-use Rattle.cedar_data.specs.declared.conform_fault.ConformFault.TheVariants.{OutOfMemory}
-use Rattle.cedar_entities.specs.Bytes.{BytesHaveFault}
-use Rattle.cedar_schema.specs.Conformance.{Conforms}
-use Rattle.cedar_schema.specs.SchemaTree.{SchemaTree}
+use Rattle.cedar_ast.specs.PolicySetTree.{PolicySetTree}
+use Rattle.cedar_conform_values.specs.declared.conform_fault.ConformFault.TheVariants.{OutOfMemory}
+use Rattle.cedar_conform_entities.specs.Bytes.{BytesHaveFault}
+use Rattle.cedar_schema_spec.specs.Conformance.{Conforms}
+use Rattle.cedar_schema_spec.specs.SchemaTree.{SchemaTree}
 use Rattle.cedar_auth.specs.Private.Sifting.{AreCandidatesFor}
 use Rattle.cedar_auth.proofs.ready.Ready.new_owned.Goals as goal
 

@@ -3,11 +3,11 @@ use Rattle.std.specs.List.{range_with_len}
 use Rattle.std.specs.List.Sorted.{IsStrictlySortedBy}
 use Rattle.std.specs.Map.{keys_of}
 use Rattle.cedar_value.specs.Order.{uid_cmp}
-use Rattle.cedar_schema.specs.declared.schema.environment.Environment.{Environment}
-use Rattle.cedar_schema.specs.SchemaTree.{SchemaTree}
-use Rattle.cedar_schema.specs.Conformance.{FitsIn}
-use Rattle.cedar_typing.specs.Candidates.{IsCandidate}
-use Rattle.cedar_index.specs.Index.{ListingTree}
+use Rattle.cedar_schema_spec.specs.declared.environment.Environment.{Environment}
+use Rattle.cedar_schema_spec.specs.SchemaTree.{SchemaTree}
+use Rattle.cedar_schema_spec.specs.Conformance.{FitsIn}
+use Rattle.cedar_check_spec.specs.Candidates.{IsCandidate}
+use Rattle.cedar_auth_index.specs.Index.{ListingTree}
 use Rattle.cedar_auth.specs.Private.Sifting.{SiftedBy}
 use Rattle.cedar_auth.specs.Ready.{ReadyTree}
 use Rattle.cedar_auth.proofs.CandidateRows.{positions_for}

@@ -1,7 +1,7 @@
 use Rattle.std.proofs.Common.{subst}
-use Rattle.cedar_schema.specs.Conformance.{Conforms}
-use Rattle.cedar_schema.specs.SchemaTree.{SchemaTree}
-use Rattle.cedar_schema.specs.WellFormed.{AreTypesApart}
+use Rattle.cedar_schema_spec.specs.Conformance.{Conforms}
+use Rattle.cedar_schema_spec.specs.SchemaTree.{SchemaTree}
+use Rattle.cedar_schema_spec.specs.WellFormed.{AreTypesApart}
 use Rattle.cedar_auth.specs.Ready.{ReadyTree}
 use Rattle.cedar_auth.specs.Validation.{IsValidatedWith}
 use Rattle.cedar_auth.proofs.ready.Ready.premises.Goals as goal

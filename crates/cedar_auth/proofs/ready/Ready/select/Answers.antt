@@ -3,10 +3,10 @@ use Rattle.std.proofs.lemmas.Result.{on_ok_weaker}
 use Rattle.std.specs.List.Sorted.{IsStrictlySortedBy}
 use Rattle.std.specs.Map.{keys_of}
 use Rattle.cedar_value.specs.Order.{uid_cmp}
-use Rattle.cedar_schema.specs.SchemaTree.{SchemaTree}
-use Rattle.cedar_schema.specs.WellFormed.{AreTypesApart}
-use Rattle.cedar_schema.specs.Conformance.{Fits}
-use Rattle.cedar_index.specs.Index.{HasReached, IndexTree, ListingTree}
+use Rattle.cedar_schema_spec.specs.SchemaTree.{SchemaTree}
+use Rattle.cedar_schema_spec.specs.WellFormed.{AreTypesApart}
+use Rattle.cedar_schema_spec.specs.Conformance.{Fits}
+use Rattle.cedar_auth_index.specs.Index.{HasReached, IndexTree, ListingTree}
 use Rattle.cedar_auth.specs.Private.Sifting.{LeavesFalse}
 use Rattle.cedar_auth.specs.Ready.{ReadyTree}
 use Rattle.cedar_auth.proofs.CandidateRows.{below_for, selected_for, found_always}

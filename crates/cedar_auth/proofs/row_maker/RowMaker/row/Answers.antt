@@ -2,7 +2,7 @@ use Rattle.std.proofs.Common.{◌≡◌, ℕ, ◌==◌, Bool, true, List, [], �
 use Rattle.std.proofs.lemmas.Bool.Decides.{nat_tests}
 use Rattle.std.specs.Global.{Vec}
 use Rattle.std.specs.Vec.{vec_len}
-use Rattle.cedar_typing.specs.Candidates.{Meets}
+use Rattle.cedar_check_spec.specs.Candidates.{Meets}
 use Rattle.cedar_auth.specs.Private.RowMaking.{AreRight}
 use Rattle.cedar_auth.specs.Private.Sifting.{ByPrincipal, RowCells, SiftedBy}
 use Rattle.cedar_auth.proofs.OpenActions.{open_sifted}

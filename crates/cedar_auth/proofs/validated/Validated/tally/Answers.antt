@@ -1,7 +1,7 @@
 use Rattle.std.proofs.Common.{get_or, Some, sym, ap, ◌∙◌}
 use Rattle.std.proofs.lemmas.List.Elements.{Contains-get_or}
-use Rattle.cedar_policies.specs.PolicyTree.{PolicyTree}
-use Rattle.cedar_policies.specs.Response.{meaning}
+use Rattle.cedar_ast.specs.PolicyTree.{PolicyTree}
+use Rattle.cedar_ast.specs.Response.{meaning}
 use Rattle.cedar_machine.specs.Verdict.{verdict_of}
 use Rattle.cedar_auth.proofs.PoliciesAt.{not_past}
 use Rattle.cedar_auth.proofs.Tallies.{tally_of-next}

@@ -1,7 +1,7 @@
 use Rattle.std.proofs.Common.{subst}
 use Rattle.cedar_value.specs.Order.{uid_cmp}
 use Rattle.cedar_schema.specs.Private.Kept.{AreRows}
-use Rattle.cedar_schema.specs.SchemaTree.{SchemaTree, parents_of_action}
+use Rattle.cedar_schema_spec.specs.SchemaTree.{SchemaTree, parents_of_action}
 use Rattle.cedar_schema.proofs.TypeLemmas.{types_rows}
 use Rattle.cedar_schema.proofs.schema.Schema.action_type_descends.Goals as goal
 

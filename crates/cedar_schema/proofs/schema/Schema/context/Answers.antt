@@ -1,6 +1,6 @@
 use Rattle.std.proofs.Common.{◌≡◌, true, false, sym, subst, ◌∙◌}
-use Rattle.cedar_types.specs.Types.{TypeTree}
-use Rattle.cedar_schema.specs.SchemaTree.{HasEnvironment}
+use Rattle.cedar_schema_types.specs.Types.{TypeTree}
+use Rattle.cedar_schema_spec.specs.SchemaTree.{HasEnvironment}
 use Rattle.cedar_schema.proofs.EnvironmentLemmas.{environment_there, none_declared, not_applied}
 use Rattle.cedar_schema.proofs.schema.Schema.context.Goals as goal
 

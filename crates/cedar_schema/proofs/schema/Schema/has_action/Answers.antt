@@ -3,8 +3,8 @@ use Rattle.std.specs.Prelude.{is_some}
 use Rattle.std.specs.BTreeMap.{is_at}
 use Rattle.std.specs.Map.{lookup}
 use Rattle.cedar_value.specs.Order.{uid_cmp}
-use Rattle.cedar_schema.specs.SchemaTree.{SchemaTree}
-use Rattle.cedar_schema.proofs.DeclaredTests.{has_entry}
+use Rattle.cedar_schema_spec.specs.SchemaTree.{SchemaTree}
+use Rattle.cedar_schema_spec.proofs.DeclaredTests.{has_entry}
 use Rattle.cedar_schema.proofs.schema.Schema.has_action.Goals as goal
 
 pub returns : goal.returns

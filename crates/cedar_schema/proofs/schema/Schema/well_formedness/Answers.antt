@@ -1,8 +1,8 @@
 use Rattle.std.proofs.Common.{subst}
 use Rattle.cedar_value.specs.declared.uid.Uid.{Uid}
-use Rattle.cedar_schema.specs.Descents.{ActionDescends}
-use Rattle.cedar_schema.specs.SchemaTree.{SchemaTree}
-use Rattle.cedar_schema.specs.WellFormed.{IsWellFormed}
+use Rattle.cedar_schema_spec.specs.Descents.{ActionDescends}
+use Rattle.cedar_schema_spec.specs.SchemaTree.{SchemaTree}
+use Rattle.cedar_schema_spec.specs.WellFormed.{IsWellFormed}
 use Rattle.cedar_schema.proofs.DeclaredLemmas.{above_declared, contexts_ordered}
 use Rattle.cedar_schema.proofs.EnvironmentOrder.{environments_in_order}
 use Rattle.cedar_schema.proofs.schema.Schema.well_formedness.Goals as goal

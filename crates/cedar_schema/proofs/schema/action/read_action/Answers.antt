@@ -1,7 +1,7 @@
 use Rattle.std.proofs.lemmas.Result.{err_from_is_err_and}
-use Rattle.cedar_form.specs.Reads.{scope_of}
-use Rattle.cedar_form.specs.TableView.{table_of}
-use Rattle.cedar_form.specs.EntryView.{entry_of}
+use Rattle.cedar_schema_json.specs.Reads.{scope_of}
+use Rattle.cedar_schema_json.specs.TableView.{table_of}
+use Rattle.cedar_schema_json.specs.EntryView.{entry_of}
 use Rattle.cedar_schema.proofs.DeclaringLemmas.{action_part, action_members, action_applies, action_attributes, action_fine}
 use Rattle.cedar_schema.proofs.schema.action.read_action.Goals as goal
 

@@ -1,7 +1,7 @@
 use Rattle.std.proofs.lemmas.Result.{err_from_is_err_and}
 use Rattle.serde_json.specs.View.{view}
-use Rattle.cedar_form.specs.Reads.{scope_of}
-use Rattle.cedar_form.specs.TableView.{table_of}
+use Rattle.cedar_schema_json.specs.Reads.{scope_of}
+use Rattle.cedar_schema_json.specs.TableView.{table_of}
 use Rattle.cedar_schema.proofs.DeclaringLemmas.{applies_part, applies_principals, applies_resources, applies_context, applies_fine}
 use Rattle.cedar_schema.proofs.schema.action.read_given.Goals as goal
 

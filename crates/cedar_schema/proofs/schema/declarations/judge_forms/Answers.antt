@@ -1,12 +1,12 @@
 use Rattle.std.proofs.Common.{◌≡◌, [], sym, subst, ◌+◌, ◌<◌, drop, length, drop_of_length-le, arith, ap}
 use Rattle.std.proofs.lemmas.Result.{err_from_is_err_and}
-use Rattle.cedar_form.specs.declared.form.Form.{Form}
-use Rattle.cedar_form.specs.Faults.{Told}
-use Rattle.cedar_form.specs.FormView.{form_of}
-use Rattle.cedar_form.specs.TableView.{table_of}
+use Rattle.cedar_schema_json.specs.declared.form.Form.{Form}
+use Rattle.cedar_schema_json.specs.Faults.{Told}
+use Rattle.cedar_schema_json.specs.FormView.{form_of}
+use Rattle.cedar_schema_json.specs.TableView.{table_of}
 use Rattle.cedar_schema.specs.Schemas.{expansion_faults}
 use Rattle.cedar_schema.proofs.EachLemmas.{faults_more, faults_refused, faults_end}
-use Rattle.cedar_form.proofs.Lookups.{drop_here}
+use Rattle.cedar_schema_json.proofs.Lookups.{drop_here}
 use Rattle.cedar_schema.proofs.schema.declarations.judge_forms.Goals as goal
 
 pub loop-i-preserved : goal.loop-i-preserved

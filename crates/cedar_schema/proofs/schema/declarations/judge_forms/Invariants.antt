@@ -1,6 +1,6 @@
 use Rattle.std.proofs.Common.{◌≡◌, drop}
 use Rattle.cedar_schema.specs.Each.{each_faults}
-use Rattle.cedar_form.specs.TableView.{table_of}
+use Rattle.cedar_schema_json.specs.TableView.{table_of}
 use Rattle.cedar_schema.specs.Schemas.{expansion_faults}
 use Rattle.cedar_schema.proofs.schema.declarations.judge_forms.Given as goal
 

@@ -2,7 +2,7 @@ use Rattle.std.proofs.Common.{◌+◌, ◌<◌, drop, length, drop_of_length-le,
 use Rattle.std.specs.BTreeMap.{insert_entry}
 use Rattle.cedar_value.specs.Order.{uid_cmp}
 use Rattle.std.proofs.lemmas.Result.{err_from_is_err_and}
-use Rattle.cedar_form.specs.EntryView.{entries_view, entry_of}
+use Rattle.cedar_schema_json.specs.EntryView.{entries_view, entry_of}
 use Rattle.cedar_schema.specs.Schemas.{add_action, one_action_faults}
 use Rattle.cedar_schema.specs.Private.SettingView.{setting_view}
 use Rattle.cedar_schema.proofs.EachLemmas.{entries_here, going_start, going_more, going_refused, going_end}

@@ -1,5 +1,5 @@
 use Rattle.std.proofs.Common.{drop}
-use Rattle.cedar_form.specs.EntryView.{entries_view}
+use Rattle.cedar_schema_json.specs.EntryView.{entries_view}
 use Rattle.cedar_schema.specs.Schemas.{add_action, one_action_faults}
 use Rattle.cedar_schema.specs.Private.SettingView.{setting_view}
 use Rattle.cedar_schema.proofs.EachLemmas.{IsGoing}

@@ -1,12 +1,12 @@
 use Rattle.std.proofs.Common.{◌+◌, ◌<◌, ◌++◌, ◌∷◌, [], List, drop, length, drop_of_length-le, arith, sym, ap, ◌∙◌, append_assoc, append-nil}
 use Rattle.std.proofs.lemmas.List.{map-append}
 use Rattle.std.proofs.lemmas.Result.{err_from_is_err_and}
-use Rattle.cedar_form.specs.declared.form.Form.{Form}
-use Rattle.cedar_form.specs.Forms.{FormTree}
-use Rattle.cedar_form.specs.Entries.{EntryTree}
-use Rattle.cedar_form.specs.FormView.{form_of}
-use Rattle.cedar_form.specs.TableView.{table_of}
-use Rattle.cedar_form.specs.EntryView.{entries_view, entry_of}
+use Rattle.cedar_schema_json.specs.declared.form.Form.{Form}
+use Rattle.cedar_schema_json.specs.Forms.{FormTree}
+use Rattle.cedar_schema_json.specs.Entries.{EntryTree}
+use Rattle.cedar_schema_json.specs.FormView.{form_of}
+use Rattle.cedar_schema_json.specs.TableView.{table_of}
+use Rattle.cedar_schema_json.specs.EntryView.{entries_view, entry_of}
 use Rattle.cedar_schema.specs.Schemas.{common_faults, forms_of}
 use Rattle.cedar_schema.proofs.EachLemmas.{entries_here, faults_more, faults_refused, faults_end}
 use Rattle.cedar_schema.proofs.schema.declarations.read_forms.Goals as goal

@@ -1,7 +1,7 @@
 use Rattle.std.proofs.Common.{◌≡◌, ◌++◌, drop}
 use Rattle.cedar_schema.specs.Each.{each_faults}
-use Rattle.cedar_form.specs.EntryView.{entries_view}
-use Rattle.cedar_form.specs.TableView.{table_of}
+use Rattle.cedar_schema_json.specs.EntryView.{entries_view}
+use Rattle.cedar_schema_json.specs.TableView.{table_of}
 use Rattle.cedar_schema.specs.Schemas.{common_faults, forms_of}
 use Rattle.cedar_schema.proofs.schema.declarations.read_forms.Given as goal
 

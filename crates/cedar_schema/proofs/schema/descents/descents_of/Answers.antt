@@ -1,5 +1,5 @@
 use Rattle.std.proofs.Common.{subst}
-use Rattle.cedar_closure.specs.Closure.{AreListed}
+use Rattle.base_reach.specs.Closure.{AreListed}
 use Rattle.cedar_schema.proofs.Numbered.{AreRows-found}
 use Rattle.cedar_schema.proofs.schema.descents.descents_of.Goals as goal
 

@@ -1,5 +1,5 @@
 use Rattle.std.proofs.Common.{◌≡◌, ◌++◌, take}
-use Rattle.cedar_closure.specs.Private.Lent.{lent}
+use Rattle.base_reach.specs.Private.Lent.{lent}
 use Rattle.cedar_schema.proofs.schema.descents.push_all.Given as goal
 
 abbrev pub invariant-loop-key : goal.invariant-loop-key

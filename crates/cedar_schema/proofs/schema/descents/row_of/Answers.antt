@@ -1,6 +1,6 @@
 use Rattle.std.proofs.Common.{ℕ, ◌++◌, List, true, false, Some, refl, sym, ap, subst, ◌∙◌, arith}
-use Rattle.cedar_closure.specs.Private.Lent.{lent}
-use Rattle.cedar_closure.proofs.Searching.{IsSearching, search_start, search_new, search_end, search_smaller, lent-push, none_lent}
+use Rattle.base_reach.specs.Private.Lent.{lent}
+use Rattle.base_reach.proofs.Searching.{IsSearching, search_start, search_new, search_end, search_smaller, lent-push, none_lent}
 use Rattle.cedar_schema.specs.Private.Kept.{in_row}
 use Rattle.cedar_schema.proofs.Joins.{search_again, search_join, join_smaller}
 use Rattle.cedar_schema.proofs.Numbered.{Gains-bit, Joins-bits, bit_is, in_row-nothing, waiting_numbered}

@@ -1,6 +1,6 @@
 use Rattle.std.proofs.Common.{◌+◌, length}
-use Rattle.cedar_closure.specs.Private.Lent.{lent}
-use Rattle.cedar_closure.proofs.Searching.{IsSearching, links_left}
+use Rattle.base_reach.specs.Private.Lent.{lent}
+use Rattle.base_reach.proofs.Searching.{IsSearching, links_left}
 use Rattle.cedar_schema.specs.Private.Kept.{in_row}
 use Rattle.cedar_schema.proofs.schema.descents.row_of.Given as goal
 

@@ -1,7 +1,7 @@
 use Rattle.std.proofs.lemmas.Result.{err_from_is_err_and}
-use Rattle.cedar_form.specs.Reads.{scope_of}
-use Rattle.cedar_form.specs.TableView.{table_of}
-use Rattle.cedar_form.specs.EntryView.{entry_of}
+use Rattle.cedar_schema_json.specs.Reads.{scope_of}
+use Rattle.cedar_schema_json.specs.TableView.{table_of}
+use Rattle.cedar_schema_json.specs.EntryView.{entry_of}
 use Rattle.cedar_schema.proofs.DeclaringLemmas.{entity_key, entity_part, entity_members, entity_shape, entity_fine}
 use Rattle.cedar_schema.proofs.schema.entity_type.read_entity_type.Goals as goal
 

@@ -1,5 +1,5 @@
 use Rattle.std.proofs.Common.{◌≡◌, ◌++◌}
-use Rattle.cedar_schema.specs.Private.Environments.{with_principals}
+use Rattle.cedar_schema_spec.specs.Private.Environments.{with_principals}
 use Rattle.cedar_schema.proofs.schema.environment.push_principals.Given as goal
 
 abbrev pub invariant-loop-principal : goal.invariant-loop-principal

@@ -1,5 +1,5 @@
 use Rattle.std.proofs.Common.{◌≡◌, ◌++◌}
-use Rattle.cedar_schema.specs.Private.Environments.{with_resources}
+use Rattle.cedar_schema_spec.specs.Private.Environments.{with_resources}
 use Rattle.cedar_schema.proofs.schema.environment.push_resources.Given as goal
 
 abbrev pub invariant-loop-resource : goal.invariant-loop-resource

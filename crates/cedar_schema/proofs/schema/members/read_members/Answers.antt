@@ -2,7 +2,7 @@ use Rattle.std.proofs.Common.{◌+◌, ◌<◌, drop, length, drop_of_length-le,
 use Rattle.std.proofs.lemmas.Result.{err_from_is_err_and}
 use Rattle.serde_json.specs.View.{view, items_view}
 use Rattle.cedar_schema.specs.Declaring.{member_read}
-use Rattle.cedar_form.proofs.ListLemmas.{reading_start, items_here, reading_more, reading_refused, reading_end}
+use Rattle.cedar_schema_json.proofs.ListLemmas.{reading_start, items_here, reading_more, reading_refused, reading_end}
 use Rattle.cedar_schema.proofs.schema.members.read_members.Goals as goal
 
 pub loop-i-init : goal.loop-i-init

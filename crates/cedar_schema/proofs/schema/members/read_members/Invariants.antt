@@ -1,7 +1,7 @@
 use Rattle.std.proofs.Common.{drop}
 use Rattle.serde_json.specs.View.{items_view}
 use Rattle.cedar_schema.specs.Declaring.{member_read}
-use Rattle.cedar_form.proofs.ListLemmas.{IsReading}
+use Rattle.cedar_schema_json.proofs.ListLemmas.{IsReading}
 use Rattle.cedar_schema.proofs.schema.members.read_members.Given as goal
 
 abbrev pub invariant-loop-i : goal.invariant-loop-i

@@ -1,5 +1,5 @@
 use Rattle.std.proofs.Common.{◌≡◌, [], drop}
-use Rattle.cedar_form.specs.EntryView.{entries_view}
+use Rattle.cedar_schema_json.specs.EntryView.{entries_view}
 use Rattle.cedar_schema.specs.Schemas.{uids_onto}
 use Rattle.cedar_schema.proofs.schema.members.uids_of.Given as goal
 

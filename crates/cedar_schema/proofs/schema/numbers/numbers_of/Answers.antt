@@ -1,6 +1,6 @@
 use Rattle.std.proofs.Common.{List, ap, subst, sym, Contains}
 use Rattle.std.specs.Map.{keys_of}
-use Rattle.cedar_closure.specs.Closure.{AreListed}
+use Rattle.base_reach.specs.Closure.{AreListed}
 use Rattle.cedar_schema.proofs.Numbered.{AreNumbered-all, HasLinksNumbered, done_more, done_all}
 use Rattle.cedar_schema.proofs.schema.numbers.numbers_of.Goals as goal
 

@@ -1,7 +1,7 @@
 use Rattle.std.proofs.lemmas.Result.{err_from_is_err_and}
 use Rattle.std.proofs.Common.{ap, ◌∙◌}
 use Rattle.serde_json.specs.View.{members_view}
-use Rattle.cedar_form.specs.EntryView.{entries_view}
+use Rattle.cedar_schema_json.specs.EntryView.{entries_view}
 use Rattle.cedar_schema.specs.Private.SettingView.{sections_view}
 use Rattle.cedar_schema.proofs.AnswerLemmas.{root_spaces, root_all}
 use Rattle.cedar_schema.proofs.schema.reading.read_root.Goals as goal

@@ -1,10 +1,10 @@
 use Rattle.std.proofs.lemmas.Result.{err_from_is_err_and}
 use Rattle.std.proofs.Common.{List, ap, sym, subst, ◌∙◌}
 use Rattle.std.specs.List.{AllByRecursion}
-use Rattle.cedar_form.specs.Forms.{FormTree}
-use Rattle.cedar_form.specs.EntryView.{entries_view}
+use Rattle.cedar_schema_json.specs.Forms.{FormTree}
+use Rattle.cedar_schema_json.specs.EntryView.{entries_view}
 use Rattle.cedar_schema.specs.Private.SettingView.{sections_view}
-use Rattle.cedar_form.specs.TableView.{table_of}
+use Rattle.cedar_schema_json.specs.TableView.{table_of}
 use Rattle.cedar_schema.specs.Private.NamedForms.{FormNames}
 use Rattle.cedar_schema.proofs.AnswerLemmas.{sections_forms, sections_all}
 use Rattle.cedar_schema.proofs.NamedTypes.{forms_named}

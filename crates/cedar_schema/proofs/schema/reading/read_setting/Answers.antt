@@ -1,5 +1,5 @@
 use Rattle.std.proofs.lemmas.Result.{err_from_is_err_and}
-use Rattle.cedar_form.specs.EntryView.{entries_view}
+use Rattle.cedar_schema_json.specs.EntryView.{entries_view}
 use Rattle.cedar_schema.specs.Private.SettingView.{setting_view}
 use Rattle.cedar_schema.proofs.AnswerLemmas.{setting_table, setting_entities, setting_actions, setting_all}
 use Rattle.cedar_schema.proofs.DeclaredLemmas.{declared_well_formed}

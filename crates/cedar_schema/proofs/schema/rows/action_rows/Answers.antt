@@ -1,9 +1,9 @@
 use Rattle.std.proofs.Common.{◌≡◌, true, false, ap, sym, ◌∙◌}
 use Rattle.std.specs.Map.{keys_of}
-use Rattle.cedar_closure.specs.Closure.{LeadsTo}
+use Rattle.base_reach.specs.Closure.{LeadsTo}
 use Rattle.cedar_value.specs.declared.uid.Uid.{Uid}
-use Rattle.cedar_schema.specs.Private.Linked.{actions_listed}
-use Rattle.cedar_schema.specs.SchemaTree.{parents_of_action}
+use Rattle.cedar_schema_spec.specs.Private.Linked.{actions_listed}
+use Rattle.cedar_schema_spec.specs.SchemaTree.{parents_of_action}
 use Rattle.cedar_schema.proofs.Numbered.{acyclic, done_more, done_all}
 use Rattle.cedar_schema.proofs.schema.rows.action_rows.Goals as goal
 

@@ -1,6 +1,6 @@
 use Rattle.std.specs.Map.{keys_of}
-use Rattle.cedar_closure.specs.Closure.{LeadsTo}
-use Rattle.cedar_schema.specs.SchemaTree.{parents_of_action}
+use Rattle.base_reach.specs.Closure.{LeadsTo}
+use Rattle.cedar_schema_spec.specs.SchemaTree.{parents_of_action}
 use Rattle.cedar_schema.proofs.Numbered.{AreDone}
 use Rattle.cedar_schema.proofs.schema.rows.action_rows.Given as goal
 

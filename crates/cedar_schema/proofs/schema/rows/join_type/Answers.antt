@@ -1,6 +1,6 @@
 use Rattle.std.proofs.Common.{◌≡◌, ◌||◌, ℕ, List, [], Option, Some, ap, ◌∙◌, subst, unwrap_or}
 use Rattle.std.specs.BTreeMap.{Updates, get}
-use Rattle.cedar_bits.specs.Bits.{has_bit}
+use Rattle.base_bits.specs.Bits.{has_bit}
 use Rattle.cedar_value.specs.Order.{text_cmp}
 use Rattle.cedar_schema.proofs.TypeLemmas.{type_joined}
 use Rattle.cedar_schema.proofs.schema.rows.join_type.Goals as goal

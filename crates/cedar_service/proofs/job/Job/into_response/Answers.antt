@@ -1,7 +1,7 @@
 use Rattle.std.proofs.Common.{Contains, subst}
-use Rattle.cedar_policies.specs.Response.{ResponseTree}
-use Rattle.cedar_typing.specs.Soundness.{IsAllowedWith}
-use Rattle.cedar_histories.specs.Jobs.{JobTree}
+use Rattle.cedar_ast.specs.Response.{ResponseTree}
+use Rattle.cedar_check_spec.specs.Soundness.{IsAllowedWith}
+use Rattle.cedar_service_law.specs.Jobs.{JobTree}
 use Rattle.cedar_service.proofs.job.Job.into_response.Goals as goal
 
 pub returns-clause-errors : goal.returns-clause-errors

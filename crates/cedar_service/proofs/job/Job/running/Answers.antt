@@ -1,5 +1,5 @@
 use Rattle.std.proofs.Common.{refl, subst, drop, option_copied}
-use Rattle.cedar_histories.specs.Jobs.{JobTree}
+use Rattle.cedar_service_law.specs.Jobs.{JobTree}
 use Rattle.cedar_service.specs.Private.Kept.{configuration_of}
 use Rattle.cedar_service.specs.Private.Parts.{policies_at}
 use Rattle.cedar_service.specs.Runs.{IsRunOf}

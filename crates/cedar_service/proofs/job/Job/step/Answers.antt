@@ -2,12 +2,12 @@ use Rattle.std.proofs.Common.{◌≡◌, ℕ, List, drop, false, ◌+◌, ◌<�
 use Rattle.std.specs.List.{slice_get}
 use Rattle.cedar_value.specs.World.{World}
 use Rattle.cedar_machine.specs.RestingView.{RestsAfter}
-use Rattle.cedar_policies.specs.PolicyTree.{PolicyTree}
-use Rattle.cedar_schema.specs.Conformance.{Fits}
+use Rattle.cedar_ast.specs.PolicyTree.{PolicyTree}
+use Rattle.cedar_schema_spec.specs.Conformance.{Fits}
 use Rattle.cedar_auth.specs.Headline.{IsAnsweredSoundlyWith}
 use Rattle.cedar_auth.specs.Ready.{ReadyTree}
-use Rattle.cedar_histories.specs.Results.{Results}
-use Rattle.cedar_histories.specs.Jobs.{JobTree}
+use Rattle.cedar_service_law.specs.Results.{Results}
+use Rattle.cedar_service_law.specs.Jobs.{JobTree}
 use Rattle.cedar_service.specs.Private.Parts.{policies_at}
 use Rattle.cedar_service.specs.Private.Steps.{StepsTo}
 use Rattle.cedar_service.specs.Private.Kept.{configuration_of, IsBegun, IsReached, AreAllowed}

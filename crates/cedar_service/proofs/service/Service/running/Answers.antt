@@ -1,6 +1,6 @@
 use Rattle.std.proofs.Common.{◌≡◌, Some, None, subst, option_copied, ◌∙◌}
-use Rattle.cedar_histories.specs.Jobs.{job_at}
-use Rattle.cedar_histories.specs.Service.{ServiceState}
+use Rattle.cedar_service_law.specs.Jobs.{job_at}
+use Rattle.cedar_service_law.specs.Service.{ServiceState}
 use Rattle.cedar_service.specs.Runs.{IsRunAt}
 use Rattle.cedar_service.proofs.Tables.{found_at}
 use Rattle.cedar_service.proofs.Calls.{no_run, run_so}

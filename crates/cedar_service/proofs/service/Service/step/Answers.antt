@@ -1,8 +1,8 @@
 use Rattle.std.proofs.Common.{◌≡◌, Some, None, true, false, refl, sym, ap, subst, ◌∙◌}
 use Rattle.std.specs.Prelude.{nat_eq}
 use Rattle.std.specs.Map.{set_value}
-use Rattle.cedar_histories.specs.Jobs.{JobTree, Jobs, job_at, is_finished, ChangesAt}
-use Rattle.cedar_histories.specs.Service.{ServiceState, RefusesStep, StepsJob}
+use Rattle.cedar_service_law.specs.Jobs.{JobTree, Jobs, job_at, is_finished, ChangesAt}
+use Rattle.cedar_service_law.specs.Service.{ServiceState, RefusesStep, StepsJob}
 use Rattle.cedar_service.proofs.Tables.{found_at, set_changes, set_same}
 use Rattle.cedar_service.proofs.Calls.{no_step, finished_step, refused_step, steps_job_so}
 use Rattle.cedar_service.proofs.service.Service.step.Goals as goal

@@ -1,6 +1,6 @@
 use Rattle.std.proofs.Common.{◌≡◌, Option, Some, None, true, false, refl, sym, ap, subst, ◌∙◌}
-use Rattle.cedar_histories.specs.Jobs.{JobTree, job_at, is_finished}
-use Rattle.cedar_histories.specs.Service.{ServiceState, RefusesTake, TakesJob}
+use Rattle.cedar_service_law.specs.Jobs.{JobTree, job_at, is_finished}
+use Rattle.cedar_service_law.specs.Service.{ServiceState, RefusesTake, TakesJob}
 use Rattle.cedar_service.specs.Errors.{NamesAllowed}
 use Rattle.cedar_service.proofs.Tables.{found_at, changed_at}
 use Rattle.cedar_service.proofs.Calls.{no_take, early_take, takes_job}

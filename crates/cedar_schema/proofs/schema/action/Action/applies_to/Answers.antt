@@ -1,7 +1,7 @@
 use Rattle.std.proofs.Common.{Contains, ◌↔◌, IsTrue, refl, subst}
 use Rattle.std.specs.BTreeSet.{contains}
 use Rattle.cedar_value.specs.Order.{text_cmp}
-use Rattle.cedar_schema.specs.SchemaTree.{ActionTree}
+use Rattle.cedar_schema_spec.specs.SchemaTree.{ActionTree}
 use Rattle.cedar_schema.proofs.EnvironmentLemmas.{names_in, first_holds, first_fails}
 use Rattle.cedar_schema.proofs.schema.action.Action.applies_to.Goals as goal
 

@@ -1,4 +1,4 @@
-use Rattle.cedar_scope.proofs.Begun.{scope_short}
+use Rattle.cedar_auth_scope.proofs.Begun.{scope_short}
 use Rattle.test_cases.proofs.kinds.engine.scope.instructions_behind.Goals as goal
 
 pub place_behind-place-requires : goal.place_behind-place-requires

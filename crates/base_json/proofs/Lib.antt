@@ -1,0 +1,11 @@
+mod Bytes
+mod Coming
+mod Digits
+mod FirstItem
+mod Followed
+mod Joined
+mod Punctuated
+mod Reading
+mod Strings
+mod Trees
+mod Words

@@ -1,0 +1,77 @@
+//! JSON texts one after another.
+ghost use Rattle.std.specs.Prelude.{◌≡◌, ◌≢◌, Some, None, IfOk, MatchOption, MatchResult, option_and_then, option_map};
+ghost use Rattle.serde_json.specs.Data.{array};
+ghost use Rattle.serde_json.specs.Find.{as_array};
+ghost use Rattle.serde_json.specs.Read.{read as tree_of_text};
+ghost use Rattle.serde_json.specs.View.{view};
+ghost use Rattle.base_json.specs.JsonTree.{json_of};
+ghost use Rattle.base_json.specs.Items.{to_come};
+ghost use Rattle.base_json.specs.declared.tree_fault.TreeFault.TheVariants.{OutOfMemory};
+
+use crate::items::ItemReader;
+use crate::tree::read_tree;
+use crate::tree_fault::TreeFault;
+use json::{Reader, Scratch};
+use serde_json::Value;
+use std::alloc::{AllocError, Global};
+
+// How deep arrays and objects may nest.
+const MAX_DEPTH: usize = 127;
+
+/// Reads JSON texts with room that is kept from text to text: for the texts with escapes, as long as the longest text, and
+/// for the places of a text's tokens.
+#[derive(Drop)]
+pub struct JsonReader {
+    scratch: Scratch,
+}
+
+impl JsonReader {
+    /// A reader with room for no text yet. It takes no memory.
+    pub fn new(alloc: Global) -> JsonReader {
+        JsonReader {
+            scratch: Scratch::new(alloc),
+        }
+    }
+
+    /// The JSON tree of the bytes, and None exactly where they are no UTF-8, no JSON, or nest deeper than 127
+    /// (RFC 8259). Refused only when out of memory.
+    pub fn read(&mut self, alloc: Global, bytes: &[u8]) -> Result<Option<Value>, AllocError>
+        ensures { IfOk result (λ found. option_map view found ≡ json_of bytes.now) }
+    {
+        let Ok(text) = std::str::from_utf8(bytes) else {
+            return Ok(None);
+        };
+        match read_text(alloc, text, &mut self.scratch) {
+            Ok(json) => Ok(Some(json)),
+            Err(fault) => match fault {
+                TreeFault::OutOfMemory => Err(AllocError),
+                TreeFault::Invalid => Ok(None),
+            },
+        }
+    }
+
+    /// The items of the bytes, to be read one after another, where they begin as a list does; and None where they do not, or
+    /// are no UTF-8: so they are no JSON that is a list (RFC 8259, section 5). Refused only when out of memory.
+    pub fn items<'r>(&'r mut self, bytes: &'r [u8]) -> Result<Option<ItemReader<'r>>, AllocError>
+        ensures { IfOk result (λ found. MatchOption found (option_and_then as_array (json_of bytes.now) ≡ None)
+            (λ items. json_of bytes.now ≡ option_map array (to_come items))) }
+    {
+        let Ok(text) = std::str::from_utf8(bytes) else {
+            return Ok(None);
+        };
+        ItemReader::open(text, &mut self.scratch)
+    }
+}
+
+fn read_text(alloc: Global, text: &str, scratch: &mut Scratch) -> Result<Value, TreeFault>
+    ensures { MatchResult result
+        (λ v. tree_of_text text.now ≡ Some (view v))
+        (λ e. e ≢ OutOfMemory → tree_of_text text.now ≡ None) }
+{
+    let mut reader = Reader::new(text, scratch)?;
+    let value = read_tree(alloc, &mut reader, MAX_DEPTH)?;
+    if reader.next().is_some() {
+        return Err(TreeFault::Invalid);
+    }
+    Ok(value)
+}

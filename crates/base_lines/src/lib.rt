@@ -1,0 +1,32 @@
+//! Answers input line by line: for each line of a source, one line to a sink, as an engine answers it.
+//!
+//! ```rust
+//! use base_lines::{SliceSource, VecSink, serve};
+//!
+//! let mut source = SliceSource::new(b"ping\nping\n");
+//! let mut sink = VecSink::new(alloc);
+//! serve(alloc, &engine, &mut buffers, &mut source, &mut sink)?;
+//! assert_eq!(rt; sink.bytes(), b"pong\npong\n");
+//! ```
+//!
+//! What an engine answers to a line is its own. [`serve`] says of any engine which answers were written, at its end and
+//! after each failure. A source, a sink and an engine of one's own are an `impl` of [`Source`], [`Sink`], [`Engine`].
+#![tactic(auto)]
+
+mod chunk;
+mod countdown;
+mod engine;
+mod law;
+mod output;
+mod serve_fault;
+mod serving;
+mod sink;
+mod source;
+
+pub use engine::Engine;
+pub use law::beginnings_go_on;
+pub use output::flush;
+pub use serve_fault::ServeFault;
+pub use serving::serve;
+pub use sink::{PiecewiseSink, Sink, StdSink, VecSink, WriteFailed};
+pub use source::{PiecewiseSource, ReadFailed, SliceSource, Source, StdSource};

@@ -1,6 +1,0 @@
-use Rattle.std.proofs.Common.{◌≡◌, take, map}
-use Rattle.cedar_ast.specs.Keys.{keys_of}
-use Rattle.cedar_ast.proofs.entries.lent_keys.Given as goal
-
-abbrev pub invariant-loop-pair : goal.invariant-loop-pair
-invariant-loop-pair l = map (λ k. k.now) l.keys.items ≡ keys_of (take l.pair-index l.pairs)

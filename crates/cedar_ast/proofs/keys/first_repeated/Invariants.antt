@@ -1,6 +1,0 @@
-use Rattle.std.proofs.Common.{take}
-use Rattle.cedar_ast.proofs.KeyLemmas.{IsSetOf}
-use Rattle.cedar_ast.proofs.keys.first_repeated.Given as goal
-
-abbrev pub invariant-loop-place : goal.invariant-loop-place
-invariant-loop-place l = IsSetOf (take l.place l.keys) l.seen

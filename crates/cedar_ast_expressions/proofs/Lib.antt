@@ -1,0 +1,4 @@
+mod EvaluationExamples
+pub mod KeyLemmas
+pub mod Lists
+pub mod Sizes

@@ -1,0 +1,10 @@
+pub mod Answer
+pub mod Evaluation
+pub mod Expression
+pub mod ExprKind
+pub mod Keys
+pub mod Operators
+pub mod Private
+pub mod RecordFault
+pub mod Replacement
+pub mod SameExpression

@@ -1,6 +1,0 @@
-use Rattle.std.proofs.Common.{◌*◌}
-use Rattle.cedar_bits.proofs.NextBits.{HasNoBitBetween}
-use Rattle.cedar_bits.proofs.next.first_bit.Given as goal
-
-abbrev pub invariant-loop-place : goal.invariant-loop-place
-invariant-loop-place l = HasNoBitBetween l.row (l.start * 64) (l.place * 64)

@@ -1,0 +1,14 @@
+pub mod Candidates
+pub mod Descents
+pub mod Exact
+pub mod Found
+pub mod Goodness
+pub mod Known
+pub mod LeftOut
+pub mod Operators
+pub mod Premises
+pub mod Refusals
+pub mod Reports
+pub mod Responses
+pub mod Rows
+pub mod Sound

@@ -1,0 +1,210 @@
+//! Types, lent where they can be.
+ghost use Rattle.std.specs.Prelude.{◌≡◌, IfOk, IfSome, option_map};
+ghost use Rattle.cedar_check_spec.specs.Rows.{element_in, entity_in, is_decimal, is_long, is_string, target_in, truth_in};
+ghost use Rattle.cedar_schema_types.specs.Types.{is_record};
+ghost use Rattle.cedar_check_operators.specs.View.{tree_of};
+ghost use Rattle.cedar_check_operators.specs.Private.View.{type_seen};
+
+use cedar_schema::{RecordType, Truth, Type, TypeKind};
+use cedar_value::Name;
+use std::alloc::{AllocError, Global};
+
+/// The type of an expression. That of a Boolean, a number, a text, an entity or an attribute takes no
+/// memory.
+#[derive(Drop)]
+pub enum LentType<'a> {
+    /// Booleans, and what is known of them.
+    Boolean(Truth),
+    /// Whole numbers.
+    Long,
+    /// Texts.
+    String,
+    /// Decimals.
+    Decimal,
+    /// The entities of a type, by its name in the schema or in the policy.
+    Entity(&'a Name),
+    /// A type that the schema has.
+    Lent(&'a Type),
+    /// A type that was put together.
+    Made(Type),
+}
+
+/// A look at a type.
+#[derive(Clone, Copy)]
+pub(crate) enum TypeGlance<'a> {
+    /// Booleans, and what is known of them.
+    Boolean(Truth),
+    /// Whole numbers.
+    Long,
+    /// Texts.
+    String,
+    /// Decimals.
+    Decimal,
+    /// The entities of a type.
+    Entity(&'a Name),
+    /// Sets of members of a type.
+    Set(&'a Type),
+    /// Records of these attributes.
+    Record(&'a RecordType),
+}
+
+// A look at a type of the schema.
+pub(crate) fn glance_at(ty: &Type) -> TypeGlance<'_>
+    ensures { type_seen result ≡ ty.now }
+{
+    match ty.kind() {
+        TypeKind::Boolean(truth) => TypeGlance::Boolean(*truth),
+        TypeKind::Long => TypeGlance::Long,
+        TypeKind::String => TypeGlance::String,
+        TypeKind::Decimal => TypeGlance::Decimal,
+        TypeKind::Entity(name) => TypeGlance::Entity(name),
+        TypeKind::Set(member) => TypeGlance::Set(member),
+        TypeKind::Record(attributes) => TypeGlance::Record(attributes),
+    }
+}
+
+impl<'a> LentType<'a> {
+    /// A look at the type.
+    pub(crate) fn glance(&self) -> TypeGlance<'_>
+        ensures { type_seen result ≡ tree_of self.now }
+    {
+        match self {
+            LentType::Boolean(truth) => TypeGlance::Boolean(*truth),
+            LentType::Long => TypeGlance::Long,
+            LentType::String => TypeGlance::String,
+            LentType::Decimal => TypeGlance::Decimal,
+            LentType::Entity(name) => TypeGlance::Entity(name),
+            LentType::Lent(ty) => glance_at(ty),
+            LentType::Made(ty) => glance_at(ty),
+        }
+    }
+
+    /// A look at the type that outlives it, where it was not put together.
+    pub(crate) fn lent_glance(&self) -> Option<TypeGlance<'a>>
+        ensures { IfSome result (λ glance. type_seen glance ≡ tree_of self.now) }
+    {
+        match self {
+            LentType::Boolean(truth) => Some(TypeGlance::Boolean(*truth)),
+            LentType::Long => Some(TypeGlance::Long),
+            LentType::String => Some(TypeGlance::String),
+            LentType::Decimal => Some(TypeGlance::Decimal),
+            LentType::Entity(name) => Some(TypeGlance::Entity(*name)),
+            LentType::Lent(ty) => Some(glance_at(*ty)),
+            LentType::Made(_) => None,
+        }
+    }
+
+    /// A copy, lent where the type is.
+    pub(crate) fn try_copy(&self, alloc: Global) -> Result<Self, AllocError>
+        ensures { IfOk result (λ copy. tree_of copy ≡ tree_of self.now) }
+    {
+        match self {
+            LentType::Boolean(truth) => Ok(LentType::Boolean(*truth)),
+            LentType::Long => Ok(LentType::Long),
+            LentType::String => Ok(LentType::String),
+            LentType::Decimal => Ok(LentType::Decimal),
+            LentType::Entity(name) => Ok(LentType::Entity(*name)),
+            LentType::Lent(ty) => Ok(LentType::Lent(*ty)),
+            LentType::Made(ty) => Ok(LentType::Made(ty.try_clone(alloc)?)),
+        }
+    }
+
+    /// The type as one of its own.
+    pub(crate) fn to_type(&self, alloc: Global) -> Result<Type, AllocError>
+        ensures { IfOk result (λ ty. ty ≡ tree_of self.now) }
+    {
+        match self {
+            LentType::Boolean(truth) => Ok(Type::new(TypeKind::Boolean(*truth))),
+            LentType::Long => Ok(Type::new(TypeKind::Long)),
+            LentType::String => Ok(Type::new(TypeKind::String)),
+            LentType::Decimal => Ok(Type::new(TypeKind::Decimal)),
+            LentType::Entity(name) => Ok(Type::new(TypeKind::Entity(name.try_clone(alloc)?))),
+            LentType::Lent(ty) => ty.try_clone(alloc),
+            LentType::Made(ty) => ty.try_clone(alloc),
+        }
+    }
+
+    /// What is known of a Boolean.
+    pub fn truth(&self) -> Option<Truth>
+        ensures { result ≡ truth_in (tree_of self.now) }
+    {
+        match self.glance() {
+            TypeGlance::Boolean(truth) => Some(truth),
+            _ => None,
+        }
+    }
+
+    /// Whether it is the type of whole numbers.
+    pub(crate) fn is_long(&self) -> bool
+        ensures { result ≡ is_long (tree_of self.now) }
+    {
+        match self.glance() {
+            TypeGlance::Long => true,
+            _ => false,
+        }
+    }
+
+    /// Whether it is the type of texts.
+    pub(crate) fn is_string(&self) -> bool
+        ensures { result ≡ is_string (tree_of self.now) }
+    {
+        match self.glance() {
+            TypeGlance::String => true,
+            _ => false,
+        }
+    }
+
+    /// Whether it is the type of decimals.
+    pub(crate) fn is_decimal(&self) -> bool
+        ensures { result ≡ is_decimal (tree_of self.now) }
+    {
+        match self.glance() {
+            TypeGlance::Decimal => true,
+            _ => false,
+        }
+    }
+
+    /// Whether it is a type of records.
+    pub(crate) fn is_record(&self) -> bool
+        ensures { result ≡ is_record (tree_of self.now) }
+    {
+        match self.glance() {
+            TypeGlance::Record(_) => true,
+            _ => false,
+        }
+    }
+
+    /// The name of an entity type.
+    pub(crate) fn entity(&self) -> Option<&Name>
+        ensures { option_map (λ name. name.now) result ≡ entity_in (tree_of self.now) }
+    {
+        match self.glance() {
+            TypeGlance::Entity(name) => Some(name),
+            _ => None,
+        }
+    }
+
+    /// The type of a set's members.
+    pub(crate) fn element(&self) -> Option<&Type>
+        ensures { option_map (λ ty. ty.now) result ≡ element_in (tree_of self.now) }
+    {
+        match self.glance() {
+            TypeGlance::Set(member) => Some(member),
+            _ => None,
+        }
+    }
+
+    /// The entity type that `in` asks for on its right.
+    pub(crate) fn target(&self) -> Option<&Name>
+        ensures { option_map (λ name. name.now) result ≡ target_in (tree_of self.now) }
+    {
+        match self.glance() {
+            TypeGlance::Entity(name) => Some(name),
+            TypeGlance::Set(member) => match member.kind() {
+                TypeKind::Entity(name) => Some(name),
+                _ => None,
+            },
+            _ => None,
+        }
+    }
+}

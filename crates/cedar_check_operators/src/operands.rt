@@ -1,0 +1,53 @@
+//! Operators that ask for operands of one kind: a Boolean, whole numbers, decimals.
+ghost use Rattle.std.specs.Prelude.{◌≡◌, option_and_then};
+ghost use Rattle.cedar_check_spec.specs.Rows.{as_type, decimals_type, longs_type};
+ghost use Rattle.cedar_check_spec.specs.Typing.{flipped};
+ghost use Rattle.cedar_check_operators.specs.View.{tree_of, typing_view};
+
+use crate::lent_type::LentType;
+use crate::type_fault::TypeFault;
+use crate::typing::Typing;
+use cedar_schema::Truth;
+use std::alloc::Global;
+
+// True and false exchanged.
+pub(crate) fn flipped(truth: Truth) -> Truth
+    ensures { result ≡ flipped truth }
+{
+    match truth {
+        Truth::True => Truth::False,
+        Truth::False => Truth::True,
+        Truth::Any => Truth::Any,
+    }
+}
+
+/// The type of an operator on two whole numbers.
+pub(crate) fn longs_type<'a>(
+    alloc: Global,
+    ty: LentType<'a>,
+    left: &LentType<'a>,
+    right: &LentType<'a>,
+) -> Typing<'a>
+    ensures { typing_view result ≡ option_and_then as_type (longs_type (tree_of ty.entry) (tree_of left.now) (tree_of right.now)) }
+{
+    if left.is_long() && right.is_long() {
+        Typing::plain(alloc, ty)
+    } else {
+        Typing::Refused(TypeFault::OperandKind)
+    }
+}
+
+/// The type of a comparison of two decimals.
+pub(crate) fn decimals_type<'a>(
+    alloc: Global,
+    left: &LentType<'a>,
+    right: &LentType<'a>,
+) -> Typing<'a>
+    ensures { typing_view result ≡ option_and_then as_type (decimals_type (tree_of left.now) (tree_of right.now)) }
+{
+    if left.is_decimal() && right.is_decimal() {
+        Typing::plain(alloc, LentType::Boolean(Truth::Any))
+    } else {
+        Typing::Refused(TypeFault::OperandKind)
+    }
+}

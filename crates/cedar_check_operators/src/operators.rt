@@ -1,0 +1,152 @@
+//! The rows of operators, by the types of their operands.
+ghost use Rattle.std.specs.Prelude.{◌≡◌, IfOk, option_and_then};
+ghost use Rattle.cedar_check_spec.specs.Rows.{IsUnaryRow, as_type, binary_type, decimal_type, literal_decimal_type};
+ghost use Rattle.cedar_check_operators.specs.View.{held_view, tree_of, typed_view, typing_view};
+
+use crate::attributes::{get_type, has_type};
+use crate::capability::Capability;
+use crate::equality::equal_type;
+use crate::hierarchy::{in_type, is_type};
+use crate::lent_type::LentType;
+use crate::operands::{decimals_type, flipped, longs_type};
+use crate::sets::{contains_type, is_empty_type, sets_type};
+use crate::type_fault::TypeFault;
+use crate::typing::{Typed, Typing};
+use cedar_ast_expressions::{BinaryOperator, Expr, ExprKind, UnaryOperator};
+use cedar_check_spec::Settings;
+use cedar_ext::Decimal;
+use cedar_schema::{Schema, Truth};
+use cedar_value::{Value, ValueKind};
+use std::alloc::{AllocError, Global};
+
+// Why `decimal` of what is no text has no type: with the setting on for its kind, and else since it is no
+// string literal.
+fn no_text(settings: Settings) -> TypeFault {
+    if settings.any_decimal {
+        TypeFault::OperandKind
+    } else {
+        TypeFault::NoDecimal
+    }
+}
+
+// The row of `decimal`, of a literal: a string that is a decimal's.
+fn literal_decimal_type<'a>(alloc: Global, settings: Settings, value: &Value) -> Typing<'a>
+    ensures { typing_view result ≡ literal_decimal_type value.now }
+{
+    match value.kind() {
+        ValueKind::String(text) => match Decimal::read(text.as_str()) {
+            Some(_) => Typing::plain(alloc, LentType::Decimal),
+            None => Typing::Refused(TypeFault::NoDecimal),
+        },
+        _ => Typing::Refused(no_text(settings)),
+    }
+}
+
+// The row of `decimal`: one string literal that is a decimal's, and with the setting on any text that is no
+// literal.
+fn decimal_type<'a>(
+    alloc: Global,
+    settings: Settings,
+    operand: &Expr,
+    ty: &LentType<'a>,
+) -> Typing<'a>
+    ensures { typing_view result ≡ decimal_type settings operand.now (tree_of ty.now) }
+{
+    match operand.kind() {
+        ExprKind::Literal(value) => literal_decimal_type(alloc, settings, value),
+        _ => {
+            if settings.any_decimal && ty.is_string() {
+                Typing::plain(alloc, LentType::Decimal)
+            } else {
+                Typing::Refused(no_text(settings))
+            }
+        }
+    }
+}
+
+/// The rows of the operators on one operand. But for `has`, and for `.` of a type that was put together,
+/// it takes no memory.
+#[tactic(auto, using(crate::proofs::Held::unary_answered))]
+pub fn unary_type<'a>(
+    alloc: Global,
+    settings: Settings,
+    schema: &'a Schema,
+    held: &[Capability<'a>],
+    operator: &'a UnaryOperator,
+    operand: &'a Expr,
+    typed: &Typed<'a>,
+) -> Result<Typing<'a>, AllocError>
+    ensures { IfOk result (λ t. IsUnaryRow settings schema.now (held_view held.now) operator.now operand.now (typed_view typed.now) (typing_view t)) }
+{
+    match operator {
+        UnaryOperator::Not => match typed.ty.truth() {
+            Some(truth) => Ok(Typing::plain(alloc, LentType::Boolean(flipped(truth)))),
+            None => Ok(Typing::Refused(TypeFault::OperandKind)),
+        },
+        UnaryOperator::Negate => {
+            if typed.ty.is_long() {
+                Ok(Typing::plain(alloc, LentType::Long))
+            } else {
+                Ok(Typing::Refused(TypeFault::OperandKind))
+            }
+        }
+        UnaryOperator::Has(key) => {
+            has_type(
+                alloc,
+                schema,
+                held,
+                Capability { on: operand, key },
+                &typed.ty,
+            )
+        }
+        UnaryOperator::Get(key) => {
+            get_type(
+                alloc,
+                schema,
+                held,
+                Capability { on: operand, key },
+                &typed.ty,
+            )
+        }
+        UnaryOperator::Like(_) => {
+            if typed.ty.is_string() {
+                Ok(Typing::plain(alloc, LentType::Boolean(Truth::Any)))
+            } else {
+                Ok(Typing::Refused(TypeFault::OperandKind))
+            }
+        }
+        UnaryOperator::Is(name) => Ok(is_type(alloc, schema, name, &typed.ty)),
+        UnaryOperator::Decimal => Ok(decimal_type(alloc, settings, operand, &typed.ty)),
+        UnaryOperator::IsEmpty => Ok(is_empty_type(alloc, &typed.ty)),
+    }
+}
+
+/// The rows of the operators on two operands. Takes no memory.
+pub fn binary_type<'a>(
+    alloc: Global,
+    schema: &Schema,
+    operator: BinaryOperator,
+    left: &Expr,
+    right: &Expr,
+    one: &LentType<'a>,
+    two: &LentType<'a>,
+) -> Typing<'a>
+    ensures { typing_view result ≡ option_and_then as_type (binary_type schema.now operator left.now right.now (tree_of one.now) (tree_of two.now)) }
+{
+    match operator {
+        BinaryOperator::Equal => equal_type(alloc, left, right, one, two),
+        BinaryOperator::Less | BinaryOperator::LessEqual => {
+            longs_type(alloc, LentType::Boolean(Truth::Any), one, two)
+        }
+        BinaryOperator::Add | BinaryOperator::Subtract | BinaryOperator::Multiply => {
+            longs_type(alloc, LentType::Long, one, two)
+        }
+        BinaryOperator::In => in_type(alloc, schema, left, right, one, two),
+        BinaryOperator::Contains => contains_type(alloc, one, two),
+        BinaryOperator::ContainsAll | BinaryOperator::ContainsAny => sets_type(alloc, one, two),
+        BinaryOperator::DecimalLess
+        | BinaryOperator::DecimalLessEqual
+        | BinaryOperator::DecimalGreater
+        | BinaryOperator::DecimalGreaterEqual => decimals_type(alloc, one, two),
+    }
+}

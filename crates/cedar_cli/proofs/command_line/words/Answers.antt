@@ -1,0 +1,31 @@
+use Rattle.std.proofs.Common.{◌∙◌, ap, sym, map, Some, List}
+use Rattle.std.proofs.lemmas.Result.{err_from_is_err_and}
+use Rattle.clap.specs.Words.{App, Text, Row, takes, is_simple, subcommand_of, rows_of, found_of}
+use Rattle.clap.proofs.WalkLemmas.{first_value-rows, one_text-rows}
+use Rattle.cedar_cli.proofs.Pairs.{pair_of}
+use Rattle.cedar_cli.proofs.command_line.words.Goals as goal
+
+pub returns-in_err-matches-clause-err : goal.returns-in_err-matches-clause-err
+returns-in_err-matches-clause-err c =
+    let p = err_from_is_err_and c.from_residual-in_err-matches.result c.from_residual-in_err-matches.ensures.1 in
+    rw p.1 (λ t. rw p.2 (c.in_err-matches.ensures.passes (ap (λ (a : App). takes a (map (λ s. s.now) c.args.words.now)) c.in_ok-command.ensures ∙ t)))
+
+pub returns-clause-ok : goal.returns-clause-ok
+returns-clause-ok c =
+    let found = c.in-Some.found.now in
+    let pair = pair_of _ _ _ _ _ c.in-Some.ensures.name c.in-Some.ensures.rows in
+    let m = c.in_ok-matches.ensures.matches (ap is_simple c.in_ok-command.ensures) in
+    let given = map (λ s. s.now) c.args.words.now in
+    record {
+      rows = rows_of (found_of found);
+      subcommand = ap (λ (a : App). subcommand_of a given) (sym c.in_ok-command.ensures) ∙ sym m.1 ∙ pair ∙ ap (λ (t : Text). let p : Text × List Row = (t, rows_of (found_of found)) in Some p) c.in-Some-subcommand_of.ensures;
+      schema = sym (c.get_str.ensures ∙ first_value-rows (found_of found) _);
+      policies = sym (c.get_str-2.ensures ∙ first_value-rows (found_of found) _);
+      links = sym (c.get_str-3.ensures ∙ first_value-rows (found_of found) _);
+      entities = sym (c.get_str-4.ensures ∙ first_value-rows (found_of found) _);
+      any_decimal = record {
+        none = λ e. c.get_flag.ensures.none (one_text-rows (found_of found) _ ∙ e);
+        used = λ e. c.get_flag.ensures.value (one_text-rows (found_of found) _ ∙ e);
+        unused = λ e. c.get_flag.ensures.other (one_text-rows (found_of found) _ ∙ e);
+      };
+    }

@@ -1,0 +1,56 @@
+//! Reads the command line.
+ghost use Rattle.std.specs.Prelude.{◌≡◌, IfOk, IfErr, IfSome, true, map};
+ghost use Rattle.clap.specs.Words.{takes, kind_of};
+ghost use Rattle.cedar_cli.specs.CommandLine.{program};
+ghost use Rattle.cedar_cli.specs.GivenWords.{AreGiven, subcommand_name};
+
+use crate::command::command;
+use crate::options::{Subcommand, Words};
+use cedar_check_spec::Settings;
+use clap::error::ErrorKind;
+use std::alloc::{AllocError, Global};
+
+fn subcommand_of(name: &str) -> Option<Subcommand>
+    ensures { IfSome result (λ s. name.now ≡ subcommand_name s) }
+{
+    if name == "validate" {
+        return Some(Subcommand::Validate);
+    }
+    if name == "authorize" {
+        return Some(Subcommand::Authorize);
+    }
+    None
+}
+
+/// Why the words of a command line are refused: `clap`'s error, which prints itself.
+pub type WordsFault = clap::Error;
+
+/// What the words of a command line say, the program's name first.
+///
+/// # Errors
+///
+/// A refusal is `clap`'s own: it comes only where `clap`'s definition does not take the words, or where memory ran out.
+pub fn words<'a>(alloc: Global, words: &'a [&'a str]) -> Result<Words<'a>, WordsFault>
+    ensures ok { IfOk result (AreGiven (map (λ s. s.now) words.now)) }
+    ensures err { IfErr result (λ e. takes program (map (λ s. s.now) words.now) ≡ true → kind_of e ≡ ErrorKind.OutOfMemory) }
+{
+    let matches = command(alloc)?.try_get_matches_from(words)?;
+    let Some((name, found)) = matches.subcommand() else {
+        // A subcommand is required, so the parse refused this.
+        return Err(WordsFault::from(AllocError));
+    };
+    let Some(subcommand) = subcommand_of(name) else {
+        // `help`, which the parse refuses.
+        return Err(WordsFault::from(AllocError));
+    };
+    Ok(Words {
+        subcommand,
+        schema: found.get_str("schema"),
+        policies: found.get_str("policies"),
+        links: found.get_str("links"),
+        entities: found.get_str("entities"),
+        settings: Settings {
+            any_decimal: found.get_flag("any-decimal"),
+        },
+    })
+}

@@ -1,6 +1,0 @@
-use Rattle.std.proofs.Common.{◌≡◌, ◌++◌, take}
-use Rattle.cedar_closure.specs.Private.Lent.{lent}
-use Rattle.cedar_closure.proofs.search.push_all.Given as goal
-
-abbrev pub invariant-loop-key : goal.invariant-loop-key
-invariant-loop-key g l = lent l.pending.items ≡ lent l.initial.pending.items ++ take l.key-index l.keys

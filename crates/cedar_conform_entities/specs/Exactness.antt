@@ -1,0 +1,14 @@
+-- What the bytes of entities denote, they alone denote.
+use Rattle.std.specs.Prelude.{◌≡◌, ℕ, List}
+use Rattle.cedar_conform_values.specs.declared.conform_fault.ConformFault.{ConformFault}
+use Rattle.cedar_conform_entities.specs.Bytes.{BytesDenote, BytesHaveFault}
+use Rattle.cedar_schema_spec.specs.SchemaTree.{SchemaTree}
+use Rattle.cedar_value.specs.World.{World}
+
+-- No bytes denote two worlds (Cedar documentation, entities and context in JSON).
+abbrev pub OneWorld : Type 0
+OneWorld = (s : SchemaTree) (bytes : List ℕ) (v w : World) → BytesDenote s bytes v → BytesDenote s bytes w → v ≡ w
+
+-- Bytes that denote a world have no fault (Cedar documentation, entities and context in JSON).
+abbrev pub WorldsHaveNoFault : Type 0
+WorldsHaveNoFault = (s : SchemaTree) (bytes : List ℕ) (w : World) (f : ConformFault) → BytesDenote s bytes w → ¬ BytesHaveFault s bytes f

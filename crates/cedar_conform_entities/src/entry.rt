@@ -1,0 +1,91 @@
+//! One entry of a list of entities.
+ghost use Rattle.std.specs.Prelude.{MatchResult, codes};
+ghost use Rattle.serde_json.specs.View.{view};
+ghost use Rattle.cedar_conform_values.specs.Reads.{ReadsRecord};
+ghost use Rattle.cedar_conform_values.specs.Values.{value_read};
+ghost use Rattle.cedar_conform_entities.specs.Denotes.{DenotesEntity};
+ghost use Rattle.cedar_conform_entities.specs.Entries.{IsActionName, Writes, attributes_in};
+ghost use Rattle.cedar_conform_entities.specs.Private.Parts.{IsEntry, RefusesEntry};
+ghost use Rattle.cedar_schema_spec.specs.WellFormed.{IsOrderedRecord};
+
+use crate::judging::{is_action_name, judge_parents, repeats_action};
+use crate::written::{WrittenEntity, read_written};
+use cedar_conform_values::{ConformFault, read_record};
+use cedar_schema::Schema;
+use cedar_schema_types::{Type, TypeKind};
+use cedar_store::Entity;
+use cedar_value::{Record, Uid};
+use serde_json::{Map, Value as Json};
+use std::alloc::Global;
+
+/// What an entry stands for.
+#[derive(Drop)]
+pub(crate) enum Entry {
+    /// An entity of a declared type.
+    Entity(Entity),
+    /// An action, as the schema has it, by its uid.
+    Action(Uid),
+}
+
+/// What the entry stands for by the schema, or one of its faults: 502 to 509.
+pub(crate) fn read_entry(alloc: Global, schema: &Schema, json: &Json) -> Result<Entry, ConformFault>
+    ensures { MatchResult result (IsEntry schema.now (view json.now)) (RefusesEntry schema.now (view json.now)) }
+{
+    let written = read_written(alloc, schema, json)?;
+    if is_action_name(&written.uid.ty) {
+        if !repeats_action(schema, json, &written) {
+            return Err(ConformFault::ActionDiffers);
+        }
+        return Ok(Entry::Action(written.uid));
+    }
+    let entity = read_entity(alloc, schema, json, written)?;
+    Ok(Entry::Entity(entity))
+}
+
+fn read_entity(
+    alloc: Global,
+    schema: &Schema,
+    json: &Json,
+    written: WrittenEntity,
+) -> Result<Entity, ConformFault>
+    requires written { Writes (view json.now) written.uid written.parents.items }
+    requires entity { ¬ IsActionName written.uid.ty }
+    ensures { MatchResult result (DenotesEntity schema.now (view json.now)) (RefusesEntry schema.now (view json.now)) }
+{
+    let Some(shape) = schema.attributes(&written.uid.ty) else {
+        return Err(ConformFault::UnknownType);
+    };
+    judge_parents(schema, &written.uid, &written.parents)?;
+    // A law of schemas, which does nothing.
+    schema.well_formedness();
+    let attrs = read_attributes(alloc, shape, json)?;
+    Ok(Entity {
+        uid: written.uid,
+        attrs,
+        parents: written.parents,
+    })
+}
+
+// The attributes that stand at their key, none where it is absent, by the shape of the type.
+fn read_attributes(alloc: Global, shape: &Type, json: &Json) -> Result<Record, ConformFault>
+    requires { IsOrderedRecord shape.now }
+    ensures { ReadsRecord result (value_read shape.now (attributes_in (view json.now))) }
+{
+    match json.get("attrs") {
+        Some(found) => read_shape(alloc, shape, found),
+        None => {
+            let empty = Json::Object(Map::new(alloc));
+            read_shape(alloc, shape, &empty)
+        }
+    }
+}
+
+fn read_shape(alloc: Global, shape: &Type, json: &Json) -> Result<Record, ConformFault>
+    requires { IsOrderedRecord shape.now }
+    ensures { ReadsRecord result (value_read shape.now (view json.now)) }
+{
+    match shape.kind() {
+        TypeKind::Record(attributes) => read_record(alloc, attributes, json),
+        _ => unreachable!(),
+    }
+}

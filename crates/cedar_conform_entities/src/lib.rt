@@ -1,0 +1,29 @@
+//! Entities from their JSON, by a schema (Cedar documentation, entities and context in JSON).
+//!
+//! ```rust
+//! use cedar_conform_entities::read_entities;
+//!
+//! let store = read_entities(alloc, &schema, bytes)?;
+//! assert!(rt; store.is_below(&ann, &team));
+//! ```
+//!
+//! [`read_entities`] is lent the bytes; [`read_entities_owned`] owns them, and frees what it has read.
+//!
+//! A list of entries is read one by one: what an entry writes whatever the schema is, then what the schema
+//! says of it. The schema's actions stand in every store, before the entities. A world that is read
+//! conforms to the schema, which is what the soundness of typing rests on.
+#![tactic(auto)]
+
+mod actions;
+mod entities;
+mod entries;
+mod entry;
+mod judging;
+mod keys;
+mod laws;
+mod list;
+mod objects;
+mod written;
+
+pub use entities::{read_entities, read_entities_owned};
+pub use laws::{denoted_worlds_are_exact, denoted_worlds_conform, sound_entities_conform};

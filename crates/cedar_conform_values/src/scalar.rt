@@ -1,0 +1,117 @@
+//! Values of the types that have no type inside.
+ghost use Rattle.std.specs.Prelude.{◌≡◌, IfOk, option_map};
+ghost use Rattle.serde_json.specs.Find.{as_bool, as_number, as_str};
+ghost use Rattle.serde_json.specs.View.{view};
+ghost use Rattle.cedar_conform_values.specs.Reads.{Reads};
+ghost use Rattle.cedar_conform_values.specs.Uids.{uid_object};
+ghost use Rattle.cedar_conform_values.specs.Values.{call_text, decimal_read, decimal_text, entity_read, long_read, text_read, truth_read};
+
+use crate::conform_fault::ConformFault;
+use crate::object::{inside, size_of, text_at};
+use crate::uid::uid_object;
+use cedar_ext::Decimal;
+use cedar_schema_types::Truth;
+use cedar_value::{Name, Text, Uid, Value};
+use serde_json::Value as Json;
+use std::alloc::{AllocError, Global};
+
+/// A Boolean, as far as what is known of it allows.
+pub(crate) fn read_truth(truth: Truth, json: &Json) -> Result<Value, ConformFault>
+    ensures { Reads result (truth_read truth (as_bool (view json.now))) }
+{
+    let Some(found) = json.as_bool() else {
+        return Err(ConformFault::WrongType);
+    };
+    match (truth, found) {
+        (Truth::True, false) => Err(ConformFault::WrongType),
+        (Truth::False, true) => Err(ConformFault::WrongType),
+        _ => Ok(Value::boolean(found)),
+    }
+}
+
+/// A whole number of 64 bits.
+pub(crate) fn read_long(json: &Json) -> Result<Value, ConformFault>
+    ensures { Reads result (long_read (as_number (view json.now))) }
+{
+    let Some(number) = json.as_number() else {
+        return Err(ConformFault::WrongType);
+    };
+    match number.as_i64() {
+        Some(whole) => Ok(Value::long(whole)),
+        None => Err(ConformFault::NumberRange),
+    }
+}
+
+/// A text.
+pub(crate) fn read_text(alloc: Global, json: &Json) -> Result<Value, ConformFault>
+    ensures { Reads result (text_read (as_str (view json.now))) }
+{
+    match json.as_str() {
+        Some(text) => Ok(Value::string(Text::read(alloc, text)?)),
+        None => Err(ConformFault::WrongType),
+    }
+}
+
+/// A uid of the type.
+pub(crate) fn read_entity(alloc: Global, name: &Name, json: &Json) -> Result<Value, ConformFault>
+    ensures { Reads result (entity_read name.now (uid_object (view json.now))) }
+{
+    let Some(found) = uid_object(json) else {
+        return Err(ConformFault::WrongType);
+    };
+    if found.ty != name.as_str() {
+        return Err(ConformFault::WrongType);
+    }
+    Ok(Value::uid(alloc, uid_of(alloc, name, found.id)?)?)
+}
+
+// The uid of a type with this id.
+fn uid_of(alloc: Global, name: &Name, id: &str) -> Result<Uid, AllocError>
+    ensures { IfOk result (λ u. (u.ty ≡ name.now) × (u.id ≡ id.now)) }
+{
+    Ok(Uid {
+        ty: name.try_clone(alloc)?,
+        id: Text::read(alloc, id)?,
+    })
+}
+
+/// A decimal.
+pub(crate) fn read_decimal(json: &Json) -> Result<Value, ConformFault>
+    ensures { Reads result (decimal_read (decimal_text (view json.now))) }
+{
+    let Some(text) = decimal_text(json) else {
+        return Err(ConformFault::WrongType);
+    };
+    match Decimal::read(text) {
+        Some(decimal) => Ok(Value::decimal(decimal)),
+        None => Err(ConformFault::WrongType),
+    }
+}
+
+// The text of a decimal: itself, or the argument of a call.
+fn decimal_text(json: &Json) -> Option<&str>
+    ensures { option_map (λ s. s.now) result ≡ decimal_text (view json.now) }
+{
+    match json.as_str() {
+        Some(text) => Some(text),
+        None => call_text(inside(json, "__extn")),
+    }
+}
+
+fn call_text(json: &Json) -> Option<&str>
+    ensures { option_map (λ s. s.now) result ≡ call_text (view json.now) }
+{
+    if size_of(json) != 2 {
+        return None;
+    }
+    match text_at(json, "fn") {
+        Some(name) => {
+            if name == "decimal" {
+                text_at(json, "arg")
+            } else {
+                None
+            }
+        }
+        None => None,
+    }
+}

@@ -1,0 +1,151 @@
+//! Values by a type.
+ghost use Rattle.std.specs.Prelude.{◌≡◌, [], MatchResult, option_map};
+ghost use Rattle.serde_json.specs.Find.{as_array, get};
+ghost use Rattle.serde_json.specs.View.{items_view, members_view, view};
+ghost use Rattle.cedar_schema_types.specs.TypeKind.{attributes_of};
+ghost use Rattle.cedar_schema_types.specs.Types.{names_of, record_of};
+ghost use Rattle.cedar_conform_values.specs.Faults.{Told};
+ghost use Rattle.cedar_conform_values.specs.Reads.{Adds, Reads, ReadsRecord};
+ghost use Rattle.cedar_conform_values.specs.Values.{all_read, is_declared, extra_faults, field_read, fields_read, set_read, value_read};
+
+use crate::conform_fault::ConformFault;
+use crate::object::size_of;
+use crate::scalar::{read_decimal, read_entity, read_long, read_text, read_truth};
+use cedar_schema_types::{Attribute, RecordType, Type, TypeKind};
+use cedar_value::{Record, SharedText, Value, ValueSet};
+use serde_json::{Map, Value as Json};
+use std::alloc::Global;
+
+/// The value of the type that the JSON says (Cedar documentation, entities and context in JSON). Refused
+/// with 1 when out of memory, and else with 504, 505, 506 or 509 only where that fault is in the JSON.
+#[cycle(read)]
+pub fn read_value(alloc: Global, json: &Json, ty: &Type) -> Result<Value, ConformFault>
+    ensures reads { Reads result (value_read ty.now (view json.now)) }
+{
+    match ty.kind() {
+        TypeKind::Boolean(truth) => read_truth(*truth, json),
+        TypeKind::Long => read_long(json),
+        TypeKind::String => read_text(alloc, json),
+        TypeKind::Entity(name) => read_entity(alloc, name, json),
+        TypeKind::Set(member) => read_set(alloc, member, json),
+        TypeKind::Record(attributes) => Ok(Value::record(read_record(alloc, attributes, json)?)),
+        TypeKind::Decimal => read_decimal(json),
+    }
+}
+
+#[cycle(read)]
+fn read_set(alloc: Global, member: &Type, json: &Json) -> Result<Value, ConformFault>
+    ensures { Reads result (set_read (value_read member.now) (as_array (view json.now))) }
+{
+    match json.as_array() {
+        Some(items) => {
+            let members = read_members(alloc, member, items)?;
+            Ok(Value::set(ValueSet::from_list(members)?))
+        }
+        None => Err(ConformFault::WrongType),
+    }
+}
+
+#[cycle(read)]
+fn read_members(alloc: Global, member: &Type, items: &[Json]) -> Result<Vec<Value>, ConformFault>
+    ensures { MatchResult result
+        (λ v. ((all_read (value_read member.now) (items_view items.now)).faults ≡ []) × (v.items ≡ (all_read (value_read member.now) (items_view items.now)).values))
+        (λ e. Told (all_read (value_read member.now) (items_view items.now)).faults e) }
+{
+    let mut members = Vec::with_capacity(alloc, items.len())?;
+    let mut rest = items;
+    'walk: while let Some((item, others)) = rest.split_first() {
+        let value = read_value(alloc, item, member)?;
+        members.push(value)?;
+        rest = others;
+    }
+    Ok(members)
+}
+
+/// The record of the type that the JSON says, by the rules and with the refusals of `read_value`.
+#[cycle(read)]
+pub fn read_record(
+    alloc: Global,
+    attributes: &RecordType,
+    json: &Json,
+) -> Result<Record, ConformFault>
+    ensures reads { ReadsRecord result (value_read (record_of attributes.now) (view json.now)) }
+{
+    match json.as_object() {
+        Some(members) => {
+            check_keys(attributes, members)?;
+            let pairs = read_fields(alloc, attributes.attributes(), json)?;
+            Ok(Record::from_ascending(pairs))
+        }
+        None => Err(ConformFault::WrongType),
+    }
+}
+
+// Refuses a key that is not declared.
+fn check_keys(attributes: &RecordType, members: &Map<String, Json>) -> Result<(), ConformFault>
+    ensures { MatchResult result
+        (λ _. extra_faults (names_of attributes.now) (members_view members.now.entries) ≡ [])
+        (λ e. Told (extra_faults (names_of attributes.now) (members_view members.now.entries)) e) }
+{
+    for (key, _) in members.iter() {
+        if !is_declared(attributes, key.as_str()) {
+            return Err(ConformFault::ExtraAttribute);
+        }
+    }
+    Ok(())
+}
+
+// Whether there is an attribute of that name.
+fn is_declared(attributes: &RecordType, key: &str) -> bool
+    ensures { result ≡ is_declared (names_of attributes.now) key.now }
+{
+    attributes.attribute(key).is_some()
+}
+
+#[cycle(read)]
+fn read_fields(
+    alloc: Global,
+    attributes: &[Attribute],
+    json: &Json,
+) -> Result<Vec<(SharedText, Value)>, ConformFault>
+    ensures { MatchResult result
+        (λ v. ((fields_read (attributes_of attributes.now) (view json.now)).faults ≡ []) × (v.items ≡ (fields_read (attributes_of attributes.now) (view json.now)).pairs))
+        (λ e. Told (fields_read (attributes_of attributes.now) (view json.now)).faults e) }
+{
+    // Each key is declared, so that there are as many pairs as keys.
+    let mut pairs = Vec::with_capacity(alloc, size_of(json))?;
+    let mut rest = attributes;
+    'walk: while let Some((attribute, others)) = rest.split_first() {
+        add_field(alloc, &mut pairs, attribute, json)?;
+        rest = others;
+    }
+    Ok(pairs)
+}
+
+// Adds what stands at the key of an attribute.
+#[cycle(read)]
+fn add_field(
+    alloc: Global,
+    pairs: &mut Vec<(SharedText, Value)>,
+    attribute: &Attribute,
+    json: &Json,
+) -> Result<(), ConformFault>
+    ensures { Adds result pairs.old.items pairs.new.items (field_read attribute.now.name attribute.now.required
+        (option_map (value_read attribute.now.ty) (get attribute.now.name (view json.now)))) }
+{
+    match json.get(attribute.name.as_str()) {
+        Some(found) => {
+            let value = read_value(alloc, found, &attribute.ty)?;
+            let key = attribute.name.share()?;
+            pairs.push((key, value))?;
+            Ok(())
+        }
+        None => {
+            if attribute.required {
+                Err(ConformFault::MissingAttribute)
+            } else {
+                Ok(())
+            }
+        }
+    }
+}

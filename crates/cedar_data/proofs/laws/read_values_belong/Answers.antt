@@ -1,5 +1,0 @@
-use Rattle.cedar_data.proofs.Belongs.{read_values_belong}
-use Rattle.cedar_data.proofs.laws.read_values_belong.Goals as goal
-
-pub returns : goal.returns
-returns c = read_values_belong

@@ -1,6 +1,0 @@
-use Rattle.std.proofs.Common.{refl}
-use Rattle.cedar_data.proofs.MemberCounts.{members_len-map}
-use Rattle.cedar_data.proofs.object.size_of.Goals as goal
-
-pub returns-in-Some : goal.returns-in-Some
-returns-in-Some c = rw (← c.in-Some.ensures, members_len-map, c.len.ensures.len) refl

@@ -1,7 +1,0 @@
-use Rattle.std.proofs.Common.{◌≡◌, length}
-use Rattle.cedar_form.specs.Expansion.{Table}
-use Rattle.cedar_form.specs.Ends.{AreEnds}
-use Rattle.cedar_form.proofs.form.chains.doubled.Given as goal
-
-abbrev pub invariant-loop-place : goal.invariant-loop-place
-invariant-loop-place l = record { ends : (t : Table) → AreEnds t l.ends → AreEnds t l.further.items; size : length l.further.items ≡ l.place }

@@ -1,7 +1,0 @@
-use Rattle.std.proofs.Common.{◌≡◌, length}
-use Rattle.cedar_form.specs.Ends.{AreEnds}
-use Rattle.cedar_form.specs.TableView.{table_of}
-use Rattle.cedar_form.proofs.form.chains.first_ends.Given as goal
-
-abbrev pub invariant-loop-place : goal.invariant-loop-place
-invariant-loop-place l = record { ends : AreEnds (table_of l.forms) l.ends.items; size : length l.ends.items ≡ l.place }

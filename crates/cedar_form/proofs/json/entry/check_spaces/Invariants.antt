@@ -1,7 +1,0 @@
-use Rattle.std.proofs.Common.{◌≡◌}
-use Rattle.serde_json.specs.View.{members_view}
-use Rattle.cedar_form.specs.Entries.{root_faults}
-use Rattle.cedar_form.proofs.json.entry.check_spaces.Given as goal
-
-abbrev pub invariant-loop-namespace : goal.invariant-loop-namespace
-invariant-loop-namespace l = root_faults (members_view l.root.entries) ≡ root_faults (members_view l.namespace-iterator)

@@ -1,5 +1,0 @@
-use Rattle.cedar_histories.proofs.Costs.{run_ends}
-use Rattle.cedar_histories.proofs.law.runs_end_as_evaluated.Goals as goal
-
-pub returns : goal.returns
-returns c = λ p q w n o s. run_ends c.execution_is_evaluation.ensures q w p n o s

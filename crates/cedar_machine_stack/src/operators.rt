@@ -1,0 +1,348 @@
+//! The operators on values (Cedar language reference, operators).
+ghost use Rattle.std.specs.Prelude.{◌≡◌, ◌+ℤ◌, ◌-ℤ◌, ◌*ℤ◌, int_lt, int_le};
+ghost use Rattle.std.specs.List.{list_all, list_any};
+ghost use Rattle.cedar_ext.specs.Matching.{is_match};
+ghost use Rattle.cedar_value.specs.Datum.{boolean, uid, set, members_of};
+ghost use Rattle.cedar_value.specs.Glance.{datum_seen};
+ghost use Rattle.cedar_value.specs.Sets.{has_member};
+ghost use Rattle.cedar_ast_expressions.specs.Operators.{unary_of, binary_of, not_of, negative_of, source, has_in, like_of, is_of, decimal_of_value, of_longs, of_decimals, of_set, of_sets, is_empty, long_or_overflow, in_of, is_uid};
+ghost use Rattle.cedar_machine_stack.specs.Access.{IsNoAccess};
+
+use crate::operand::Operand;
+use cedar_ast_expressions::{BinaryOperator, EvaluationError, UnaryOperator};
+use cedar_ext::{Decimal, Pattern};
+use cedar_value::{Glance, Hierarchy, Name, Uid, Value, ValueSet};
+
+/// An operator's answer for its operand (Cedar language reference, operators).
+pub fn unary<'a, H: Hierarchy>(
+    hierarchy: &'a H,
+    operator: &UnaryOperator,
+    operand: Operand<'a>,
+) -> Result<Operand<'a>, EvaluationError>
+    ensures { result ≡ unary_of (H.world hierarchy.now) operator.now operand.entry }
+{
+    match operator {
+        UnaryOperator::Get(key) => operand.into_attribute(key.as_str(), hierarchy),
+        _ => unary_but_get(hierarchy, operator, operand.glance()),
+    }
+}
+
+/// The answer of an operator that looks no attribute up (Cedar language reference, operators).
+pub fn unary_but_get<H: Hierarchy>(
+    hierarchy: &H,
+    operator: &UnaryOperator,
+    operand: Glance<'_>,
+) -> Result<Operand<'static>, EvaluationError>
+    requires { IsNoAccess operator.now }
+    ensures { result ≡ unary_of (H.world hierarchy.now) operator.now (datum_seen operand.entry) }
+{
+    match operator {
+        UnaryOperator::Get(_) => unreachable!(),
+        UnaryOperator::Not => not(operand),
+        UnaryOperator::Negate => negative(operand),
+        UnaryOperator::Has(key) => has(hierarchy, key.as_str(), operand),
+        UnaryOperator::Like(pattern) => like(pattern, operand),
+        UnaryOperator::Is(ty) => is(ty, operand),
+        UnaryOperator::Decimal => decimal(operand),
+        UnaryOperator::IsEmpty => is_empty(operand),
+    }
+}
+
+// `!`
+fn not(operand: Glance<'_>) -> Result<Operand<'static>, EvaluationError>
+    ensures { result ≡ not_of (datum_seen operand.entry) }
+{
+    match operand {
+        Glance::Boolean(truth) => Ok(Operand::boolean(!truth)),
+        _ => Err(EvaluationError::Type),
+    }
+}
+
+// `-`
+fn negative(operand: Glance<'_>) -> Result<Operand<'static>, EvaluationError>
+    ensures { result ≡ negative_of (datum_seen operand.entry) }
+{
+    match operand {
+        Glance::Long(number) => {
+            let negative = number.checked_neg().ok_or(EvaluationError::Overflow)?;
+            Ok(Operand::long(negative))
+        }
+        _ => Err(EvaluationError::Type),
+    }
+}
+
+// `has`
+fn has<H: Hierarchy>(
+    hierarchy: &H,
+    key: &str,
+    operand: Glance<'_>,
+) -> Result<Operand<'static>, EvaluationError>
+    ensures { result ≡ has_in key.now (source (H.world hierarchy.now) (datum_seen operand.entry)) }
+{
+    match operand {
+        Glance::Record(pairs) => Ok(Operand::boolean(pairs.get(key).is_some())),
+        Glance::Uid(entity) => match hierarchy.attributes(entity) {
+            Some(pairs) => Ok(Operand::boolean(pairs.get(key).is_some())),
+            None => Ok(Operand::boolean(false)),
+        },
+        _ => Err(EvaluationError::Type),
+    }
+}
+
+// `like`
+fn like(pattern: &Pattern, operand: Glance<'_>) -> Result<Operand<'static>, EvaluationError>
+    ensures { result ≡ like_of (datum_seen operand.entry) (is_match pattern.now) }
+{
+    match operand {
+        Glance::String(text) => Ok(Operand::boolean(pattern.matches(text.as_str()))),
+        _ => Err(EvaluationError::Type),
+    }
+}
+
+// `is`
+fn is(ty: &Name, operand: Glance<'_>) -> Result<Operand<'static>, EvaluationError>
+    ensures { result ≡ is_of ty.now (datum_seen operand.entry) }
+{
+    match operand {
+        Glance::Uid(entity) => Ok(Operand::boolean(entity.ty == *ty)),
+        _ => Err(EvaluationError::Type),
+    }
+}
+
+// `decimal`
+fn decimal(operand: Glance<'_>) -> Result<Operand<'static>, EvaluationError>
+    ensures { result ≡ decimal_of_value (datum_seen operand.entry) }
+{
+    match operand {
+        Glance::String(text) => match Decimal::read(text.as_str()) {
+            Some(number) => Ok(Operand::decimal(number)),
+            None => Err(EvaluationError::Decimal),
+        },
+        _ => Err(EvaluationError::Type),
+    }
+}
+
+// `isEmpty`
+fn is_empty(operand: Glance<'_>) -> Result<Operand<'static>, EvaluationError>
+    ensures { result ≡ of_set is_empty (datum_seen operand.entry) }
+{
+    match operand {
+        Glance::Set(members) => Ok(Operand::boolean(members.members().is_empty())),
+        _ => Err(EvaluationError::Type),
+    }
+}
+
+/// An operator's answer for two operands (Cedar language reference, operators). Numbers are compared at once.
+#[inline(always)]
+pub fn of_two<H: Hierarchy>(
+    hierarchy: &H,
+    operator: BinaryOperator,
+    left: &Operand<'_>,
+    right: &Operand<'_>,
+) -> Result<Operand<'static>, EvaluationError>
+    ensures { result ≡ binary_of (H.world hierarchy.now) operator left.now right.now }
+{
+    if let (Some(one), Some(two)) = (left.number(), right.number()) {
+        match operator {
+            BinaryOperator::Equal => return Ok(Operand::boolean(one == two)),
+            BinaryOperator::Less => return Ok(Operand::boolean(one < two)),
+            BinaryOperator::LessEqual => return Ok(Operand::boolean(one <= two)),
+            _ => {}
+        }
+    }
+    binary(hierarchy, operator, left.glance(), right.glance())
+}
+
+/// An operator's answer for its operands (Cedar language reference, operators).
+pub fn binary<H: Hierarchy>(
+    hierarchy: &H,
+    operator: BinaryOperator,
+    left: Glance<'_>,
+    right: Glance<'_>,
+) -> Result<Operand<'static>, EvaluationError>
+    ensures { result ≡ binary_of (H.world hierarchy.now) operator (datum_seen left.entry) (datum_seen right.entry) }
+{
+    match operator {
+        BinaryOperator::Equal => Ok(Operand::boolean(left.same(right))),
+        BinaryOperator::Less => less(left, right),
+        BinaryOperator::LessEqual => less_equal(left, right),
+        BinaryOperator::Add => add(left, right),
+        BinaryOperator::Subtract => subtract(left, right),
+        BinaryOperator::Multiply => multiply(left, right),
+        BinaryOperator::In => within(hierarchy, left, right),
+        BinaryOperator::Contains => contains(left, right),
+        BinaryOperator::ContainsAll => contains_all(left, right),
+        BinaryOperator::ContainsAny => contains_any(left, right),
+        BinaryOperator::DecimalLess => decimal_less(left, right),
+        BinaryOperator::DecimalLessEqual => decimal_less_equal(left, right),
+        BinaryOperator::DecimalGreater => decimal_less(right, left),
+        BinaryOperator::DecimalGreaterEqual => decimal_less_equal(right, left),
+    }
+}
+
+// `<`
+fn less(left: Glance<'_>, right: Glance<'_>) -> Result<Operand<'static>, EvaluationError>
+    ensures { result ≡ of_longs (λ m n. Ok (boolean (int_lt m n))) (datum_seen left.entry) (datum_seen right.entry) }
+{
+    match (left, right) {
+        (Glance::Long(left), Glance::Long(right)) => Ok(Operand::boolean(left < right)),
+        _ => Err(EvaluationError::Type),
+    }
+}
+
+// `<=`
+fn less_equal(left: Glance<'_>, right: Glance<'_>) -> Result<Operand<'static>, EvaluationError>
+    ensures { result ≡ of_longs (λ m n. Ok (boolean (int_le m n))) (datum_seen left.entry) (datum_seen right.entry) }
+{
+    match (left, right) {
+        (Glance::Long(left), Glance::Long(right)) => Ok(Operand::boolean(left <= right)),
+        _ => Err(EvaluationError::Type),
+    }
+}
+
+// `+`
+fn add(left: Glance<'_>, right: Glance<'_>) -> Result<Operand<'static>, EvaluationError>
+    ensures { result ≡ of_longs (λ m n. long_or_overflow (m +ℤ n)) (datum_seen left.entry) (datum_seen right.entry) }
+{
+    match (left, right) {
+        (Glance::Long(left), Glance::Long(right)) => {
+            let sum = left.checked_add(right).ok_or(EvaluationError::Overflow)?;
+            Ok(Operand::long(sum))
+        }
+        _ => Err(EvaluationError::Type),
+    }
+}
+
+// `-`
+fn subtract(left: Glance<'_>, right: Glance<'_>) -> Result<Operand<'static>, EvaluationError>
+    ensures { result ≡ of_longs (λ m n. long_or_overflow (m -ℤ n)) (datum_seen left.entry) (datum_seen right.entry) }
+{
+    match (left, right) {
+        (Glance::Long(left), Glance::Long(right)) => {
+            let difference = left.checked_sub(right).ok_or(EvaluationError::Overflow)?;
+            Ok(Operand::long(difference))
+        }
+        _ => Err(EvaluationError::Type),
+    }
+}
+
+// `*`
+fn multiply(left: Glance<'_>, right: Glance<'_>) -> Result<Operand<'static>, EvaluationError>
+    ensures { result ≡ of_longs (λ m n. long_or_overflow (m *ℤ n)) (datum_seen left.entry) (datum_seen right.entry) }
+{
+    match (left, right) {
+        (Glance::Long(left), Glance::Long(right)) => {
+            let product = left.checked_mul(right).ok_or(EvaluationError::Overflow)?;
+            Ok(Operand::long(product))
+        }
+        _ => Err(EvaluationError::Type),
+    }
+}
+
+// `lessThan`
+fn decimal_less(left: Glance<'_>, right: Glance<'_>) -> Result<Operand<'static>, EvaluationError>
+    ensures { result ≡ of_decimals int_lt (datum_seen left.entry) (datum_seen right.entry) }
+{
+    match (left, right) {
+        (Glance::Decimal(left), Glance::Decimal(right)) => Ok(Operand::boolean(left < right)),
+        _ => Err(EvaluationError::Type),
+    }
+}
+
+// `lessThanOrEqual`
+fn decimal_less_equal(
+    left: Glance<'_>,
+    right: Glance<'_>,
+) -> Result<Operand<'static>, EvaluationError>
+    ensures { result ≡ of_decimals int_le (datum_seen left.entry) (datum_seen right.entry) }
+{
+    match (left, right) {
+        (Glance::Decimal(left), Glance::Decimal(right)) => Ok(Operand::boolean(left <= right)),
+        _ => Err(EvaluationError::Type),
+    }
+}
+
+// `contains`
+fn contains(left: Glance<'_>, right: Glance<'_>) -> Result<Operand<'static>, EvaluationError>
+    ensures { result ≡ of_set (λ ms. has_member ms (datum_seen right.entry)) (datum_seen left.entry) }
+{
+    match left {
+        Glance::Set(members) => Ok(Operand::boolean(members.has(right))),
+        _ => Err(EvaluationError::Type),
+    }
+}
+
+// `containsAll`
+fn contains_all(left: Glance<'_>, right: Glance<'_>) -> Result<Operand<'static>, EvaluationError>
+    ensures { result ≡ of_sets (λ ms ns. list_all (has_member ms) ns) (datum_seen left.entry) (datum_seen right.entry) }
+{
+    match (left, right) {
+        (Glance::Set(left), Glance::Set(right)) => Ok(Operand::boolean(left.contains_all(right))),
+        _ => Err(EvaluationError::Type),
+    }
+}
+
+// `containsAny`
+fn contains_any(left: Glance<'_>, right: Glance<'_>) -> Result<Operand<'static>, EvaluationError>
+    ensures { result ≡ of_sets (λ ms ns. list_any (has_member ms) ns) (datum_seen left.entry) (datum_seen right.entry) }
+{
+    match (left, right) {
+        (Glance::Set(left), Glance::Set(right)) => Ok(Operand::boolean(left.contains_any(right))),
+        _ => Err(EvaluationError::Type),
+    }
+}
+
+// `in`
+fn within<H: Hierarchy>(
+    hierarchy: &H,
+    left: Glance<'_>,
+    right: Glance<'_>,
+) -> Result<Operand<'static>, EvaluationError>
+    ensures { result ≡ in_of (H.world hierarchy.now) (datum_seen left.entry) (datum_seen right.entry) }
+{
+    match (left, right) {
+        (Glance::Uid(low), Glance::Uid(high)) => {
+            Ok(Operand::boolean(low == high || hierarchy.is_below(low, high)))
+        }
+        (Glance::Uid(low), Glance::Set(highs)) => within_set(hierarchy, low, highs),
+        _ => Err(EvaluationError::Type),
+    }
+}
+
+// `in` a set, whose members must all be uids, however early one of them qualifies.
+fn within_set<H: Hierarchy>(
+    hierarchy: &H,
+    low: &Uid,
+    highs: &ValueSet,
+) -> Result<Operand<'static>, EvaluationError>
+    ensures { result ≡ in_of (H.world hierarchy.now) (uid low.now) (set (members_of highs.now)) }
+{
+    if !all_uids(highs.members()) {
+        return Err(EvaluationError::Type);
+    }
+    if highs.has(Glance::Uid(low)) {
+        return Ok(Operand::boolean(true));
+    }
+    Ok(Operand::boolean(hierarchy.is_below_any(low, highs)))
+}
+
+// Whether it is a uid.
+fn is_uid(value: Glance<'_>) -> bool
+    ensures { result ≡ is_uid (datum_seen value.entry) }
+{
+    matches!(value, Glance::Uid(_))
+}
+
+// Whether each member is a uid.
+fn all_uids(members: &[Value]) -> bool
+    ensures { result ≡ list_all is_uid members.entry.now }
+{
+    let mut left = members;
+    'walk: while let Some((member, others)) = left.split_first() {
+        if !is_uid(member.glance()) {
+            return false;
+        }
+        left = others;
+    }
+    true
+}

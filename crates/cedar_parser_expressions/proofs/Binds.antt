@@ -1,0 +1,302 @@
+-- How tightly a token binds to what stands before it, and which tokens begin a phrase.
+use Rattle.std.proofs.Common.{◌≡◌, refl, ap, ◌∙◌, ℕ, zero, suc, ◌<◌, ◌≤◌, false, List, [], ◌∷◌, Option, Some, None, ◌⊎◌, inl, inr, arith}
+use Rattle.cedar_text.specs.declared.token_kind.TokenKind.{TokenKind}
+use Rattle.cedar_text.specs.declared.token_kind.TokenKind.TheVariants as k
+use Rattle.cedar_parser_tree.specs.declared.sign.ChainSign.{ChainSign}
+use Rattle.cedar_parser_tree.specs.declared.sign.RelationSign.{RelationSign}
+use Rattle.cedar_parser_tree.specs.declared.written.Link.{Link}
+use Rattle.cedar_parser_tokens.specs.Marks.{Mark, Marks}
+use Rattle.cedar_parser_tree.specs.Written.{Written}
+use Rattle.cedar_parser_expressions.specs.Grammar as g
+use Rattle.cedar_parser_tokens.specs.Names.{Rule, Takes, Text, Key, Path, Entity}
+use Rattle.cedar_parser_expressions.specs.Grammar.{Opens, Series, Entry, Primary, Suffixes, Member, Signed, Unary, Operands, Chain, or_sign, and_sign, sum_sign, product_sign, relation_sign_of, Products, Sums, Relation, Ands, Ors, Expression, Nested}
+use Rattle.cedar_parser_tokens.specs.Reading.{same_kind, sees, kind_at, sign_at}
+
+abbrev pub bind : TokenKind → ℕ
+bind k.OrOr = 1
+bind k.AndAnd = 2
+bind k.Less = 3
+bind k.LessEqual = 3
+bind k.Greater = 3
+bind k.GreaterEqual = 3
+bind k.Equal = 3
+bind k.NotEqual = 3
+bind k.In = 3
+bind k.Has = 3
+bind k.Like = 3
+bind k.Is = 3
+bind k.Plus = 4
+bind k.Minus = 4
+bind k.Star = 5
+bind k.Dot = 6
+bind k.LeftBracket = 6
+bind k.LeftParen = 7
+bind k.DoubleColon = 7
+bind _ = 0
+
+abbrev pub bind_at : Marks → ℕ
+bind_at [] = 0
+bind_at (t ∷ ts) = bind t.kind
+
+-- No token of these signs binds so loosely.
+abbrev pub Above : {S : Type 0} → ℕ → (TokenKind → Option S) → Type 0
+Above n signs = (q : TokenKind) → bind q < n → signs q ≡ None
+
+-- Each of these signs binds as loosely.
+abbrev pub Below : {S : Type 0} → ℕ → (TokenKind → Option S) → Type 0
+Below {S} n signs = (q : TokenKind) (sign : S) → signs q ≡ Some sign → bind q < n
+
+pub or_above : Above 1 or_sign
+or_above k.OrOr h = absurd (omega arith)
+or_above _ h = refl
+
+pub or_below : Below 2 or_sign
+or_below k.OrOr sign h = omega arith
+or_below _ sign h = absurd cc
+
+pub and_above : Above 2 and_sign
+and_above k.AndAnd h = absurd (omega arith)
+and_above _ h = refl
+
+pub and_below : Below 3 and_sign
+and_below k.AndAnd sign h = omega arith
+and_below _ sign h = absurd cc
+
+pub relation_above : Above 3 relation_sign_of
+relation_above k.Less h = absurd (omega arith)
+relation_above k.LessEqual h = absurd (omega arith)
+relation_above k.Greater h = absurd (omega arith)
+relation_above k.GreaterEqual h = absurd (omega arith)
+relation_above k.Equal h = absurd (omega arith)
+relation_above k.NotEqual h = absurd (omega arith)
+relation_above k.In h = absurd (omega arith)
+relation_above _ h = refl
+
+pub relation_below : Below 4 relation_sign_of
+relation_below k.Less sign h = omega arith
+relation_below k.LessEqual sign h = omega arith
+relation_below k.Greater sign h = omega arith
+relation_below k.GreaterEqual sign h = omega arith
+relation_below k.Equal sign h = omega arith
+relation_below k.NotEqual sign h = omega arith
+relation_below k.In sign h = omega arith
+relation_below _ sign h = absurd cc
+
+pub sum_above : Above 4 sum_sign
+sum_above k.Plus h = absurd (omega arith)
+sum_above k.Minus h = absurd (omega arith)
+sum_above _ h = refl
+
+pub sum_below : Below 5 sum_sign
+sum_below k.Plus sign h = omega arith
+sum_below k.Minus sign h = omega arith
+sum_below _ sign h = absurd cc
+
+pub product_above : Above 5 product_sign
+product_above k.Star h = absurd (omega arith)
+product_above _ h = refl
+
+pub product_below : Below 6 product_sign
+product_below k.Star sign h = omega arith
+product_below _ sign h = absurd cc
+
+pub no_has : (q : TokenKind) → bind q < 3 → same_kind q k.Has ≡ false
+no_has k.Has h = absurd (omega arith)
+no_has _ h = refl
+
+pub no_like : (q : TokenKind) → bind q < 3 → same_kind q k.Like ≡ false
+no_like k.Like h = absurd (omega arith)
+no_like _ h = refl
+
+pub no_is : (q : TokenKind) → bind q < 3 → same_kind q k.Is ≡ false
+no_is k.Is h = absurd (omega arith)
+no_is _ h = refl
+
+pub no_in : (q : TokenKind) → bind q < 3 → same_kind q k.In ≡ false
+no_in k.In h = absurd (omega arith)
+no_in _ h = refl
+
+pub no_dot : (q : TokenKind) → bind q < 6 → same_kind q k.Dot ≡ false
+no_dot k.Dot h = absurd (omega arith)
+no_dot _ h = refl
+
+pub no_bracket : (q : TokenKind) → bind q < 6 → same_kind q k.LeftBracket ≡ false
+no_bracket k.LeftBracket h = absurd (omega arith)
+no_bracket _ h = refl
+
+pub no_paren : (q : TokenKind) → bind q < 7 → same_kind q k.LeftParen ≡ false
+no_paren k.LeftParen h = absurd (omega arith)
+no_paren _ h = refl
+
+pub no_colon : (q : TokenKind) → bind q < 7 → same_kind q k.DoubleColon ≡ false
+no_colon k.DoubleColon h = absurd (omega arith)
+no_colon _ h = refl
+
+pub sign_no_has : (q : TokenKind) (sign : RelationSign) → relation_sign_of q ≡ Some sign → same_kind q k.Has ≡ false
+sign_no_has k.Has sign h = absurd cc
+sign_no_has _ sign h = refl
+
+pub sign_no_like : (q : TokenKind) (sign : RelationSign) → relation_sign_of q ≡ Some sign → same_kind q k.Like ≡ false
+sign_no_like k.Like sign h = absurd cc
+sign_no_like _ sign h = refl
+
+pub sign_no_is : (q : TokenKind) (sign : RelationSign) → relation_sign_of q ≡ Some sign → same_kind q k.Is ≡ false
+sign_no_is k.Is sign h = absurd cc
+sign_no_is _ sign h = refl
+
+pub sees_nothing : (n : ℕ) (kind : TokenKind) → ((q : TokenKind) → bind q < n → same_kind q kind ≡ false) → (ts : Marks) → bind_at ts < n → sees kind ts ≡ false
+unfolding sees
+sees_nothing n kind h [] b = refl
+sees_nothing n kind h (t ∷ ts) b = h t.kind b
+
+pub no_sign : {S : Type 0} (n : ℕ) (signs : TokenKind → Option S) → Above n signs → (ts : Marks) → bind_at ts < n → sign_at signs ts ≡ None
+unfolding kind_at
+no_sign n signs h [] b = refl
+no_sign n signs h (t ∷ ts) b = h t.kind b
+
+pub takes_bind : {kind : TokenKind} {t : Mark} {ts us : Marks} → Takes kind t ts us → bind_at ts ≡ bind kind
+takes_bind h = ap bind_at h.whole ∙ ap bind h.is
+
+-- ---- what begins a phrase: 0 for what begins no expression, 1 for what begins a Primary, 2 and 3 for the signs before one, 4 for an `if`
+
+abbrev pub start : TokenKind → ℕ
+start k.True = 1
+start k.False = 1
+start k.Number = 1
+start k.String = 1
+start k.Identifier = 1
+start k.Slot = 1
+start k.LeftParen = 1
+start k.LeftBracket = 1
+start k.LeftBrace = 1
+start k.Not = 2
+start k.Minus = 3
+start k.If = 4
+start _ = 0
+
+abbrev pub start_at : Marks → ℕ
+start_at [] = 0
+start_at (t ∷ ts) = start t.kind
+
+takes_start : {kind : TokenKind} {t : Mark} {ts us : Marks} → Takes kind t ts us → start_at ts ≡ start kind
+takes_start h = ap start_at h.whole ∙ ap start h.is
+
+-- Each phrase begins with a token whose number is in this range.
+abbrev pub Begins : {A : Type 0} → ℕ → ℕ → Rule A → Type 0
+Begins {A} low high R = (ts : Marks) (a : A) (us : Marks) → R ts a us → (low ≤ start_at ts) × (start_at ts ≤ high)
+
+one_one : (n : ℕ) → n ≡ 1 → (1 ≤ n) × (n ≤ 1)
+one_one n e = (omega arith, omega arith)
+
+text_starts : Begins 1 1 Text
+text_starts ts a us (g.string t) = one_one _ (takes_start t)
+
+key_starts : Begins 1 1 Key
+key_starts ts a us (g.word t) = one_one _ (takes_start t)
+key_starts ts a us (g.string t) = text_starts _ _ _ t
+
+path_starts : Begins 1 1 Path
+path_starts ts a us (g.word t) = one_one _ (takes_start t)
+path_starts ts a us (g.longer p c t) = path_starts _ _ _ p
+
+pub entity_starts : Begins 1 1 Entity
+entity_starts ts a us (g.entity p c t) = path_starts _ _ _ p
+
+pub entry_starts : (Inner : Rule Written) → Begins 1 1 (Entry Inner)
+entry_starts Inner ts a us (g.entry k c i) = key_starts _ _ _ k
+
+operands_start : (low high : ℕ) (signs : TokenKind → Option ChainSign) (Item : Rule Written) → Begins low high Item
+    → (ts : Marks) (a : Written) (ls : List Link) (us : Marks) → Operands signs Item ts a ls us → (low ≤ start_at ts) × (start_at ts ≤ high)
+operands_start low high signs Item h ts a ls us (g.first i) = h _ _ _ i
+operands_start low high signs Item h ts a _ us (g.more o s i) = operands_start low high signs Item h _ _ _ _ o
+
+chain_starts : (low high : ℕ) (signs : TokenKind → Option ChainSign) (Item : Rule Written) → Begins low high Item → Begins low high (Chain signs Item)
+chain_starts low high signs Item h ts _ us (g.operands o) = operands_start low high signs Item h _ _ _ _ o
+
+module _ (d : ℕ) (Inner : Rule Written) where
+  primary_starts : Begins 1 1 (Primary d Inner)
+  primary_starts ts a us (g.yes h) = one_one _ (takes_start h)
+  primary_starts ts a us (g.no h) = one_one _ (takes_start h)
+  primary_starts ts a us (g.number h) = one_one _ (takes_start h)
+  primary_starts ts a us (g.text h) = text_starts _ _ _ h
+  primary_starts ts a us (g.uid h) = entity_starts _ _ _ h
+  primary_starts ts a us (g.variable h e) = one_one _ (takes_start h)
+  primary_starts ts a us (g.slot h e) = one_one _ (takes_start h)
+  primary_starts ts a us (g.call p o q c) = path_starts _ _ _ p
+  primary_starts ts a us (g.group o i c) = one_one _ (takes_start o.takes)
+  primary_starts ts a us (g.set o q c) = one_one _ (takes_start o.takes)
+  primary_starts ts a us (g.record_of o q c) = one_one _ (takes_start o.takes)
+
+  suffixes_start : (ts : Marks) (a : Written) (ls : List Link) (us : Marks) → Suffixes d Inner ts a ls us → (1 ≤ start_at ts) × (start_at ts ≤ 1)
+  suffixes_start ts a ls us (g.first p) = primary_starts _ _ _ p
+  suffixes_start ts a _ us (g.attribute s p t) = suffixes_start _ _ _ _ s
+  suffixes_start ts a _ us (g.index s o t c) = suffixes_start _ _ _ _ s
+  suffixes_start ts a _ us (g.method s p t o q c) = suffixes_start _ _ _ _ s
+
+  pub member_starts : Begins 1 1 (Member d Inner)
+  member_starts ts _ us (g.suffixes s) = suffixes_start _ _ _ _ s
+
+  pub signed_starts : (sign : TokenKind) (f : Written → Written) (n : ℕ) (ts : Marks) (a : Written) (us : Marks) → Signed d Inner sign f n ts a us → (start_at ts ≡ 1) ⊎ (start_at ts ≡ start sign)
+  signed_starts sign f n ts a us (g.bare p) = let b = member_starts _ _ _ p in inl (omega arith)
+  signed_starts sign f _ ts _ us (g.signed t p) = inr (takes_start t)
+
+  unary_starts : Begins 1 3 (Unary d Inner)
+  unary_starts ts a us (g.nots p) = elim (signed_starts _ _ _ _ _ _ p) [ inl e ↦ (omega arith, omega arith) | inr e ↦ (omega arith, omega arith) ]
+  unary_starts ts a us (g.minuses p) = elim (signed_starts _ _ _ _ _ _ p) [ inl e ↦ (omega arith, omega arith) | inr e ↦ (omega arith, omega arith) ]
+
+  sums_start : Begins 1 3 (Sums d Inner)
+  sums_start = chain_starts 1 3 sum_sign (Products d Inner) (chain_starts 1 3 product_sign (Unary d Inner) unary_starts)
+
+  relation_starts : Begins 1 3 (Relation d Inner)
+  relation_starts ts a us (g.alone s) = sums_start _ _ _ s
+  relation_starts ts a us (g.pair s e q) = sums_start _ _ _ s
+  relation_starts ts a us (g.has s t c) = sums_start _ _ _ s
+  relation_starts ts a us (g.like s t c) = sums_start _ _ _ s
+  relation_starts ts a us (g.is s t c) = sums_start _ _ _ s
+  relation_starts ts a us (g.is_in s t c i q) = sums_start _ _ _ s
+
+  pub ors_start : Begins 1 3 (Ors d Inner)
+  ors_start = chain_starts 1 3 or_sign (Ands d Inner) (chain_starts 1 3 and_sign (Relation d Inner) relation_starts)
+
+  expression_starts : Begins 1 4 (Expression d Inner)
+  expression_starts ts a us (g.or o) = let b = ors_start _ _ _ o in (b.0, omega arith)
+  expression_starts ts a us (g.choice i c t x s y) = let e = takes_start i.takes in (omega arith, omega arith)
+
+pub nested_starts : (d : ℕ) → Begins 1 4 (Nested d)
+nested_starts zero ts a us h = absurd h
+nested_starts (suc d) ts a us h = expression_starts d (Nested d) ts a us h
+
+pub series_starts : {A : Type 0} (Item : Rule A) (high : ℕ) → Begins 1 high Item → (ts : Marks) (xs : List A) (us : Marks) → Series Item ts xs us → 1 ≤ start_at ts
+series_starts Item high item ts xs us (g.one i) = (item _ _ _ i).0
+series_starts Item high item ts _ us (g.next s c i) = series_starts Item high item _ _ _ s
+
+-- ---- what is not there
+
+pub sees_no : (kind : TokenKind) (ts : Marks) → ((q : TokenKind) → start q ≡ start_at ts → same_kind q kind ≡ false) → sees kind ts ≡ false
+unfolding sees
+sees_no kind [] h = refl
+sees_no kind (t ∷ ts) h = h t.kind refl
+
+pub not_if : (q : TokenKind) → start q ≤ 3 → same_kind q k.If ≡ false
+not_if k.If h = absurd (omega arith)
+not_if _ h = refl
+
+pub not_minus : (q : TokenKind) → start q ≤ 2 → same_kind q k.Minus ≡ false
+not_minus k.Minus h = absurd (omega arith)
+not_minus _ h = refl
+
+pub not_not : (q : TokenKind) → start q ≡ 1 → same_kind q k.Not ≡ false
+not_not k.Not h = absurd (omega arith)
+not_not _ h = refl
+
+pub not_paren : (q : TokenKind) → 1 ≤ start q → same_kind q k.RightParen ≡ false
+not_paren k.RightParen h = absurd (omega arith)
+not_paren _ h = refl
+
+pub not_bracket : (q : TokenKind) → 1 ≤ start q → same_kind q k.RightBracket ≡ false
+not_bracket k.RightBracket h = absurd (omega arith)
+not_bracket _ h = refl
+
+pub not_brace : (q : TokenKind) → 1 ≤ start q → same_kind q k.RightBrace ≡ false
+not_brace k.RightBrace h = absurd (omega arith)
+not_brace _ h = refl

@@ -1,0 +1,62 @@
+-- Side conditions, one by one, and limits.
+use Rattle.std.proofs.Common.{◌≡◌, ap, ◌<◌, ◌≤◌, Result, Ok, Err, arith}
+use Rattle.std.specs.Prelude.{OnOk, IfErr}
+use Rattle.cedar_parser_tokens.specs.declared.parse_fault.ParseFault.{ParseFault}
+use Rattle.cedar_parser_tokens.specs.declared.parse_fault.ParseFault.TheVariants as f
+use Rattle.cedar_parser_limits.specs.Private.Judging.{BreaksSize}
+use Rattle.cedar_parser_limits.specs.declared.side_condition.SideCondition.{SideCondition}
+use Rattle.cedar_parser_limits.specs.declared.side_condition.SideCondition.TheVariants.{Strings, Numbers, Keys, Names, Counts, Slots, Annotations}
+use Rattle.cedar_parser_limits.specs.declared.size.Size.{Size}
+use Rattle.cedar_parser_limits.specs.Private.Capped.{capped}
+use Rattle.cedar_parser_tree.specs.StatementTree.{StatementTree}
+use Rattle.cedar_parser_limits.specs.StatementLimits.{KeepsStatement, condition_size, Breaks}
+
+pub keeps_all : (s : StatementTree) → KeepsStatement Strings s → KeepsStatement Numbers s → KeepsStatement Keys s → KeepsStatement Names s → KeepsStatement Counts s → KeepsStatement Slots s → KeepsStatement Annotations s
+    → (c : SideCondition) → KeepsStatement c s
+keeps_all s a b d e f g h Strings = a
+keeps_all s a b d e f g h Numbers = b
+keeps_all s a b d e f g h Keys = d
+keeps_all s a b d e f g h Names = e
+keeps_all s a b d e f g h Counts = f
+keeps_all s a b d e f g h Slots = g
+keeps_all s a b d e f g h Annotations = h
+
+pub low_from : (r s : Size) → r ≡ capped s → r.height ≤ 2000 → s.height ≤ 2000
+low_from r s e le = let h = ap (λ (z : Size). z.height) e in omega arith
+
+pub small_from : (r s : Size) → r ≡ capped s → r.nodes ≤ 100000 → s.nodes ≤ 100000
+small_from r s e le = let h = ap (λ (z : Size). z.nodes) e in omega arith
+
+pub low_of : (r : Result (Unit {0}) ParseFault) (z s : Size) → z ≡ capped s → OnOk r (z.height ≤ 2000) → OnOk r (s.height ≤ 2000)
+low_of (Ok u) z s e h = low_from z s e h
+low_of (Err x) z s e h = tt
+
+pub small_of : (r : Result (Unit {0}) ParseFault) (z s : Size) → z ≡ capped s → OnOk r (z.nodes ≤ 100000) → OnOk r (s.nodes ≤ 100000)
+small_of (Ok u) z s e h = small_from z s e h
+small_of (Err x) z s e h = tt
+
+high_from : (r s : Size) → r ≡ capped s → 2000 < r.height → 2000 < s.height
+high_from r s e lt = let h = ap (λ (z : Size). z.height) e in omega arith
+
+large_from : (r s : Size) → r ≡ capped s → 100000 < r.nodes → 100000 < s.nodes
+large_from r s e lt = let h = ap (λ (z : Size). z.nodes) e in omega arith
+
+broken_by : (z : Size) (s : StatementTree) → z ≡ capped (condition_size s) → (x : ParseFault) → BreaksSize z x → Breaks s x
+broken_by z s e (f.TooHigh at) h = high_from z (condition_size s) e h
+broken_by z s e (f.TooLarge at) h = large_from z (condition_size s) e h
+broken_by z s e f.OutOfMemory h = tt
+broken_by z s e (f.Text at) h = absurd h
+broken_by z s e (f.EscapedStar at) h = absurd h
+broken_by z s e (f.NumberTooLarge at) h = absurd h
+broken_by z s e (f.Syntax at) h = absurd h
+broken_by z s e (f.TooDeep at) h = absurd h
+broken_by z s e (f.DuplicateKey at) h = absurd h
+broken_by z s e (f.DuplicateId at) h = absurd h
+broken_by z s e (f.UnknownFunction at) h = absurd h
+broken_by z s e (f.Arity at) h = absurd h
+broken_by z s e (f.SlotMisplaced at) h = absurd h
+broken_by z s e (f.DuplicateAnnotation at) h = absurd h
+
+pub broken_of : (r : Result (Unit {0}) ParseFault) (z : Size) (s : StatementTree) → z ≡ capped (condition_size s) → IfErr r (BreaksSize z) → IfErr r (Breaks s)
+broken_of (Ok u) z s e h = tt
+broken_of (Err x) z s e h = broken_by z s e x h

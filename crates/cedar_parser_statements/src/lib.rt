@@ -1,0 +1,23 @@
+//! The grammar of Cedar policies: statements as they are written, read from tokens (Cedar language reference, grammar).
+//!
+//! ```
+//! let source = "permit(principal, action, resource);";
+//! let tokens = spelled_tokens(rt.alloc(), source)?;
+//! let mut cursor = tokens.cursor(source.len());
+//! let written = statement(rt.alloc(), &mut cursor)?;
+//! assert_eq!(rt; written.effect, Effect::Permit);
+//! ```
+//!
+//! The grammar of statements is defined in `specs/Statements.antt`, that of expressions in cedar_parser_expressions, the tree as written
+//! in cedar_parser_tree.
+#![tactic(auto)]
+
+mod scopes;
+mod statements;
+
+pub use cedar_parser_tree::{
+    AttributePath, ChainSign, Field, Link, Reference, RelationSign, Series, Written,
+    WrittenActionScope, WrittenAnnotation, WrittenCondition, WrittenEntityScope, WrittenKind,
+    WrittenScope, WrittenStatement, WrittenUids,
+};
+pub use statements::statement;

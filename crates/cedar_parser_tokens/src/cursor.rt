@@ -1,0 +1,243 @@
+//! The tokens that are left.
+ghost use Rattle.std.specs.Prelude.{◌≡◌, length, map, option_map};
+ghost use Rattle.cedar_parser_tokens.specs.Private.Spells as spells;
+ghost use Rattle.cedar_parser_tokens.specs.Reading as spec;
+ghost use Rattle.cedar_parser_tokens.specs.Contract.{TakesToken};
+ghost use Rattle.cedar_parser_tokens.specs.Reading.{any_word};
+ghost use Rattle.cedar_parser_tokens.specs.Names.{is_word_kind};
+ghost use Rattle.cedar_text.specs.Lexeme.{lexeme, lexemes};
+ghost use Rattle.cedar_parser_tokens.specs.Marks.{start_of, mark};
+
+use crate::parse_fault::ParseFault;
+use crate::spelled::Spelled;
+use cedar_text::{Letter, Token, TokenKind};
+use std::marker::Model;
+
+/// A place in a list of tokens. Contracts see the tokens that are left.
+#[derive(Drop)]
+pub struct Cursor<'t> {
+    rest: &'t [Token<'t>],
+    /// The letters of the strings among them, in order.
+    strings: &'t [Vec<Letter>],
+    /// Where the token that was taken last begins, in bytes from 0.
+    taken: usize,
+    /// Where a token begins up to which some reading goes on although none was taken, in bytes from 0.
+    reached: usize,
+    /// Where the text ends, in bytes from 0.
+    end: usize,
+}
+
+impl<'t> Model for Cursor<'t> {
+    ghost use Rattle.std.specs.Prelude.{List, map};
+    ghost use Rattle.cedar_text.specs.Lexeme.{lexemes};
+    ghost use Rattle.cedar_parser_tokens.specs.Marks.{Mark};
+    ghost use Rattle.cedar_parser_tokens.specs.Private.Spells.{marks_with};
+
+    ghost Value = { List Mark };
+
+    ghost view = { λ c. marks_with (lexemes c.rest.now) (map (λ v. v.items) c.strings.now) };
+}
+
+impl<'t> Cursor<'t> {
+    /// The beginning of tokens, with the letters of the strings among them, of a text that ends at the byte `end`.
+    pub(crate) fn new(tokens: &'t [Token<'t>], strings: &'t [Vec<Letter>], end: usize) -> Cursor<'t>
+        ensures { result ≡ spells.marks_with (lexemes tokens.now) (map (λ v. v.items) strings.now) }
+    {
+        Cursor {
+            rest: tokens,
+            strings,
+            taken: 0,
+            reached: 0,
+            end,
+        }
+    }
+
+    /// How many tokens are left.
+    pub fn left(&self) -> usize
+        ensures { result ≡ length self.now }
+    {
+        self.rest.len()
+    }
+
+    /// What the next token is.
+    #[tactic(auto, unfolding(crate::specs::Reading::kind_at))]
+    pub fn kind(&self) -> Option<TokenKind>
+        ensures { result ≡ spec.kind_at self.now }
+    {
+        match self.rest {
+            [] => None,
+            [token, ..] => Some(token.kind),
+        }
+    }
+
+    /// The next token.
+    #[tactic(auto, unfolding(crate::specs::Reading::first))]
+    pub fn peek(&self) -> Option<Spelled<'t>>
+        ensures { option_map mark result ≡ spec.first self.now }
+    {
+        match self.rest {
+            [] => None,
+            [token, ..] => Some(spelled(token, self.strings)),
+        }
+    }
+
+    /// Whether the next token is of this kind.
+    #[tactic(auto, unfolding(crate::specs::Reading::sees))]
+    pub fn sees(&self, kind: TokenKind) -> bool
+        ensures { result ≡ spec.sees kind self.now }
+    {
+        match self.rest {
+            [] => false,
+            [token, ..] => token.kind == kind,
+        }
+    }
+
+    /// Whether the token after the next is of this kind.
+    #[tactic(auto, unfolding(crate::specs::Reading::sees, crate::specs::Reading::next))]
+    pub fn sees_behind(&self, kind: TokenKind) -> bool
+        ensures { result ≡ spec.sees kind (spec.next self.now) }
+    {
+        match self.rest {
+            [_, token, ..] => token.kind == kind,
+            _ => false,
+        }
+    }
+
+    /// Goes past the next token, if there is one.
+    #[tactic(auto, unfolding(crate::specs::Reading::next))]
+    pub fn skip(&mut self)
+        ensures { self.new ≡ spec.next self.old }
+    {
+        if let [token, rest @ ..] = self.rest {
+            self.taken = token.start;
+            self.rest = rest;
+            self.strings = strings_behind(token.kind, self.strings);
+        }
+    }
+
+    /// Goes past the next token, which is to be of this kind; another is no syntax.
+    #[tactic(auto, unfolding(crate::specs::Reading::expect))]
+    pub fn expect(&mut self, kind: TokenKind) -> Result<Spelled<'t>, ParseFault>
+        ensures { TakesToken (spec.expect kind self.old) result self.new }
+    {
+        match self.rest {
+            [token, rest @ ..] if token.kind == kind => {
+                let taken = spelled(token, self.strings);
+                self.taken = token.start;
+                self.rest = rest;
+                self.strings = strings_behind(token.kind, self.strings);
+                Ok(taken)
+            }
+            _ => Err(ParseFault::Syntax(self.offset())),
+        }
+    }
+
+    /// Goes past the next token, which is to be a word, reserved or not; another is no syntax.
+    #[tactic(auto, unfolding(crate::specs::Reading::any_word))]
+    pub fn any_word(&mut self) -> Result<Spelled<'t>, ParseFault>
+        ensures { TakesToken (any_word self.old) result self.new }
+    {
+        match self.rest {
+            [token, rest @ ..] if is_word_kind(token.kind) => {
+                let taken = spelled(token, self.strings);
+                self.taken = token.start;
+                self.rest = rest;
+                self.strings = strings_behind(token.kind, self.strings);
+                Ok(taken)
+            }
+            _ => Err(ParseFault::Syntax(self.offset())),
+        }
+    }
+
+    /// Where the next token begins, 0 where there is none.
+    pub fn start(&self) -> usize
+        ensures { result ≡ start_of self.now }
+    {
+        match self.rest {
+            [] => 0,
+            [token, ..] => token.start,
+        }
+    }
+
+    /// Notes that `::` goes on behind a path, though the path ends here.
+    pub fn pass_colons(&mut self)
+        ensures { self.new ≡ self.old }
+    {
+        match self.rest {
+            [colons] if colons.kind == TokenKind::DoubleColon => self.reached = self.end,
+            [colons, behind, ..] if colons.kind == TokenKind::DoubleColon => {
+                self.reached = behind.start;
+            }
+            _ => {}
+        }
+    }
+
+    /// Where the first token begins at which no reading goes on, or the text ends.
+    pub fn offset(&self) -> usize {
+        let next = match self.rest {
+            [] => self.end,
+            [token, ..] => token.start,
+        };
+        next.max(self.reached)
+    }
+
+    /// Where the token that was taken last begins.
+    pub fn taken(&self) -> usize {
+        self.taken
+    }
+}
+
+// A token, where these are the letters of the strings from it on.
+fn spelled<'t>(token: &'t Token<'t>, strings: &'t [Vec<Letter>]) -> Spelled<'t>
+    ensures { mark result ≡ spells.first_mark (lexeme token.now) (map (λ v. v.items) strings.now) }
+{
+    Spelled {
+        token,
+        letters: letters_at(token.kind, strings),
+    }
+}
+
+// The letters of a token of this kind, where these are those of the strings from it on.
+fn letters_at<'t>(kind: TokenKind, strings: &'t [Vec<Letter>]) -> &'t [Letter]
+    ensures { result.now ≡ spells.letters_at kind (map (λ v. v.items) strings.now) }
+{
+    if kind != TokenKind::String {
+        return &[];
+    }
+    match strings {
+        [] => &[],
+        [letters, ..] => letters,
+    }
+}
+
+// The letters of the strings behind a token of this kind, where these are those from it on.
+fn strings_behind<'t>(kind: TokenKind, strings: &'t [Vec<Letter>]) -> &'t [Vec<Letter>]
+    ensures { map (λ v. v.items) result.now ≡ spells.strings_behind kind (map (λ v. v.items) strings.now) }
+{
+    if kind != TokenKind::String {
+        return strings;
+    }
+    match strings {
+        [] => &[],
+        [_, rest @ ..] => rest,
+    }
+}
+
+// Whether a token of this kind is a word.
+fn is_word_kind(kind: TokenKind) -> bool
+    ensures { result ≡ is_word_kind kind }
+{
+    match kind {
+        TokenKind::True
+        | TokenKind::False
+        | TokenKind::If
+        | TokenKind::Then
+        | TokenKind::Else
+        | TokenKind::In
+        | TokenKind::Is
+        | TokenKind::Like
+        | TokenKind::Has
+        | TokenKind::Identifier => true,
+        _ => false,
+    }
+}

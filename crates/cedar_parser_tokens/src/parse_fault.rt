@@ -1,0 +1,135 @@
+//! Why a policy text or a uid is not read.
+use cedar_text::TextFault;
+use std::alloc::{AllocError, AllocFailed};
+use thiserror::Error;
+
+/// Why a text is not read, with the place of the fault in bytes from 0.
+#[derive(Clone, Copy, Debug, PartialEq, Eq, Error)]
+pub enum ParseFault {
+    /// 1: memory ran out; it says nothing of the text.
+    #[error("out of memory")]
+    OutOfMemory,
+    /// 101 to 104: the text has no tokens.
+    #[error("{0}")]
+    Text(TextFault),
+    /// 104: the digits that begin there are above 9223372036854775807.
+    #[error("the number at {0} is too large")]
+    NumberTooLarge(usize),
+    /// 103: the escape `\*` stands there outside a pattern.
+    #[error("the escape at {0} stands outside a pattern")]
+    EscapedStar(usize),
+    /// 201: no text of the grammar goes on with what stands there.
+    #[error("no text goes on with what stands at {0}")]
+    Syntax(usize),
+    /// 202: with the bracket or `if` there more than 100 are open in a condition.
+    #[error("the bracket or `if` at {0} nests too deep")]
+    TooDeep(usize),
+    /// 202: the condition of the statement that begins there is higher than 2,000 nodes.
+    #[error("the condition of the statement at {0} is too high")]
+    TooHigh(usize),
+    /// 203: the key that is written there stands in its record before.
+    #[error("the key at {0} stands in its record before")]
+    DuplicateKey(usize),
+    /// 204: a statement before the one that begins there has the same id.
+    #[error("a statement before the one at {0} has its id")]
+    DuplicateId(usize),
+    /// 205: there is no function or method of the name there.
+    #[error("there is no function or method of the name at {0}")]
+    UnknownFunction(usize),
+    /// 206: the function or method there takes another count of arguments: `isEmpty` none, each other one argument.
+    #[error("the function or method at {0} takes another count of arguments")]
+    Arity(usize),
+    /// 207: the slot there stands where none may.
+    #[error("the slot at {0} stands where none may")]
+    SlotMisplaced(usize),
+    /// 208: an annotation before the one that begins there has its name.
+    #[error("an annotation before the one at {0} has its name")]
+    DuplicateAnnotation(usize),
+    /// 209: the condition of the statement that begins there has more than 100,000 nodes.
+    #[error("the condition of the statement at {0} is too large")]
+    TooLarge(usize),
+}
+
+impl ParseFault {
+    ghost use Rattle.std.specs.Prelude.{◌≡◌};
+    ghost use Rattle.cedar_parser_tokens.specs.Faults.{number_of, offset_of};
+
+    /// The number of the refusal, as the program prints it.
+    pub fn number(self) -> u16
+        ensures { result ≡ number_of self }
+    {
+        match self {
+            ParseFault::OutOfMemory => 1,
+            ParseFault::Text(fault) => fault.number(),
+            ParseFault::EscapedStar(_) => 103,
+            ParseFault::NumberTooLarge(_) => 104,
+            ParseFault::Syntax(_) => 201,
+            ParseFault::TooDeep(_) | ParseFault::TooHigh(_) => 202,
+            ParseFault::DuplicateKey(_) => 203,
+            ParseFault::DuplicateId(_) => 204,
+            ParseFault::UnknownFunction(_) => 205,
+            ParseFault::Arity(_) => 206,
+            ParseFault::SlotMisplaced(_) => 207,
+            ParseFault::DuplicateAnnotation(_) => 208,
+            ParseFault::TooLarge(_) => 209,
+        }
+    }
+
+    /// Where the fault is, in bytes from 0; out of memory is nowhere.
+    pub fn offset(self) -> Option<usize>
+        ensures { result ≡ offset_of self }
+    {
+        match self {
+            ParseFault::OutOfMemory => None,
+            ParseFault::Text(fault) => fault.offset(),
+            ParseFault::NumberTooLarge(at)
+            | ParseFault::EscapedStar(at)
+            | ParseFault::Syntax(at)
+            | ParseFault::TooDeep(at)
+            | ParseFault::TooHigh(at)
+            | ParseFault::DuplicateKey(at)
+            | ParseFault::DuplicateId(at)
+            | ParseFault::UnknownFunction(at)
+            | ParseFault::Arity(at)
+            | ParseFault::SlotMisplaced(at)
+            | ParseFault::DuplicateAnnotation(at)
+            | ParseFault::TooLarge(at) => Some(at),
+        }
+    }
+}
+
+impl From<AllocError> for ParseFault {
+    ghost use Rattle.std.specs.Prelude.{◌≡◌};
+    ghost use Rattle.cedar_parser_tokens.specs.declared.parse_fault.ParseFault.TheVariants.{OutOfMemory};
+
+    ghost from_gives = { λ _ e. e ≡ OutOfMemory };
+
+    fn from(_: AllocError) -> ParseFault {
+        ParseFault::OutOfMemory
+    }
+}
+
+impl<T: Drop> From<AllocFailed<T>> for ParseFault {
+    ghost use Rattle.std.specs.Prelude.{◌≡◌};
+    ghost use Rattle.cedar_parser_tokens.specs.declared.parse_fault.ParseFault.TheVariants.{OutOfMemory};
+
+    ghost from_gives = { λ _ e. e ≡ OutOfMemory };
+
+    fn from(_: AllocFailed<T>) -> ParseFault {
+        ParseFault::OutOfMemory
+    }
+}
+
+impl From<TextFault> for ParseFault {
+    ghost use Rattle.std.specs.Prelude.{◌≡◌};
+    ghost use Rattle.cedar_parser_tokens.specs.Faults.{of_text};
+
+    ghost from_gives = { λ fault e. e ≡ of_text fault };
+
+    fn from(fault: TextFault) -> ParseFault {
+        match fault {
+            TextFault::OutOfMemory => ParseFault::OutOfMemory,
+            _ => ParseFault::Text(fault),
+        }
+    }
+}

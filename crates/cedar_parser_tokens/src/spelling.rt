@@ -1,0 +1,92 @@
+//! The tokens of a text with the letters of its strings.
+ghost use Rattle.std.specs.Prelude.{◌≡◌, IfOk, IfErr, map};
+ghost use Rattle.cedar_text.specs.Lexeme.{lexemes};
+ghost use Rattle.cedar_text.specs.Letters.{IsSpelled};
+ghost use Rattle.cedar_parser_tokens.specs.Marks.{Marks, IsMarked};
+ghost use Rattle.cedar_parser_tokens.specs.Spelling.{HasMarks, HasMarksFault};
+ghost use Rattle.cedar_parser_tokens.specs.Private.Spells.{Spells};
+
+use crate::cursor::Cursor;
+use crate::parse_fault::ParseFault;
+use cedar_text::{Letter, Token, TokenKind, letters, one_spelling, tokens};
+use std::alloc::{AllocError, Global};
+use std::marker::Model;
+
+/// The tokens of a text, and the letters of those that are strings, which contracts see as a list of `Mark`s.
+#[derive(Drop)]
+pub struct SpelledTokens<'t> {
+    tokens: Vec<Token<'t>>,
+    /// The letters of the first string, of the second, and so on.
+    strings: Vec<Vec<Letter>>,
+}
+
+impl<'t> Model for SpelledTokens<'t> {
+    ghost use Rattle.std.specs.Prelude.{List, map};
+    ghost use Rattle.cedar_text.specs.Lexeme.{lexemes};
+    ghost use Rattle.cedar_parser_tokens.specs.Marks.{Mark};
+    ghost use Rattle.cedar_parser_tokens.specs.Private.Spells.{marks_with};
+
+    ghost Value = { List Mark };
+
+    ghost view = { λ s. marks_with (lexemes s.tokens.items) (map (λ v. v.items) s.strings.items) };
+}
+
+impl<'t> SpelledTokens<'t> {
+    /// The beginning of the tokens, of a text that ends at the byte `end`.
+    pub fn cursor(&self, end: usize) -> Cursor<'_>
+        ensures { result ≡ self.now }
+    {
+        Cursor::new(&self.tokens, &self.strings, end)
+    }
+}
+
+/// The tokens of a text, each string with the letters that it writes (Cedar language reference, grammar). A token takes 32
+/// bytes of memory, a letter of a string 8.
+///
+/// Refusals: 1; 101 to 104 where the text has no tokens.
+pub fn spelled_tokens(alloc: Global, source: &str) -> Result<SpelledTokens<'_>, ParseFault>
+    // What is answered are the tokens of the text.
+    ensures found { IfOk result (IsMarked source.now) }
+    // The tokens of the text are what is answered, unless memory runs out.
+    ensures only { (ms : Marks) → IsMarked source.now ms → HasMarks ms result }
+    // Each fault comes only where it is.
+    ensures fault { IfErr result (HasMarksFault source.now) }
+{
+    // A law: it runs nothing.
+    one_spelling();
+    let tokens = tokens(alloc, source)?;
+    let strings = strings(alloc, &tokens)?;
+    Ok(SpelledTokens { tokens, strings })
+}
+
+// The letters of the strings among tokens, in order. They are counted before the list of them is made.
+fn strings(alloc: Global, tokens: &[Token<'_>]) -> Result<Vec<Vec<Letter>>, AllocError>
+    ensures { IfOk result (λ v. Spells (lexemes tokens.now) (map (λ l. l.items) v.items)) }
+{
+    let mut found = Vec::with_capacity(alloc, count_strings(tokens))?;
+    for token in tokens {
+        if token.kind == TokenKind::String {
+            found.push(letters_of(alloc, token.text)?)?;
+        }
+    }
+    Ok(found)
+}
+
+// How many of the tokens are strings.
+fn count_strings(tokens: &[Token<'_>]) -> usize {
+    let mut count = 0usize;
+    for token in tokens {
+        count = count.saturating_add(usize::from(token.kind == TokenKind::String));
+    }
+    count
+}
+
+// The letters of a string. A string token always has some, so none can be wanting but for memory.
+fn letters_of(alloc: Global, text: &str) -> Result<Vec<Letter>, AllocError>
+    ensures { IfOk result (λ v. IsSpelled text.now v.items) }
+{
+    match letters(alloc, text) {
+        Ok(letters) => Ok(letters),
+        Err(_) => Err(AllocError),
+    }
+}

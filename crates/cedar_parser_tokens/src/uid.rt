@@ -1,0 +1,73 @@
+//! The uid of a text.
+ghost use Rattle.std.specs.Prelude.{◌≡◌, IfOk, IfErr, is_some, List, ℕ, ◌⊎◌};
+ghost use Rattle.cedar_value.specs.declared.uid.Uid.{Uid as Uids};
+ghost use Rattle.cedar_parser_tokens.specs.UidText.{IsUidText, HasUidFault, AnswersUid};
+
+use crate::content::Content;
+use crate::names::entity;
+use crate::parse_fault::ParseFault;
+use crate::plain_uid::plain_uid;
+use crate::spelling::spelled_tokens;
+use cedar_text::{letters_or_none, one_list, one_spelling, tokens_or_none};
+use cedar_value::Uid;
+use std::alloc::Global;
+
+/// The uid of a text, as `User::"ann"` (Cedar language reference, entity identifiers). White space and comments may stand
+/// in it.
+///
+/// Refusals: 1; 101 to 104 where the text has no tokens; 103 for the escape `\*` in the id; 201 where the tokens are no uid.
+pub fn read_uid(alloc: Global, source: &str) -> Result<Uid, ParseFault>
+    // What is answered is the uid of the text.
+    ensures found { IfOk result (IsUidText source.now) }
+    // The uid of the text is what is answered, unless memory runs out.
+    ensures only { (uid : Uids) → IsUidText source.now uid → AnswersUid uid result }
+    // Each fault comes only where it is.
+    ensures fault { IfErr result (HasUidFault source.now) }
+{
+    // A law: it runs nothing.
+    one_uid();
+    if let Some(plain) = plain_uid(alloc, source)? {
+        return Ok(plain);
+    }
+    let spelled = spelled_tokens(alloc, source)?;
+    let mut cursor = spelled.cursor(source.len());
+    let written = entity(alloc, &mut cursor)?;
+    if cursor.left() > 0 {
+        return Err(ParseFault::Syntax(cursor.offset()));
+    }
+    if !stands(&written.id) {
+        return Err(ParseFault::EscapedStar(written.id.place()));
+    }
+    let uid = written.to_uid(alloc)?;
+    Ok(uid)
+}
+
+// Whether a string stands for a text.
+fn stands(content: &Content) -> bool
+    ensures { result ≡ is_some content.now }
+{
+    match content.text() {
+        Some(_) => true,
+        None => false,
+    }
+}
+
+/// The law that a text is that of a uid, and of which, or of none: the question is decided. It runs nothing.
+pub fn uid_or_none()
+    ensures { (source : List ℕ) → ((uid : Uids) × IsUidText source uid) ⊎ ((uid : Uids) → IsUidText source uid → ⊥) }
+{
+    // Laws: they run nothing.
+    one_list();
+    one_spelling();
+    tokens_or_none();
+    letters_or_none();
+}
+
+/// The law that no text is that of two uids (Cedar language reference, entity identifiers). It runs nothing.
+pub fn one_uid()
+    ensures { (source : List ℕ) (uid other : Uids) → IsUidText source uid → IsUidText source other → uid ≡ other }
+{
+    // Laws: they run nothing.
+    one_list();
+    one_spelling();
+}

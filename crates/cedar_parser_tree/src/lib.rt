@@ -1,0 +1,30 @@
+//! Statements and expressions of the Cedar policy language as they are written (Cedar language reference, grammar).
+//!
+//! ```
+//! let flag = Written::new(WrittenKind::Truth(true));
+//! let denied = not(rt.alloc(), flag)?;
+//! assert!(rt; matches!(denied.kind(), WrittenKind::Not(_)));
+//! ```
+//!
+//! The tree as written stands in `specs/Written.antt` and `specs/StatementTree.antt`. What is written by the grammar stands in
+//! cedar_parser_expressions and cedar_parser_statements, what it must keep beside the grammar in cedar_parser_limits.
+#![tactic(auto)]
+
+mod attribute_path;
+mod making;
+mod series;
+mod sign;
+mod written;
+mod written_statement;
+
+pub use attribute_path::AttributePath;
+pub use making::{
+    choice, group, has, is, is_in, like, minus, not, push_field, push_item, push_link, related,
+};
+pub use series::Series;
+pub use sign::{ChainSign, RelationSign};
+pub use written::{Field, Link, Written, WrittenKind};
+pub use written_statement::{
+    Reference, WrittenActionScope, WrittenAnnotation, WrittenCondition, WrittenEntityScope,
+    WrittenScope, WrittenStatement, WrittenUids,
+};

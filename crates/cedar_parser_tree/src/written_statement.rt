@@ -1,0 +1,141 @@
+//! Statements as they are written.
+ghost use Rattle.std.specs.Prelude.{◌≡◌};
+
+use crate::written::Written;
+use cedar_ast_expressions::Variable;
+use cedar_ast::{ConditionKind, Effect};
+use cedar_parser_tokens::{Content, Word, WrittenUid};
+use cedar_value::Name;
+use std::marker::Model;
+
+/// An annotation as it is written (Cedar language reference, annotations).
+#[derive(Drop)]
+pub struct WrittenAnnotation {
+    /// Where its `@` stands, in bytes from 0.
+    pub start: usize,
+    /// The name behind it.
+    pub name: Word,
+    /// What the string in brackets stands for.
+    pub value: Content,
+}
+
+/// One `when` or `unless` as it is written.
+#[derive(Drop)]
+pub struct WrittenCondition {
+    /// Whether the expression is to hold.
+    pub kind: ConditionKind,
+    /// What stands between the braces.
+    pub body: Written,
+}
+
+/// An entity, or a slot.
+#[derive(Drop)]
+pub enum Reference {
+    /// An entity.
+    Entity(WrittenUid),
+    /// Where `?principal` or `?resource` stands, in bytes from 0, and its variable.
+    Slot(usize, Variable),
+}
+
+/// What a scope asks of the principal or the resource, as it is written.
+#[derive(Drop)]
+pub enum WrittenEntityScope {
+    /// Nothing.
+    Any,
+    /// `==`
+    Equal(Reference),
+    /// `in`
+    In(Reference),
+    /// `is`
+    Is(Name),
+    /// `is .. in`
+    IsIn(Name, Reference),
+}
+
+/// Entities with commas between them, which contracts see as the list of them.
+#[derive(Drop)]
+pub struct WrittenUids {
+    uids: Vec<WrittenUid>,
+}
+
+impl Model for WrittenUids {
+    ghost use Rattle.std.specs.Prelude.{List};
+    ghost use Rattle.cedar_parser_tokens.specs.declared.content.WrittenUid.{WrittenUid};
+
+    ghost Value = { List WrittenUid };
+
+    ghost view = { λ u. u.uids.items };
+}
+
+impl WrittenUids {
+    /// These entities. Takes no memory.
+    pub fn new(uids: Vec<WrittenUid>) -> WrittenUids
+        ensures { result ≡ uids.items }
+    {
+        WrittenUids { uids }
+    }
+
+    /// The entities in order, lent.
+    pub fn as_slice(&self) -> &[WrittenUid]
+        ensures { result.now ≡ self.now }
+    {
+        &self.uids
+    }
+}
+
+/// What a scope asks of the action, as it is written.
+#[derive(Drop)]
+pub enum WrittenActionScope {
+    /// Nothing.
+    Any,
+    /// `==`
+    Equal(WrittenUid),
+    /// `in`
+    In(WrittenUid),
+    /// `in` and the entities in square brackets
+    InSet(WrittenUids),
+}
+
+/// A scope as it is written.
+#[derive(Drop)]
+pub struct WrittenScope {
+    /// What is asked of the principal.
+    pub principal: WrittenEntityScope,
+    /// What is asked of the action.
+    pub action: WrittenActionScope,
+    /// What is asked of the resource.
+    pub resource: WrittenEntityScope,
+}
+
+/// A statement as it is written, which contracts see as a `StatementTree`.
+#[derive(Drop)]
+pub struct WrittenStatement {
+    /// Where its first token begins, in bytes from 0.
+    pub start: usize,
+    /// Its annotations, in order.
+    pub annotations: Vec<WrittenAnnotation>,
+    /// Its first word.
+    pub effect: Effect,
+    /// What stands between the round brackets.
+    pub scope: WrittenScope,
+    /// What stands behind them, in order.
+    pub conditions: Vec<WrittenCondition>,
+}
+
+impl Model for WrittenStatement {
+    ghost use Rattle.std.specs.Coded.{codes};
+    ghost use Rattle.cedar_parser_tree.specs.Private.WrittenCode.{written_code};
+    ghost use Rattle.cedar_parser_tree.specs.StatementTree.{StatementTree};
+
+    ghost Value = { StatementTree };
+
+    ghost coded = { Prim.hlevel (codes, written_code) };
+
+    ghost view = { λ s. record {
+      start = s.start;
+      annotations = s.annotations.items;
+      effect = s.effect;
+      scope = s.scope;
+      conditions = s.conditions.items;
+    } };
+}

@@ -1,6 +1,0 @@
-use Rattle.std.proofs.Common.{◌≡◌, take, map}
-use Rattle.cedar_policies.specs.Condition.{entity_literal}
-use Rattle.cedar_policies.proofs.policy.literals.Given as goal
-
-abbrev pub invariant-loop-entity : goal.invariant-loop-entity
-invariant-loop-entity l = l.members.items ≡ map entity_literal (take l.entity-index l.entities)

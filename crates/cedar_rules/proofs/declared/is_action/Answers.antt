@@ -1,7 +1,0 @@
-use Rattle.std.specs.Bool.{one_answer}
-use Rattle.cedar_schema.specs.Declarations.{is_action}
-use Rattle.cedar_schema.proofs.DeclaredTests.{actions_decided}
-use Rattle.cedar_rules.proofs.declared.is_action.Goals as goal
-
-pub returns : goal.returns
-returns c = one_answer c.has_action.result (is_action c.args.schema.now c.args.uid.now) c.has_action.ensures (actions_decided c.args.schema.now c.args.uid.now)

@@ -1,5 +1,0 @@
-use Rattle.cedar_schema.proofs.DeclaredTests.{actions_decided, action_types_decided, action_descents_decided, type_descents_decided}
-use Rattle.cedar_schema.proofs.laws.tests_of_schemas_decide.Goals as goal
-
-pub returns : goal.returns
-returns c = record { actions = actions_decided; action_types = action_types_decided; action_descents = action_descents_decided; type_descents = type_descents_decided }

@@ -1,0 +1,94 @@
+-- What a schema's JSON declares, as flat lists (Cedar documentation, JSON schema format: namespaces).
+use Rattle.std.specs.Prelude.{ℕ, ◌==◌, ◌||◌, not, length, nat_eq, Bool, true, false, bytes_eq, codes, is_some, List, [], ◌∷◌, ◌++◌, map, Option, Some, None, option_map, option_and_then, unwrap_or, if◌then◌else◌}
+use Rattle.std.specs.List.{list_any}
+use Rattle.serde_json.specs.Data.{Data, null, Members, no_members, member}
+use Rattle.serde_json.specs.Find.{get, as_object}
+use Rattle.cedar_schema_json.specs.declared.schema_fault.SchemaFault.{SchemaFault}
+use Rattle.cedar_schema_json.specs.declared.schema_fault.SchemaFault.TheVariants.{Shape, ReservedName}
+use Rattle.cedar_schema_json.specs.declared.json.part.Part.{Part}
+use Rattle.cedar_schema_json.specs.declared.json.part.Part.TheVariants.{Namespace, EntityType, Action, AppliesTo, Member}
+use Rattle.cedar_schema_json.specs.declared.form.kind.Kind.TheVariants.{Common}
+use Rattle.cedar_schema_json.specs.declared.form.kind.Kind.{Kind}
+use Rattle.cedar_schema_json.specs.Naming.{text_faults, qualified, fault_if}
+use Rattle.cedar_schema_json.specs.Reading.{key_faults, kind_named}
+
+-- An entry: a key of a section, what is at the key, and the namespace that the section is of (Cedar documentation, JSON
+-- schema format: namespaces).
+pub record EntryTree : Type 0 where
+  pub namespace : List ℕ
+  pub key : List ℕ
+  pub body : Data
+
+-- The members of the object at a key, none where there is no object (Cedar documentation, JSON schema format: namespaces).
+abbrev pub section : List ℕ → Data → Members
+section k d = unwrap_or (option_and_then as_object (get k d)) no_members
+
+-- What stands at a key, where null counts as absent (own).
+abbrev pub unless_null : Option Data → Option Data
+unless_null (Some null) = None
+unless_null o = o
+
+-- The entries of one section, in order (Cedar documentation, JSON schema format: namespaces).
+abbrev pub entries_in : List ℕ → Members → List EntryTree
+entries_in namespace no_members = []
+entries_in namespace (member k d ms) = record { namespace = namespace; key = k; body = d } ∷ entries_in namespace ms
+
+-- The entries of all sections of this name (Cedar documentation, JSON schema format: namespaces).
+unfoldable pub entries : List ℕ → Members → List EntryTree
+entries k no_members = []
+entries k (member namespace space rest) = entries_in namespace (section k space) ++ entries k rest
+
+-- The whole names of what the entries declare (Cedar documentation, JSON schema format: namespaces).
+abbrev pub whole_names : List EntryTree → List (List ℕ)
+whole_names = map (λ e. qualified e.namespace e.key)
+
+-- ---- faults
+
+-- Which keys an object of a schema may have (Cedar documentation, JSON schema format).
+unfoldable pub belongs : Part → List ℕ → Bool
+belongs Namespace k = bytes_eq k (codes "entityTypes") || bytes_eq k (codes "actions") || bytes_eq k (codes "commonTypes")
+belongs EntityType k = bytes_eq k (codes "memberOfTypes") || bytes_eq k (codes "shape")
+belongs Action k = bytes_eq k (codes "memberOf") || bytes_eq k (codes "appliesTo") || bytes_eq k (codes "attributes")
+belongs AppliesTo k = bytes_eq k (codes "principalTypes") || bytes_eq k (codes "resourceTypes") || bytes_eq k (codes "context")
+belongs Member k = bytes_eq k (codes "id") || bytes_eq k (codes "type")
+
+-- The faults of an object of a schema: it has to be an object, else 302, of these keys alone (Cedar documentation, JSON schema
+-- format).
+abbrev pub part_faults : Part → Data → List SchemaFault
+part_faults part d = unwrap_or (option_map (key_faults (belongs part)) (as_object d)) (Shape ∷ [])
+
+-- The fault of a section: where it is there, it has to be an object (Cedar documentation, JSON schema format: namespaces).
+abbrev pub object_faults : Option Data → List SchemaFault
+object_faults None = []
+object_faults (Some d) = fault_if (not (is_some (as_object d))) Shape
+
+-- A namespace is the empty text or a name (Cedar documentation, JSON schema format: namespaces).
+unfoldable pub namespace_faults : List ℕ → List SchemaFault
+namespace_faults namespace = if length namespace == 0 then [] else text_faults namespace
+
+-- The faults of one namespace, but for those of its entries (Cedar documentation, JSON schema format: namespaces).
+unfoldable pub space_faults : List ℕ → Data → List SchemaFault
+space_faults namespace space =
+    namespace_faults namespace ++ (part_faults Namespace space ++ (object_faults (get (codes "entityTypes") space) ++ (object_faults (get (codes "actions") space) ++ object_faults (get (codes "commonTypes") space))))
+
+-- The faults of all namespaces, but for those of their entries (Cedar documentation, JSON schema format: namespaces).
+abbrev pub root_faults : Members → List SchemaFault
+root_faults no_members = []
+root_faults (member namespace space rest) = space_faults namespace space ++ root_faults rest
+
+-- The faults of a key that has to be an identifier: a name without `::` (Cedar documentation, JSON schema format).
+unfoldable pub key_text_faults : List ℕ → List SchemaFault
+key_text_faults k = text_faults k ++ fault_if (list_any (nat_eq 58) k) Shape
+
+-- An entity type may not be called `Action`: 306 (Cedar documentation, JSON schema format: entityTypes).
+unfoldable pub entity_key_faults : List ℕ → List SchemaFault
+entity_key_faults k = key_text_faults k ++ fault_if (bytes_eq k (codes "Action")) ReservedName
+
+-- Whether the kind is that of a common type, so that the name is of no built-in type (own).
+abbrev pub is_common : Kind → Bool
+is_common Common = true
+is_common _ = false
+
+-- A common type may not be called as a built-in type: 306 (Cedar documentation, JSON schema format: commonTypes; own).
+unfoldable pub common_key_faults : List ℕ → List SchemaFault
+common_key_faults k = key_text_faults k ++ fault_if (not (is_common (kind_named k))) ReservedName

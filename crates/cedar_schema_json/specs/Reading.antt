@@ -1,0 +1,181 @@
+-- What the JSON of a type says: its form, and the faults that are there (Cedar documentation, JSON schema format: attribute types).
+use Rattle.std.specs.Prelude.{unwrap_or, ◌||◌, ◌&&◌, ℕ, Bool, true, false, bytes_eq, codes, List, [], ◌∷◌, ◌++◌, Option, Some, None, option_map, option_and_then, if◌then◌else◌}
+use Rattle.std.specs.Ordering.{nat_cmp, match_ordering}
+use Rattle.std.specs.Cmp.Lexicographic.{slice_cmp}
+use Rattle.serde_json.specs.Data.{Data, boolean, object, Members, no_members, member}
+use Rattle.serde_json.specs.Find.{get, as_str, as_object}
+use Rattle.cedar_schema_json.specs.declared.schema_fault.SchemaFault.{SchemaFault}
+use Rattle.cedar_schema_json.specs.declared.schema_fault.SchemaFault.TheVariants.{Shape, UnknownType, OpenRecord}
+use Rattle.cedar_schema_json.specs.declared.form.kind.Kind.{Kind}
+use Rattle.cedar_schema_json.specs.declared.form.kind.Kind.TheVariants.{Boolean, Long, Text, Set, Record, Entity, Extension, Common}
+use Rattle.cedar_schema_json.specs.Naming.{Declared, resolved, text_faults, name_faults}
+use Rattle.cedar_schema_json.specs.Forms.{FormTree, no_form, boolean_form, long_form, string_form, decimal_form, entity_form, set_form, record_form, common_form, FormRows, no_form_rows, form_row}
+
+-- What the JSON of a type says: its form, and the faults that are there (Cedar documentation, JSON schema format: attribute
+-- types).
+pub record Read : Type 0 where
+  pub form : FormTree
+  pub faults : List SchemaFault
+
+-- What the JSON of attributes says: their rows, and the faults that are there (Cedar documentation, JSON schema format:
+-- Record).
+pub record RowsRead : Type 0 where
+  pub rows : FormRows
+  pub faults : List SchemaFault
+
+-- Where a type is written: its namespace, and the names that are declared in the schema (Cedar documentation, JSON schema
+-- format: namespaces).
+pub record Scope : Type 0 where
+  pub namespace : List ℕ
+  pub entities : List (List ℕ)
+  pub commons : List (List ℕ)
+
+-- A form without faults (own).
+abbrev pub fine : FormTree → Read
+fine f = record { form = f; faults = [] }
+
+-- No form, and a fault (own).
+abbrev pub bad : SchemaFault → Read
+bad e = record { form = no_form; faults = e ∷ [] }
+
+-- What is read of an object, with the faults of the object itself before those inside it (own).
+abbrev pub with_faults : List SchemaFault → Read → Read
+with_faults es r = record { form = r.form; faults = es ++ r.faults }
+
+-- ---- one level
+
+-- The kind that the key `type` names: a built-in one, or a common type (Cedar documentation, JSON schema format: attribute types).
+unfoldable pub kind_named : List ℕ → Kind
+kind_named s =
+    if bytes_eq s (codes "Boolean") then Boolean else (if bytes_eq s (codes "Long") then Long else (
+    if bytes_eq s (codes "String") then Text else (if bytes_eq s (codes "Set") then Set else (
+    if bytes_eq s (codes "Record") then Record else (if bytes_eq s (codes "Entity") then Entity else (
+    if bytes_eq s (codes "Extension") then Extension else Common))))))
+
+-- Which keys a type of a kind may have (Cedar documentation, JSON schema format: attribute types).
+unfoldable pub allowed : Kind → List ℕ → Bool
+allowed Set k = bytes_eq k (codes "type") || bytes_eq k (codes "element")
+allowed Record k = bytes_eq k (codes "type") || bytes_eq k (codes "attributes") || bytes_eq k (codes "additionalAttributes")
+allowed Entity k = bytes_eq k (codes "type") || bytes_eq k (codes "name")
+allowed Extension k = bytes_eq k (codes "type") || bytes_eq k (codes "name")
+allowed _ k = bytes_eq k (codes "type")
+
+-- Which keys a type or an attribute of a kind may have: an attribute may have one key more, `required` (Cedar documentation,
+-- JSON schema format: Record).
+abbrev pub may_have : Kind → Bool → List ℕ → Bool
+may_have kind attribute k = allowed kind k || (attribute && bytes_eq k (codes "required"))
+
+-- A fault, 302, for each key that may not be there (Cedar documentation, JSON schema format).
+abbrev pub key_faults : (List ℕ → Bool) → Members → List SchemaFault
+key_faults may no_members = []
+key_faults may (member k d ms) = (if may k then [] else Shape ∷ []) ++ key_faults may ms
+
+-- What a name says: the form that it stands for, none of one that is not declared (Cedar documentation, JSON schema format:
+-- namespaces).
+abbrev pub form_named : (Declared → FormTree) → List (List ℕ) → List ℕ → List ℕ → Read
+form_named make names namespace s = record { form = unwrap_or (option_map make (resolved names namespace s)) no_form; faults = name_faults names namespace s }
+
+-- The string at a key (own).
+abbrev pub text_at : List ℕ → Data → Option (List ℕ)
+text_at k d = option_and_then as_str (get k d)
+
+-- What is read of a part that has to be there: without it there is a fault, 302 (Cedar documentation, JSON schema format).
+abbrev pub needed : {A : Type 0} → (A → Read) → Option A → Read
+needed f o = unwrap_or (option_map f o) (bad Shape)
+
+-- A declared entity type (Cedar documentation, JSON schema format: Entity).
+abbrev pub entity_read : Scope → Option (List ℕ) → Read
+entity_read sc o = needed (form_named (λ n. entity_form n.0) sc.entities sc.namespace) o
+
+-- The extension type `decimal`; another name is 303 (Cedar documentation, JSON schema format: Extension).
+abbrev pub extension_named : List ℕ → Read
+extension_named s = if bytes_eq s (codes "decimal") then fine decimal_form else record { form = no_form; faults = text_faults s ++ UnknownType ∷ [] }
+
+-- A declared common type (Cedar documentation, JSON schema format: commonTypes).
+abbrev pub common_read : Scope → List ℕ → Read
+common_read sc s = form_named (λ n. common_form n.1) sc.commons sc.namespace s
+
+-- The type of sets of what is read (Cedar documentation, JSON schema format: Set).
+abbrev pub set_of : Read → Read
+set_of r = record { form = set_form r.form; faults = r.faults }
+
+-- `additionalAttributes` may be false alone: true is 307, all else 302 (Cedar documentation, JSON schema format: Record).
+abbrev pub closed_faults : Option Data → List SchemaFault
+closed_faults None = []
+closed_faults (Some (boolean false)) = []
+closed_faults (Some (boolean true)) = OpenRecord ∷ []
+closed_faults (Some _) = Shape ∷ []
+
+-- The type of records of what is read (Cedar documentation, JSON schema format: Record).
+abbrev pub record_of : RowsRead → Read
+record_of r = record { form = record_form r.rows; faults = r.faults }
+
+-- No attributes (own).
+abbrev pub no_rows_read : RowsRead
+no_rows_read = record { rows = no_form_rows; faults = [] }
+
+-- What the JSON of a type of a kind says, with what its element and its attributes say; no attributes are the empty object
+-- (Cedar documentation, JSON schema format: attribute types; own).
+abbrev pub of_kind : Scope → Data → List ℕ → Kind → Option Read → Option RowsRead → Read
+of_kind sc d s Boolean el rs = fine boolean_form
+of_kind sc d s Long el rs = fine long_form
+of_kind sc d s Text el rs = fine string_form
+of_kind sc d s Set el rs = needed set_of el
+of_kind sc d s Record el rs = with_faults (closed_faults (get (codes "additionalAttributes") d)) (record_of (unwrap_or rs no_rows_read))
+of_kind sc d s Entity el rs = entity_read sc (text_at (codes "name") d)
+of_kind sc d s Extension el rs = needed extension_named (text_at (codes "name") d)
+of_kind sc d s Common el rs = common_read sc s
+
+-- The faults of the keys of an object (Cedar documentation, JSON schema format).
+abbrev pub unknown_keys : (List ℕ → Bool) → Data → List SchemaFault
+unknown_keys may d = unwrap_or (option_map (key_faults may) (as_object d)) []
+
+-- What an object says as a type: one without a string at `type` is 302 (Cedar documentation, JSON schema format: attribute
+-- types).
+abbrev pub of_type : Scope → Bool → Data → Option Read → Option RowsRead → Option (List ℕ) → Read
+of_type sc attribute d el rs None = bad Shape
+of_type sc attribute d el rs (Some s) = with_faults (unknown_keys (may_have (kind_named s) attribute) d) (of_kind sc d s (kind_named s) el rs)
+
+-- Whether the attribute is required: it is where nothing else is written (Cedar documentation, JSON schema format: Record).
+abbrev pub is_required : Option Data → Bool
+is_required (Some (boolean false)) = false
+is_required _ = true
+
+-- The fault of `required`, which has to be a Boolean where it is there (Cedar documentation, JSON schema format: Record).
+abbrev pub required_faults : Option Data → List SchemaFault
+required_faults None = []
+required_faults (Some (boolean b)) = []
+required_faults (Some _) = Shape ∷ []
+
+-- An attribute, followed by others (Cedar documentation, JSON schema format: Record).
+abbrev pub row_then : List ℕ → Option Data → Read → RowsRead → RowsRead
+row_then k required r rest = record { rows = form_row k (is_required required) r.form rest.rows; faults = required_faults required ++ r.faults ++ rest.faults }
+
+-- ---- all levels
+-- What a JSON says as a type, or as an attribute (Cedar documentation, JSON schema format: attribute types).
+unfoldable mutual
+  pub type_read : Scope → Bool → Data → Read
+  type_read sc a (object ms) = of_type sc a (object ms) (read_at sc (codes "element") ms) (rows_at sc (codes "attributes") ms) (text_at (codes "type") (object ms))
+  type_read sc a _ = bad Shape
+
+  -- What is at a key of an object, read as a type: of a key that is there twice the first counts (Cedar documentation, JSON
+  -- schema format: Set).
+  pub read_at : Scope → List ℕ → Members → Option Read
+  read_at sc k no_members = None
+  read_at sc k (member l d ms) = match_ordering (slice_cmp nat_cmp k l) (read_at sc k ms) (Some (type_read sc false d)) (read_at sc k ms)
+
+  -- What is at a key of an object, read as attributes: of a key that is there twice the first counts (Cedar documentation,
+  -- JSON schema format: Record).
+  pub rows_at : Scope → List ℕ → Members → Option RowsRead
+  rows_at sc k no_members = None
+  rows_at sc k (member l d ms) = match_ordering (slice_cmp nat_cmp k l) (rows_at sc k ms) (Some (rows_read sc d)) (rows_at sc k ms)
+
+  -- What a JSON says as the attributes of a record: it has to be an object (Cedar documentation, JSON schema format: Record).
+  pub rows_read : Scope → Data → RowsRead
+  rows_read sc (object ms) = all_rows sc ms
+  rows_read sc _ = record { rows = no_form_rows; faults = Shape ∷ [] }
+
+  -- What the members of an object say as attributes, one after the other (Cedar documentation, JSON schema format: Record).
+  pub all_rows : Scope → Members → RowsRead
+  all_rows sc no_members = no_rows_read
+  all_rows sc (member k d ms) = row_then k (get (codes "required") d) (type_read sc true d) (all_rows sc ms)

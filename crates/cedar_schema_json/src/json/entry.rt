@@ -1,0 +1,178 @@
+//! What a schema's JSON declares, as flat lists.
+ghost use Rattle.std.specs.Prelude.{◌≡◌, ◌++◌, [], map, IfOk, OnOk, MatchResult, Some, None, option_map, string_bytes};
+ghost use Rattle.serde_json.specs.View.{view, members_view};
+ghost use Rattle.serde_json.specs.Find.{get, as_object};
+ghost use Rattle.cedar_schema_json.specs.Faults.{Told};
+ghost use Rattle.cedar_schema_json.specs.Entries.{entries, entries_in, section, whole_names, namespace_faults, space_faults, root_faults, object_faults, key_text_faults, entity_key_faults, common_key_faults};
+ghost use Rattle.cedar_schema_json.specs.EntryView.{entries_view, entry_of};
+
+use crate::form::kind::{Kind, kind_named};
+use crate::json::naming::{has_colon, qualified, read_name};
+use crate::json::part::{Part, check_part};
+use crate::schema_fault::SchemaFault;
+use cedar_value::Name;
+use serde_json::{Map, Value};
+use std::alloc::{AllocError, Global};
+
+/// What stands at a key of a section, and the namespace that the section is of.
+#[derive(Clone, Copy)]
+pub struct Entry<'a> {
+    /// The namespace.
+    pub namespace: &'a str,
+    /// The key.
+    pub key: &'a str,
+    /// What stands at the key.
+    pub body: &'a Value,
+}
+
+/// The entries of all sections with this key, in the order of the JSON.
+pub fn entries_of<'a>(
+    alloc: Global,
+    root: &'a Map<String, Value>,
+    section: &str,
+) -> Result<Vec<Entry<'a>>, AllocError>
+    ensures { IfOk result (λ v. entries_view v.items ≡ entries section.now (members_view root.now.entries)) }
+{
+    let mut found = Vec::new(alloc);
+    for (namespace, space) in root.iter() {
+        push_section(&mut found, namespace, space, section)?;
+    }
+    Ok(found)
+}
+
+fn push_section<'a>(
+    found: &mut Vec<Entry<'a>>,
+    namespace: &'a String,
+    space: &'a Value,
+    key: &str,
+) -> Result<(), AllocError>
+    ensures { OnOk result (entries_view found.new.items
+        ≡ entries_view found.old.items ++ entries_in (string_bytes namespace.now) (section key.now (view space.now))) }
+{
+    match space.get(key).and_then(Value::as_object) {
+        Some(members) => push_entries(found, namespace.as_str(), members),
+        None => Ok(()),
+    }
+}
+
+fn push_entries<'a>(
+    found: &mut Vec<Entry<'a>>,
+    namespace: &'a str,
+    members: &'a Map<String, Value>,
+) -> Result<(), AllocError>
+    ensures { OnOk result (entries_view found.new.items
+        ≡ entries_view found.old.items ++ entries_in namespace.now (members_view members.now.entries)) }
+{
+    for (key, body) in members.iter() {
+        found.push(Entry {
+            namespace,
+            key: key.as_str(),
+            body,
+        })?;
+    }
+    Ok(())
+}
+
+/// The whole names of what the entries declare.
+pub fn names_of(alloc: Global, entries: &[Entry<'_>]) -> Result<Vec<Name>, AllocError>
+    ensures { IfOk result (λ v. v.items ≡ whole_names (entries_view entries.now)) }
+{
+    let mut names = Vec::new(alloc);
+    for entry in entries {
+        names.push(qualified(alloc, entry.namespace, entry.key)?)?;
+    }
+    Ok(names)
+}
+
+/// Refuses namespaces of wrong names, and what is no namespace.
+pub fn check_spaces(alloc: Global, root: &Map<String, Value>) -> Result<(), SchemaFault>
+    ensures { MatchResult result
+        (λ _. root_faults (members_view root.now.entries) ≡ [])
+        (λ e. Told (root_faults (members_view root.now.entries)) e) }
+{
+    for (namespace, space) in root.iter() {
+        check_space(alloc, namespace.as_str(), space)?;
+    }
+    Ok(())
+}
+
+#[tactic(auto, unfolding(crate::specs::Entries::space_faults))]
+fn check_space(alloc: Global, namespace: &str, space: &Value) -> Result<(), SchemaFault>
+    ensures { MatchResult result
+        (λ _. space_faults namespace.now (view space.now) ≡ [])
+        (λ e. Told (space_faults namespace.now (view space.now)) e) }
+{
+    check_namespace(alloc, namespace)?;
+    check_part(Part::Namespace, space)?;
+    check_section(space, "entityTypes")?;
+    check_section(space, "actions")?;
+    check_section(space, "commonTypes")
+}
+
+#[tactic(auto, unfolding(crate::specs::Entries::namespace_faults))]
+fn check_namespace(alloc: Global, namespace: &str) -> Result<(), SchemaFault>
+    ensures { MatchResult result
+        (λ _. namespace_faults namespace.now ≡ [])
+        (λ e. Told (namespace_faults namespace.now) e) }
+{
+    if namespace.is_empty() {
+        return Ok(());
+    }
+    read_name(alloc, namespace)?;
+    Ok(())
+}
+
+fn check_section(space: &Value, key: &str) -> Result<(), SchemaFault>
+    ensures { MatchResult result
+        (λ _. object_faults (get key.now (view space.now)) ≡ [])
+        (λ e. Told (object_faults (get key.now (view space.now))) e) }
+{
+    match space.get(key) {
+        Some(section) if !section.is_object() => Err(SchemaFault::Shape),
+        _ => Ok(()),
+    }
+}
+
+// Refuses a key that is no identifier.
+#[tactic(auto, unfolding(crate::specs::Entries::key_text_faults))]
+fn check_key(alloc: Global, key: &str) -> Result<(), SchemaFault>
+    ensures { MatchResult result
+        (λ _. key_text_faults key.now ≡ [])
+        (λ e. Told (key_text_faults key.now) e) }
+{
+    read_name(alloc, key)?;
+    if has_colon(key) {
+        Err(SchemaFault::Shape)
+    } else {
+        Ok(())
+    }
+}
+
+/// Refuses a key that is no name of an entity type.
+#[tactic(auto, unfolding(crate::specs::Entries::entity_key_faults))]
+pub fn check_entity_key(alloc: Global, key: &str) -> Result<(), SchemaFault>
+    ensures { MatchResult result
+        (λ _. entity_key_faults key.now ≡ [])
+        (λ e. Told (entity_key_faults key.now) e) }
+{
+    check_key(alloc, key)?;
+    if key == "Action" {
+        Err(SchemaFault::ReservedName)
+    } else {
+        Ok(())
+    }
+}
+
+/// Refuses a key that is no name of a common type.
+#[tactic(auto, unfolding(crate::specs::Entries::common_key_faults))]
+pub fn check_common_key(alloc: Global, key: &str) -> Result<(), SchemaFault>
+    ensures { MatchResult result
+        (λ _. common_key_faults key.now ≡ [])
+        (λ e. Told (common_key_faults key.now) e) }
+{
+    check_key(alloc, key)?;
+    match kind_named(key) {
+        Kind::Common => Ok(()),
+        _ => Err(SchemaFault::ReservedName),
+    }
+}

@@ -1,0 +1,74 @@
+//! Which keys the objects of a schema may have.
+ghost use Rattle.std.specs.Prelude.{◌≡◌, [], MatchResult, Some, option_map};
+ghost use Rattle.serde_json.specs.View.{view, members_view};
+ghost use Rattle.serde_json.specs.Find.{get, as_object};
+ghost use Rattle.cedar_schema_json.specs.Faults.{Told};
+ghost use Rattle.cedar_schema_json.specs.Reading.{key_faults};
+ghost use Rattle.cedar_schema_json.specs.Entries.{belongs, part_faults, unless_null};
+
+use crate::schema_fault::SchemaFault;
+use serde_json::{Map, Value};
+
+/// An object of a schema.
+#[derive(Clone, Copy, PartialEq, Eq, Debug)]
+pub enum Part {
+    /// A namespace.
+    Namespace,
+    /// An entity type.
+    EntityType,
+    /// An action.
+    Action,
+    /// What an action applies to.
+    AppliesTo,
+    /// A member of `memberOf`.
+    Member,
+}
+
+#[tactic(auto, unfolding(crate::specs::Entries::belongs))]
+fn belongs(part: Part, key: &str) -> bool
+    ensures { result ≡ belongs part key.now }
+{
+    match part {
+        Part::Namespace => key == "entityTypes" || key == "actions" || key == "commonTypes",
+        Part::EntityType => key == "memberOfTypes" || key == "shape",
+        Part::Action => key == "memberOf" || key == "appliesTo" || key == "attributes",
+        Part::AppliesTo => key == "principalTypes" || key == "resourceTypes" || key == "context",
+        Part::Member => key == "id" || key == "type",
+    }
+}
+
+/// Refuses what is no object of these keys alone.
+pub fn check_part(part: Part, json: &Value) -> Result<(), SchemaFault>
+    ensures { MatchResult result
+        (λ _. part_faults part (view json.now) ≡ [])
+        (λ e. Told (part_faults part (view json.now)) e) }
+{
+    match json.as_object() {
+        Some(members) => check_part_keys(part, members),
+        None => Err(SchemaFault::Shape),
+    }
+}
+
+fn check_part_keys(part: Part, members: &Map<String, Value>) -> Result<(), SchemaFault>
+    ensures { MatchResult result
+        (λ _. key_faults (belongs part) (members_view members.now.entries) ≡ [])
+        (λ e. Told (key_faults (belongs part) (members_view members.now.entries)) e) }
+{
+    for (key, _) in members.iter() {
+        if !belongs(part, key.as_str()) {
+            return Err(SchemaFault::Shape);
+        }
+    }
+    Ok(())
+}
+
+/// What stands at a key, where null counts as absent.
+pub fn present<'v>(json: &'v Value, key: &str) -> Option<&'v Value>
+    ensures { option_map (λ v. view v.now) result ≡ unless_null (get key.now (view json.now)) }
+{
+    match json.get(key) {
+        Some(Value::Null) => None,
+        Some(found) => Some(found),
+        None => None,
+    }
+}

@@ -1,0 +1,6 @@
+pub mod Conformance
+pub mod Declarations
+pub mod Descents
+pub mod Private
+pub mod SchemaTree
+pub mod WellFormed

@@ -21,7 +21,7 @@ use Rattle.cedar_ast_expressions.specs.Expression.{expressions_of}
 use Rattle.cedar_ast_expressions.specs.Evaluation.{variable_of, and_of, set_of_values, eval, eval_all}
 use Rattle.cedar_ast_expressions.specs.Operators.{unary_of, binary_of, in_of, is_in, is_uid}
 use Rattle.cedar_code.specs.Code.{size_all}
-use Rattle.cedar_check_spec.proofs.Made.{set_all, any-set_from}
+use Rattle.cedar_value.proofs.SetMembers.{set_all, any-set_from}
 use Rattle.cedar_auth_scope.specs.Private.Met.{is_within, is_within_one_of, is_entity_met, is_action_met}
 
 abbrev says : Bool → Answer Datum

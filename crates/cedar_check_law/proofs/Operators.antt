@@ -40,7 +40,7 @@ use Rattle.cedar_schema_types.specs.declared.attribute.Attribute.{Attribute}
 use Rattle.cedar_check_spec.specs.Soundness.{GoodWith}
 use Rattle.cedar_check_law.proofs.Goodness.{then_good, good_weaker}
 use Rattle.cedar_check_spec.proofs.Members.{FitsDeclared, HaveAttributes, at-find}
-use Rattle.cedar_check_spec.proofs.Made.{set_all, any-set_from}
+use Rattle.cedar_value.proofs.SetMembers.{set_all, any-set_from}
 use Rattle.base_reach.proofs.Listed.{here, there, is_false, either_decides, decides_as, any_decides}
 use Rattle.cedar_check_law.proofs.Descents.{is_action-Decides, shape_declared}
 use Rattle.cedar_check_spec.specs.declared.settings.Settings.{Settings}

@@ -1,6 +1,5 @@
--- What the set of members and the record of pairs have.
-use Rattle.std.proofs.Common.{◌≡◌, ℕ, zero, suc, Bool, true, false, cond, ◌||◌, List, [], ◌∷◌, map, Contains, Option, Some, None, arith, refl, sym, ap, subst, ◌∙◌}
-use Rattle.std.specs.List.{AllByRecursion, list_any}
+-- What the record of pairs has.
+use Rattle.std.proofs.Common.{◌≡◌, ℕ, zero, suc, Bool, true, false, cond, List, [], ◌∷◌, map, Contains, Option, Some, None, arith, refl, sym, ap, subst, ◌∙◌}
 use Rattle.std.specs.Str.{bytes_eq}
 use Rattle.std.specs.declared.cmp.Ordering.{Ordering}
 use Rattle.std.specs.declared.cmp.Ordering.TheVariants.{Less, Equal, Greater}
@@ -8,52 +7,11 @@ use Rattle.std.specs.Ordering.{match_ordering, ordering_then}
 use Rattle.cedar_value.specs.Datum.{Datum}
 use Rattle.cedar_value.specs.Ascending.{insert_in}
 use Rattle.cedar_value.specs.Order.{datum_cmp, pair_cmp, text_cmp}
-use Rattle.cedar_value.specs.Private.Same.{datum_same, text_same}
-use Rattle.cedar_value.specs.Sets.{set_from}
+use Rattle.cedar_value.specs.Private.Same.{text_same}
 use Rattle.cedar_value.specs.Records.{value_at, record_from}
 use Rattle.cedar_ast_expressions.specs.Keys.{AreDistinct}
 use Rattle.cedar_check_spec.proofs.Members.{text_from_same, same_text_itself, crossed}
 use Rattle.base_reach.proofs.Listed.{here, there}
-
--- ---- sets
-
-insert_step : {A : Type 0} (P : A → Type 0) (o : Ordering) (x y : A) (ys new : List A) → P x → P y → AllByRecursion P ys → AllByRecursion P new → AllByRecursion P (match_ordering o (x ∷ y ∷ ys) (y ∷ ys) (y ∷ new))
-insert_step P Less x y ys new h m ms rest = (h, (m, ms))
-insert_step P Equal x y ys new h m ms rest = (m, ms)
-insert_step P Greater x y ys new h m ms rest = (m, rest)
-
-insert_all : {A : Type 0} (R : A → A → Ordering) (P : A → Type 0) (x : A) (xs : List A) → P x → AllByRecursion P xs → AllByRecursion P (insert_in R x xs)
-insert_all R P x [] h m = (h, tt)
-insert_all R P x (y ∷ ys) h m = insert_step P (R x y) x y ys (insert_in R x ys) h m.0 m.1 (insert_all R P x ys h m.1)
-
-pub set_all : (P : Datum → Type 0) (vs : List Datum) → AllByRecursion P vs → AllByRecursion P (set_from vs)
-set_all P [] h = tt
-set_all P (v ∷ vs) h = insert_all datum_cmp P v (set_from vs) h.0 (set_all P vs h.1)
-
-again : (a b : Bool) → (a || b) ≡ (a || (a || b))
-again true b = refl
-again false b = refl
-
-changed : (a b c : Bool) → (a || (b || c)) ≡ (b || (a || c))
-changed true true c = refl
-changed true false c = refl
-changed false true c = refl
-changed false false c = refl
-
-any_step : (f : Datum → Bool) (o : Ordering) (v d : Datum) (ds new : List Datum) → datum_cmp v d ≡ o → list_any f new ≡ (f v || list_any f ds) → list_any f (match_ordering o (v ∷ d ∷ ds) (d ∷ ds) (d ∷ new)) ≡ (f v || (f d || list_any f ds))
-any_step f Less v d ds new e rest = refl
-any_step f Equal v d ds new e rest = again (f d) (list_any f ds) ∙ ap (λ (x : Datum). f x || (f d || list_any f ds)) (sym (datum_same v d e))
-any_step f Greater v d ds new e rest = ap (λ b. f d || b) rest ∙ changed (f d) (f v) (list_any f ds)
-
-insert_any : (f : Datum → Bool) (v : Datum) (ds : List Datum) → list_any f (insert_in datum_cmp v ds) ≡ (f v || list_any f ds)
-insert_any f v [] = refl
-insert_any f v (d ∷ ds) = any_step f (datum_cmp v d) v d ds (insert_in datum_cmp v ds) refl (insert_any f v ds)
-
-pub any-set_from : (f : Datum → Bool) (vs : List Datum) → list_any f (set_from vs) ≡ list_any f vs
-any-set_from f [] = refl
-any-set_from f (v ∷ vs) = insert_any f v (set_from vs) ∙ ap (λ b. f v || b) (any-set_from f vs)
-
--- ---- records
 
 abbrev Pair : Type 0
 Pair = List ℕ × Datum

@@ -3,7 +3,7 @@ use Rattle.std.specs.Prelude.{not, Bool, true, false, List, [], ◌∷◌, ◌++
 use Rattle.serde_json.specs.Data.{Data, object, no_members}
 use Rattle.cedar_schema_json.specs.declared.schema_fault.SchemaFault.{SchemaFault}
 use Rattle.cedar_schema_json.specs.declared.schema_fault.SchemaFault.TheVariants.{Shape}
-use Rattle.cedar_schema_types.specs.Types.{TypeTree, record_of, no_attributes}
+use Rattle.cedar_schema_types.specs.Types.{TypeTree, is_record, record_of, no_attributes}
 use Rattle.cedar_schema_json.specs.Naming.{fault_if}
 use Rattle.cedar_schema_json.specs.Reading.{Scope, type_read}
 use Rattle.cedar_schema_json.specs.Expansion.{Table, Expanded, typed}

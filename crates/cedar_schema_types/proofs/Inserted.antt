@@ -1,8 +1,8 @@
 -- An attribute that goes to its place among attributes that ascend.
 use Rattle.std.proofs.Common.{◌≡◌, ℕ, zero, suc, ◌<◌, ◌≤◌, Bool, List, [], ◌∷◌, length, get_or, refl, arith, ap, sym, subst, ◌∙◌, Err, Ok, Result, OnOk, OnErr}
-use Rattle.std.proofs.Math.ListN.{length-map, get_or-map, set}
+use Rattle.std.proofs.Math.ListN.{set}
 use Rattle.std.proofs.lemmas.Cmp.{nat_list_cmp_total}
-use Rattle.std.proofs.lemmas.Map.Keys.{Less-from_sorted, sorted_tail}
+use Rattle.std.proofs.lemmas.Map.Keys.{sorted_tail}
 use Rattle.std.proofs.lemmas.List.Sorted.{searchable_from_sorted}
 use Rattle.std.specs.declared.cmp.Ordering.{Ordering}
 use Rattle.std.specs.declared.cmp.Ordering.TheVariants.{Less, Equal, Greater}
@@ -11,11 +11,13 @@ use Rattle.std.specs.List.{AllByRecursion, insert}
 use Rattle.std.specs.List.Sorted.{IsStrictlySortedBy, IsBinarySearchResult}
 use Rattle.cedar_value.specs.Order.{text_cmp}
 use Rattle.cedar_value.specs.Private.Same.{text_same}
+use Rattle.cedar_value.proofs.AscendingLists.{less_all}
+use Rattle.cedar_value.proofs.ByKeys.{first_below, sorted_keys}
 use Rattle.cedar_schema_types.specs.Types.{TypeTree, Attributes, attribute, no_attributes, names_of, record_of}
 use Rattle.cedar_schema_types.specs.TypeKind.{attributes_of}
 use Rattle.cedar_schema_types.specs.Ordered.{Ascends, AllAscend, AreNamesAscending, with_attribute}
 use Rattle.cedar_schema_types.specs.declared.attribute.Attribute.{Attribute}
-use Rattle.cedar_schema_types.proofs.Names.{named, sorted_names}
+use Rattle.cedar_schema_types.proofs.Names.{name_of}
 
 flipped : (k l : List ℕ) (o : Ordering) → text_cmp l k ≡ o → text_cmp k l ≡ ordering_reverse o
 flipped k l o e = nat_list_cmp_total.antisymm k l ∙ ap ordering_reverse e
@@ -28,10 +30,8 @@ set_there (c ∷ cs) a zero up lt same =
     let e : text_cmp a.name c.name ≡ Equal = flipped a.name c.name Equal (same c) in
     rw e refl
 set_there (c ∷ cs) a (suc i) up lt same =
-    let name : (get_or cs i a).name ≡ a.name = text_same (get_or cs i a).name a.name (same a) in
-    let less : text_cmp c.name (get_or (named cs) i a.name) ≡ Less = Less-from_sorted text_cmp (named (c ∷ cs)) 0 (suc i) a.name up (omega arith) (rw length-map lt) in
-    let here : get_or (named cs) i a.name ≡ a.name = get_or-map (λ (x : Attribute). x.name) cs i a ∙ name in
-    let e : text_cmp a.name c.name ≡ Greater = flipped a.name c.name Less (rw here at less) in
+    let less : text_cmp c.name a.name ≡ Less = first_below name_of c cs i a a.name up (omega arith) (text_same (get_or cs i a).name a.name (same a)) in
+    let e : text_cmp a.name c.name ≡ Greater = flipped a.name c.name Less less in
     rw e (ap (attribute c.name c.required c.ty) (set_there cs a i (sorted_tail text_cmp _ _ up) (omega arith) same))
 
 -- in a gap
@@ -49,14 +49,10 @@ in_gap (c ∷ cs) a (suc i) le low high =
 pub put_there : (as' : List Attribute) (a : Attribute) (i : ℕ) → AreNamesAscending as' → i ≤ length as' → IsBinarySearchResult (λ b. text_cmp b.name a.name) as' (Err i)
     → with_attribute a.name a.required a.ty (attributes_of as') ≡ attributes_of (insert as' i a)
 put_there as' a i up le gap =
-    let parts = gap (searchable_from_sorted nat_list_cmp_total (λ b. b.name) as' a.name (sorted_names as' up)) in
+    let parts = gap (searchable_from_sorted nat_list_cmp_total (λ b. b.name) as' a.name (sorted_keys name_of as' up)) in
     in_gap as' a i le (λ j d lt below. parts.0 j d (omega arith) below) (λ j d above lt. parts.1 j d above lt)
 
 -- ---- the attributes ascend as before
-
-less_all : (k l : List ℕ) (ks : List (List ℕ)) → text_cmp k l ≡ Less → AllByRecursion (λ x. text_cmp l x ≡ Less) ks → AllByRecursion (λ x. text_cmp k x ≡ Less) ks
-less_all k l [] h all = tt
-less_all k l (x ∷ ks) h all = (nat_list_cmp_total.trans k l x h all.0, less_all k l ks h all.1)
 
 above : (l k : List ℕ) (r : Bool) (t : TypeTree) (a : Attributes) → text_cmp l k ≡ Less → AllByRecursion (λ x. text_cmp l x ≡ Less) (names_of a) → AllByRecursion (λ x. text_cmp l x ≡ Less) (names_of (with_attribute k r t a))
 above l k r t no_attributes h all = (h, tt)
@@ -75,7 +71,7 @@ names_up k r t (attribute l q u b) up = at (text_cmp k l) refl (names_up k r t b
   where
     at : (o : Ordering) → text_cmp k l ≡ o → IsStrictlySortedBy text_cmp (names_of (with_attribute k r t b))
         → IsStrictlySortedBy text_cmp (names_of (match_ordering o (attribute k r t (attribute l q u b)) (attribute k r t b) (attribute l q u (with_attribute k r t b))))
-    at Less h later = ((h, less_all k l (names_of b) h up.0), up)
+    at Less h later = ((h, less_all nat_list_cmp_total k l (names_of b) h up.0), up)
     at Equal h later = (subst (λ (x : List ℕ). AllByRecursion (λ y. text_cmp x y ≡ Less) (names_of b)) (sym (text_same k l h)) up.0, up.1)
     at Greater h later = (above l k r t b (flipped l k Greater h) up.0, later)
 

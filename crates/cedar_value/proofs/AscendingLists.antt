@@ -11,12 +11,12 @@ use Rattle.std.specs.List.{AllByRecursion, list_any}
 use Rattle.std.specs.List.Sorted.{IsStrictlySortedBy}
 use Rattle.cedar_value.specs.Ascending.{insert_in, ascending_from}
 
-or_swap : (a b c : Bool) → (a || (b || c)) ≡ (b || (a || c))
+pub or_swap : (a b c : Bool) → (a || (b || c)) ≡ (b || (a || c))
 or_swap true true c = refl
 or_swap true false c = refl
 or_swap false b c = refl
 
-or_twice : (a c : Bool) → (a || c) ≡ (a || (a || c))
+pub or_twice : (a c : Bool) → (a || c) ≡ (a || (a || c))
 or_twice true c = refl
 or_twice false c = refl
 

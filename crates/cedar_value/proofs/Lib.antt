@@ -1,4 +1,5 @@
 pub mod AscendingLists
+pub mod ByKeys
 mod Empty
 pub mod Keys
 pub mod Lighter
@@ -8,5 +9,6 @@ pub mod NameWords
 pub mod OtherKinds
 pub mod Paths
 pub mod Reach
+pub mod SetMembers
 pub mod ValueLists
 pub mod Walk

@@ -1,11 +1,11 @@
 -- Links of a world: the test `below` decides whether a chain of them leads up.
-use Rattle.std.proofs.Common.{◌≡◌, Bool, true, false, cond, List, [], ◌∷◌, length, map, Some, unwrap_or, refl, sym, subst, Contains}
+use Rattle.std.proofs.Common.{◌≡◌, Bool, true, false, cond, List, [], ◌∷◌, map, Some, unwrap_or, refl, subst, Contains}
 use Rattle.std.specs.Bool.{Decides}
 use Rattle.std.specs.Option.{option_map}
 use Rattle.std.proofs.Math.ListN.{length-map}
 use Rattle.base_reach.proofs.Chains.{leads-Decides}
 use Rattle.base_reach.proofs.Listed.{here, there, nowhere}
-use Rattle.base_reach.specs.Closure.{AreListed, leads}
+use Rattle.base_reach.specs.Closure.{AreListed}
 use Rattle.cedar_value.specs.Datum.{same_uid}
 use Rattle.cedar_value.specs.Private.Equality.{same_uid-Decides}
 use Rattle.cedar_value.specs.World.{EntityTree, World, entry_of, parents_of, Below, below}

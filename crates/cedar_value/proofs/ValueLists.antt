@@ -1,7 +1,7 @@
 -- Lists of values: they are values in any order.
-use Rattle.std.proofs.Common.{◌≡◌, ◌↔◌, ℕ, List, [], ◌∷◌, length, Contains, ⊎_elim, subst, sym, ap, arith}
+use Rattle.std.proofs.Common.{◌≡◌, ℕ, List, [], ◌∷◌, length, Contains, ⊎_elim, subst, sym, ap, arith}
 use Rattle.base_reach.proofs.Listed.{here, there, first_or_later, nowhere}
-use Rattle.cedar_value.specs.Datum.{Datum, set, record_of, members_of, fields_of, list_of, pairs_of}
+use Rattle.cedar_value.specs.Datum.{Datum, set, record_of, members_of, fields_of}
 use Rattle.cedar_value.specs.Order.{IsAscending, AreKeysAscending}
 use Rattle.cedar_value.specs.Private.Lists.{list_of-members_of, pairs_of-fields_of}
 use Rattle.cedar_value.specs.Values.{IsValue, AreValues, HoldValues}

@@ -8,13 +8,11 @@ use crate::shared_text::SharedText;
 use crate::text::Text;
 use base_reach::Key;
 use std::alloc::{AllocError, Global};
-use std::cmp::Ordering;
-use std::hash::{Hash, Hasher};
 use std::marker::Model;
 
 /// A path of identifiers, as `Photos::Album`, which contracts see as the bytes of its text
 /// (Cedar language reference, entity types and namespaces). Its copies share one text.
-#[derive(Drop)]
+#[derive(Drop, Eq, Hash, PartialOrd, Ord)]
 pub struct Name {
     path: SharedText,
 }
@@ -25,6 +23,8 @@ impl Model for Name {
     ghost Value = { List ℕ };
 
     ghost view = { λ n. n.path };
+
+    ghost inverse = { λ path. record { path = path } };
 }
 
 impl Name {
@@ -151,58 +151,5 @@ impl PartialEq for Name {
         ensures equal { IsTrue result ↔ (self.now ≡ other.now) }
     {
         self.path == other.path
-    }
-}
-
-impl Eq for Name {
-    ghost use Rattle.cedar_value.specs.Private.Equality.{text_equivalence};
-
-    ghost laws = { text_equivalence };
-}
-
-impl Hash for Name {
-    ghost use Rattle.std.specs.Hash as fed;
-    ghost use Rattle.std.proofs.Common.{ap};
-    ghost use Rattle.std.proofs.lemmas.Slice.Eq.{bytes_eq-Decides};
-
-    ghost hash_input = { fed.str };
-
-    ghost respects_eq = { λ s t h. ap fed.str ((bytes_eq-Decides s t).0 h) };
-
-    fn hash<H: Hasher>(&self, state: &mut H) {
-        self.path.hash(state);
-    }
-}
-
-impl PartialOrd for Name {
-    ghost use Rattle.std.specs.Ordering.{as_partial_cmp};
-    ghost use Rattle.cedar_value.specs.Order.{text_cmp};
-    ghost use Rattle.cedar_value.specs.Private.Laws.{text_partial_order};
-
-    ghost partial_cmp = { as_partial_cmp text_cmp };
-
-    ghost laws = { text_partial_order };
-
-    fn partial_cmp(&self, other: &Self) -> Option<Ordering> {
-        Some(self.cmp(other))
-    }
-}
-
-impl Ord for Name {
-    ghost use Rattle.std.specs.Prelude.{refl};
-    ghost use Rattle.cedar_value.specs.Order.{text_cmp};
-    ghost use Rattle.std.proofs.lemmas.Cmp.{nat_list_cmp_total};
-    ghost use Rattle.cedar_value.specs.Private.Laws.{text_ties};
-
-    ghost cmp = { text_cmp };
-
-    ghost total = { nat_list_cmp_total };
-
-    ghost matches_partial_cmp = { λ x y. refl };
-
-    ghost matches_eq = { text_ties };
-
-    fn cmp(&self, other: &Self) -> Ordering {
-        self.path.cmp(&other.path)
     }
 }

@@ -12,19 +12,19 @@ use Rattle.cedar_ast_expressions.specs.declared.operator.UnaryOperator.TheVarian
 use Rattle.cedar_ast_expressions.specs.declared.operator.BinaryOperator.{BinaryOperator}
 use Rattle.cedar_ast_expressions.specs.declared.operator.BinaryOperator.TheVariants as operator
 
-abbrev elements_tree : List Element → Gv
+abbrev pub elements_tree : List Element → Gv
 elements_tree [] = gnil
 elements_tree (Star ∷ es) = gcons gnil (elements_tree es)
 elements_tree (Character c ∷ es) = gcons (gnum c) (elements_tree es)
 
-abbrev elements_from : Gv → List Element
+abbrev pub elements_from : Gv → List Element
 elements_from gnil = []
 elements_from (gnum n) = []
 elements_from (gcons gnil t) = Star ∷ elements_from t
 elements_from (gcons (gnum c) t) = Character c ∷ elements_from t
 elements_from (gcons (gcons a b) t) = []
 
-elements_back : (es : List Element) → elements_from (elements_tree es) ≡ es
+pub elements_back : (es : List Element) → elements_from (elements_tree es) ≡ es
 elements_back [] = refl
 elements_back (Star ∷ es) = ap (λ t. Star ∷ t) (elements_back es)
 elements_back (Character c ∷ es) = ap (λ t. Character c ∷ t) (elements_back es)

@@ -1,12 +1,10 @@
 -- Expressions as written, as trees of numbers that give them back, so that types which contracts see as such expressions can hold some.
-use Rattle.std.specs.Prelude.{◌≡◌, ℕ, zero, suc, Bool, true, false, List, [], ◌∷◌, Some, None, refl}
+use Rattle.std.specs.Prelude.{◌≡◌, ℕ, zero, suc, false, List, [], ◌∷◌, Some, None, refl}
 use Rattle.std.proofs.Common.{ap}
 use base.Stored.{Gv, gnil, gnum, gcons, Coded}
 use denote.Struct.Codes.{code_by, itself}
-use Rattle.cedar_ext.specs.declared.pattern.Element.{Element}
-use Rattle.cedar_ext.specs.declared.pattern.Element.TheVariants.{Character, Star}
-use Rattle.cedar_value.specs.Private.DatumCode.{bytes_tree, bytes_from, bytes_back}
-use Rattle.cedar_ast_expressions.specs.Private.OperatorCode.{variable_tree, variable_from, variable_back}
+use Rattle.cedar_value.specs.Private.DatumCode.{bytes_tree, bytes_from, bytes_back, truth_tree, truth_from, truth_back}
+use Rattle.cedar_ast_expressions.specs.Private.OperatorCode.{elements_tree, elements_from, elements_back, variable_tree, variable_from, variable_back}
 use Rattle.cedar_parser_tokens.specs.declared.content.WrittenUid.{WrittenUid}
 use Rattle.cedar_parser_tree.specs.declared.sign.ChainSign.{ChainSign}
 use Rattle.cedar_parser_tree.specs.declared.sign.ChainSign.TheVariants as c
@@ -14,18 +12,6 @@ use Rattle.cedar_parser_tree.specs.declared.sign.RelationSign.{RelationSign}
 use Rattle.cedar_parser_tree.specs.declared.sign.RelationSign.TheVariants as r
 use Rattle.cedar_parser_tokens.specs.Content.{Content}
 use Rattle.cedar_parser_tree.specs.Written.{Written, truth, number, negative, text, entity, variable, slot, group, not, negated, relation, has, like, is, is_in, chain, choice, set, record_of, call, Links, no_links, operand, attribute, method, Members, no_members, member, Fields, no_fields, field}
-
-abbrev truth_tree : Bool → Gv
-truth_tree true = gnum 0
-truth_tree false = gnil
-
-abbrev truth_from : Gv → Bool
-truth_from gnil = false
-truth_from _ = true
-
-truth_back : (b : Bool) → truth_from (truth_tree b) ≡ b
-truth_back true = refl
-truth_back false = refl
 
 abbrev chain_sign_tree : ChainSign → Gv
 chain_sign_tree c.Or = gnum zero
@@ -104,23 +90,6 @@ names_from (gcons s t) = bytes_from s ∷ names_from t
 names_back : (names : List (List ℕ)) → names_from (names_tree names) ≡ names
 names_back [] = refl
 names_back (s ∷ names) = λ k. bytes_back s k ∷ names_back names k
-
-abbrev elements_tree : List Element → Gv
-elements_tree [] = gnil
-elements_tree (Star ∷ es) = gcons gnil (elements_tree es)
-elements_tree (Character c ∷ es) = gcons (gnum c) (elements_tree es)
-
-abbrev elements_from : Gv → List Element
-elements_from gnil = []
-elements_from (gnum n) = []
-elements_from (gcons gnil t) = Star ∷ elements_from t
-elements_from (gcons (gnum c) t) = Character c ∷ elements_from t
-elements_from (gcons (gcons a b) t) = []
-
-elements_back : (es : List Element) → elements_from (elements_tree es) ≡ es
-elements_back [] = refl
-elements_back (Star ∷ es) = ap (λ t. Star ∷ t) (elements_back es)
-elements_back (Character c ∷ es) = ap (λ t. Character c ∷ t) (elements_back es)
 
 abbrev pub uid_tree : WrittenUid → Gv
 uid_tree u = gcons (bytes_tree u.ty) (content_tree u.id)

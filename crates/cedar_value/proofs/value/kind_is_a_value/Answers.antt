@@ -1,6 +1,3 @@
-use Rattle.std.proofs.Common.{◌≡◌, sym, ap, subst}
-use Rattle.cedar_value.specs.ValueKind.{datum_of}
-use Rattle.cedar_value.specs.Values.{IsValue}
 use Rattle.cedar_value.proofs.ValueLists.{IsValue-set, IsValue-record}
 use Rattle.cedar_value.proofs.value.kind_is_a_value.Goals as goal
 

@@ -1,24 +1,25 @@
 use Rattle.std.proofs.Common.{refl, ◌∙◌, sym}
 use Rattle.std.proofs.lemmas.List.{nil_from_length}
-use Rattle.cedar_value.proofs.Keys.{ascend_more, ascend_not, ascend_one, ascend_none, less_from_ge, ge_not_less}
+use Rattle.cedar_value.proofs.ByKeys.{ascend_more, ascend_not, ascend_one, ascend_none, less_from_ge, ge_not_less}
+use Rattle.cedar_value.proofs.Keys.{key}
 use Rattle.cedar_value.proofs.value_record.keys_ascend.Goals as goal
 
 pub returns-in_default : goal.returns-in_default
-returns-in_default c = (λ _. rw (nil_from_length c.args.pairs.now c.in_default.ensures.cases) ascend_none, λ _. refl)
+returns-in_default c = (λ _. rw (nil_from_length c.args.pairs.now c.in_default.ensures.cases) (ascend_none key), λ _. refl)
 
 pub returns-then-ge : goal.returns-then-ge
 returns-then-ge c =
     let both = rw c.in-Some-split_first.ensures.cases.0 at c.walk.invariant in
-    (λ h. cc, λ up. absurd (ascend_not c.walk.last.now c.in-Some-split_first.pair.now c.in-Some-split_first.others.now (ge_not_less _ (sym c.ge.ensures ∙ c.if-ge.true)) (both.0 up)))
+    (λ h. cc, λ up. absurd (ascend_not key c.walk.last.now c.in-Some-split_first.pair.now c.in-Some-split_first.others.now (ge_not_less _ (sym c.ge.ensures ∙ c.if-ge.true)) (both.0 up)))
 
 pub walk-preserved : goal.walk-preserved
 walk-preserved c =
     let both = rw c.in-Some-split_first.ensures.cases.0 at c.walk.invariant in
-    let less = ascend_more c.walk.last.now c.in-Some-split_first.pair.now c.in-Some-split_first.others.now (less_from_ge _ (sym c.ge.ensures ∙ c.if-ge.false)) in
+    let less = ascend_more key c.walk.last.now c.in-Some-split_first.pair.now c.in-Some-split_first.others.now (less_from_ge _ (sym c.ge.ensures ∙ c.if-ge.false)) in
     (λ up. less.0 (both.0 up), λ up. both.1 (less.1 up))
 
 pub returns : goal.returns
 returns c =
     let none = nil_from_length c.walk.later.now c.in_default-split_first.ensures.cases in
     let both = rw none at c.walk.invariant in
-    (λ _. both.1 (ascend_one c.walk.last.now), λ _. refl)
+    (λ _. both.1 (ascend_one key c.walk.last.now), λ _. refl)

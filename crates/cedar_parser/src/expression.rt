@@ -14,12 +14,12 @@ ghost use Rattle.cedar_parser_tokens.specs.Content.{text_of};
 ghost use Rattle.cedar_parser_limits.specs.Limits.{Keeps, KeepMembers, KeepFields, arity_of};
 ghost use Rattle.cedar_parser_limits.specs.Private.Parts.{KeepLink, behind, pairs_of};
 
-use crate::asked::asked;
+use crate::has::to_has;
 use cedar_ast_expressions::{BinaryOperator, Expr, RecordFault, UnaryOperator};
 use cedar_parser_limits::{Method, function_of, method_of};
 use cedar_parser_tokens::Content;
-use cedar_value::{Name, SharedText, Value};
 use cedar_parser_tree::{ChainSign, Field, Link, RelationSign, Written, WrittenKind};
+use cedar_value::{Name, SharedText, Value};
 use std::alloc::{AllocError, Global};
 
 /// The expression that is written.
@@ -42,42 +42,42 @@ pub fn to_expression(alloc: Global, written: &Written) -> Result<Expr, AllocErro
         WrittenKind::Variable(name) => Ok(Expr::variable(*name)),
         WrittenKind::Slot(_, _) => unreachable!(),
         WrittenKind::Group(inside) => to_expression(alloc, inside),
-        WrittenKind::Not(operand) => asked_of(alloc, UnaryOperator::Not, operand),
-        WrittenKind::Negated(operand) => asked_of(alloc, UnaryOperator::Negate, operand),
+        WrittenKind::Not(operand) => to_unary(alloc, UnaryOperator::Not, operand),
+        WrittenKind::Negated(operand) => to_unary(alloc, UnaryOperator::Negate, operand),
         WrittenKind::Relation(sign, left, right) => {
             let left = to_expression(alloc, left)?;
             let right = to_expression(alloc, right)?;
-            related(alloc, *sign, left, right)
+            relation_operation(alloc, *sign, left, right)
         }
         WrittenKind::Has(operand, path) => {
             let operand = to_expression(alloc, operand)?;
-            asked(alloc, operand, path)
+            to_has(alloc, operand, path)
         }
         WrittenKind::Like(operand, pattern) => {
             let operator = UnaryOperator::Like(pattern.try_clone(alloc)?);
-            asked_of(alloc, operator, operand)
+            to_unary(alloc, operator, operand)
         }
         WrittenKind::Is(operand, ty) => {
             let operator = UnaryOperator::Is(ty.try_clone(alloc)?);
-            asked_of(alloc, operator, operand)
+            to_unary(alloc, operator, operand)
         }
-        WrittenKind::IsIn(left, ty, right) => is_in(alloc, left, ty, right),
-        WrittenKind::Chain(first, links) => chain_expression(alloc, first, links),
+        WrittenKind::IsIn(left, ty, right) => to_is_in(alloc, left, ty, right),
+        WrittenKind::Chain(first, links) => to_chain(alloc, first, links),
         WrittenKind::If(condition, if_true, if_false) => {
-            choice(alloc, condition, if_true, if_false)
+            to_if_else(alloc, condition, if_true, if_false)
         }
-        WrittenKind::Set(members) => Ok(Expr::set(expressions(alloc, members.items())?)),
+        WrittenKind::Set(members) => Ok(Expr::set(to_expressions(alloc, members.items())?)),
         WrittenKind::Record(fields) => to_record(alloc, fields),
         WrittenKind::Call(_, name, arguments) => {
-            let arguments = expressions(alloc, arguments.items())?;
-            called(alloc, name.as_str(), arguments)
+            let arguments = to_expressions(alloc, arguments.items())?;
+            function_call(alloc, name.as_str(), arguments)
         }
     }
 }
 
 // An operator on its operand.
 #[cycle(expression)]
-fn asked_of(alloc: Global, operator: UnaryOperator, operand: &Written) -> Result<Expr, AllocError>
+fn to_unary(alloc: Global, operator: UnaryOperator, operand: &Written) -> Result<Expr, AllocError>
     requires numbers { Keeps Numbers operand.now }
     requires keys { Keeps Keys operand.now }
     requires strings { Keeps Strings operand.now }
@@ -91,7 +91,7 @@ fn asked_of(alloc: Global, operator: UnaryOperator, operand: &Written) -> Result
 }
 
 #[cycle(expression)]
-fn is_in(alloc: Global, left: &Written, ty: &Name, right: &Written) -> Result<Expr, AllocError>
+fn to_is_in(alloc: Global, left: &Written, ty: &Name, right: &Written) -> Result<Expr, AllocError>
     requires numbers { Keeps Numbers (tree.is_in left.now ty.now right.now) }
     requires keys { Keeps Keys (tree.is_in left.now ty.now right.now) }
     requires strings { Keeps Strings (tree.is_in left.now ty.now right.now) }
@@ -100,21 +100,21 @@ fn is_in(alloc: Global, left: &Written, ty: &Name, right: &Written) -> Result<Ex
     requires slots { Keeps Slots (tree.is_in left.now ty.now right.now) }
     ensures { IfOk result (λ e. e ≡ to_expression (tree.is_in left.now ty.now right.now)) }
 {
-    let asked = typed(alloc, to_expression(alloc, left)?, ty)?;
+    let asked = make_is(alloc, to_expression(alloc, left)?, ty)?;
     let left = to_expression(alloc, left)?;
     let right = to_expression(alloc, right)?;
-    asked_within(alloc, asked, left, right)
+    and_in(alloc, asked, left, right)
 }
 
-fn typed(alloc: Global, operand: Expr, ty: &Name) -> Result<Expr, AllocError>
+fn make_is(alloc: Global, operand: Expr, ty: &Name) -> Result<Expr, AllocError>
     ensures { IfOk result (λ e. e ≡ unary (Is ty.now) operand) }
 {
     let operator = UnaryOperator::Is(ty.try_clone(alloc)?);
     Expr::unary(alloc, operator, operand)
 }
 
-// What is asked first, and whether the left operand is in the right one.
-fn asked_within(alloc: Global, asked: Expr, left: Expr, right: Expr) -> Result<Expr, AllocError>
+// The first test, and whether the left operand is in the right one.
+fn and_in(alloc: Global, asked: Expr, left: Expr, right: Expr) -> Result<Expr, AllocError>
     ensures { IfOk result (λ e. e ≡ and asked (binary In left right)) }
 {
     let within = Expr::binary(alloc, BinaryOperator::In, left, right)?;
@@ -122,7 +122,7 @@ fn asked_within(alloc: Global, asked: Expr, left: Expr, right: Expr) -> Result<E
 }
 
 #[cycle(expression)]
-fn choice(
+fn to_if_else(
     alloc: Global,
     condition: &Written,
     if_true: &Written,
@@ -144,7 +144,7 @@ fn choice(
 
 // The operands of a chain, grouped to the left.
 #[cycle(expression)]
-fn chain_expression(alloc: Global, first: &Written, links: &[Link]) -> Result<Expr, AllocError>
+fn to_chain(alloc: Global, first: &Written, links: &[Link]) -> Result<Expr, AllocError>
     requires numbers { Keeps Numbers (chain first.now (links_of links.now)) }
     requires keys { Keeps Keys (chain first.now (links_of links.now)) }
     requires strings { Keeps Strings (chain first.now (links_of links.now)) }
@@ -155,14 +155,14 @@ fn chain_expression(alloc: Global, first: &Written, links: &[Link]) -> Result<Ex
 {
     let mut left = to_expression(alloc, first)?;
     for link in links {
-        left = link_expression(alloc, left, link)?;
+        left = append_link(alloc, left, link)?;
     }
     Ok(left)
 }
 
-// What stands to the left, and the link behind it.
+// The expression to the left with the link after it.
 #[cycle(expression)]
-fn link_expression(alloc: Global, left: Expr, link: &Link) -> Result<Expr, AllocError>
+fn append_link(alloc: Global, left: Expr, link: &Link) -> Result<Expr, AllocError>
     requires numbers { KeepLink Numbers link.now }
     requires keys { KeepLink Keys link.now }
     requires strings { KeepLink Strings link.now }
@@ -174,15 +174,15 @@ fn link_expression(alloc: Global, left: Expr, link: &Link) -> Result<Expr, Alloc
     match link {
         Link::Operand(sign, operand) => {
             let right = to_expression(alloc, operand)?;
-            linked(alloc, *sign, left, right)
+            chain_operation(alloc, *sign, left, right)
         }
         Link::Attribute(key) => attribute(alloc, left, key),
         Link::Method(name, arguments) => {
             let Some(method) = method_of(name.as_str()) else {
                 unreachable!()
             };
-            let arguments = expressions(alloc, arguments.items())?;
-            applied(alloc, method, left, arguments)
+            let arguments = to_expressions(alloc, arguments.items())?;
+            method_call(alloc, method, left, arguments)
         }
     }
 }
@@ -195,7 +195,7 @@ fn attribute(alloc: Global, left: Expr, key: &Content) -> Result<Expr, AllocErro
 }
 
 #[cycle(expression)]
-fn expressions(alloc: Global, members: &[Written]) -> Result<Vec<Expr>, AllocError>
+fn to_expressions(alloc: Global, members: &[Written]) -> Result<Vec<Expr>, AllocError>
     requires numbers { KeepMembers Numbers (members_of members.now) }
     requires keys { KeepMembers Keys (members_of members.now) }
     requires strings { KeepMembers Strings (members_of members.now) }
@@ -212,7 +212,7 @@ fn expressions(alloc: Global, members: &[Written]) -> Result<Vec<Expr>, AllocErr
     Ok(found)
 }
 
-// One more expression.
+// Appends an expression.
 fn push(items: &mut Vec<Expr>, item: Expr) -> Result<(), AllocError>
     ensures { OnOk result (items.new.items ≡ items.old.items ++ item ∷ []) }
 {
@@ -230,12 +230,12 @@ fn to_record(alloc: Global, fields: &[Field]) -> Result<Expr, AllocError>
     requires slots { Keeps Slots (tree.record_of (fields_of fields.now)) }
     ensures { IfOk result (λ e. e ≡ to_expression (tree.record_of (fields_of fields.now))) }
 {
-    let pairs = pairs(alloc, fields)?;
+    let pairs = to_pairs(alloc, fields)?;
     record(alloc, pairs)
 }
 
 #[cycle(expression)]
-fn pairs(alloc: Global, fields: &[Field]) -> Result<Vec<(SharedText, Expr)>, AllocError>
+fn to_pairs(alloc: Global, fields: &[Field]) -> Result<Vec<(SharedText, Expr)>, AllocError>
     requires numbers { KeepFields Numbers (fields_of fields.now) }
     requires keys { KeepFields Keys (fields_of fields.now) }
     requires strings { KeepFields Strings (fields_of fields.now) }
@@ -252,8 +252,8 @@ fn pairs(alloc: Global, fields: &[Field]) -> Result<Vec<(SharedText, Expr)>, All
     Ok(found)
 }
 
-// A method on what stands before it and as many arguments as it takes.
-fn applied(
+// A method on the operand before it and as many arguments as it takes.
+fn method_call(
     alloc: Global,
     method: Method,
     left: Expr,
@@ -263,14 +263,14 @@ fn applied(
     ensures { IfOk result (λ e. e ≡ applied (Some method) left (expressions_of arguments.items)) }
 {
     match method {
-        Method::IsEmpty => is_empty(alloc, left, arguments),
-        Method::Binary(operator) => compared(alloc, operator, left, arguments),
+        Method::IsEmpty => is_empty_call(alloc, left, arguments),
+        Method::Binary(operator) => binary_method_call(alloc, operator, left, arguments),
     }
 }
 
 // Whether a set has no members; there are no arguments.
 #[tactic(auto, using(cedar_parser_limits::proofs::PartLemmas::empty_all))]
-fn is_empty(alloc: Global, left: Expr, arguments: Vec<Expr>) -> Result<Expr, AllocError>
+fn is_empty_call(alloc: Global, left: Expr, arguments: Vec<Expr>) -> Result<Expr, AllocError>
     requires { length arguments.items ≡ 0 }
     ensures { IfOk result (λ e. e ≡ applied (Some IsEmpty) left (expressions_of arguments.items)) }
 {
@@ -279,7 +279,7 @@ fn is_empty(alloc: Global, left: Expr, arguments: Vec<Expr>) -> Result<Expr, All
 }
 
 // A method of one argument.
-fn compared(
+fn binary_method_call(
     alloc: Global,
     operator: BinaryOperator,
     left: Expr,
@@ -288,12 +288,12 @@ fn compared(
     requires { length arguments.items ≡ 1 }
     ensures { IfOk result (λ e. e ≡ applied (Some (Binary operator)) left (expressions_of arguments.items)) }
 {
-    let argument = sole(arguments);
+    let argument = sole_argument(arguments);
     Expr::binary(alloc, operator, left, argument)
 }
 
 // A function of one argument.
-fn called(alloc: Global, name: &str, arguments: Vec<Expr>) -> Result<Expr, AllocError>
+fn function_call(alloc: Global, name: &str, arguments: Vec<Expr>) -> Result<Expr, AllocError>
     requires known { IsSome (function_of name.now) }
     requires argument { length arguments.items ≡ 1 }
     ensures { IfOk result (λ e. e ≡ called (function_of name.now) (expressions_of arguments.items)) }
@@ -301,12 +301,12 @@ fn called(alloc: Global, name: &str, arguments: Vec<Expr>) -> Result<Expr, Alloc
     let Some(operator) = function_of(name) else {
         unreachable!()
     };
-    let argument = sole(arguments);
+    let argument = sole_argument(arguments);
     Expr::unary(alloc, operator, argument)
 }
 
 // The one argument.
-fn sole(mut arguments: Vec<Expr>) -> Expr
+fn sole_argument(mut arguments: Vec<Expr>) -> Expr
     requires { length arguments.items ≡ 1 }
     ensures { arguments.items ≡ result ∷ [] }
 {
@@ -339,7 +339,12 @@ fn negative(number: u64) -> i64
     -((number - 1) as i64) - 1
 }
 
-fn linked(alloc: Global, sign: ChainSign, left: Expr, right: Expr) -> Result<Expr, AllocError>
+fn chain_operation(
+    alloc: Global,
+    sign: ChainSign,
+    left: Expr,
+    right: Expr,
+) -> Result<Expr, AllocError>
     ensures { IfOk result (λ e. e ≡ linked sign left right) }
 {
     match sign {
@@ -351,22 +356,27 @@ fn linked(alloc: Global, sign: ChainSign, left: Expr, right: Expr) -> Result<Exp
     }
 }
 
-fn related(alloc: Global, sign: RelationSign, left: Expr, right: Expr) -> Result<Expr, AllocError>
+fn relation_operation(
+    alloc: Global,
+    sign: RelationSign,
+    left: Expr,
+    right: Expr,
+) -> Result<Expr, AllocError>
     ensures { IfOk result (λ e. e ≡ related sign left right) }
 {
     match sign {
         RelationSign::Less => Expr::binary(alloc, BinaryOperator::Less, left, right),
         RelationSign::LessEqual => Expr::binary(alloc, BinaryOperator::LessEqual, left, right),
-        RelationSign::Greater => denied(alloc, BinaryOperator::LessEqual, left, right),
-        RelationSign::GreaterEqual => denied(alloc, BinaryOperator::Less, left, right),
+        RelationSign::Greater => negated_operation(alloc, BinaryOperator::LessEqual, left, right),
+        RelationSign::GreaterEqual => negated_operation(alloc, BinaryOperator::Less, left, right),
         RelationSign::Equal => Expr::binary(alloc, BinaryOperator::Equal, left, right),
-        RelationSign::NotEqual => denied(alloc, BinaryOperator::Equal, left, right),
+        RelationSign::NotEqual => negated_operation(alloc, BinaryOperator::Equal, left, right),
         RelationSign::In => Expr::binary(alloc, BinaryOperator::In, left, right),
     }
 }
 
 // `!` before the operator on its operands.
-fn denied(
+fn negated_operation(
     alloc: Global,
     operator: BinaryOperator,
     left: Expr,

@@ -9,8 +9,8 @@
 //! cedar_parser_limits, with side conditions and limits. What a policy text is by all of it is said in `specs/PolicyText.antt`.
 #![tactic(auto)]
 
-mod asked;
 mod expression;
+mod has;
 mod parser;
 mod policy;
 

@@ -18,23 +18,23 @@ ghost use Rattle.cedar_parser.specs.Earlier.{IsEarlierPolicyText};
 ghost use Rattle.cedar_parser.specs.EarlierMeaning.{earlier_method_of};
 
 use crate::policy::{id_of, to_statement};
-use cedar_parser_limits::judge;
-use cedar_parser_statements::statement;
 use cedar_ast::{AddFault, PolicySet, Statement};
-use cedar_text::{one_list, one_spelling};
+use cedar_parser_limits::judge;
+use cedar_parser_statements::parse_statement;
 use cedar_parser_tokens::{Cursor, ParseFault, spelled_tokens};
 use cedar_parser_tree::WrittenStatement;
+use cedar_text::{one_list, one_spelling};
 use std::alloc::{AllocError, Global};
 
 /// The policies and templates of a text, in order (Cedar language reference, grammar). The statement at position N, from
 /// 0, has the value of its annotation `id` as its id, else `policyN`. A statement with a slot is a template.
 ///
 /// Refusals: 1; 101 to 104 where the text has no tokens; 103 for the escape `\*` outside a pattern; 104 for a number
-/// above 9223372036854775807, behind a minus sign above 9223372036854775808; 201 where the tokens are no statements;
+/// above 9223372036854775807, after a minus sign above 9223372036854775808; 201 where the tokens are not statements;
 /// 202 where more than 100 brackets and `if`s are open at one place of a condition, or a condition is higher than 2,000
-/// nodes; 203 for a key that stands twice in a record; 204 where two statements have one id; 205 for an unknown
-/// function or method; 206 for another count of its arguments than it takes; 207 for a slot elsewhere than in its variable's
-/// scope; 208 for an annotation that stands twice; 209 where a condition has more than 100,000 nodes.
+/// nodes; 203 for a key that is repeated in a record; 204 where two statements have one id; 205 for an unknown
+/// function or method; 206 for a wrong number of arguments; 207 for a slot elsewhere than in its variable's
+/// scope; 208 for an annotation that is repeated; 209 where a condition has more than 100,000 nodes.
 pub fn parse(alloc: Global, source: &str) -> Result<PolicySet, ParseFault>
     // What is answered are the policies of the text.
     ensures found { IfOk result (IsPolicyText source.now) }
@@ -45,20 +45,20 @@ pub fn parse(alloc: Global, source: &str) -> Result<PolicySet, ParseFault>
 {
     let spelled = spelled_tokens(alloc, source)?;
     let mut cursor = spelled.cursor(source.len());
-    policies(alloc, &mut cursor)
+    parse_policies(alloc, &mut cursor)
 }
 
-/// The law that no text has two sets of policies (Cedar language reference, grammar). It runs nothing.
+/// The law that no text has two sets of policies (Cedar language reference, grammar).
 pub fn one_policy_set()
     ensures { (source : List ℕ) (set other : PolicySetTree) → IsPolicyText source set → IsPolicyText source other → set ≡ other }
 {
-    // Laws: they run nothing.
+    // A text has one list of tokens, and a string one list of letters.
     one_list();
     one_spelling();
 }
 
 /// The law that each text which was read before `has` could have a path of attributes, and before there was the method
-/// `isEmpty`, is read as it was (Cedar language reference, grammar). It runs nothing.
+/// `isEmpty`, is read as it was (Cedar language reference, grammar).
 pub fn earlier_texts()
     // The policies that such a text had, by the grammar and by the meaning that there were, are its policies.
     ensures texts { (source : List ℕ) (set : PolicySetTree) → IsEarlierPolicyText source set → IsPolicyText source set }
@@ -69,7 +69,7 @@ pub fn earlier_texts()
 {}
 
 // The policies of all tokens.
-fn policies(alloc: Global, tokens: &mut Cursor<'_>) -> Result<PolicySet, ParseFault>
+fn parse_policies(alloc: Global, tokens: &mut Cursor<'_>) -> Result<PolicySet, ParseFault>
     ensures found { IfOk result (ArePolicies tokens.old []) }
     ensures only { (set : PolicySetTree) → ArePolicies tokens.old [] set → MatchResult result (λ found. found ≡ set) (λ e. e ≡ OutOfMemory) }
     ensures fault { IfErr result (TokensFault tokens.old) }
@@ -79,8 +79,8 @@ fn policies(alloc: Global, tokens: &mut Cursor<'_>) -> Result<PolicySet, ParseFa
         if tokens.left() == 0 {
             return Ok(set);
         }
-        let statement = statement(alloc, tokens)?;
-        let entry = enter(alloc, &mut set, position, &statement);
+        let statement = parse_statement(alloc, tokens)?;
+        let entry = add_statement(alloc, &mut set, position, &statement);
         drop(statement);
         entry?;
     }
@@ -88,7 +88,7 @@ fn policies(alloc: Global, tokens: &mut Cursor<'_>) -> Result<PolicySet, ParseFa
 }
 
 // Adds the policy or template of the statement at a position.
-fn enter(
+fn add_statement(
     alloc: Global,
     set: &mut PolicySet,
     position: usize,
@@ -100,12 +100,12 @@ fn enter(
     ensures refused { IfErr result (RefusesEntry set.old position statement.now) }
 {
     judge(alloc, statement)?;
-    let entry = entry(alloc, position, statement)?;
-    add(set, entry, statement.start)
+    let entry = statement_of(alloc, position, statement)?;
+    add_entry(set, entry, statement.start)
 }
 
 // The policy or template of the statement at a position.
-fn entry(
+fn statement_of(
     alloc: Global,
     position: usize,
     statement: &WrittenStatement,
@@ -118,7 +118,7 @@ fn entry(
 }
 
 // Adds a policy or template, whose statement begins at the place.
-fn add(set: &mut PolicySet, entry: Statement, start: usize) -> Result<(), ParseFault>
+fn add_entry(set: &mut PolicySet, entry: Statement, start: usize) -> Result<(), ParseFault>
     ensures entered { OnOk result (set.new ≡ entered set.old entry) }
     ensures distinct { OnOk result (Contains (ids_in set.old) (id_of entry) → ⊥) }
     ensures refused { IfErr result (RefusesAdd set.old entry) }

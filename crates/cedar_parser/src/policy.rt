@@ -12,11 +12,11 @@ use cedar_ast::{
     Template, TemplateEntityScope, TemplateScope, Uids,
 };
 use cedar_parser_tokens::WrittenUid;
-use cedar_value::{Text, Uid};
 use cedar_parser_tree::{
     Reference, WrittenActionScope, WrittenAnnotation, WrittenCondition, WrittenEntityScope,
     WrittenScope, WrittenStatement,
 };
+use cedar_value::{Text, Uid};
 use itoa::Buffer;
 use std::alloc::{AllocError, Global};
 
@@ -35,14 +35,14 @@ pub fn to_statement(
     ensures { IfOk result (λ s. s ≡ to_statement id statement.now) }
 {
     if has_slot(&statement.scope) {
-        let template = template(alloc, id, statement)?;
+        let template = to_template(alloc, id, statement)?;
         return Ok(Statement::Template(template));
     }
-    let policy = policy(alloc, id, statement)?;
+    let policy = to_policy(alloc, id, statement)?;
     Ok(Statement::Policy(policy))
 }
 
-fn policy(alloc: Global, id: Text, statement: &WrittenStatement) -> Result<Policy, AllocError>
+fn to_policy(alloc: Global, id: Text, statement: &WrittenStatement) -> Result<Policy, AllocError>
     requires numbers { KeepConditions Numbers statement.now.conditions }
     requires keys { KeepConditions Keys statement.now.conditions }
     requires strings { KeepConditions Strings statement.now.conditions }
@@ -52,13 +52,17 @@ fn policy(alloc: Global, id: Text, statement: &WrittenStatement) -> Result<Polic
     requires no_slot { has_slot statement.now.scope ≡ false }
     ensures { IfOk result (λ p. p ≡ to_policy id statement.now) }
 {
-    let annotations = annotations(alloc, &statement.annotations)?;
-    let conditions = conditions(alloc, &statement.conditions)?;
-    let scope = scope(alloc, &statement.scope)?;
+    let annotations = to_annotations(alloc, &statement.annotations)?;
+    let conditions = to_conditions(alloc, &statement.conditions)?;
+    let scope = to_scope(alloc, &statement.scope)?;
     Ok(Policy::new(id, annotations, statement.effect, scope, conditions))
 }
 
-fn template(alloc: Global, id: Text, statement: &WrittenStatement) -> Result<Template, AllocError>
+fn to_template(
+    alloc: Global,
+    id: Text,
+    statement: &WrittenStatement,
+) -> Result<Template, AllocError>
     requires numbers { KeepConditions Numbers statement.now.conditions }
     requires keys { KeepConditions Keys statement.now.conditions }
     requires strings { KeepConditions Strings statement.now.conditions }
@@ -67,9 +71,9 @@ fn template(alloc: Global, id: Text, statement: &WrittenStatement) -> Result<Tem
     requires slots { KeepConditions Slots statement.now.conditions }
     ensures { IfOk result (λ t. t ≡ to_template id statement.now) }
 {
-    let annotations = annotations(alloc, &statement.annotations)?;
-    let conditions = conditions(alloc, &statement.conditions)?;
-    let scope = template_scope(alloc, &statement.scope)?;
+    let annotations = to_annotations(alloc, &statement.annotations)?;
+    let conditions = to_conditions(alloc, &statement.conditions)?;
+    let scope = to_template_scope(alloc, &statement.scope)?;
     Ok(Template::new(id, annotations, statement.effect, scope, conditions))
 }
 
@@ -100,44 +104,46 @@ fn is_slot(reference: &Reference) -> bool
     }
 }
 
-fn scope(alloc: Global, scope: &WrittenScope) -> Result<Scope, AllocError>
+fn to_scope(alloc: Global, scope: &WrittenScope) -> Result<Scope, AllocError>
     requires { has_slot scope.now ≡ false }
     ensures { IfOk result (λ s. s ≡ to_scope scope.now) }
 {
     Ok(Scope {
-        principal: entity_scope(alloc, &scope.principal)?,
-        action: action_scope(alloc, &scope.action)?,
-        resource: entity_scope(alloc, &scope.resource)?,
+        principal: to_entity_scope(alloc, &scope.principal)?,
+        action: to_action_scope(alloc, &scope.action)?,
+        resource: to_entity_scope(alloc, &scope.resource)?,
     })
 }
 
-fn template_scope(alloc: Global, scope: &WrittenScope) -> Result<TemplateScope, AllocError>
+fn to_template_scope(alloc: Global, scope: &WrittenScope) -> Result<TemplateScope, AllocError>
     ensures { IfOk result (λ s. s ≡ to_template_scope scope.now) }
 {
     Ok(TemplateScope {
-        principal: template_entity_scope(alloc, &scope.principal)?,
-        action: action_scope(alloc, &scope.action)?,
-        resource: template_entity_scope(alloc, &scope.resource)?,
+        principal: to_template_entity_scope(alloc, &scope.principal)?,
+        action: to_action_scope(alloc, &scope.action)?,
+        resource: to_template_entity_scope(alloc, &scope.resource)?,
     })
 }
 
-fn entity_scope(alloc: Global, scope: &WrittenEntityScope) -> Result<EntityScope, AllocError>
+fn to_entity_scope(alloc: Global, scope: &WrittenEntityScope) -> Result<EntityScope, AllocError>
     requires { asks_slot scope.now ≡ false }
     ensures { IfOk result (λ s. s ≡ to_entity_scope scope.now) }
 {
     match scope {
         WrittenEntityScope::Any => Ok(EntityScope::Any),
-        WrittenEntityScope::Equal(reference) => Ok(EntityScope::Equal(referred(alloc, reference)?)),
-        WrittenEntityScope::In(reference) => Ok(EntityScope::In(referred(alloc, reference)?)),
+        WrittenEntityScope::Equal(reference) => Ok(EntityScope::Equal(to_entity(
+            alloc, reference,
+        )?)),
+        WrittenEntityScope::In(reference) => Ok(EntityScope::In(to_entity(alloc, reference)?)),
         WrittenEntityScope::Is(ty) => Ok(EntityScope::Is(ty.try_clone(alloc)?)),
         WrittenEntityScope::IsIn(ty, reference) => {
             let ty = ty.try_clone(alloc)?;
-            Ok(EntityScope::IsIn(ty, referred(alloc, reference)?))
+            Ok(EntityScope::IsIn(ty, to_entity(alloc, reference)?))
         }
     }
 }
 
-fn template_entity_scope(
+fn to_template_entity_scope(
     alloc: Global,
     scope: &WrittenEntityScope,
 ) -> Result<TemplateEntityScope, AllocError>
@@ -146,19 +152,19 @@ fn template_entity_scope(
     match scope {
         WrittenEntityScope::Any => Ok(TemplateEntityScope::Any),
         WrittenEntityScope::Equal(place) => {
-            Ok(TemplateEntityScope::Equal(reference(alloc, place)?))
+            Ok(TemplateEntityScope::Equal(to_reference(alloc, place)?))
         }
-        WrittenEntityScope::In(place) => Ok(TemplateEntityScope::In(reference(alloc, place)?)),
+        WrittenEntityScope::In(place) => Ok(TemplateEntityScope::In(to_reference(alloc, place)?)),
         WrittenEntityScope::Is(ty) => Ok(TemplateEntityScope::Is(ty.try_clone(alloc)?)),
         WrittenEntityScope::IsIn(ty, place) => {
             let ty = ty.try_clone(alloc)?;
-            Ok(TemplateEntityScope::IsIn(ty, reference(alloc, place)?))
+            Ok(TemplateEntityScope::IsIn(ty, to_reference(alloc, place)?))
         }
     }
 }
 
 // The entity that is referred to.
-fn referred(alloc: Global, reference: &Reference) -> Result<Uid, AllocError>
+fn to_entity(alloc: Global, reference: &Reference) -> Result<Uid, AllocError>
     requires { is_slot reference.now ≡ false }
     ensures { IfOk result (λ u. u ≡ to_entity reference.now) }
 {
@@ -168,7 +174,7 @@ fn referred(alloc: Global, reference: &Reference) -> Result<Uid, AllocError>
     }
 }
 
-fn reference(alloc: Global, reference: &Reference) -> Result<EntityReference, AllocError>
+fn to_reference(alloc: Global, reference: &Reference) -> Result<EntityReference, AllocError>
     ensures { IfOk result (λ q. q ≡ to_reference reference.now) }
 {
     match reference {
@@ -177,7 +183,7 @@ fn reference(alloc: Global, reference: &Reference) -> Result<EntityReference, Al
     }
 }
 
-fn action_scope(alloc: Global, scope: &WrittenActionScope) -> Result<ActionScope, AllocError>
+fn to_action_scope(alloc: Global, scope: &WrittenActionScope) -> Result<ActionScope, AllocError>
     ensures { IfOk result (λ s. s ≡ to_action_scope scope.now) }
 {
     match scope {
@@ -201,17 +207,20 @@ fn to_uids(alloc: Global, uids: &[WrittenUid]) -> Result<Vec<Uid>, AllocError>
     Ok(found)
 }
 
-fn annotations(alloc: Global, written: &[WrittenAnnotation]) -> Result<Vec<Annotation>, AllocError>
+fn to_annotations(
+    alloc: Global,
+    written: &[WrittenAnnotation],
+) -> Result<Vec<Annotation>, AllocError>
     ensures { IfOk result (λ v. v.items ≡ map to_annotation written.now) }
 {
     let mut found = Vec::new(alloc);
     for annotation in written {
-        found.push(text_of(alloc, annotation)?)?;
+        found.push(to_annotation(alloc, annotation)?)?;
     }
     Ok(found)
 }
 
-fn text_of(alloc: Global, annotation: &WrittenAnnotation) -> Result<Annotation, AllocError>
+fn to_annotation(alloc: Global, annotation: &WrittenAnnotation) -> Result<Annotation, AllocError>
     ensures { IfOk result (λ a. a ≡ to_annotation annotation.now) }
 {
     Ok(Annotation {
@@ -220,7 +229,7 @@ fn text_of(alloc: Global, annotation: &WrittenAnnotation) -> Result<Annotation, 
     })
 }
 
-fn conditions(alloc: Global, written: &[WrittenCondition]) -> Result<Vec<Condition>, AllocError>
+fn to_conditions(alloc: Global, written: &[WrittenCondition]) -> Result<Vec<Condition>, AllocError>
     requires numbers { KeepConditions Numbers written.now }
     requires keys { KeepConditions Keys written.now }
     requires strings { KeepConditions Strings written.now }

@@ -4,7 +4,7 @@
 //! let source = "1 + 2";
 //! let tokens = spelled_tokens(rt.alloc(), source)?;
 //! let mut cursor = tokens.cursor(source.len());
-//! let written = nested(rt.alloc(), &mut cursor, 101)?;
+//! let written = parse_expression(rt.alloc(), &mut cursor, 101)?;
 //! assert!(rt; matches!(written.kind(), WrittenKind::Chain(_, _)));
 //! ```
 //!
@@ -12,11 +12,11 @@
 //! written is that of cedar_parser_tree; statements are read in cedar_parser_statements.
 #![tactic(auto)]
 
-mod attributes;
+mod attribute_path;
+mod chain;
 mod chain_level;
-mod chains;
-mod expressions;
+mod expression_parser;
 mod lookup;
 
-pub use expressions::nested;
+pub use expression_parser::parse_expression;
 pub use lookup::slot_of;

@@ -5,8 +5,8 @@ ghost use Rattle.cedar_parser_expressions.specs.Reading as reading;
 
 use crate::chain_level::ChainLevel;
 use cedar_ast_expressions::Variable;
-use cedar_text::TokenKind;
 use cedar_parser_tree::{ChainSign, RelationSign};
+use cedar_text::TokenKind;
 
 /// The sign between operands of this level.
 pub fn chain_sign(level: ChainLevel, kind: Option<TokenKind>) -> Option<ChainSign>
@@ -51,7 +51,7 @@ pub fn variable_of(name: &str) -> Option<Variable>
     }
 }
 
-/// The variable that a slot stands for.
+/// The variable of the slot of this name.
 pub fn slot_of(name: &str) -> Option<Variable>
     ensures { result ≡ grammar.slot_of name.now }
 {

@@ -10,11 +10,13 @@ ghost use Rattle.cedar_parser_tokens.specs.Names.{to_uid};
 ghost use Rattle.cedar_parser_limits.specs.StatementLimits.{condition_size};
 ghost use Rattle.cedar_parser_limits.specs.StatementMeaning.{to_entity_scope, to_action_scope, to_condition};
 
-use crate::expression_size::size;
+use crate::expression_size::expression_size;
 use crate::size::{Size, leaf, nothing};
 use cedar_ast::ConditionKind;
 use cedar_parser_tokens::WrittenUid;
-use cedar_parser_tree::{WrittenActionScope, WrittenCondition, WrittenEntityScope, WrittenStatement};
+use cedar_parser_tree::{
+    WrittenActionScope, WrittenCondition, WrittenEntityScope, WrittenStatement,
+};
 
 /// The size of the condition of the policy that a statement is, a slot counted as a literal.
 #[tactic(auto, unfolding(crate::specs::StatementLimits::condition_size))]
@@ -28,7 +30,7 @@ pub fn condition_size(statement: &WrittenStatement) -> Size
     principal.above_both(action.above_both(resource.above_both(conditions)))
 }
 
-// What is asked of the principal or the resource.
+// The size of the condition on the principal or the resource.
 fn entity_scope_size(scope: &WrittenEntityScope) -> Size
     ensures { (x : Variable) → result ≡ capped (size_of (entity_scope_of x (to_entity_scope scope.now))) }
 {
@@ -52,7 +54,7 @@ fn action_scope_size(scope: &WrittenActionScope) -> Size
     }
 }
 
-// The literals of entities.
+// The size of the literals of entities.
 fn uids_size(uids: &[WrittenUid]) -> Size
     ensures { result ≡ capped (size_of_all (expressions_of (map entity_literal (map to_uid uids.now)))) }
 {
@@ -69,7 +71,7 @@ fn literal_size(_uid: &WrittenUid) -> Size
     leaf()
 }
 
-// The conditions, joined from the last one to the first.
+// The size of the conditions, joined from the last one to the first.
 fn conditions_size(conditions: &[WrittenCondition]) -> Size
     ensures { result ≡ capped (size_of (conditions_of (map to_condition conditions.now))) }
 {
@@ -77,17 +79,17 @@ fn conditions_size(conditions: &[WrittenCondition]) -> Size
     if count == 0 {
         return leaf();
     }
-    let mut joined = asked_size(&conditions[count - 1]);
+    let mut joined = clause_size(&conditions[count - 1]);
     for index in (0..count - 1).rev() {
-        joined = asked_size(&conditions[index]).above_both(joined);
+        joined = clause_size(&conditions[index]).above_both(joined);
     }
     joined
 }
 
-fn asked_size(condition: &WrittenCondition) -> Size
+fn clause_size(condition: &WrittenCondition) -> Size
     ensures { result ≡ capped (size_of (asked_by condition.now.kind (to_expression condition.now.body))) }
 {
-    let body = size(&condition.body);
+    let body = expression_size(&condition.body);
     match condition.kind {
         ConditionKind::When => body,
         ConditionKind::Unless => body.above(),

@@ -5,7 +5,7 @@ ghost use Rattle.cedar_parser_limits.specs.Limits.{function_arity, method_arity}
 
 use cedar_ast_expressions::{BinaryOperator, UnaryOperator};
 
-/// What a method asks of what stands before it (Cedar language reference, functions).
+/// What a method asks of the operand before it (Cedar language reference, functions).
 #[derive(Clone, Copy)]
 pub enum Method {
     /// Whether the set has no members; without arguments.

@@ -5,23 +5,23 @@
 //! let source = "permit(principal, action, resource) when { principal.isEmpty(1) };";
 //! let tokens = spelled_tokens(rt.alloc(), source)?;
 //! let mut cursor = tokens.cursor(source.len());
-//! let written = statement(rt.alloc(), &mut cursor)?;
+//! let written = parse_statement(rt.alloc(), &mut cursor)?;
 //! assert!(rt; matches!(judge(rt.alloc(), &written), Err(ParseFault::Arity(_))));
 //! ```
 //!
-//! The expression that is written stands in `specs/Meaning.antt`, the policy or template that a statement is in
+//! The expression that is written is defined in `specs/Meaning.antt`, the policy or template that a statement is in
 //! `specs/StatementMeaning.antt`, side conditions and limits in `specs/Limits.antt` and `specs/StatementLimits.antt`. Statements
 //! are read in cedar_parser_statements, and made into policies in cedar_parser.
 #![tactic(auto)]
 
-mod asked_size;
-mod broken;
+mod attribute_path_size;
+mod breach;
 mod condition_size;
 mod expression_size;
 mod functions;
-mod judging;
+mod judge;
 mod side_condition;
 mod size;
 
 pub use functions::{Method, function_of, method_of};
-pub use judging::judge;
+pub use judge::judge;

@@ -7,14 +7,14 @@ pub enum SideCondition {
     Strings,
     /// Numbers are of 64 bits.
     Numbers,
-    /// No key of a record stands twice.
+    /// No key of a record is repeated.
     Keys,
     /// Functions and methods are known.
     Names,
     /// Functions and methods have as many arguments as they take.
     Counts,
-    /// Slots stand in their own variable's scope alone.
+    /// Slots are in their own variable's scope only.
     Slots,
-    /// No annotation stands twice.
+    /// No annotation is repeated.
     Annotations,
 }

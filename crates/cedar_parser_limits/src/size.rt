@@ -3,7 +3,7 @@ ghost use Rattle.std.specs.Prelude.{◌≡◌};
 ghost use Rattle.cedar_parser_limits.specs.Limits.{nothing, leaf, above, above_both, both};
 ghost use Rattle.cedar_parser_limits.specs.Private.Capped.{capped};
 
-/// How many nodes a tree has, and how many stand on its longest way down. Both stop at the greatest `usize`.
+/// How many nodes a tree has, and how many are on its longest way down. Both stop at the greatest `usize`.
 #[derive(Clone, Copy, Debug)]
 pub struct Size {
     /// The nodes.
@@ -12,7 +12,7 @@ pub struct Size {
     pub height: usize,
 }
 
-/// No node.
+/// The size of no tree.
 pub fn nothing() -> Size
     ensures { result ≡ nothing }
 {
@@ -22,7 +22,7 @@ pub fn nothing() -> Size
     }
 }
 
-/// One node with nothing below it.
+/// The size of one node with nothing below it.
 pub fn leaf() -> Size
     ensures { result ≡ leaf }
 {

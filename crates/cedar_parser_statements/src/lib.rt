@@ -4,7 +4,7 @@
 //! let source = "permit(principal, action, resource);";
 //! let tokens = spelled_tokens(rt.alloc(), source)?;
 //! let mut cursor = tokens.cursor(source.len());
-//! let written = statement(rt.alloc(), &mut cursor)?;
+//! let written = parse_statement(rt.alloc(), &mut cursor)?;
 //! assert_eq!(rt; written.effect, Effect::Permit);
 //! ```
 //!
@@ -12,12 +12,12 @@
 //! in cedar_parser_tree.
 #![tactic(auto)]
 
-mod scopes;
-mod statements;
+mod scope;
+mod statement;
 
 pub use cedar_parser_tree::{
     AttributePath, ChainSign, Field, Link, Reference, RelationSign, Series, Written,
     WrittenActionScope, WrittenAnnotation, WrittenCondition, WrittenEntityScope, WrittenKind,
     WrittenScope, WrittenStatement, WrittenUids,
 };
-pub use statements::statement;
+pub use statement::parse_statement;

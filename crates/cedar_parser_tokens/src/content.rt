@@ -1,12 +1,12 @@
-//! What strings stand for.
+//! The texts of strings and words, with their places.
 ghost use Rattle.std.specs.Prelude.{◌≡◌, IfOk, option_map};
 
 use cedar_value::{Name, Text, Uid};
 use std::alloc::{AllocError, Global};
 use std::marker::Model;
 
-/// The text that a string or a word stands for, which contracts see as an option of it: a string with the escape `\*`
-/// stands for none (Cedar language reference, grammar: `STR`).
+/// The text that a string or a word denotes, which contracts see as an option of it: a string with the escape `\*`
+/// denotes none (Cedar language reference, grammar: `STR`).
 #[derive(Drop)]
 pub struct Content {
     text: Option<Text>,
@@ -124,14 +124,14 @@ impl Word {
 pub struct WrittenUid {
     /// The path.
     pub ty: Name,
-    /// What the string behind it stands for.
+    /// The text that the string after it denotes.
     pub id: Content,
 }
 
 impl WrittenUid {
     ghost use Rattle.cedar_parser_tokens.specs.Names.{to_uid};
 
-    /// The uid that is written; of a string that stands for no text the empty id.
+    /// The uid that is written, with an empty id if its string denotes no text.
     pub fn to_uid(&self, alloc: Global) -> Result<Uid, AllocError>
         ensures { IfOk result (λ u. u ≡ to_uid self.now) }
     {

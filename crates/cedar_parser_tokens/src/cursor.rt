@@ -77,7 +77,7 @@ impl<'t> Cursor<'t> {
     {
         match self.rest {
             [] => None,
-            [token, ..] => Some(spelled(token, self.strings)),
+            [token, ..] => Some(spelled_token(token, self.strings)),
         }
     }
 
@@ -94,7 +94,7 @@ impl<'t> Cursor<'t> {
 
     /// Whether the token after the next is of this kind.
     #[tactic(auto, unfolding(crate::specs::Reading::sees, crate::specs::Reading::next))]
-    pub fn sees_behind(&self, kind: TokenKind) -> bool
+    pub fn sees_second(&self, kind: TokenKind) -> bool
         ensures { result ≡ spec.sees kind (spec.next self.now) }
     {
         match self.rest {
@@ -111,38 +111,38 @@ impl<'t> Cursor<'t> {
         if let [token, rest @ ..] = self.rest {
             self.taken = token.start;
             self.rest = rest;
-            self.strings = strings_behind(token.kind, self.strings);
+            self.strings = strings_after(token.kind, self.strings);
         }
     }
 
-    /// Goes past the next token, which is to be of this kind; another is no syntax.
+    /// Takes the next token, which must be of this kind; any other is a fault of the syntax.
     #[tactic(auto, unfolding(crate::specs::Reading::expect))]
     pub fn expect(&mut self, kind: TokenKind) -> Result<Spelled<'t>, ParseFault>
         ensures { TakesToken (spec.expect kind self.old) result self.new }
     {
         match self.rest {
             [token, rest @ ..] if token.kind == kind => {
-                let taken = spelled(token, self.strings);
+                let taken = spelled_token(token, self.strings);
                 self.taken = token.start;
                 self.rest = rest;
-                self.strings = strings_behind(token.kind, self.strings);
+                self.strings = strings_after(token.kind, self.strings);
                 Ok(taken)
             }
             _ => Err(ParseFault::Syntax(self.offset())),
         }
     }
 
-    /// Goes past the next token, which is to be a word, reserved or not; another is no syntax.
+    /// Takes the next token, which must be a word, reserved or not; any other is a fault of the syntax.
     #[tactic(auto, unfolding(crate::specs::Reading::any_word))]
-    pub fn any_word(&mut self) -> Result<Spelled<'t>, ParseFault>
+    pub fn expect_any_word(&mut self) -> Result<Spelled<'t>, ParseFault>
         ensures { TakesToken (any_word self.old) result self.new }
     {
         match self.rest {
             [token, rest @ ..] if is_word_kind(token.kind) => {
-                let taken = spelled(token, self.strings);
+                let taken = spelled_token(token, self.strings);
                 self.taken = token.start;
                 self.rest = rest;
-                self.strings = strings_behind(token.kind, self.strings);
+                self.strings = strings_after(token.kind, self.strings);
                 Ok(taken)
             }
             _ => Err(ParseFault::Syntax(self.offset())),
@@ -159,20 +159,20 @@ impl<'t> Cursor<'t> {
         }
     }
 
-    /// Notes that `::` goes on behind a path, though the path ends here.
+    /// Notes that `::` follows a path that ends here: a fault is then reported after the `::`.
     pub fn pass_colons(&mut self)
         ensures { self.new ≡ self.old }
     {
         match self.rest {
             [colons] if colons.kind == TokenKind::DoubleColon => self.reached = self.end,
-            [colons, behind, ..] if colons.kind == TokenKind::DoubleColon => {
-                self.reached = behind.start;
+            [colons, after, ..] if colons.kind == TokenKind::DoubleColon => {
+                self.reached = after.start;
             }
             _ => {}
         }
     }
 
-    /// Where the first token begins at which no reading goes on, or the text ends.
+    /// Where a fault of the syntax is: the start of the first token at which no reading goes on, or the end of the text.
     pub fn offset(&self) -> usize {
         let next = match self.rest {
             [] => self.end,
@@ -187,8 +187,8 @@ impl<'t> Cursor<'t> {
     }
 }
 
-// A token, where these are the letters of the strings from it on.
-fn spelled<'t>(token: &'t Token<'t>, strings: &'t [Vec<Letter>]) -> Spelled<'t>
+// A token with its letters, where `strings` are those of the strings from it on.
+fn spelled_token<'t>(token: &'t Token<'t>, strings: &'t [Vec<Letter>]) -> Spelled<'t>
     ensures { mark result ≡ spells.first_mark (lexeme token.now) (map (λ v. v.items) strings.now) }
 {
     Spelled {
@@ -197,7 +197,7 @@ fn spelled<'t>(token: &'t Token<'t>, strings: &'t [Vec<Letter>]) -> Spelled<'t>
     }
 }
 
-// The letters of a token of this kind, where these are those of the strings from it on.
+// The letters of a token of this kind, where `strings` are those of the strings from it on.
 fn letters_at<'t>(kind: TokenKind, strings: &'t [Vec<Letter>]) -> &'t [Letter]
     ensures { result.now ≡ spells.letters_at kind (map (λ v. v.items) strings.now) }
 {
@@ -210,8 +210,8 @@ fn letters_at<'t>(kind: TokenKind, strings: &'t [Vec<Letter>]) -> &'t [Letter]
     }
 }
 
-// The letters of the strings behind a token of this kind, where these are those from it on.
-fn strings_behind<'t>(kind: TokenKind, strings: &'t [Vec<Letter>]) -> &'t [Vec<Letter>]
+// The letters of the strings after a token of this kind, where `strings` are those from it on.
+fn strings_after<'t>(kind: TokenKind, strings: &'t [Vec<Letter>]) -> &'t [Vec<Letter>]
     ensures { map (λ v. v.items) result.now ≡ spells.strings_behind kind (map (λ v. v.items) strings.now) }
 {
     if kind != TokenKind::String {

@@ -22,7 +22,9 @@ mod uid;
 pub use content::{Content, Word, WrittenUid};
 pub use cursor::Cursor;
 pub use laws::digits_have_one_worth;
-pub use names::{entity, key, one_identifier, path, text, uid_of};
+pub use names::{
+    one_identifier, parse_entity, parse_entity_of_type, parse_key, parse_path, parse_string,
+};
 pub use parse_fault::ParseFault;
 pub use spelled::Spelled;
 pub use spelling::{SpelledTokens, spelled_tokens};

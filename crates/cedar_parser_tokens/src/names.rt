@@ -1,4 +1,4 @@
-//! Strings, paths and uids.
+//! The parsers of strings, keys, paths and uids.
 ghost use Rattle.std.specs.Prelude.{◌≡◌, ◌++◌, OnOk, codes, string_bytes, true, List, ℕ, []};
 ghost use Rattle.cedar_parser_tokens.specs.Reading as spec;
 ghost use Rattle.cedar_text.specs.Tokens.{IsToken};
@@ -13,55 +13,55 @@ use cedar_text::TokenKind;
 use cedar_value::{Name, Text};
 use std::alloc::{AllocError, Global};
 
-/// What a string stands for (Cedar language reference, grammar: `STR`).
+/// Parses a string (Cedar language reference, grammar: `STR`).
 #[tactic(auto, unfolding(crate::specs::Reading::text))]
-pub fn text(alloc: Global, tokens: &mut Cursor<'_>) -> Result<Content, ParseFault>
+pub fn parse_string(alloc: Global, tokens: &mut Cursor<'_>) -> Result<Content, ParseFault>
     ensures { Reads (spec.text tokens.old) result tokens.new }
 {
     let token = tokens.expect(TokenKind::String)?;
     Ok(token.content(alloc)?)
 }
 
-/// A word, or what a string stands for (Cedar language reference, grammar: `RecInits`).
+/// Parses the key of a record, a word or a string (Cedar language reference, grammar: `RecInits`).
 #[tactic(auto, unfolding(crate::specs::Reading::key))]
-pub fn key(alloc: Global, tokens: &mut Cursor<'_>) -> Result<Content, ParseFault>
+pub fn parse_key(alloc: Global, tokens: &mut Cursor<'_>) -> Result<Content, ParseFault>
     ensures { Reads (spec.key tokens.old) result tokens.new }
 {
     if tokens.sees(TokenKind::String) {
-        return text(alloc, tokens);
+        return parse_string(alloc, tokens);
     }
     let token = tokens.expect(TokenKind::Identifier)?;
     let word = Text::read(alloc, token.text())?;
     Ok(Content::new(Some(word), token.start()))
 }
 
-/// The name of an entity type (Cedar language reference, grammar: `Path`).
+/// Parses the name of an entity type (Cedar language reference, grammar: `Path`).
 #[tactic(auto, unfolding(crate::specs::Reading::path))]
-pub fn path(alloc: Global, tokens: &mut Cursor<'_>) -> Result<Name, ParseFault>
+pub fn parse_path(alloc: Global, tokens: &mut Cursor<'_>) -> Result<Name, ParseFault>
     ensures { Reads (spec.path tokens.old) result tokens.new }
 {
     let word = tokens.expect(TokenKind::Identifier)?;
     let mut path = String::from_str(alloc, word.text())?;
     for _turn in 0..tokens.left() {
-        if !goes_on(tokens) {
+        if !path_continues(tokens) {
             return Ok(Name::new(alloc, Text::new(path))?);
         }
         tokens.skip();
         let word = tokens.expect(TokenKind::Identifier)?;
-        lengthen(&mut path, word.text())?;
+        push_identifier(&mut path, word.text())?;
     }
     Ok(Name::new(alloc, Text::new(path))?)
 }
 
 // Whether a path goes on here.
-fn goes_on(tokens: &Cursor<'_>) -> bool
+fn path_continues(tokens: &Cursor<'_>) -> bool
     ensures { result ≡ spec.goes_on tokens.now }
 {
-    tokens.sees(TokenKind::DoubleColon) && tokens.sees_behind(TokenKind::Identifier)
+    tokens.sees(TokenKind::DoubleColon) && tokens.sees_second(TokenKind::Identifier)
 }
 
 // Adds a word to a path.
-fn lengthen(path: &mut String, word: &str) -> Result<(), AllocError>
+fn push_identifier(path: &mut String, word: &str) -> Result<(), AllocError>
     ensures { OnOk result (string_bytes path.new ≡ string_bytes path.old ++ codes "::" ++ word.now) }
 {
     path.push_str("::")?;
@@ -69,27 +69,31 @@ fn lengthen(path: &mut String, word: &str) -> Result<(), AllocError>
     Ok(())
 }
 
-/// A uid (Cedar language reference, grammar: `Entity`).
+/// Parses a uid (Cedar language reference, grammar: `Entity`).
 #[tactic(auto, unfolding(crate::specs::Reading::entity))]
-pub fn entity(alloc: Global, tokens: &mut Cursor<'_>) -> Result<WrittenUid, ParseFault>
+pub fn parse_entity(alloc: Global, tokens: &mut Cursor<'_>) -> Result<WrittenUid, ParseFault>
     ensures { Reads (spec.entity tokens.old) result tokens.new }
 {
-    let ty = path(alloc, tokens)?;
-    uid_of(alloc, ty, tokens)
+    let ty = parse_path(alloc, tokens)?;
+    parse_entity_of_type(alloc, ty, tokens)
 }
 
-/// The uid of this type, of which the rest is left.
+/// Parses the rest of a uid whose type has been read.
 #[tactic(auto, unfolding(crate::specs::Reading::uid_of))]
-pub fn uid_of(alloc: Global, ty: Name, tokens: &mut Cursor<'_>) -> Result<WrittenUid, ParseFault>
+pub fn parse_entity_of_type(
+    alloc: Global,
+    ty: Name,
+    tokens: &mut Cursor<'_>,
+) -> Result<WrittenUid, ParseFault>
     ensures { Reads (spec.uid_of ty tokens.old) result tokens.new }
 {
     tokens.expect(TokenKind::DoubleColon)?;
-    let id = text(alloc, tokens)?;
+    let id = parse_string(alloc, tokens)?;
     Ok(WrittenUid { ty, id })
 }
 
 /// The law that the identifiers of names, as of those in schemas, are the tokens that are identifiers (Cedar language
-/// reference, grammar: `IDENT`). It runs nothing.
+/// reference, grammar: `IDENT`).
 pub fn one_identifier()
     // An identifier is a token by itself.
     ensures token { (word : List ℕ) → is_identifier word ≡ true → IsToken Identifier 0 word [] }

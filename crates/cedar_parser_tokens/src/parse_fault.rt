@@ -15,11 +15,11 @@ pub enum ParseFault {
     /// 104: the digits that begin there are above 9223372036854775807.
     #[error("the number at {0} is too large")]
     NumberTooLarge(usize),
-    /// 103: the escape `\*` stands there outside a pattern.
-    #[error("the escape at {0} stands outside a pattern")]
+    /// 103: the escape `\*` is there, outside a pattern.
+    #[error("the escape at {0} is outside a pattern")]
     EscapedStar(usize),
-    /// 201: no text of the grammar goes on with what stands there.
-    #[error("no text goes on with what stands at {0}")]
+    /// 201: no text of the grammar goes on with what is there.
+    #[error("the text at {0} is unexpected")]
     Syntax(usize),
     /// 202: with the bracket or `if` there more than 100 are open in a condition.
     #[error("the bracket or `if` at {0} nests too deep")]
@@ -27,8 +27,8 @@ pub enum ParseFault {
     /// 202: the condition of the statement that begins there is higher than 2,000 nodes.
     #[error("the condition of the statement at {0} is too high")]
     TooHigh(usize),
-    /// 203: the key that is written there stands in its record before.
-    #[error("the key at {0} stands in its record before")]
+    /// 203: the key that is written there is in its record already.
+    #[error("the key at {0} is in its record already")]
     DuplicateKey(usize),
     /// 204: a statement before the one that begins there has the same id.
     #[error("a statement before the one at {0} has its id")]
@@ -36,11 +36,11 @@ pub enum ParseFault {
     /// 205: there is no function or method of the name there.
     #[error("there is no function or method of the name at {0}")]
     UnknownFunction(usize),
-    /// 206: the function or method there takes another count of arguments: `isEmpty` none, each other one argument.
-    #[error("the function or method at {0} takes another count of arguments")]
+    /// 206: the function or method there takes another number of arguments: `isEmpty` none, each other one argument.
+    #[error("the function or method at {0} takes another number of arguments")]
     Arity(usize),
-    /// 207: the slot there stands where none may.
-    #[error("the slot at {0} stands where none may")]
+    /// 207: the slot there is where none may be.
+    #[error("the slot at {0} is where none may be")]
     SlotMisplaced(usize),
     /// 208: an annotation before the one that begins there has its name.
     #[error("an annotation before the one at {0} has its name")]

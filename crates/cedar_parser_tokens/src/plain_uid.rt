@@ -22,7 +22,7 @@ pub(crate) fn plain_uid(alloc: Global, source: &str) -> Result<Option<Uid>, Allo
     Ok(Some(Uid { ty, id }))
 }
 
-// What stands before the first `::"`, and what stands behind it up to the quote that ends the text.
+// The text before the first `::"`, and the text after it up to the quote that ends the source.
 fn plain_parts(source: &str) -> Option<(&str, &str)>
     ensures { IfSome result (λ parts. IsPlainText source.now parts.0.now parts.1.now) }
 {

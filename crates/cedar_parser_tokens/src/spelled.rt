@@ -46,7 +46,7 @@ impl<'t> Spelled<'t> {
         self.token.number()
     }
 
-    /// What a string stands for.
+    /// The text that a string denotes.
     pub fn content(&self, alloc: Global) -> Result<Content, AllocError>
         ensures { IfOk result (λ c. c ≡ content_of (mark self.now).letters) }
     {

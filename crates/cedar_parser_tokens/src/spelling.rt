@@ -52,15 +52,15 @@ pub fn spelled_tokens(alloc: Global, source: &str) -> Result<SpelledTokens<'_>, 
     // Each fault comes only where it is.
     ensures fault { IfErr result (HasMarksFault source.now) }
 {
-    // A law: it runs nothing.
+    // A string has one list of letters.
     one_spelling();
     let tokens = tokens(alloc, source)?;
-    let strings = strings(alloc, &tokens)?;
+    let strings = letters_of_strings(alloc, &tokens)?;
     Ok(SpelledTokens { tokens, strings })
 }
 
 // The letters of the strings among tokens, in order. They are counted before the list of them is made.
-fn strings(alloc: Global, tokens: &[Token<'_>]) -> Result<Vec<Vec<Letter>>, AllocError>
+fn letters_of_strings(alloc: Global, tokens: &[Token<'_>]) -> Result<Vec<Vec<Letter>>, AllocError>
     ensures { IfOk result (λ v. Spells (lexemes tokens.now) (map (λ l. l.items) v.items)) }
 {
     let mut found = Vec::with_capacity(alloc, count_strings(tokens))?;
@@ -81,7 +81,7 @@ fn count_strings(tokens: &[Token<'_>]) -> usize {
     count
 }
 
-// The letters of a string. A string token always has some, so none can be wanting but for memory.
+// The letters of a string. A string token always has letters, so only memory can run out.
 fn letters_of(alloc: Global, text: &str) -> Result<Vec<Letter>, AllocError>
     ensures { IfOk result (λ v. IsSpelled text.now v.items) }
 {

@@ -4,7 +4,7 @@ ghost use Rattle.cedar_value.specs.declared.uid.Uid.{Uid as Uids};
 ghost use Rattle.cedar_parser_tokens.specs.UidText.{IsUidText, HasUidFault, AnswersUid};
 
 use crate::content::Content;
-use crate::names::entity;
+use crate::names::parse_entity;
 use crate::parse_fault::ParseFault;
 use crate::plain_uid::plain_uid;
 use crate::spelling::spelled_tokens;
@@ -12,10 +12,10 @@ use cedar_text::{letters_or_none, one_list, one_spelling, tokens_or_none};
 use cedar_value::Uid;
 use std::alloc::Global;
 
-/// The uid of a text, as `User::"ann"` (Cedar language reference, entity identifiers). White space and comments may stand
-/// in it.
+/// The uid of a text, as `User::"ann"` (Cedar language reference, entity identifiers). It may contain white space and
+/// comments.
 ///
-/// Refusals: 1; 101 to 104 where the text has no tokens; 103 for the escape `\*` in the id; 201 where the tokens are no uid.
+/// Refusals: 1; 101 to 104 where the text has no tokens; 103 for the escape `\*` in the id; 201 where the tokens are not a uid.
 pub fn read_uid(alloc: Global, source: &str) -> Result<Uid, ParseFault>
     // What is answered is the uid of the text.
     ensures found { IfOk result (IsUidText source.now) }
@@ -24,26 +24,26 @@ pub fn read_uid(alloc: Global, source: &str) -> Result<Uid, ParseFault>
     // Each fault comes only where it is.
     ensures fault { IfErr result (HasUidFault source.now) }
 {
-    // A law: it runs nothing.
+    // No text is that of two uids.
     one_uid();
     if let Some(plain) = plain_uid(alloc, source)? {
         return Ok(plain);
     }
     let spelled = spelled_tokens(alloc, source)?;
     let mut cursor = spelled.cursor(source.len());
-    let written = entity(alloc, &mut cursor)?;
+    let written = parse_entity(alloc, &mut cursor)?;
     if cursor.left() > 0 {
         return Err(ParseFault::Syntax(cursor.offset()));
     }
-    if !stands(&written.id) {
+    if !has_text(&written.id) {
         return Err(ParseFault::EscapedStar(written.id.place()));
     }
     let uid = written.to_uid(alloc)?;
     Ok(uid)
 }
 
-// Whether a string stands for a text.
-fn stands(content: &Content) -> bool
+// Whether a string denotes a text, since it has no escape `\*`.
+fn has_text(content: &Content) -> bool
     ensures { result ≡ is_some content.now }
 {
     match content.text() {
@@ -52,22 +52,22 @@ fn stands(content: &Content) -> bool
     }
 }
 
-/// The law that a text is that of a uid, and of which, or of none: the question is decided. It runs nothing.
+/// The law that it is decided whether a text is that of a uid, and of which.
 pub fn uid_or_none()
     ensures { (source : List ℕ) → ((uid : Uids) × IsUidText source uid) ⊎ ((uid : Uids) → IsUidText source uid → ⊥) }
 {
-    // Laws: they run nothing.
+    // It is decided whether a text has tokens and a string letters, and which.
     one_list();
     one_spelling();
     tokens_or_none();
     letters_or_none();
 }
 
-/// The law that no text is that of two uids (Cedar language reference, entity identifiers). It runs nothing.
+/// The law that no text is that of two uids (Cedar language reference, entity identifiers).
 pub fn one_uid()
     ensures { (source : List ℕ) (uid other : Uids) → IsUidText source uid → IsUidText source other → uid ≡ other }
 {
-    // Laws: they run nothing.
+    // A text has one list of tokens, and a string one list of letters.
     one_list();
     one_spelling();
 }

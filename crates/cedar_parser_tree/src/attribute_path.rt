@@ -1,11 +1,11 @@
-//! What is asked behind `has`: one attribute, or a path of them.
+//! What follows `has`: one attribute, or a path of them.
 ghost use Rattle.std.specs.Prelude.{◌≡◌};
 
 use cedar_parser_tokens::Content;
 use cedar_value::Text;
 use std::marker::Model;
 
-/// A string, or identifiers with points between them, which contracts see as the first attribute and those behind it
+/// A string, or identifiers with dots between them, which contracts see as the first attribute and those after it
 /// (Cedar language reference, operators: has).
 #[derive(Drop)]
 pub struct AttributePath {
@@ -22,7 +22,7 @@ impl Model for AttributePath {
 }
 
 impl AttributePath {
-    /// This attribute, and those behind it. Takes no memory.
+    /// This attribute, and those after it. Takes no memory.
     pub fn new(first: Content, more: Vec<Text>) -> AttributePath
         ensures { result ≡ (first, more.items) }
     {
@@ -36,7 +36,7 @@ impl AttributePath {
         &self.first
     }
 
-    /// The attributes behind it, in order, lent.
+    /// The attributes after it, in order, lent.
     pub fn more(&self) -> &[Text]
         ensures { result.now ≡ self.now.1 }
     {

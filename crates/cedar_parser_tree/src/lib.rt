@@ -6,20 +6,20 @@
 //! assert!(rt; matches!(denied.kind(), WrittenKind::Not(_)));
 //! ```
 //!
-//! The tree as written stands in `specs/Written.antt` and `specs/StatementTree.antt`. What is written by the grammar stands in
-//! cedar_parser_expressions and cedar_parser_statements, what it must keep beside the grammar in cedar_parser_limits.
+//! The tree as written is defined in `specs/Written.antt` and `specs/StatementTree.antt`, the grammar in
+//! cedar_parser_expressions and cedar_parser_statements, and the conditions beside the grammar in cedar_parser_limits.
 #![tactic(auto)]
 
 mod attribute_path;
-mod making;
+mod constructors;
 mod series;
 mod sign;
 mod written;
 mod written_statement;
 
 pub use attribute_path::AttributePath;
-pub use making::{
-    choice, group, has, is, is_in, like, minus, not, push_field, push_item, push_link, related,
+pub use constructors::{
+    group, has, if_else, is, is_in, like, minus, not, push_field, push_item, push_link, relation,
 };
 pub use series::Series;
 pub use sign::{ChainSign, RelationSign};

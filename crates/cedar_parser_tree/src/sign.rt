@@ -1,6 +1,6 @@
 //! The signs between operands.
 
-/// A sign that stands between the operands of a chain, which groups to the left (Cedar language reference, grammar).
+/// A sign between the operands of a chain, which groups to the left (Cedar language reference, grammar).
 #[derive(Clone, Copy, Debug, PartialEq, Eq)]
 pub enum ChainSign {
     /// `||`
@@ -15,7 +15,7 @@ pub enum ChainSign {
     Times,
 }
 
-/// A sign that stands between two operands at most once (Cedar language reference, grammar).
+/// A sign between two operands, at most once (Cedar language reference, grammar).
 #[derive(Clone, Copy, Debug, PartialEq, Eq)]
 pub enum RelationSign {
     /// `<`

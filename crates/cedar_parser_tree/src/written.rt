@@ -27,7 +27,7 @@ pub enum WrittenKind {
     Entity(WrittenUid),
     /// A part of the request.
     Variable(Variable),
-    /// `?principal` or `?resource`, and where it stands.
+    /// `?principal` or `?resource`, and where it is.
     Slot(usize, Variable),
     /// An expression in brackets.
     Group(Box<Written>),
@@ -45,7 +45,7 @@ pub enum WrittenKind {
     Is(Box<Written>, Name),
     /// `is .. in`
     IsIn(Box<Written>, Name, Box<Written>),
-    /// A first operand and what stands behind it, at least one link.
+    /// A first operand and the links after it, at least one.
     Chain(Box<Written>, Vec<Link>),
     /// `if .. then .. else`
     If(Box<Written>, Box<Written>, Box<Written>),
@@ -53,19 +53,19 @@ pub enum WrittenKind {
     Set(Series),
     /// The entries in braces.
     Record(Vec<Field>),
-    /// Where a function's name stands, the name, and the arguments.
+    /// Where a function's name begins, the name, and the arguments.
     Call(usize, Name, Series),
 }
 
-/// What stands behind an operand of a chain.
+/// What follows an operand of a chain.
 #[cycle(written)]
 #[derive(Drop)]
 pub enum Link {
-    /// A sign, and the operand behind it.
+    /// A sign, and the operand after it.
     Operand(ChainSign, Written),
     /// `.a` or `["a"]`
     Attribute(Content),
-    /// A method's name behind a dot, and the arguments.
+    /// A method's name after a dot, and the arguments.
     Method(Word, Series),
 }
 
@@ -75,7 +75,7 @@ pub enum Link {
 pub struct Field {
     /// The key.
     pub key: Content,
-    /// What stands behind the colon.
+    /// The value after the colon.
     pub value: Written,
 }
 

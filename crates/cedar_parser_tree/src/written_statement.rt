@@ -2,8 +2,8 @@
 ghost use Rattle.std.specs.Prelude.{◌≡◌};
 
 use crate::written::Written;
-use cedar_ast_expressions::Variable;
 use cedar_ast::{ConditionKind, Effect};
+use cedar_ast_expressions::Variable;
 use cedar_parser_tokens::{Content, Word, WrittenUid};
 use cedar_value::Name;
 use std::marker::Model;
@@ -11,11 +11,11 @@ use std::marker::Model;
 /// An annotation as it is written (Cedar language reference, annotations).
 #[derive(Drop)]
 pub struct WrittenAnnotation {
-    /// Where its `@` stands, in bytes from 0.
+    /// Where its `@` is, in bytes from 0.
     pub start: usize,
-    /// The name behind it.
+    /// The name after it.
     pub name: Word,
-    /// What the string in brackets stands for.
+    /// The text that the string in brackets denotes.
     pub value: Content,
 }
 
@@ -24,7 +24,7 @@ pub struct WrittenAnnotation {
 pub struct WrittenCondition {
     /// Whether the expression is to hold.
     pub kind: ConditionKind,
-    /// What stands between the braces.
+    /// The expression between the braces.
     pub body: Written,
 }
 
@@ -33,7 +33,7 @@ pub struct WrittenCondition {
 pub enum Reference {
     /// An entity.
     Entity(WrittenUid),
-    /// Where `?principal` or `?resource` stands, in bytes from 0, and its variable.
+    /// Where `?principal` or `?resource` is, in bytes from 0, and its variable.
     Slot(usize, Variable),
 }
 
@@ -116,9 +116,9 @@ pub struct WrittenStatement {
     pub annotations: Vec<WrittenAnnotation>,
     /// Its first word.
     pub effect: Effect,
-    /// What stands between the round brackets.
+    /// The scope between the round brackets.
     pub scope: WrittenScope,
-    /// What stands behind them, in order.
+    /// The conditions after them, in order.
     pub conditions: Vec<WrittenCondition>,
 }
 

@@ -1,12 +1,12 @@
 //! The examples that open the crates of the language, each as its crate shows it.
-use cedar_parser_limits::judge;
-use cedar_parser_expressions::nested;
-use cedar_parser_statements::statement;
-use cedar_parser::parse;
 use cedar_ast::Effect;
-use cedar_text::tokens;
+use cedar_parser::parse;
+use cedar_parser_expressions::parse_expression;
+use cedar_parser_limits::judge;
+use cedar_parser_statements::parse_statement;
 use cedar_parser_tokens::{ParseFault, read_uid, spelled_tokens};
 use cedar_parser_tree::{Written, WrittenKind, not};
+use cedar_text::tokens;
 use std::test::Fail;
 
 #[test]
@@ -36,7 +36,7 @@ fn of_expressions(rt: HostRuntime) -> Result<(), Fail> {
     let source = "1 + 2";
     let tokens = spelled_tokens(rt.alloc(), source)?;
     let mut cursor = tokens.cursor(source.len());
-    let written = nested(rt.alloc(), &mut cursor, 101)?;
+    let written = parse_expression(rt.alloc(), &mut cursor, 101)?;
     assert!(rt; matches!(written.kind(), WrittenKind::Chain(_, _)));
     Ok(())
 }
@@ -46,7 +46,7 @@ fn of_statements(rt: HostRuntime) -> Result<(), Fail> {
     let source = "permit(principal, action, resource);";
     let tokens = spelled_tokens(rt.alloc(), source)?;
     let mut cursor = tokens.cursor(source.len());
-    let written = statement(rt.alloc(), &mut cursor)?;
+    let written = parse_statement(rt.alloc(), &mut cursor)?;
     assert_eq!(rt; written.effect, Effect::Permit);
     Ok(())
 }
@@ -56,7 +56,7 @@ fn of_side_conditions(rt: HostRuntime) -> Result<(), Fail> {
     let source = "permit(principal, action, resource) when { principal.isEmpty(1) };";
     let tokens = spelled_tokens(rt.alloc(), source)?;
     let mut cursor = tokens.cursor(source.len());
-    let written = statement(rt.alloc(), &mut cursor)?;
+    let written = parse_statement(rt.alloc(), &mut cursor)?;
     assert!(rt; matches!(judge(rt.alloc(), &written), Err(ParseFault::Arity(_))));
     Ok(())
 }

@@ -13,25 +13,25 @@ use Rattle.cedar_parser_limits.proofs.PartLemmas.{link_lighter, member_lighter, 
 use Rattle.cedar_parser.proofs.CallLemmas.{method_arguments, function_argument}
 use Rattle.cedar_parser.proofs.expression.+expression.Goals as goal
 
-pub chain_expression-link_expression-requires : goal.chain_expression-link_expression-requires
-chain_expression-link_expression-requires t c =
+pub to_chain-append_link-requires : goal.to_chain-append_link-requires
+to_chain-append_link-requires t c =
     let within : c.loop-link.link-index < length c.args.links.now = omega arith in (
       omega (arith, link_lighter c.args.links.now c.loop-link.link-index c.link-item.result within c.link-item.is, c.decreases),
       ((links_here Numbers c.args.links.now c.loop-link.link-index c.link-item.result within c.link-item.is c.loop-link.invariant.numbers).0, ((links_here Keys c.args.links.now c.loop-link.link-index c.link-item.result within c.link-item.is c.loop-link.invariant.keys).0, ((links_here Strings c.args.links.now c.loop-link.link-index c.link-item.result within c.link-item.is c.loop-link.invariant.strings).0, ((links_here Names c.args.links.now c.loop-link.link-index c.link-item.result within c.link-item.is c.loop-link.invariant.names).0, ((links_here Counts c.args.links.now c.loop-link.link-index c.link-item.result within c.link-item.is c.loop-link.invariant.counts).0, (links_here Slots c.args.links.now c.loop-link.link-index c.link-item.result within c.link-item.is c.loop-link.invariant.slots).0))))),
     )
 
-pub chain_expression-returns : goal.chain_expression-returns
-chain_expression-returns t c = c.loop-link.invariant.done ∙ behind_all (to_expression c.args.first.now) c.args.links.now c.loop-link.link-index c.loop-link-test.false
+pub to_chain-returns : goal.to_chain-returns
+to_chain-returns t c = c.loop-link.invariant.done ∙ behind_all (to_expression c.args.first.now) c.args.links.now c.loop-link.link-index c.loop-link-test.false
 
-pub expressions-to_expression-requires : goal.expressions-to_expression-requires
-expressions-to_expression-requires t c =
+pub to_expressions-to_expression-requires : goal.to_expressions-to_expression-requires
+to_expressions-to_expression-requires t c =
     let within : c.loop-member.member-index < length c.args.members.now = omega arith in (
       omega (arith, member_lighter c.args.members.now c.loop-member.member-index c.member-item.result within c.member-item.is, c.decreases),
       ((members_here Numbers c.args.members.now c.loop-member.member-index c.member-item.result within c.member-item.is c.loop-member.invariant.numbers).0, ((members_here Keys c.args.members.now c.loop-member.member-index c.member-item.result within c.member-item.is c.loop-member.invariant.keys).0, ((members_here Strings c.args.members.now c.loop-member.member-index c.member-item.result within c.member-item.is c.loop-member.invariant.strings).0, ((members_here Names c.args.members.now c.loop-member.member-index c.member-item.result within c.member-item.is c.loop-member.invariant.names).0, ((members_here Counts c.args.members.now c.loop-member.member-index c.member-item.result within c.member-item.is c.loop-member.invariant.counts).0, (members_here Slots c.args.members.now c.loop-member.member-index c.member-item.result within c.member-item.is c.loop-member.invariant.slots).0))))),
     )
 
-pub expressions-loop-member-preserved : goal.expressions-loop-member-preserved
-expressions-loop-member-preserved t c =
+pub to_expressions-loop-member-preserved : goal.to_expressions-loop-member-preserved
+to_expressions-loop-member-preserved t c =
     let within : c.loop-member.member-index < length c.args.members.now = omega arith in
     record {
       done = ap expressions_of c.in_ok-push.ensures
@@ -44,8 +44,8 @@ expressions-loop-member-preserved t c =
       slots = (members_here Slots c.args.members.now c.loop-member.member-index c.member-item.result within c.member-item.is c.loop-member.invariant.slots).1;
     }
 
-pub pairs-to_expression-requires : goal.pairs-to_expression-requires
-pairs-to_expression-requires t c =
+pub to_pairs-to_expression-requires : goal.to_pairs-to_expression-requires
+to_pairs-to_expression-requires t c =
     let within : c.loop-field.field-index < length c.args.fields.now = omega arith in (
       omega (arith, field_lighter c.args.fields.now c.loop-field.field-index c.field-item.result within c.field-item.is, c.decreases),
       ((fields_here Numbers c.args.fields.now c.loop-field.field-index c.field-item.result within c.field-item.is c.loop-field.invariant.numbers).0.1, ((fields_here Keys c.args.fields.now c.loop-field.field-index c.field-item.result within c.field-item.is c.loop-field.invariant.keys).0.1, ((fields_here Strings c.args.fields.now c.loop-field.field-index c.field-item.result within c.field-item.is c.loop-field.invariant.strings).0.1, ((fields_here Names c.args.fields.now c.loop-field.field-index c.field-item.result within c.field-item.is c.loop-field.invariant.names).0.1, ((fields_here Counts c.args.fields.now c.loop-field.field-index c.field-item.result within c.field-item.is c.loop-field.invariant.counts).0.1, (fields_here Slots c.args.fields.now c.loop-field.field-index c.field-item.result within c.field-item.is c.loop-field.invariant.slots).0.1))))),
@@ -59,15 +59,15 @@ pub to_record-returns : goal.to_record-returns
 to_record-returns t c =
     subst (λ (es : Entries). IfOk c.record.result (λ (x : Expression). x ≡ record_with es)) (ap entries_of c.in_ok-pairs.ensures ∙ entries_of_pairs c.args.fields.now) c.record.ensures
 
-pub link_expression-applied-requires : goal.link_expression-applied-requires
-link_expression-applied-requires t c =
+pub append_link-method_call-requires : goal.append_link-method_call-requires
+append_link-method_call-requires t c =
     method_arguments (method_of c.in-Method.name) c.in-Some.method (members_of c.in-Method.arguments) c.in_ok-arguments-in-Method.arguments.items
     (ap method_of (sym c.as_str.ensures) ∙ sym c.method_of.ensures ∙ c.in-Some.is)
     (subst (KeepLink Counts) c.in-Method.is c.requires.counts).1
     (c.in_ok-arguments-in-Method.ensures ∙ ap (λ (xs : List Written). to_expressions (members_of xs)) c.items.ensures)
 
-pub to_expression-called-requires-clause-argument : goal.to_expression-called-requires-clause-argument
-to_expression-called-requires-clause-argument t c =
+pub to_expression-function_call-requires-clause-argument : goal.to_expression-function_call-requires-clause-argument
+to_expression-function_call-requires-clause-argument t c =
     function_argument (function_of c.in-Call.name) (members_of c.in-Call.arguments) c.in_ok-arguments-in-Call.arguments.items
     (subst (λ (k : WrittenKind). Keeps Names (written_of k)) c.in-Call.is (subst (Keeps Names) (sym c.kind.ensures) c.requires.names)).0
     (subst (λ (k : WrittenKind). Keeps Counts (written_of k)) c.in-Call.is (subst (Keeps Counts) (sym c.kind.ensures) c.requires.counts)).1

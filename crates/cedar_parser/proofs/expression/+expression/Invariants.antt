@@ -12,32 +12,32 @@ use Rattle.cedar_parser.proofs.expression.+expression.Given as goal
 abbrev pub decreases-to_expression : goal.decreases-to_expression
 decreases-to_expression l = 2 * parts l.written.now
 
-abbrev pub decreases-chain_expression : goal.decreases-chain_expression
-decreases-chain_expression l = suc (2 * (parts l.first.now + link_parts (links_of l.links.now)))
+abbrev pub decreases-to_chain : goal.decreases-to_chain
+decreases-to_chain l = suc (2 * (parts l.first.now + link_parts (links_of l.links.now)))
 
-abbrev pub decreases-link_expression : goal.decreases-link_expression
-decreases-link_expression l = suc (2 * link_weight l.link.now)
+abbrev pub decreases-append_link : goal.decreases-append_link
+decreases-append_link l = suc (2 * link_weight l.link.now)
 
-abbrev pub decreases-asked_of : goal.decreases-asked_of
-decreases-asked_of l = suc (2 * parts l.operand.now)
+abbrev pub decreases-to_unary : goal.decreases-to_unary
+decreases-to_unary l = suc (2 * parts l.operand.now)
 
-abbrev pub decreases-is_in : goal.decreases-is_in
-decreases-is_in l = suc (2 * (parts l.left.now + parts l.right.now))
+abbrev pub decreases-to_is_in : goal.decreases-to_is_in
+decreases-to_is_in l = suc (2 * (parts l.left.now + parts l.right.now))
 
-abbrev pub decreases-choice : goal.decreases-choice
-decreases-choice l = suc (2 * (parts l.condition.now + (parts l.if_true.now + parts l.if_false.now)))
+abbrev pub decreases-to_if_else : goal.decreases-to_if_else
+decreases-to_if_else l = suc (2 * (parts l.condition.now + (parts l.if_true.now + parts l.if_false.now)))
 
-abbrev pub decreases-expressions : goal.decreases-expressions
-decreases-expressions l = suc (2 * member_parts (members_of l.members.now))
+abbrev pub decreases-to_expressions : goal.decreases-to_expressions
+decreases-to_expressions l = suc (2 * member_parts (members_of l.members.now))
 
 abbrev pub decreases-to_record : goal.decreases-to_record
 decreases-to_record l = suc (2 * field_parts (fields_of l.fields.now))
 
-abbrev pub decreases-pairs : goal.decreases-pairs
-decreases-pairs l = 2 * field_parts (fields_of l.fields.now)
+abbrev pub decreases-to_pairs : goal.decreases-to_pairs
+decreases-to_pairs l = 2 * field_parts (fields_of l.fields.now)
 
-abbrev pub invariant-chain_expression-loop-link : goal.invariant-chain_expression-loop-link
-invariant-chain_expression-loop-link l = record {
+abbrev pub invariant-to_chain-loop-link : goal.invariant-to_chain-loop-link
+invariant-to_chain-loop-link l = record {
   done : l.left ≡ fold behind (to_expression l.first) (take l.link-index l.links);
   numbers : KeepLinks Numbers (links_of (drop l.link-index l.links));
   keys : KeepLinks Keys (links_of (drop l.link-index l.links));
@@ -47,8 +47,8 @@ invariant-chain_expression-loop-link l = record {
   slots : KeepLinks Slots (links_of (drop l.link-index l.links));
 }
 
-abbrev pub invariant-expressions-loop-member : goal.invariant-expressions-loop-member
-invariant-expressions-loop-member l = record {
+abbrev pub invariant-to_expressions-loop-member : goal.invariant-to_expressions-loop-member
+invariant-to_expressions-loop-member l = record {
   done : expressions_of l.found.items ≡ to_expressions (members_of (take l.member-index l.members));
   numbers : KeepMembers Numbers (members_of (drop l.member-index l.members));
   keys : KeepMembers Keys (members_of (drop l.member-index l.members));
@@ -58,8 +58,8 @@ invariant-expressions-loop-member l = record {
   slots : KeepMembers Slots (members_of (drop l.member-index l.members));
 }
 
-abbrev pub invariant-pairs-loop-field : goal.invariant-pairs-loop-field
-invariant-pairs-loop-field l = record {
+abbrev pub invariant-to_pairs-loop-field : goal.invariant-to_pairs-loop-field
+invariant-to_pairs-loop-field l = record {
   done : l.found.items ≡ pairs_of (take l.field-index l.fields);
   numbers : KeepFields Numbers (fields_of (drop l.field-index l.fields));
   keys : KeepFields Keys (fields_of (drop l.field-index l.fields));

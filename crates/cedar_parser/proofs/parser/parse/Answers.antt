@@ -10,9 +10,9 @@ returns c =
     let text : IsText c.args.source.now ms = record { are = c.in_ok-spelled.ensures.found; only = c.in_ok-spelled.ensures.only } in
     let begins : c.cursor-cursor.result ≡ ms = c.cursor-cursor.ensures in
     record {
-      found = parsed c.args.source.now ms c.policies.result text (rw (← begins) c.policies.ensures.found);
-      only = parsed_only c.args.source.now ms c.policies.result text (rw (← begins) c.policies.ensures.only);
-      fault = parsed_fault c.args.source.now ms c.policies.result text (rw (← begins) c.policies.ensures.fault);
+      found = parsed c.args.source.now ms c.parse_policies.result text (rw (← begins) c.parse_policies.ensures.found);
+      only = parsed_only c.args.source.now ms c.parse_policies.result text (rw (← begins) c.parse_policies.ensures.only);
+      fault = parsed_fault c.args.source.now ms c.parse_policies.result text (rw (← begins) c.parse_policies.ensures.fault);
     }
 
 pub returns-in_err-spelled-clause-only : goal.returns-in_err-spelled-clause-only

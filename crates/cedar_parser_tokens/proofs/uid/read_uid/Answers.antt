@@ -17,54 +17,54 @@ returns-clause-found c =
     let ms = c.in_ok-spelled.spelled in
     let text : IsText c.args.source.now ms = record { are = c.in_ok-spelled.ensures.found; only = c.in_ok-spelled.ensures.only } in
     let begins : c.cursor-cursor.result ≡ ms = c.cursor-cursor.ensures in
-    let reading = entity_is c.cursor-cursor.result c.entity.new.tokens c.in_ok-written.written c.in_ok-written.ensures in
-    let none = none_left c.entity.new.tokens (omega (arith, c.left.ensures, c.if-left-gt0.false)) in
+    let reading = entity_is c.cursor-cursor.result c.parse_entity.new.tokens c.in_ok-written.written c.in_ok-written.ensures in
+    let none = none_left c.parse_entity.new.tokens (omega (arith, c.left.ensures, c.if-left-gt0.false)) in
     let here : Entity ms c.in_ok-written.written [] = rw (← begins, ← none) reading in
-    subst (IsUidText c.args.source.now) (sym c.in_ok-uid.ensures) (uid_found c.args.source.now ms c.in_ok-written.written text here (sym c.stands.ensures ∙ c.if-not-stands.false))
+    subst (IsUidText c.args.source.now) (sym c.in_ok-uid.ensures) (uid_found c.args.source.now ms c.in_ok-written.written text here (sym c.has_text.ensures ∙ c.if-not-has_text.false))
 
 pub returns-clause-only : goal.returns-clause-only
 returns-clause-only c = λ uid h.
     let ms = c.in_ok-spelled.spelled in
     let text : IsText c.args.source.now ms = record { are = c.in_ok-spelled.ensures.found; only = c.in_ok-spelled.ensures.only } in
     let begins : c.cursor-cursor.result ≡ ms = c.cursor-cursor.ensures in
-    let read : entity ms ≡ Ok (c.in_ok-written.written, c.entity.new.tokens) = ap entity (sym begins) ∙ c.in_ok-written.ensures in
-    c.in_ok-uid.ensures ∙ (uid_same c.args.source.now ms c.entity.new.tokens c.in_ok-written.written text read uid h).0
+    let read : entity ms ≡ Ok (c.in_ok-written.written, c.parse_entity.new.tokens) = ap entity (sym begins) ∙ c.in_ok-written.ensures in
+    c.in_ok-uid.ensures ∙ (uid_same c.args.source.now ms c.parse_entity.new.tokens c.in_ok-written.written text read uid h).0
 
-pub returns-then-not-stands-clause-only : goal.returns-then-not-stands-clause-only
-returns-then-not-stands-clause-only c = λ uid h.
+pub returns-then-not-has_text-clause-only : goal.returns-then-not-has_text-clause-only
+returns-then-not-has_text-clause-only c = λ uid h.
     let ms = c.in_ok-spelled.spelled in
     let text : IsText c.args.source.now ms = record { are = c.in_ok-spelled.ensures.found; only = c.in_ok-spelled.ensures.only } in
     let begins : c.cursor-cursor.result ≡ ms = c.cursor-cursor.ensures in
-    let read : entity ms ≡ Ok (c.in_ok-written.written, c.entity.new.tokens) = ap entity (sym begins) ∙ c.in_ok-written.ensures in
-    uid_star c.in_ok-written.written.id (sym c.stands.ensures ∙ c.if-not-stands.true) (uid_same c.args.source.now ms c.entity.new.tokens c.in_ok-written.written text read uid h).1
+    let read : entity ms ≡ Ok (c.in_ok-written.written, c.parse_entity.new.tokens) = ap entity (sym begins) ∙ c.in_ok-written.ensures in
+    uid_star c.in_ok-written.written.id (sym c.has_text.ensures ∙ c.if-not-has_text.true) (uid_same c.args.source.now ms c.parse_entity.new.tokens c.in_ok-written.written text read uid h).1
 
-pub returns-then-not-stands-clause-fault : goal.returns-then-not-stands-clause-fault
-returns-then-not-stands-clause-fault c =
+pub returns-then-not-has_text-clause-fault : goal.returns-then-not-has_text-clause-fault
+returns-then-not-has_text-clause-fault c =
     let ms = c.in_ok-spelled.spelled in
     let text : IsText c.args.source.now ms = record { are = c.in_ok-spelled.ensures.found; only = c.in_ok-spelled.ensures.only } in
     let begins : c.cursor-cursor.result ≡ ms = c.cursor-cursor.ensures in
-    let reading = entity_is c.cursor-cursor.result c.entity.new.tokens c.in_ok-written.written c.in_ok-written.ensures in
-    let none = none_left c.entity.new.tokens (omega (arith, c.left.ensures, c.if-left-gt0.false)) in
+    let reading = entity_is c.cursor-cursor.result c.parse_entity.new.tokens c.in_ok-written.written c.in_ok-written.ensures in
+    let none = none_left c.parse_entity.new.tokens (omega (arith, c.left.ensures, c.if-left-gt0.false)) in
     let here : Entity ms c.in_ok-written.written [] = rw (← begins, ← none) reading in
-    (ms, c.in_ok-written.written, text.are, here, uid_star c.in_ok-written.written.id (sym c.stands.ensures ∙ c.if-not-stands.true))
+    (ms, c.in_ok-written.written, text.are, here, uid_star c.in_ok-written.written.id (sym c.has_text.ensures ∙ c.if-not-has_text.true))
 
 pub returns-then-left-gt0-clause-only : goal.returns-then-left-gt0-clause-only
 returns-then-left-gt0-clause-only c = λ uid h.
     let ms = c.in_ok-spelled.spelled in
     let text : IsText c.args.source.now ms = record { are = c.in_ok-spelled.ensures.found; only = c.in_ok-spelled.ensures.only } in
     let begins : c.cursor-cursor.result ≡ ms = c.cursor-cursor.ensures in
-    let read : entity ms ≡ Ok (c.in_ok-written.written, c.entity.new.tokens) = ap entity (sym begins) ∙ c.in_ok-written.ensures in
-    let more : 0 < length c.entity.new.tokens = omega (arith, c.left.ensures, c.if-left-gt0.true) in
-    uid_longer ms c.entity.new.tokens c.in_ok-written.written more read h.written (subst (λ (ns : Marks). Entity ns h.written []) (sym (text.only h.tokens h.are_tokens)) h.reading)
+    let read : entity ms ≡ Ok (c.in_ok-written.written, c.parse_entity.new.tokens) = ap entity (sym begins) ∙ c.in_ok-written.ensures in
+    let more : 0 < length c.parse_entity.new.tokens = omega (arith, c.left.ensures, c.if-left-gt0.true) in
+    uid_longer ms c.parse_entity.new.tokens c.in_ok-written.written more read h.written (subst (λ (ns : Marks). Entity ns h.written []) (sym (text.only h.tokens h.are_tokens)) h.reading)
 
 pub returns-then-left-gt0-clause-fault : goal.returns-then-left-gt0-clause-fault
 returns-then-left-gt0-clause-fault c =
     let ms = c.in_ok-spelled.spelled in
     let text : IsText c.args.source.now ms = record { are = c.in_ok-spelled.ensures.found; only = c.in_ok-spelled.ensures.only } in
     let begins : c.cursor-cursor.result ≡ ms = c.cursor-cursor.ensures in
-    let read : entity ms ≡ Ok (c.in_ok-written.written, c.entity.new.tokens) = ap entity (sym begins) ∙ c.in_ok-written.ensures in
-    let more : 0 < length c.entity.new.tokens = omega (arith, c.left.ensures, c.if-left-gt0.true) in
-    (ms, text.are, uid_longer ms c.entity.new.tokens c.in_ok-written.written more read)
+    let read : entity ms ≡ Ok (c.in_ok-written.written, c.parse_entity.new.tokens) = ap entity (sym begins) ∙ c.in_ok-written.ensures in
+    let more : 0 < length c.parse_entity.new.tokens = omega (arith, c.left.ensures, c.if-left-gt0.true) in
+    (ms, text.are, uid_longer ms c.parse_entity.new.tokens c.in_ok-written.written more read)
 
 pub returns-in_err-written-clause-only : goal.returns-in_err-written-clause-only
 returns-in_err-written-clause-only c =

@@ -1,6 +1,0 @@
-use Rattle.std.proofs.Common.{◌≡◌, drop}
-use Rattle.cedar_parser_limits.specs.Meaning.{asked_from, asked_of}
-use Rattle.cedar_parser.proofs.asked.asked_along.Given as goal
-
-abbrev pub invariant-loop-name : goal.invariant-loop-name
-invariant-loop-name l = asked_from l.asked l.place (drop l.name-index l.more) ≡ asked_of l.fn.operand l.first l.more

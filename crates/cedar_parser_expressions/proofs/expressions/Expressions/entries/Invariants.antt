@@ -1,6 +1,0 @@
-use Rattle.std.proofs.Common.{◌≡◌, ◌-◌}
-use Rattle.cedar_parser_expressions.specs.Reading as spec
-use Rattle.cedar_parser_expressions.proofs.expressions.Expressions.entries.Given as goal
-
-abbrev pub invariant-loop-turn : goal.invariant-loop-turn
-invariant-loop-turn g l = spec.series (spec.entry (spec.nested l.self.depth)) l.fn.tokens ≡ spec.series_from (spec.entry (spec.nested l.self.depth)) (l._turn-end - l._turn) l.found.items l.tokens

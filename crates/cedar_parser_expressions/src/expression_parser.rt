@@ -1,0 +1,710 @@
+//! The parser of expressions, level by level. What parses an expression in brackets is a parameter, so that each level is proved
+//! by itself.
+ghost use Rattle.std.specs.Prelude.{◌≡◌};
+ghost use Rattle.cedar_parser_expressions.specs.Reading as spec;
+ghost use Rattle.cedar_parser_tokens.specs.Contract.{Reads, ReadsItems};
+ghost use Rattle.cedar_parser_expressions.specs.Private.Nests.{Nests};
+ghost use Rattle.cedar_parser_expressions.specs.Private.Operands.{Operands};
+
+use crate::attribute_path::parse_attribute_path;
+use crate::chain::finish_chain;
+use crate::chain_level::ChainLevel;
+use crate::lookup::{chain_sign, relation_sign, slot_of, variable_of};
+use cedar_ext::Pattern;
+use cedar_parser_tokens::{
+    Content, Cursor, ParseFault, Word, parse_entity_of_type, parse_key, parse_path, parse_string,
+};
+use cedar_parser_tree::{
+    Field, Link, Series, Written, WrittenKind, group, has, if_else, is, is_in, like, minus, not,
+    push_field, push_item, push_link, relation,
+};
+use cedar_text::TokenKind;
+use cedar_value::{Name, Text};
+use std::alloc::Global;
+
+/// A parser of expressions.
+#[derive(Clone, Copy)]
+pub struct ExpressionParser<F> {
+    alloc: Global,
+    /// How many more brackets may open.
+    depth: u8,
+    inner: F,
+}
+
+impl<F: Fn(Global, &mut Cursor<'_>, u8) -> Result<Written, ParseFault>> ExpressionParser<F> {
+    // Parses an expression in brackets.
+    fn parse_nested_expression(&self, tokens: &mut Cursor<'_>) -> Result<Written, ParseFault>
+        requires { Nests self.now.depth (F.pre self.now.inner) (F.post self.now.inner) }
+        ensures { Reads (spec.nested self.now.depth tokens.old) result tokens.new }
+    {
+        (self.inner)(self.alloc, tokens, self.depth)
+    }
+
+    // Takes a token that opens a bracket or an `if`, and refuses it where no more may be open.
+    #[tactic(auto, unfolding(crate::specs::Reading::open_one))]
+    fn enter_nesting(&self, tokens: &mut Cursor<'_>) -> Result<(), ParseFault>
+        ensures { Reads (spec.open_one self.now.depth tokens.old) result tokens.new }
+    {
+        tokens.skip();
+        if self.depth == 0 {
+            return Err(ParseFault::TooDeep(tokens.taken()));
+        }
+        Ok(())
+    }
+
+    // Parses a first operand and the links after it.
+    fn parse_chain<P>(
+        &self,
+        tokens: &mut Cursor<'_>,
+        level: ChainLevel,
+        operand: P,
+    ) -> Result<Written, ParseFault>
+    where
+        P: Fn(&ExpressionParser<F>, &mut Cursor<'_>) -> Result<Written, ParseFault> + Copy,
+        requires { Operands self.now.depth level (P.pre operand self) (P.post operand self) }
+        ensures { Reads (spec.chain_of self.now.depth (spec.nested self.now.depth) level tokens.old) result tokens.new }
+    {
+        let first = operand(self, tokens)?;
+        let links = self.parse_links(tokens, level, operand);
+        finish_chain(self.alloc, first, links)
+    }
+
+    // Parses signs, each with the operand after it.
+    fn parse_links<P>(
+        &self,
+        tokens: &mut Cursor<'_>,
+        level: ChainLevel,
+        operand: P,
+    ) -> Result<Vec<Link>, ParseFault>
+    where
+        P: Fn(&ExpressionParser<F>, &mut Cursor<'_>) -> Result<Written, ParseFault> + Copy,
+        requires { Operands self.now.depth level (P.pre operand self) (P.post operand self) }
+        ensures { ReadsItems (spec.links_of self.now.depth (spec.nested self.now.depth) level tokens.old) result tokens.new }
+    {
+        let mut found = Vec::new(self.alloc);
+        for _turn in 0..tokens.left() {
+            let Some(sign) = chain_sign(level, tokens.kind()) else {
+                return Ok(found);
+            };
+            tokens.skip();
+            let operand = operand(self, tokens)?;
+            push_link(&mut found, Link::Operand(sign, operand))?;
+        }
+        Ok(found)
+    }
+
+    #[tactic(auto, unfolding(crate::specs::Reading::ors))]
+    fn parse_or(&self, tokens: &mut Cursor<'_>) -> Result<Written, ParseFault>
+        requires { Nests self.now.depth (F.pre self.now.inner) (F.post self.now.inner) }
+        ensures { Reads (spec.ors self.now.depth (spec.nested self.now.depth) tokens.old) result tokens.new }
+    {
+        self.parse_chain(tokens, ChainLevel::Or, ExpressionParser::parse_and)
+    }
+
+    #[tactic(auto, unfolding(crate::specs::Reading::ands))]
+    fn parse_and(&self, tokens: &mut Cursor<'_>) -> Result<Written, ParseFault>
+        requires { Nests self.now.depth (F.pre self.now.inner) (F.post self.now.inner) }
+        ensures { Reads (spec.ands self.now.depth (spec.nested self.now.depth) tokens.old) result tokens.new }
+    {
+        self.parse_chain(tokens, ChainLevel::And, ExpressionParser::parse_relation)
+    }
+
+    #[tactic(auto, unfolding(crate::specs::Reading::relation))]
+    fn parse_relation(&self, tokens: &mut Cursor<'_>) -> Result<Written, ParseFault>
+        requires { Nests self.now.depth (F.pre self.now.inner) (F.post self.now.inner) }
+        ensures { Reads (spec.relation self.now.depth (spec.nested self.now.depth) tokens.old) result tokens.new }
+    {
+        let left = self.parse_add(tokens)?;
+        self.parse_relation_tail(tokens, left)
+    }
+
+    // Parses what follows the left operand of a relation.
+    #[tactic(auto, unfolding(crate::specs::Reading::relation_from))]
+    fn parse_relation_tail(
+        &self,
+        tokens: &mut Cursor<'_>,
+        left: Written,
+    ) -> Result<Written, ParseFault>
+        requires { Nests self.now.depth (F.pre self.now.inner) (F.post self.now.inner) }
+        ensures { Reads (spec.relation_from self.now.depth (spec.nested self.now.depth) left tokens.old) result tokens.new }
+    {
+        if tokens.sees(TokenKind::Has) {
+            tokens.skip();
+            return parse_has(self.alloc, tokens, left);
+        }
+        if tokens.sees(TokenKind::Like) {
+            tokens.skip();
+            return parse_like(self.alloc, tokens, left);
+        }
+        if tokens.sees(TokenKind::Is) {
+            tokens.skip();
+            return self.parse_is(tokens, left);
+        }
+        self.parse_binary_relation(tokens, left)
+    }
+
+    // Parses what follows `is`: a type, and perhaps `in` with an operand.
+    #[tactic(auto, unfolding(crate::specs::Reading::typed))]
+    fn parse_is(&self, tokens: &mut Cursor<'_>, left: Written) -> Result<Written, ParseFault>
+        requires { Nests self.now.depth (F.pre self.now.inner) (F.post self.now.inner) }
+        ensures { Reads (spec.typed self.now.depth (spec.nested self.now.depth) left tokens.old) result tokens.new }
+    {
+        match parse_path(self.alloc, tokens) {
+            Ok(ty) => self.parse_is_in(tokens, left, ty),
+            Err(fault) => {
+                drop(left);
+                Err(fault)
+            }
+        }
+    }
+
+    // Parses `in` with its operand after `is` and the type, if it follows.
+    #[tactic(auto, unfolding(crate::specs::Reading::of_type))]
+    fn parse_is_in(
+        &self,
+        tokens: &mut Cursor<'_>,
+        left: Written,
+        ty: Name,
+    ) -> Result<Written, ParseFault>
+        requires { Nests self.now.depth (F.pre self.now.inner) (F.post self.now.inner) }
+        ensures { Reads (spec.of_type self.now.depth (spec.nested self.now.depth) left ty tokens.old) result tokens.new }
+    {
+        tokens.pass_colons();
+        if !tokens.sees(TokenKind::In) {
+            return Ok(is(self.alloc, left, ty)?);
+        }
+        tokens.skip();
+        match self.parse_add(tokens) {
+            Ok(right) => Ok(is_in(self.alloc, left, ty, right)?),
+            Err(fault) => {
+                drop(left);
+                Err(fault)
+            }
+        }
+    }
+
+    // Parses a sign and the operand after it, if they follow.
+    #[tactic(auto, unfolding(crate::specs::Reading::related))]
+    fn parse_binary_relation(
+        &self,
+        tokens: &mut Cursor<'_>,
+        left: Written,
+    ) -> Result<Written, ParseFault>
+        requires { Nests self.now.depth (F.pre self.now.inner) (F.post self.now.inner) }
+        ensures { Reads (spec.related self.now.depth (spec.nested self.now.depth) left tokens.old) result tokens.new }
+    {
+        let Some(sign) = relation_sign(tokens.kind()) else {
+            return Ok(left);
+        };
+        tokens.skip();
+        match self.parse_add(tokens) {
+            Ok(right) => Ok(relation(self.alloc, sign, left, right)?),
+            Err(fault) => {
+                drop(left);
+                Err(fault)
+            }
+        }
+    }
+
+    #[tactic(auto, unfolding(crate::specs::Reading::sums))]
+    fn parse_add(&self, tokens: &mut Cursor<'_>) -> Result<Written, ParseFault>
+        requires { Nests self.now.depth (F.pre self.now.inner) (F.post self.now.inner) }
+        ensures { Reads (spec.sums self.now.depth (spec.nested self.now.depth) tokens.old) result tokens.new }
+    {
+        self.parse_chain(tokens, ChainLevel::Sum, ExpressionParser::parse_mult)
+    }
+
+    #[tactic(auto, unfolding(crate::specs::Reading::products))]
+    fn parse_mult(&self, tokens: &mut Cursor<'_>) -> Result<Written, ParseFault>
+        requires { Nests self.now.depth (F.pre self.now.inner) (F.post self.now.inner) }
+        ensures { Reads (spec.products self.now.depth (spec.nested self.now.depth) tokens.old) result tokens.new }
+    {
+        self.parse_chain(tokens, ChainLevel::Product, ExpressionParser::parse_unary)
+    }
+
+    #[tactic(auto, unfolding(crate::specs::Reading::unary))]
+    fn parse_unary(&self, tokens: &mut Cursor<'_>) -> Result<Written, ParseFault>
+        requires { Nests self.now.depth (F.pre self.now.inner) (F.post self.now.inner) }
+        ensures { Reads (spec.unary self.now.depth (spec.nested self.now.depth) tokens.old) result tokens.new }
+    {
+        if tokens.sees(TokenKind::Minus) {
+            return self.parse_minuses(tokens, 4);
+        }
+        self.parse_nots(tokens, 4)
+    }
+
+    // Parses up to `most` of `!`, and then a member.
+    #[tactic(auto, unfolding(crate::specs::Reading::nots))]
+    fn parse_nots(&self, tokens: &mut Cursor<'_>, most: u8) -> Result<Written, ParseFault>
+        requires { Nests self.now.depth (F.pre self.now.inner) (F.post self.now.inner) }
+        ensures { Reads (spec.nots self.now.depth (spec.nested self.now.depth) most tokens.old) result tokens.new }
+    {
+        if most == 0 {
+            return self.parse_member(tokens);
+        }
+        if !tokens.sees(TokenKind::Not) {
+            return self.parse_member(tokens);
+        }
+        tokens.skip();
+        let operand = self.parse_nots(tokens, most - 1)?;
+        Ok(not(self.alloc, operand)?)
+    }
+
+    // Parses up to `most` of `-`, and then a member.
+    #[tactic(auto, unfolding(crate::specs::Reading::minuses))]
+    fn parse_minuses(&self, tokens: &mut Cursor<'_>, most: u8) -> Result<Written, ParseFault>
+        requires { Nests self.now.depth (F.pre self.now.inner) (F.post self.now.inner) }
+        ensures { Reads (spec.minuses self.now.depth (spec.nested self.now.depth) most tokens.old) result tokens.new }
+    {
+        if most == 0 {
+            return self.parse_member(tokens);
+        }
+        if !tokens.sees(TokenKind::Minus) {
+            return self.parse_member(tokens);
+        }
+        tokens.skip();
+        let operand = self.parse_minuses(tokens, most - 1)?;
+        Ok(minus(self.alloc, operand)?)
+    }
+
+    #[tactic(auto, unfolding(crate::specs::Reading::member))]
+    fn parse_member(&self, tokens: &mut Cursor<'_>) -> Result<Written, ParseFault>
+        requires { Nests self.now.depth (F.pre self.now.inner) (F.post self.now.inner) }
+        ensures { Reads (spec.member self.now.depth (spec.nested self.now.depth) tokens.old) result tokens.new }
+    {
+        let first = self.parse_primary(tokens)?;
+        let links = self.parse_accesses(tokens);
+        finish_chain(self.alloc, first, links)
+    }
+
+    fn parse_accesses(&self, tokens: &mut Cursor<'_>) -> Result<Vec<Link>, ParseFault>
+        requires { Nests self.now.depth (F.pre self.now.inner) (F.post self.now.inner) }
+        ensures { ReadsItems (spec.suffixes self.now.depth (spec.nested self.now.depth) tokens.old) result tokens.new }
+    {
+        let mut found = Vec::new(self.alloc);
+        for _turn in 0..tokens.left() {
+            if !begins_access(tokens) {
+                return Ok(found);
+            }
+            let link = self.parse_access(tokens)?;
+            push_link(&mut found, link)?;
+        }
+        Ok(found)
+    }
+
+    #[tactic(auto, unfolding(crate::specs::Reading::suffix))]
+    fn parse_access(&self, tokens: &mut Cursor<'_>) -> Result<Link, ParseFault>
+        requires { Nests self.now.depth (F.pre self.now.inner) (F.post self.now.inner) }
+        ensures { Reads (spec.suffix self.now.depth (spec.nested self.now.depth) tokens.old) result tokens.new }
+    {
+        if tokens.sees(TokenKind::Dot) {
+            tokens.skip();
+            return self.parse_dot_access(tokens);
+        }
+        self.parse_index_access(tokens)
+    }
+
+    // Parses what follows a dot: an attribute, or a method with its arguments.
+    #[tactic(auto, unfolding(crate::specs::Reading::dotted))]
+    fn parse_dot_access(&self, tokens: &mut Cursor<'_>) -> Result<Link, ParseFault>
+        requires { Nests self.now.depth (F.pre self.now.inner) (F.post self.now.inner) }
+        ensures { Reads (spec.dotted self.now.depth (spec.nested self.now.depth) tokens.old) result tokens.new }
+    {
+        let token = tokens.expect(TokenKind::Identifier)?;
+        if tokens.sees(TokenKind::LeftParen) {
+            let name = Word::read(self.alloc, token.text(), token.start())?;
+            return match self.parse_call_arguments(tokens) {
+                Ok(arguments) => Ok(Link::Method(name, Series::new(arguments))),
+                Err(fault) => {
+                    drop(name);
+                    Err(fault)
+                }
+            };
+        }
+        let word = Text::read(self.alloc, token.text())?;
+        Ok(Link::Attribute(Content::new(Some(word), token.start())))
+    }
+
+    // Parses a string in square brackets.
+    #[tactic(auto, unfolding(crate::specs::Reading::indexed))]
+    fn parse_index_access(&self, tokens: &mut Cursor<'_>) -> Result<Link, ParseFault>
+        requires { Nests self.now.depth (F.pre self.now.inner) (F.post self.now.inner) }
+        ensures { Reads (spec.indexed self.now.depth tokens.old) result tokens.new }
+    {
+        self.enter_nesting(tokens)?;
+        let key = parse_string(self.alloc, tokens)?;
+        match tokens.expect(TokenKind::RightBracket) {
+            Ok(_) => Ok(Link::Attribute(key)),
+            Err(fault) => {
+                drop(key);
+                Err(fault)
+            }
+        }
+    }
+
+    #[tactic(auto, unfolding(crate::specs::Reading::primary, cedar_parser_tokens::specs::Reading::first))]
+    fn parse_primary(&self, tokens: &mut Cursor<'_>) -> Result<Written, ParseFault>
+        requires { Nests self.now.depth (F.pre self.now.inner) (F.post self.now.inner) }
+        ensures { Reads (spec.primary self.now.depth (spec.nested self.now.depth) tokens.old) result tokens.new }
+    {
+        let Some(token) = tokens.peek() else {
+            return Err(ParseFault::Syntax(tokens.offset()));
+        };
+        match token.kind() {
+            TokenKind::True => {
+                tokens.skip();
+                Ok(Written::new(WrittenKind::Truth(true)))
+            }
+            TokenKind::False => {
+                tokens.skip();
+                Ok(Written::new(WrittenKind::Truth(false)))
+            }
+            TokenKind::Number => {
+                tokens.skip();
+                Ok(Written::new(WrittenKind::Number(token.start(), token.number())))
+            }
+            TokenKind::String => {
+                let content = parse_string(self.alloc, tokens)?;
+                Ok(Written::new(WrittenKind::Text(content)))
+            }
+            TokenKind::Identifier => self.parse_path_or_variable(tokens),
+            TokenKind::Slot => parse_slot(tokens),
+            TokenKind::LeftParen => self.parse_group(tokens),
+            TokenKind::LeftBracket => self.parse_set(tokens),
+            TokenKind::LeftBrace => self.parse_record(tokens),
+            _ => Err(ParseFault::Syntax(token.start())),
+        }
+    }
+
+    // Parses a call, a uid, or a variable.
+    #[tactic(auto, unfolding(crate::specs::Reading::named))]
+    fn parse_path_or_variable(&self, tokens: &mut Cursor<'_>) -> Result<Written, ParseFault>
+        requires { Nests self.now.depth (F.pre self.now.inner) (F.post self.now.inner) }
+        ensures { Reads (spec.named self.now.depth (spec.nested self.now.depth) tokens.old) result tokens.new }
+    {
+        if begins_path(tokens) {
+            return self.parse_call_or_entity(tokens);
+        }
+        parse_variable(tokens)
+    }
+
+    // Parses a call or a uid.
+    #[tactic(auto, unfolding(crate::specs::Reading::with_path))]
+    fn parse_call_or_entity(&self, tokens: &mut Cursor<'_>) -> Result<Written, ParseFault>
+        requires { Nests self.now.depth (F.pre self.now.inner) (F.post self.now.inner) }
+        ensures { Reads (spec.with_path self.now.depth (spec.nested self.now.depth) tokens.old) result tokens.new }
+    {
+        let start = tokens.offset();
+        let path = parse_path(self.alloc, tokens)?;
+        if tokens.sees(TokenKind::LeftParen) {
+            let arguments = self.parse_call_arguments(tokens)?;
+            return Ok(Written::new(WrittenKind::Call(start, path, Series::new(arguments))));
+        }
+        let uid = parse_entity_of_type(self.alloc, path, tokens)?;
+        Ok(Written::new(WrittenKind::Entity(uid)))
+    }
+
+    // Parses the arguments after a name.
+    #[tactic(auto, unfolding(crate::specs::Reading::called))]
+    fn parse_call_arguments(&self, tokens: &mut Cursor<'_>) -> Result<Vec<Written>, ParseFault>
+        requires { Nests self.now.depth (F.pre self.now.inner) (F.post self.now.inner) }
+        ensures { ReadsItems (spec.called self.now.depth (spec.nested self.now.depth) tokens.old) result tokens.new }
+    {
+        self.enter_nesting(tokens)?;
+        self.parse_expression_list(tokens, TokenKind::RightParen)
+    }
+
+    #[tactic(auto, unfolding(crate::specs::Reading::group))]
+    fn parse_group(&self, tokens: &mut Cursor<'_>) -> Result<Written, ParseFault>
+        requires { Nests self.now.depth (F.pre self.now.inner) (F.post self.now.inner) }
+        ensures { Reads (spec.group self.now.depth (spec.nested self.now.depth) tokens.old) result tokens.new }
+    {
+        self.enter_nesting(tokens)?;
+        let inside = self.parse_nested_expression(tokens)?;
+        match tokens.expect(TokenKind::RightParen) {
+            Ok(_) => Ok(group(self.alloc, inside)?),
+            Err(fault) => {
+                drop(inside);
+                Err(fault)
+            }
+        }
+    }
+
+    #[tactic(auto, unfolding(crate::specs::Reading::set))]
+    fn parse_set(&self, tokens: &mut Cursor<'_>) -> Result<Written, ParseFault>
+        requires { Nests self.now.depth (F.pre self.now.inner) (F.post self.now.inner) }
+        ensures { Reads (spec.set self.now.depth (spec.nested self.now.depth) tokens.old) result tokens.new }
+    {
+        self.enter_nesting(tokens)?;
+        let members = self.parse_expression_list(tokens, TokenKind::RightBracket)?;
+        Ok(Written::new(WrittenKind::Set(Series::new(members))))
+    }
+
+    #[tactic(auto, unfolding(crate::specs::Reading::record_of))]
+    fn parse_record(&self, tokens: &mut Cursor<'_>) -> Result<Written, ParseFault>
+        requires { Nests self.now.depth (F.pre self.now.inner) (F.post self.now.inner) }
+        ensures { Reads (spec.record_of self.now.depth (spec.nested self.now.depth) tokens.old) result tokens.new }
+    {
+        self.enter_nesting(tokens)?;
+        let fields = self.parse_field_list(tokens)?;
+        Ok(Written::new(WrittenKind::Record(fields)))
+    }
+
+    // Parses expressions with commas between them, and the sign that closes them.
+    #[tactic(auto, unfolding(crate::specs::Reading::arguments))]
+    fn parse_expression_list(
+        &self,
+        tokens: &mut Cursor<'_>,
+        closer: TokenKind,
+    ) -> Result<Vec<Written>, ParseFault>
+        requires { Nests self.now.depth (F.pre self.now.inner) (F.post self.now.inner) }
+        ensures { ReadsItems (spec.arguments (spec.nested self.now.depth) closer tokens.old) result tokens.new }
+    {
+        if tokens.sees(closer) {
+            tokens.skip();
+            return Ok(Vec::new(self.alloc));
+        }
+        let found = self.parse_expressions(tokens)?;
+        tokens.expect(closer)?;
+        Ok(found)
+    }
+
+    fn parse_expressions(&self, tokens: &mut Cursor<'_>) -> Result<Vec<Written>, ParseFault>
+        requires { Nests self.now.depth (F.pre self.now.inner) (F.post self.now.inner) }
+        ensures { ReadsItems (spec.series (spec.nested self.now.depth) tokens.old) result tokens.new }
+    {
+        let mut found = Vec::new(self.alloc);
+        let first = self.parse_nested_expression(tokens)?;
+        push_item(&mut found, first)?;
+        for _turn in 0..tokens.left() {
+            if !tokens.sees(TokenKind::Comma) {
+                return Ok(found);
+            }
+            tokens.skip();
+            let item = self.parse_nested_expression(tokens)?;
+            push_item(&mut found, item)?;
+        }
+        Ok(found)
+    }
+
+    // Parses fields with commas between them, and the brace that closes them.
+    #[tactic(auto, unfolding(crate::specs::Reading::arguments))]
+    fn parse_field_list(&self, tokens: &mut Cursor<'_>) -> Result<Vec<Field>, ParseFault>
+        requires { Nests self.now.depth (F.pre self.now.inner) (F.post self.now.inner) }
+        ensures { ReadsItems (spec.arguments (spec.entry (spec.nested self.now.depth)) TokenKind.RightBrace tokens.old) result tokens.new }
+    {
+        if tokens.sees(TokenKind::RightBrace) {
+            tokens.skip();
+            return Ok(Vec::new(self.alloc));
+        }
+        let found = self.parse_fields(tokens)?;
+        tokens.expect(TokenKind::RightBrace)?;
+        Ok(found)
+    }
+
+    fn parse_fields(&self, tokens: &mut Cursor<'_>) -> Result<Vec<Field>, ParseFault>
+        requires { Nests self.now.depth (F.pre self.now.inner) (F.post self.now.inner) }
+        ensures { ReadsItems (spec.series (spec.entry (spec.nested self.now.depth)) tokens.old) result tokens.new }
+    {
+        let mut found = Vec::new(self.alloc);
+        let first = self.parse_field(tokens)?;
+        push_field(&mut found, first)?;
+        for _turn in 0..tokens.left() {
+            if !tokens.sees(TokenKind::Comma) {
+                return Ok(found);
+            }
+            tokens.skip();
+            let field = self.parse_field(tokens)?;
+            push_field(&mut found, field)?;
+        }
+        Ok(found)
+    }
+
+    #[tactic(auto, unfolding(crate::specs::Reading::entry))]
+    fn parse_field(&self, tokens: &mut Cursor<'_>) -> Result<Field, ParseFault>
+        requires { Nests self.now.depth (F.pre self.now.inner) (F.post self.now.inner) }
+        ensures { Reads (spec.entry (spec.nested self.now.depth) tokens.old) result tokens.new }
+    {
+        let key = parse_key(self.alloc, tokens)?;
+        tokens.expect(TokenKind::Colon)?;
+        let value = self.parse_nested_expression(tokens)?;
+        Ok(Field { key, value })
+    }
+
+    #[tactic(auto, unfolding(crate::specs::Reading::choice))]
+    fn parse_if(&self, tokens: &mut Cursor<'_>) -> Result<Written, ParseFault>
+        requires { Nests self.now.depth (F.pre self.now.inner) (F.post self.now.inner) }
+        ensures { Reads (spec.choice self.now.depth (spec.nested self.now.depth) tokens.old) result tokens.new }
+    {
+        self.enter_nesting(tokens)?;
+        let condition = self.parse_nested_expression(tokens)?;
+        match tokens.expect(TokenKind::Then) {
+            Ok(_) => self.parse_branches(tokens, condition),
+            Err(fault) => {
+                drop(condition);
+                Err(fault)
+            }
+        }
+    }
+
+    // Parses both branches of an `if`, after `then`.
+    #[tactic(auto, unfolding(crate::specs::Reading::branches))]
+    fn parse_branches(
+        &self,
+        tokens: &mut Cursor<'_>,
+        condition: Written,
+    ) -> Result<Written, ParseFault>
+        requires { Nests self.now.depth (F.pre self.now.inner) (F.post self.now.inner) }
+        ensures { Reads (spec.branches self.now.depth (spec.nested self.now.depth) condition tokens.old) result tokens.new }
+    {
+        match self.parse_then_branch(tokens) {
+            Ok(if_true) => self.parse_else_branch(tokens, condition, if_true),
+            Err(fault) => {
+                drop(condition);
+                Err(fault)
+            }
+        }
+    }
+
+    // Parses the branch before `else`, and takes `else`.
+    #[tactic(auto, unfolding(crate::specs::Reading::before_else))]
+    fn parse_then_branch(&self, tokens: &mut Cursor<'_>) -> Result<Written, ParseFault>
+        requires { Nests self.now.depth (F.pre self.now.inner) (F.post self.now.inner) }
+        ensures { Reads (spec.before_else self.now.depth (spec.nested self.now.depth) tokens.old) result tokens.new }
+    {
+        let if_true = self.parse_nested_expression(tokens)?;
+        match tokens.expect(TokenKind::Else) {
+            Ok(_) => Ok(if_true),
+            Err(fault) => {
+                drop(if_true);
+                Err(fault)
+            }
+        }
+    }
+
+    // Parses the branch after `else`.
+    #[tactic(auto, unfolding(crate::specs::Reading::behind_else))]
+    fn parse_else_branch(
+        &self,
+        tokens: &mut Cursor<'_>,
+        condition: Written,
+        if_true: Written,
+    ) -> Result<Written, ParseFault>
+        requires { Nests self.now.depth (F.pre self.now.inner) (F.post self.now.inner) }
+        ensures { Reads (spec.behind_else self.now.depth (spec.nested self.now.depth) condition if_true tokens.old) result tokens.new }
+    {
+        match self.parse_nested_expression(tokens) {
+            Ok(if_false) => Ok(if_else(self.alloc, condition, if_true, if_false)?),
+            Err(fault) => {
+                drop(condition);
+                drop(if_true);
+                Err(fault)
+            }
+        }
+    }
+
+    #[tactic(auto, unfolding(crate::specs::Reading::expression))]
+    fn parse_expression(&self, tokens: &mut Cursor<'_>) -> Result<Written, ParseFault>
+        requires { Nests self.now.depth (F.pre self.now.inner) (F.post self.now.inner) }
+        ensures { Reads (spec.expression self.now.depth (spec.nested self.now.depth) tokens.old) result tokens.new }
+    {
+        if tokens.sees(TokenKind::If) {
+            return self.parse_if(tokens);
+        }
+        self.parse_or(tokens)
+    }
+}
+
+// Parses what follows `has`.
+#[tactic(auto, unfolding(crate::specs::Reading::asked))]
+fn parse_has(alloc: Global, tokens: &mut Cursor<'_>, left: Written) -> Result<Written, ParseFault>
+    ensures { Reads (spec.asked left tokens.old) result tokens.new }
+{
+    match parse_attribute_path(alloc, tokens) {
+        Ok(path) => Ok(has(alloc, left, path)?),
+        Err(fault) => {
+            drop(left);
+            Err(fault)
+        }
+    }
+}
+
+// Parses what follows `like`.
+#[tactic(auto, unfolding(crate::specs::Reading::matched))]
+fn parse_like(alloc: Global, tokens: &mut Cursor<'_>, left: Written) -> Result<Written, ParseFault>
+    ensures { Reads (spec.matched left tokens.old) result tokens.new }
+{
+    match parse_pattern(alloc, tokens) {
+        Ok(pattern) => Ok(like(alloc, left, pattern)?),
+        Err(fault) => {
+            drop(left);
+            Err(fault)
+        }
+    }
+}
+
+// Parses a pattern.
+#[tactic(auto, unfolding(crate::specs::Reading::pattern))]
+fn parse_pattern(alloc: Global, tokens: &mut Cursor<'_>) -> Result<Pattern, ParseFault>
+    ensures { Reads (spec.pattern tokens.old) result tokens.new }
+{
+    let token = tokens.expect(TokenKind::String)?;
+    Ok(token.pattern(alloc)?)
+}
+
+// Whether an access to the member before it begins here.
+fn begins_access(tokens: &Cursor<'_>) -> bool
+    ensures { result ≡ spec.has_suffix tokens.now }
+{
+    tokens.sees(TokenKind::Dot) || tokens.sees(TokenKind::LeftBracket)
+}
+
+// Whether a path begins here, and not a lone word.
+fn begins_path(tokens: &Cursor<'_>) -> bool
+    ensures { result ≡ spec.begins_path tokens.now }
+{
+    tokens.sees_second(TokenKind::DoubleColon) || tokens.sees_second(TokenKind::LeftParen)
+}
+
+// Parses a word that names a part of the request. Another word may begin a path, so the fault is after it.
+#[tactic(auto, unfolding(crate::specs::Reading::variable))]
+fn parse_variable(tokens: &mut Cursor<'_>) -> Result<Written, ParseFault>
+    ensures { Reads (spec.variable tokens.old) result tokens.new }
+{
+    let word = tokens.expect(TokenKind::Identifier)?;
+    let Some(name) = variable_of(word.text()) else {
+        return Err(ParseFault::Syntax(tokens.offset()));
+    };
+    Ok(Written::new(WrittenKind::Variable(name)))
+}
+
+// Parses `?principal` or `?resource`.
+#[tactic(auto, unfolding(crate::specs::Reading::slot))]
+fn parse_slot(tokens: &mut Cursor<'_>) -> Result<Written, ParseFault>
+    ensures { Reads (spec.slot tokens.old) result tokens.new }
+{
+    let token = tokens.expect(TokenKind::Slot)?;
+    let Some(name) = slot_of(token.text()) else {
+        return Err(ParseFault::Syntax(token.start()));
+    };
+    Ok(Written::new(WrittenKind::Slot(token.start(), name)))
+}
+
+/// Parses an expression with fewer than `depth` brackets and `if`s open at one place.
+pub fn parse_expression(
+    alloc: Global,
+    tokens: &mut Cursor<'_>,
+    depth: u8,
+) -> Result<Written, ParseFault>
+    ensures { Reads (spec.nested depth tokens.old) result tokens.new }
+{
+    if depth == 0 {
+        return Err(ParseFault::TooDeep(tokens.taken()));
+    }
+    ExpressionParser {
+        alloc,
+        depth: depth - 1,
+        inner: parse_expression,
+    }
+    .parse_expression(tokens)
+}

@@ -1,0 +1,10 @@
+use Rattle.std.proofs.Common.{◌≡◌, sym, ap, ◌∙◌, length, arith}
+use Rattle.cedar_parser_limits.specs.Limits.{size_of}
+use Rattle.cedar_parser_limits.specs.Private.Capped.{capped}
+use Rattle.cedar_parser_limits.proofs.PartLemmas.{applied_some}
+use Rattle.cedar_parser_limits.proofs.expression_size.is_empty_size.Goals as goal
+
+pub returns-in_default : goal.returns-in_default
+returns-in_default c = λ a e.
+    let some : length c.args.arguments.now ≡ 0 → ⊥ = λ (n : length c.args.arguments.now ≡ 0). omega arith in
+    e ∙ ap (λ x. capped (size_of x)) (sym (applied_some a c.args.arguments.now some))

@@ -8,7 +8,7 @@ ghost use Rattle.cedar_check.specs.Private.Condition.{condition_in, IsReady};
 ghost use Rattle.cedar_check_operators.specs.View.{typing_view};
 ghost use Rattle.cedar_check.specs.Private.View.{form_view};
 
-use crate::checking::{check, check_scoped};
+use crate::checker::Checker;
 use crate::prepared::{Parts, Prepared};
 use cedar_ast_expressions::Expr;
 use cedar_check_operators::{TypeFault, Typing};
@@ -39,39 +39,21 @@ fn form_in(typing: Typing<'_>) -> Form
 }
 
 // The form of a condition in which the variable is nowhere.
-fn form_of_open<'a>(
-    alloc: Global,
-    settings: Settings,
-    schema: &'a Schema,
-    environment: &'a Environment,
-    condition: &'a Expr,
-) -> Result<Form, AllocError>
-    ensures { IfOk result (λ form. form_view form ≡ option_and_then (λ x. truth_in x.ty) (type_of_with settings schema.now environment.now [] condition.now)) }
+fn form_of_open<'a>(checker: Checker<'a>, condition: &'a Expr) -> Result<Form, AllocError>
+    ensures { IfOk result (λ form. form_view form ≡ option_and_then (λ x. truth_in x.ty) (type_of_with checker.entry.settings checker.entry.schema.now checker.entry.environment.now [] condition.now)) }
 {
-    let typing = check(alloc, settings, schema, environment, &[], condition)?;
+    let typing = checker.check(&[], condition)?;
     Ok(form_in(typing))
 }
 
 // The form of a condition by its parts, of which that of the action alone is copied.
-fn form_of_parts(
-    alloc: Global,
-    settings: Settings,
-    schema: &Schema,
-    environment: &Environment,
-    parts: Parts<'_>,
-) -> Result<Form, AllocError>
-    ensures { IfOk result (λ form. form_view form ≡ option_and_then (λ x. truth_in x.ty) (type_of_with settings schema.now environment.now [] (and parts.entry.principal.now (and (replace environment.now.action parts.entry.action.now) parts.entry.rest.now)))) }
+fn form_of_parts(checker: Checker<'_>, parts: Parts<'_>) -> Result<Form, AllocError>
+    ensures { IfOk result (λ form. form_view form ≡ option_and_then (λ x. truth_in x.ty) (type_of_with checker.entry.settings checker.entry.schema.now checker.entry.environment.now [] (and parts.entry.principal.now (and (replace checker.entry.environment.now.action parts.entry.action.now) parts.entry.rest.now)))) }
 {
-    let action = parts.action.with_action(alloc, &environment.action)?;
-    let form = match check_scoped(
-        alloc,
-        settings,
-        schema,
-        environment,
-        parts.principal,
-        &action,
-        parts.rest,
-    ) {
+    let action = parts
+        .action
+        .with_action(checker.alloc, &checker.environment.action)?;
+    let form = match checker.check_scoped(parts.principal, &action, parts.rest) {
         Ok(typing) => Ok(form_in(typing)),
         Err(error) => Err(error),
     };
@@ -80,17 +62,11 @@ fn form_of_parts(
 }
 
 // The form of a condition in which the variable may stand anywhere.
-fn form_of_whole(
-    alloc: Global,
-    settings: Settings,
-    schema: &Schema,
-    environment: &Environment,
-    condition: &Expr,
-) -> Result<Form, AllocError>
-    ensures { IfOk result (λ form. form_view form ≡ option_and_then (λ x. truth_in x.ty) (type_of_with settings schema.now environment.now [] (replace environment.now.action condition.now))) }
+fn form_of_whole(checker: Checker<'_>, condition: &Expr) -> Result<Form, AllocError>
+    ensures { IfOk result (λ form. form_view form ≡ option_and_then (λ x. truth_in x.ty) (type_of_with checker.entry.settings checker.entry.schema.now checker.entry.environment.now [] (replace checker.entry.environment.now.action condition.now))) }
 {
-    let replaced = condition.with_action(alloc, &environment.action)?;
-    let form = match check(alloc, settings, schema, environment, &[], &replaced) {
+    let replaced = condition.with_action(checker.alloc, &checker.environment.action)?;
+    let form = match checker.check(&[], &replaced) {
         Ok(typing) => Ok(form_in(typing)),
         Err(error) => Err(error),
     };
@@ -111,9 +87,15 @@ pub(crate) fn form_of(
     requires { IsReady condition }
     ensures { IfOk result (λ form. form_view form ≡ option_and_then (λ x. truth_in x.ty) (type_of_with settings schema.now environment.now [] (replace environment.now.action (condition_in condition.entry)))) }
 {
+    let checker = Checker {
+        alloc,
+        settings,
+        schema,
+        environment,
+    };
     match condition {
-        Prepared::Open(open) => form_of_open(alloc, settings, schema, environment, open),
-        Prepared::Parts(parts) => form_of_parts(alloc, settings, schema, environment, parts),
-        Prepared::Whole(whole) => form_of_whole(alloc, settings, schema, environment, whole),
+        Prepared::Open(open) => form_of_open(checker, open),
+        Prepared::Parts(parts) => form_of_parts(checker, parts),
+        Prepared::Whole(whole) => form_of_whole(checker, whole),
     }
 }

@@ -19,7 +19,7 @@
 #![tactic(auto)]
 
 mod branches;
-mod checking;
+mod checker;
 mod fault;
 mod form;
 mod known;

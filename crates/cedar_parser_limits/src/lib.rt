@@ -19,9 +19,9 @@ mod breach;
 mod condition_size;
 mod expression_size;
 mod functions;
-mod judge;
+mod judgement;
 mod side_condition;
 mod size;
 
 pub use functions::{Method, function_of, method_of};
-pub use judge::judge;
+pub use judgement::judge;

@@ -1,7 +1,7 @@
 use Rattle.std.proofs.Common.{drop}
 use Rattle.cedar_parser_limits.specs.declared.side_condition.SideCondition.TheVariants.{Strings}
 use Rattle.cedar_parser_limits.specs.StatementLimits.{KeepConditions}
-use Rattle.cedar_parser_limits.proofs.judge.conditions_breach.Given as goal
+use Rattle.cedar_parser_limits.proofs.judgement.conditions_breach.Given as goal
 
 -- Where those that are left keep the condition, all do, and the other way round.
 abbrev pub invariant-loop-clause : goal.invariant-loop-clause

@@ -1,6 +1,6 @@
 use Rattle.cedar_parser_limits.specs.StatementLimits.{condition_size}
 use Rattle.cedar_parser_limits.proofs.JudgeLemmas.{low_of, small_of, broken_of}
-use Rattle.cedar_parser_limits.proofs.judge.judge_size.Goals as goal
+use Rattle.cedar_parser_limits.proofs.judgement.judge_size.Goals as goal
 
 pub returns-clause-low : goal.returns-clause-low
 returns-clause-low c = low_of c.judge_limits.result c.condition_size-size.result (condition_size c.args.statement.now) c.condition_size-size.ensures c.judge_limits.ensures.low

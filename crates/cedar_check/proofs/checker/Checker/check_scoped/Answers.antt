@@ -10,7 +10,7 @@ use Rattle.cedar_schema_spec.specs.declared.environment.Environment.{Environment
 use Rattle.cedar_check_spec.specs.Rows.{Typed, truth_in}
 use Rattle.cedar_check_spec.specs.Private.Checking.{and_right, and_type, on_boolean, type_of_with}
 use Rattle.cedar_check_operators.specs.View.{held_view, tree_of, typed_view, typing_view}
-use Rattle.cedar_check.proofs.checking.check_scoped.Goals as goal
+use Rattle.cedar_check.proofs.checker.Checker.check_scoped.Goals as goal
 use Rattle.cedar_check_spec.specs.declared.settings.Settings.{Settings}
 
 opened : (settings : Settings) (s : SchemaTree) (env : Environment) (p q : Expression) (x : Typed) (t : Truth) → type_of_with settings s env [] p ≡ Some x → truth_in x.ty ≡ Some t → type_of_with settings s env [] (and p q) ≡ and_type [] (λ k. type_of_with settings s env k q) t x.gained
@@ -26,9 +26,9 @@ from_right settings s env p q x Any typed known h = sym (opened settings s env p
 
 pub returns : goal.returns
 returns c =
-    let settings = c.args.settings in
-    let s = c.args.schema.now in
-    let env = c.args.environment.now in
+    let settings = c.args.self.settings in
+    let s = c.args.self.schema.now in
+    let env = c.args.self.environment.now in
     let rest = and c.args.action.now c.args.rest.now in
     let x = c.in-Typed.x in
     let t = c.in-Some.truth in

@@ -1,5 +1,5 @@
 use Rattle.cedar_parser_limits.proofs.JudgeLemmas.{keeps_all}
-use Rattle.cedar_parser_limits.proofs.judge.judge_side_conditions.Goals as goal
+use Rattle.cedar_parser_limits.proofs.judgement.judge_side_conditions.Goals as goal
 
 pub returns-clause-kept : goal.returns-clause-kept
 returns-clause-kept c =

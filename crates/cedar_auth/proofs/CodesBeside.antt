@@ -6,7 +6,7 @@ use Rattle.std.proofs.lemmas.Option.{slice_get_cases, none-some}
 use Rattle.cedar_ast.specs.PolicyTree.{PolicyTree}
 use Rattle.cedar_code.specs.declared.instruction.Instruction.{Instruction}
 use Rattle.cedar_code.specs.CodeView.{CodeView}
-use Rattle.cedar_auth.specs.Codes.{policy_code}
+use Rattle.cedar_auth_spec.specs.Codes.{policy_code}
 use Rattle.cedar_auth.specs.Private.Kept.{AreCodes}
 use Rattle.cedar_auth.proofs.Taken.{take-next}
 

@@ -1,15 +1,9 @@
 pub mod Answerable
-pub mod CandidateRows
 pub mod CodesBeside
-pub mod Environments
-pub mod Headlines
-pub mod Makings
-pub mod Made
-pub mod OpenActions
 pub mod PoliciesAt
 pub mod Reached
 pub mod Responses
-pub mod Sifts
+pub mod Selected
 pub mod Taken
 pub mod Tallies
 pub mod TalliesOfParts

@@ -4,7 +4,7 @@ use Rattle.std.specs.List.{slice_get, range_with_len, cons_option}
 use Rattle.std.proofs.lemmas.List.{take_more}
 use Rattle.std.proofs.lemmas.List.Elements.{filter_map-append}
 use Rattle.cedar_ast.specs.PolicyTree.{PolicyTree}
-use Rattle.cedar_auth.specs.Private.Sifting.{policies_at}
+use Rattle.cedar_auth.specs.Private.Selected.{policies_at}
 
 pub at_drop : (all : List PolicyTree) (i : ℕ) (p : PolicyTree) (rest : List PolicyTree) → drop i all ≡ p ∷ rest → (slice_get all i ≡ Some p) × (drop (suc i) all ≡ rest)
 at_drop [] zero p rest e = absurd (cc e)

@@ -26,7 +26,7 @@ use Rattle.cedar_schema_spec.specs.WellFormed.{AreTypesApart}
 use Rattle.cedar_schema_spec.specs.Conformance.{Conforms, FitsIn}
 use Rattle.cedar_check_spec.specs.Candidates.{Meets, IsCandidate}
 use Rattle.cedar_check_law.proofs.Candidates.{says, entity_tested, action_tested, whole}
-use Rattle.cedar_auth_index.specs.Reached.{uid_in, Reaches, IsReached}
+use Rattle.cedar_auth_candidates.specs.Reached.{uid_in, Reaches, IsReached}
 use Rattle.base_reach.proofs.Listed.{either_true}
 
 -- what a scope that names no uid asks

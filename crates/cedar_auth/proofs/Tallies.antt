@@ -1,8 +1,7 @@
 -- Lemmas on what the policies gather.
-use Rattle.std.proofs.Common.{◌≡◌, ℕ, ◌+◌, ◌<◌, get_or, Bool, true, false, not, ◌&&◌, if◌then◌else◌, List, [], ◌∷◌, ◌++◌, length, map, filter, take, Option, Some, Ok, Err, refl, sym, ap, ◌∙◌, append-nil}
+use Rattle.std.proofs.Common.{◌≡◌, ℕ, ◌+◌, ◌<◌, get_or, Bool, true, false, not, ◌&&◌, if◌then◌else◌, List, [], ◌∷◌, ◌++◌, length, take, Option, Some, Ok, Err, refl, sym, ap, ◌∙◌, append-nil}
 use Rattle.std.specs.List.{slice_get, cons_option}
-use Rattle.std.proofs.lemmas.List.{map-append}
-use Rattle.std.proofs.lemmas.List.Elements.{filter-append, filter_map-append}
+use Rattle.std.proofs.lemmas.List.Elements.{filter_map-append}
 use Rattle.cedar_value.specs.Datum.{Datum, boolean}
 use Rattle.cedar_value.specs.World.{World}
 use Rattle.cedar_value.specs.declared.request.Request.{Request}
@@ -12,20 +11,10 @@ use Rattle.cedar_ast_expressions.specs.Answer.{Answer}
 use Rattle.cedar_ast.specs.PolicyTree.{PolicyTree}
 use Rattle.cedar_ast.specs.Response.{ErringTree, meaning, is_true, is_permit, permits, forbids, erring_by, erring_of}
 use Rattle.cedar_machine.specs.Verdict.{Verdict, verdict_of}
+use Rattle.cedar_auth_spec.proofs.Ids.{ids_where-append}
 use Rattle.cedar_auth.proofs.PoliciesAt.{policies_at-more}
-use Rattle.cedar_auth.specs.Private.Sifting.{policies_at}
-use Rattle.cedar_auth.specs.Private.Tally.{TallyTree, ids_where, tally_of, entered}
-
-one_id : (b : Bool) (p : PolicyTree) → map (λ (p : PolicyTree). p.id) (if b then p ∷ [] else []) ≡ (if b then p.id ∷ [] else [])
-one_id true p = refl
-one_id false p = refl
-
-ids_where-append : (test : PolicyTree → Bool) (ps : List PolicyTree) (p : PolicyTree)
-    → ids_where test (ps ++ p ∷ []) ≡ ids_where test ps ++ (if test p then p.id ∷ [] else [])
-ids_where-append test ps p =
-    ap (map (λ (p : PolicyTree). p.id)) (filter-append test ps (p ∷ []))
-    ∙ map-append (λ (p : PolicyTree). p.id) (filter test ps) (filter test (p ∷ []))
-    ∙ ap (λ (ids : List (List ℕ)). ids_where test ps ++ ids) (one_id (test p) p)
+use Rattle.cedar_auth.specs.Private.Selected.{policies_at}
+use Rattle.cedar_auth.specs.Private.Tally.{TallyTree, tally_of, entered}
 
 tally : List (List ℕ) → List (List ℕ) → List ErringTree → TallyTree
 tally permits forbids erring = record { permits = permits; forbids = forbids; erring = erring }

@@ -8,7 +8,8 @@ use Rattle.cedar_value.specs.declared.request.Request.{Request}
 use Rattle.cedar_ast_expressions.specs.Answer.{Answer}
 use Rattle.cedar_ast.specs.PolicyTree.{PolicyTree}
 use Rattle.cedar_ast.specs.Response.{ErringTree, meaning, is_true, is_permit, permits, forbids, erring_by, erring_of}
-use Rattle.cedar_auth.specs.Private.Sifting.{LeavesFalse, policies_at}
+use Rattle.cedar_auth_spec.proofs.Ids.{ids_first}
+use Rattle.cedar_auth.specs.Private.Selected.{LeavesFalse, policies_at}
 use Rattle.cedar_auth.specs.Private.Tally.{TallyTree, tally_of}
 use Rattle.base_reach.proofs.Listed.{first_or_later, nowhere}
 use Rattle.cedar_auth.proofs.PoliciesAt.{at_drop}
@@ -38,11 +39,6 @@ module _ (q : Request) (w : World) where
       (ap (λ (b : Bool). map (λ (p : PolicyTree). p.id) (cond b (p ∷ filter (permits q w) ps) (filter (permits q w) ps))) (sym (false_permits p e)))
       (ap (λ (b : Bool). map (λ (p : PolicyTree). p.id) (cond b (p ∷ filter (forbids q w) ps) (filter (forbids q w) ps))) (sym (false_forbids p e)))
       (ap (λ (o : Option ErringTree). cons_option o (filter_map (erring_of q w) ps)) (sym (false_errs_not p e)))
-
-  ids_first : (b : Bool) (p : PolicyTree) (xs ys : List PolicyTree) → map (λ (p : PolicyTree). p.id) xs ≡ map (λ (p : PolicyTree). p.id) ys
-      → map (λ (p : PolicyTree). p.id) (cond b (p ∷ xs) xs) ≡ map (λ (p : PolicyTree). p.id) (cond b (p ∷ ys) ys)
-  ids_first true p xs ys e = ap (λ (ids : List (List ℕ)). p.id ∷ ids) e
-  ids_first false p xs ys e = e
 
   -- the first policy is among them
   run_too : (p : PolicyTree) (xs ps : List PolicyTree) → tally_of q w xs ≡ tally_of q w ps → tally_of q w (p ∷ xs) ≡ tally_of q w (p ∷ ps)

@@ -5,7 +5,7 @@ use Rattle.cedar_schema_spec.specs.SchemaTree.{SchemaTree}
 use Rattle.cedar_check_spec.specs.Determined.{AcceptedHaveNoFaultWith, ReportIsOneWith}
 use Rattle.cedar_check_spec.specs.Reports.{FaultTree, AreFaultsWith}
 use Rattle.cedar_check_spec.specs.declared.settings.Settings.{Settings}
-use Rattle.cedar_auth.specs.Validation.{IsValidatedWith}
+use Rattle.cedar_auth_spec.specs.Validation.{IsValidatedWith}
 
 -- a list that shows nothing, and one that shows something
 shows_none : {A B : Type 0} (f : A → B) (xs : List A) → length xs ≡ 0 → map f xs ≡ []

@@ -7,8 +7,8 @@ use Rattle.cedar_conform_values.specs.declared.conform_fault.ConformFault.{Confo
 use Rattle.cedar_conform_values.specs.declared.conform_fault.ConformFault.TheVariants.{OutOfMemory}
 use Rattle.cedar_conform_values.specs.Numbers.{number_of}
 use Rattle.cedar_conform_requests.specs.Requests.{LineDenotes, LineHasFault}
-use Rattle.cedar_auth.specs.AnswerJson.{response_data, refused_data}
-use Rattle.cedar_auth.specs.Ready.{ReadyTree}
+use Rattle.cedar_auth_spec.specs.AnswerJson.{response_data, refused_data}
+use Rattle.cedar_auth_spec.specs.Ready.{ReadyTree}
 
 -- The text is the response to the request that the line denotes by the schema, by the evaluation of every policy over the
 -- world (Cedar language reference, authorization).

@@ -1,6 +1,5 @@
 -- What proofs and private contracts speak of, and no public clause.
 pub mod Kept
-pub mod RowMaking
-pub mod Sifting
+pub mod Selected
 pub mod Tally
 pub mod Tokens

@@ -4,7 +4,7 @@ ghost use Rattle.json.specs.Print.{print};
 ghost use Rattle.serde_json.specs.Data.{string, array};
 ghost use Rattle.serde_json.specs.View.{items_of};
 ghost use Rattle.serde_json.specs.Written.{compact_text};
-ghost use Rattle.cedar_auth.specs.AnswerJson.{decision_name, error_name, erring_data, response_data, refused_data};
+ghost use Rattle.cedar_auth_spec.specs.AnswerJson.{decision_name, error_name, erring_data, response_data, refused_data};
 ghost use Rattle.cedar_auth.specs.Private.Tokens.{data_tokens};
 
 use crate::response::Erring;

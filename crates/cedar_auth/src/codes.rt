@@ -1,7 +1,7 @@
 //! The codes of policies.
 ghost use Rattle.std.specs.Prelude.{◌≡◌, ◌<◌, length, IfOk, IsErrOf};
 ghost use Rattle.cedar_code.specs.Code.{most_instructions};
-ghost use Rattle.cedar_auth.specs.Codes.{HasLongCode, policy_code};
+ghost use Rattle.cedar_auth_spec.specs.Codes.{HasLongCode, policy_code};
 ghost use Rattle.cedar_auth.specs.Private.Kept.{AreCodes};
 
 use cedar_ast::{Policy, PolicySet};

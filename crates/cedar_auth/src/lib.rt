@@ -12,30 +12,20 @@
 //! serve(alloc, &ready, &mut source, &mut sink)?;
 //! ```
 //!
-//! [`engine_is_sound`] says what all of it is for, over definitions alone: read `specs/Headline.antt` first. What answers a
-//! line stands in `specs/AnswerLine.antt`. Policies are accepted by strict validation as it is documented, or under settings
+//! [`engine_is_sound`] says what all of it is for, over definitions alone: read `specs/Headline.antt` of cedar_auth_spec first.
+//! What answers a line is in `specs/AnswerLine.antt`. Policies are accepted by strict validation as it is documented, or under settings
 //! (`Validated::new_with`), which stay with them and say which errors their answers may name.
 #![tactic(auto)]
 
 mod answer;
-mod candidates;
-mod cell;
-mod cells;
 mod codes;
-mod law;
 mod not_ready;
 mod not_validated;
 mod part;
-mod positions;
-mod question;
 mod ready;
 mod response;
 mod room;
-mod row;
-mod row_maker;
-mod scope_tests;
 mod serving;
-mod sifting;
 mod tally;
 mod told;
 mod validated;
@@ -45,7 +35,7 @@ pub use base_lines::{
     PiecewiseSink, PiecewiseSource, ReadFailed, ServeFault, Sink, SliceSource, Source, StdSink,
     StdSource, VecSink, WriteFailed,
 };
-pub use law::engine_is_sound;
+pub use cedar_auth_law::engine_is_sound;
 pub use not_ready::NotReady;
 pub use not_validated::NotValidated;
 pub use ready::Ready;

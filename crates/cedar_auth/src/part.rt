@@ -5,7 +5,7 @@ ghost use Rattle.cedar_machine.specs.Verdict.{verdict_of};
 
 use cedar_ast::Policy;
 use cedar_ast_expressions::EvaluationError;
-use cedar_auth_scope::{is_met, place_behind};
+use cedar_auth_candidates::{is_met, place_after_scope};
 use cedar_code::{Code, true_sides_are_passed};
 use cedar_machine::Operands;
 use cedar_value::{Hierarchy, Request};
@@ -24,7 +24,7 @@ impl<'v> Model for Part<'v> {
     ghost use Rattle.std.specs.Coded.{codes};
     ghost use Rattle.cedar_ast_expressions.specs.Private.ExpressionCode.{expression_code};
     ghost use Rattle.cedar_ast.specs.PolicyTree.{PolicyTree};
-    ghost use Rattle.cedar_auth.specs.Codes.{policy_code};
+    ghost use Rattle.cedar_auth_spec.specs.Codes.{policy_code};
 
     ghost Value = { PolicyTree };
 
@@ -54,7 +54,7 @@ impl<'v> Part<'v> {
         if !is_met(scope, request, hierarchy) {
             return Ok(Ok(false));
         }
-        let first = place_behind(scope);
+        let first = place_after_scope(scope);
         operands.decide_from(alloc, self.code, first, request, hierarchy)
     }
 }

@@ -1,6 +1,5 @@
 //! Policies that are ready to answer.
 ghost use Rattle.std.specs.Prelude.{ℕ, List, ◌≡◌, ◌≢◌, ◌↔◌, ◌<◌, length, Contains, IfErr, IfOk, IsTrue, MatchResult, OnOk};
-ghost use Rattle.std.specs.List.{range_with_len};
 ghost use Rattle.std.specs.List.Sorted.{IsStrictlyIncreasing};
 ghost use Rattle.cedar_ast.specs.Response.{ErringTree, response};
 ghost use Rattle.cedar_conform_values.specs.declared.conform_fault.ConformFault.TheVariants.{OutOfMemory};
@@ -10,25 +9,23 @@ ghost use Rattle.cedar_schema_spec.specs.Conformance.{Conforms, Fits, FitsIn};
 ghost use Rattle.cedar_schema_spec.specs.WellFormed.{AreTypesApart};
 ghost use Rattle.cedar_schema_spec.specs.declared.environment.Environment.{Environment as EnvironmentTree};
 ghost use Rattle.cedar_value.specs.declared.request.Request.{Request as RequestTree};
-ghost use Rattle.cedar_check_spec.specs.Candidates.{IsCandidate};
 ghost use Rattle.cedar_check_spec.specs.Soundness.{IsAllowedWith};
 ghost use Rattle.cedar_auth.specs.AnswerLine.{AnswersLine};
-ghost use Rattle.cedar_auth.specs.Candidates.{AreCandidates, OthersAreFalse};
-ghost use Rattle.cedar_auth.specs.Codes.{IsPartAt};
-ghost use Rattle.cedar_auth.specs.Headline.{IsAnsweredSoundlyWith};
-ghost use Rattle.cedar_auth.specs.Validation.{IsValidatedWith};
-ghost use Rattle.cedar_auth.specs.Private.Sifting.{LeavesFalse, SiftedBy};
+ghost use Rattle.cedar_auth_spec.specs.Candidates.{AreCandidates, OthersAreFalse};
+ghost use Rattle.cedar_auth_spec.specs.Codes.{IsPartAt};
+ghost use Rattle.cedar_auth_spec.specs.Headline.{IsAnsweredSoundlyWith};
+ghost use Rattle.cedar_auth_spec.specs.Validation.{IsValidatedWith};
+ghost use Rattle.cedar_auth.specs.Private.Selected.{LeavesFalse};
 ghost use Rattle.cedar_auth.specs.Private.Tally.{tally_of};
 
-use crate::candidates::Candidates;
-use crate::law::engine_is_sound;
 use crate::not_ready::NotReady;
 use crate::response::Response;
 use crate::tally::Tally;
 use crate::validated::Validated;
 use base_json::JsonReader;
 use cedar_ast::Effect;
-use cedar_auth_index::Selection;
+use cedar_auth_candidates::{Candidates, Selection};
+use cedar_auth_law::engine_is_sound;
 use cedar_check_law::candidates_are_enough;
 use cedar_check_spec::Settings;
 use cedar_code::Code;
@@ -55,7 +52,7 @@ impl Model for Ready {
     ghost use Rattle.cedar_value.specs.Private.DatumCode.{datum_code};
     ghost use Rattle.cedar_schema_types.specs.Private.TypeCode.{type_code};
     ghost use Rattle.cedar_ast_expressions.specs.Private.ExpressionCode.{expression_code};
-    ghost use Rattle.cedar_auth.specs.Ready.{ReadyTree};
+    ghost use Rattle.cedar_auth_spec.specs.Ready.{ReadyTree};
     ghost use Rattle.cedar_auth.specs.Private.Kept.{IsReady};
 
     ghost Value = { ReadyTree };
@@ -64,7 +61,7 @@ impl Model for Ready {
 
     ghost view = { λ r. record { schema = r.validated.schema; policies = r.validated.policies; settings = r.validated.settings; world = r.store } };
 
-    ghost invariant = { λ r. IsReady r.validated.schema r.validated.policies.policies r.store r.candidates.index r.candidates.rows };
+    ghost invariant = { λ r. IsReady r.validated.schema r.validated.policies.policies r.store r.candidates };
 }
 
 impl Ready {
@@ -211,20 +208,6 @@ impl Ready {
         Ok(tally.into_response())
     }
 
-    // The positions of the policies whose scopes may be met in the request's environment.
-    fn positions(&self, request: &Request) -> &[usize]
-        requires { Fits self.now.schema request.now }
-        ensures { (env : EnvironmentTree) → FitsIn self.now.schema env request.now
-            → SiftedBy self.now.policies.policies (IsCandidate self.now.schema env) (range_with_len 0 (length self.now.policies.policies)) result.now }
-    {
-        // A law of schemas, which does nothing.
-        self.validated.schema().well_formedness();
-        match self.candidates.cell(&request.action, &request.principal.ty, &request.resource.ty) {
-            Some(cell) => cell.listing().positions(),
-            None => &[],
-        }
-    }
-
     /// The positions of the candidates for a request that fits, ascending: of the policies whose scopes may be met by its
     /// action and by the types of its principal and resource. A policy at another position is false for it. Takes no
     /// memory, and comparisons by the logarithm of the number of actions and of types.
@@ -237,7 +220,7 @@ impl Ready {
         // Laws, which run nothing.
         candidates_are_enough();
         self.validated.schema().well_formedness();
-        self.positions(request)
+        self.candidates.positions(request)
     }
 
     // Selects the candidates that the request's own entities reach. Each other policy is false.
@@ -253,16 +236,7 @@ impl Ready {
     {
         // A law of schemas, which does nothing.
         self.validated.schema().well_formedness();
-        match self.candidates.cell(&request.action, &request.principal.ty, &request.resource.ty) {
-            Some(cell) => {
-                let index = self.candidates.index();
-                index.select(request, &self.store, cell.listing(), selection)
-            }
-            None => {
-                selection.clear();
-                Ok(())
-            }
-        }
+        self.candidates.select(request, &self.store, selection)
     }
 
     // Runs the code of the policies that are selected for the request, in order, and gathers how they ended.

@@ -1,7 +1,7 @@
 //! The room that answers take.
 use crate::tally::Tally;
 use base_json::JsonReader;
-use cedar_auth_index::Selection;
+use cedar_auth_candidates::Selection;
 use std::alloc::Global;
 
 /// The room for a line's JSON, for the policies that are selected for a request, and for how they end, which is used again

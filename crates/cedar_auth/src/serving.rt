@@ -8,9 +8,9 @@ ghost use Rattle.cedar_conform_values.specs.declared.conform_fault.ConformFault.
 ghost use Rattle.cedar_conform_values.specs.Numbers.{number_of};
 ghost use Rattle.cedar_conform_requests.specs.Requests.{LineDenotes};
 ghost use Rattle.cedar_schema_spec.specs.Conformance.{Fits};
-ghost use Rattle.cedar_auth.specs.AnswerJson.{refused_data};
+ghost use Rattle.cedar_auth_spec.specs.AnswerJson.{refused_data};
 ghost use Rattle.cedar_auth.specs.AnswerLine.{AnswersLine};
-ghost use Rattle.cedar_auth.specs.Headline.{IsAnsweredSoundlyWith};
+ghost use Rattle.cedar_auth_spec.specs.Headline.{IsAnsweredSoundlyWith};
 
 use crate::answer::{append_refusal, append_response};
 use crate::ready::Ready;

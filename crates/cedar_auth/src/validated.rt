@@ -2,19 +2,20 @@
 ghost use Rattle.std.specs.Prelude.{◌≡◌, ℕ, ◌<◌, length, Contains, IfOk, IfErr, OnOk, option_copied, slice_get};
 ghost use Rattle.cedar_ast.specs.Response.{response};
 ghost use Rattle.cedar_check_spec.specs.Settings.{default_settings};
-ghost use Rattle.cedar_auth.specs.Validation.{HasFault, HasFaultWith, IsValidated, IsValidatedWith};
+ghost use Rattle.cedar_auth_spec.specs.Validation.{IsValidated, IsValidatedWith};
+ghost use Rattle.cedar_auth.specs.ValidationFaults.{HasFault, HasFaultWith};
 ghost use Rattle.cedar_auth.specs.Private.Kept.{AreCodes};
-ghost use Rattle.cedar_auth.specs.Private.Sifting.{policies_at};
+ghost use Rattle.cedar_auth.specs.Private.Selected.{policies_at};
 ghost use Rattle.cedar_auth.specs.Private.Tally.{tally_of};
 
 use crate::codes::codes_of;
 use crate::not_validated::NotValidated;
 use crate::part::Part;
-use crate::positions::all_positions;
 use crate::response::Response;
 use crate::tally::Tally;
 use crate::validation_fault::ValidationFault;
 use cedar_ast::PolicySet;
+use cedar_auth_candidates::all_positions;
 use cedar_check::check_with;
 use cedar_check_law::typing_is_determined;
 use cedar_check_spec::Settings;
@@ -39,7 +40,7 @@ impl Model for Validated {
     ghost use Rattle.std.specs.Coded.{codes};
     ghost use Rattle.cedar_schema_types.specs.Private.TypeCode.{type_code};
     ghost use Rattle.cedar_ast_expressions.specs.Private.ExpressionCode.{expression_code};
-    ghost use Rattle.cedar_auth.specs.Validation.{ValidatedTree};
+    ghost use Rattle.cedar_auth_spec.specs.Validation.{ValidatedTree};
     ghost use Rattle.cedar_auth.specs.Private.Kept.{IsKept};
 
     ghost Value = { ValidatedTree };

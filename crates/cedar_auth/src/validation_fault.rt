@@ -1,6 +1,6 @@
 //! Why policies are not accepted.
 ghost use Rattle.std.specs.Prelude.{◌≡◌};
-ghost use Rattle.cedar_auth.specs.Validation.{number_of};
+ghost use Rattle.cedar_auth.specs.ValidationFaults.{number_of};
 
 use cedar_check::Report;
 use std::fmt;

@@ -8,9 +8,9 @@ use Rattle.cedar_schema_spec.specs.SchemaTree.{SchemaTree}
 use Rattle.cedar_schema_spec.specs.WellFormed.{AreTypesApart}
 use Rattle.cedar_check_spec.specs.declared.settings.Settings.{Settings}
 use Rattle.cedar_conform_requests.specs.Requests.{LineDenotes}
-use Rattle.cedar_auth.specs.Headline.{IsAnsweredSoundlyWith}
-use Rattle.cedar_auth.specs.Ready.{ReadyTree}
-use Rattle.cedar_auth.specs.Validation.{IsValidatedWith, ValidatedTree}
+use Rattle.cedar_auth_spec.specs.Headline.{IsAnsweredSoundlyWith}
+use Rattle.cedar_auth_spec.specs.Ready.{ReadyTree}
+use Rattle.cedar_auth_spec.specs.Validation.{IsValidatedWith, ValidatedTree}
 use Rattle.cedar_cli.specs.Authorization.{HoldAll}
 use Rattle.cedar_cli.specs.EntitiesFile.{HoldsWorld}
 use Rattle.cedar_cli.specs.LinksFile.{HoldsLinked}

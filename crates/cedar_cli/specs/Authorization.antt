@@ -11,10 +11,10 @@ use Rattle.cedar_check_spec.specs.declared.settings.Settings.{Settings}
 use Rattle.base_lines.specs.AnswerText.{AnswersFirst, BeginsAnswers, Writes}
 use Rattle.base_lines.specs.Lines.{lines_of}
 use Rattle.cedar_auth.specs.AnswerLine.{AnswersLine}
-use Rattle.cedar_auth.specs.Codes.{HasLongCode}
-use Rattle.cedar_auth.specs.Headline.{IsAnsweredSoundlyWith}
-use Rattle.cedar_auth.specs.Ready.{ReadyTree}
-use Rattle.cedar_auth.specs.Validation.{IsValidatedWith}
+use Rattle.cedar_auth_spec.specs.Codes.{HasLongCode}
+use Rattle.cedar_auth_spec.specs.Headline.{IsAnsweredSoundlyWith}
+use Rattle.cedar_auth_spec.specs.Ready.{ReadyTree}
+use Rattle.cedar_auth_spec.specs.Validation.{IsValidatedWith}
 use Rattle.cedar_cli.specs.EntitiesFile.{HoldsNoWorld, HoldsWorld}
 use Rattle.cedar_cli.specs.Roles.{Holdings}
 use Rattle.cedar_cli.specs.Standing.{BeginsRefusal}

@@ -15,7 +15,7 @@ use Rattle.cedar_code.specs.declared.outcome.Outcome.TheVariants.{Value, Error, 
 use Rattle.cedar_code.specs.Machine.{Configuration, going, ended, start}
 use Rattle.cedar_machine.specs.RestingView.{RestingView, RestsAfter}
 use Rattle.cedar_machine.specs.Verdict.{Verdict}
-use Rattle.cedar_auth.specs.Codes.{policy_code}
+use Rattle.cedar_auth_spec.specs.Codes.{policy_code}
 use Rattle.cedar_service_law.specs.Results.{Results, satisfied, entered}
 use Rattle.cedar_service_law.specs.Jobs.{JobTree, Advances, are_none, is_finished}
 use Rattle.cedar_service.specs.Private.Kept.{configuration_of, IsBegun, IsReached}

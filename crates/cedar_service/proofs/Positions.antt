@@ -7,7 +7,7 @@ use Rattle.cedar_value.specs.World.{World}
 use Rattle.cedar_value.specs.declared.request.Request.{Request}
 use Rattle.cedar_ast.specs.PolicyTree.{PolicyTree}
 use Rattle.cedar_ast.specs.Response.{meaning}
-use Rattle.cedar_auth.specs.Candidates.{Ascend, OthersAreFalse}
+use Rattle.cedar_auth_spec.specs.Candidates.{Ascend, OthersAreFalse}
 use Rattle.cedar_service_law.specs.Jobs.{tells, IsPartToRun, none_to_run, runs, leaves_out}
 use Rattle.cedar_service.specs.Private.Parts.{policies_at}
 

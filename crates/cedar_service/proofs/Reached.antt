@@ -17,9 +17,9 @@ use Rattle.cedar_machine.specs.RestingView.{RestingView, RestsAfter}
 use Rattle.cedar_machine.specs.Verdict.{Verdict}
 use Rattle.cedar_check_spec.specs.Soundness.{IsAllowedWith}
 use Rattle.cedar_check_spec.specs.declared.settings.Settings.{Settings}
-use Rattle.cedar_auth.specs.Codes.{policy_code}
-use Rattle.cedar_auth.specs.Headline.{IsAnsweredSoundlyWith, IsSafeWith}
-use Rattle.cedar_auth.specs.Ready.{ReadyTree}
+use Rattle.cedar_auth_spec.specs.Codes.{policy_code}
+use Rattle.cedar_auth_spec.specs.Headline.{IsAnsweredSoundlyWith, IsSafeWith}
+use Rattle.cedar_auth_spec.specs.Ready.{ReadyTree}
 use Rattle.cedar_service_law.specs.Results.{Results, no_results}
 use Rattle.cedar_service_law.specs.Jobs.{RunsEndAsEvaluated}
 use Rattle.cedar_service.specs.Private.Kept.{IsBegun, IsReached, AreAllowed}

@@ -2,7 +2,7 @@
 use Rattle.std.specs.Prelude.{◌≡◌, true, false, List, [], ◌∷◌, Option, Some, None}
 use Rattle.cedar_ast.specs.PolicyTree.{PolicyTree}
 use Rattle.cedar_code.specs.Machine.{start, Steps}
-use Rattle.cedar_auth.specs.Codes.{policy_code}
+use Rattle.cedar_auth_spec.specs.Codes.{policy_code}
 use Rattle.cedar_service_law.specs.Jobs.{JobTree, is_finished}
 use Rattle.cedar_machine.specs.RestingView.{RestingView}
 

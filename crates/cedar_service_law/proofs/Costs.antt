@@ -9,7 +9,7 @@ use Rattle.cedar_ast.specs.Condition.{condition_of}
 use Rattle.cedar_ast.specs.Response.{meaning}
 use Rattle.cedar_code.specs.declared.outcome.Outcome.{Outcome}
 use Rattle.cedar_code.specs.Machine.{Configuration, ended, start, Steps, outcome_of, RunsAsEvaluated}
-use Rattle.cedar_auth.specs.Codes.{policy_code}
+use Rattle.cedar_auth_spec.specs.Codes.{policy_code}
 use Rattle.cedar_service_law.proofs.OneEnd.{within_end, one_end}
 use Rattle.cedar_service_law.specs.Jobs.{most_steps, IsPartToRun, none_to_run, runs, leaves_out}
 

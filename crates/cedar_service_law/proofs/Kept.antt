@@ -11,8 +11,8 @@ use Rattle.cedar_code.specs.declared.outcome.Outcome.{Outcome}
 use Rattle.cedar_code.specs.Machine.{Configuration, going, ended, start, Step, Steps}
 use Rattle.cedar_conform_requests.specs.Requests.{LineDenotes}
 use Rattle.cedar_service_law.specs.Results.{Results, entered}
-use Rattle.cedar_auth.specs.Ready.{ReadyTree}
-use Rattle.cedar_auth.specs.Codes.{policy_code}
+use Rattle.cedar_auth_spec.specs.Ready.{ReadyTree}
+use Rattle.cedar_auth_spec.specs.Codes.{policy_code}
 use Rattle.cedar_service_law.specs.Jobs.{most_steps, JobTree, IsPartToRun, IsFresh, are_none, is_finished, Advances, job_at}
 use Rattle.cedar_service_law.specs.Service.{ServiceState, first_state, Event, Reply, publish, open_job, step, take_answer, published, opened, stepped, taken, refused, Publishes, Opens, ChangesJob, StepsLeft, StepsJob, TakesLeft, TakesJob, Happens}
 use Rattle.cedar_service_law.specs.Histories.{Moment, History, is_open, is_publication, opens, publications, version_after, current_after, Opening, opening_by, opening_of, takes, was_taken, steps_job, steps_of, ends_job, was_finished}

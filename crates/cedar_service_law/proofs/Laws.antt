@@ -9,7 +9,7 @@ use Rattle.cedar_conform_values.specs.declared.conform_fault.ConformFault.TheVar
 use Rattle.cedar_conform_values.specs.Numbers.{number_of}
 use Rattle.cedar_conform_requests.specs.Requests.{LineDenotes}
 use Rattle.cedar_service_law.specs.Results.{decided_by}
-use Rattle.cedar_auth.specs.Ready.{ReadyTree}
+use Rattle.cedar_auth_spec.specs.Ready.{ReadyTree}
 use Rattle.cedar_service_law.specs.Jobs.{most_steps, JobTree, IsPartToRun, are_none, job_at}
 use Rattle.cedar_service_law.specs.Service.{ServiceState, first_state, Event, Reply, publish, open_job, step, take_answer, published, opened, stepped, taken, refused, greatest, Publishes, Opens, StepsLeft, StepsJob, TakesLeft, TakesJob, RefusesPublish, RefusesOpen, RefusesStep, RefusesStepLeft, RefusesTake, RefusesTakeLeft, IsFaultOfLine, Happens}
 use Rattle.cedar_service_law.specs.Histories.{History, Leads, Stands, current_after, Opening, opening_of, steps_of}

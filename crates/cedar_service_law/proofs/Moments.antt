@@ -4,7 +4,7 @@ use Rattle.std.specs.List.{list_any}
 use Rattle.std.specs.Option.{option_or}
 use Rattle.std.proofs.lemmas.List.Sums.{sum_by_push}
 use Rattle.std.proofs.lemmas.List.Folds.{list_any-append}
-use Rattle.cedar_auth.specs.Ready.{ReadyTree}
+use Rattle.cedar_auth_spec.specs.Ready.{ReadyTree}
 use Rattle.cedar_service_law.specs.Histories.{Moment, History, version_after, current_after, Opening, opening_by, opening_of}
 
 pub count_more : (test : Moment → Bool) (h : History) (m : Moment) → count_by test (h ++ m ∷ []) ≡ count_by test h + cond (test m) 1 0

@@ -1,9 +1,7 @@
 -- The results entered decide the response.
-use Rattle.std.proofs.Common.{◌≡◌, ℕ, suc, arith, Bool, true, false, not, ◌&&◌, ◌||◌, cond, if◌then◌else◌, ◌==◌, List, [], ◌∷◌, ◌++◌, length, map, filter, Ok, Err, refl, ap, ap₂, ◌∙◌, append-nil}
-use Rattle.std.specs.List.{cons_option, filter_map, list_any}
-use Rattle.std.proofs.lemmas.List.{map-append}
-use Rattle.std.proofs.lemmas.List.Elements.{filter-append, filter_map-append}
-use Rattle.std.proofs.lemmas.Bool.Decides.{nat_tests}
+use Rattle.std.proofs.Common.{◌≡◌, ℕ, Bool, true, false, not, ◌&&◌, cond, if◌then◌else◌, List, [], ◌∷◌, ◌++◌, map, filter, Ok, Err, refl, ap, ◌∙◌, append-nil}
+use Rattle.std.specs.List.{cons_option, filter_map}
+use Rattle.std.proofs.lemmas.List.Elements.{filter_map-append}
 use Rattle.cedar_value.specs.Datum.{Datum, boolean}
 use Rattle.cedar_value.specs.World.{World}
 use Rattle.cedar_value.specs.declared.request.Request.{Request}
@@ -13,26 +11,13 @@ use Rattle.cedar_ast_expressions.specs.Answer.{Answer}
 use Rattle.cedar_ast.specs.PolicyTree.{PolicyTree}
 use Rattle.cedar_ast.specs.Response.{ErringTree, ResponseTree, meaning, is_true, is_permit, permits, forbids, erring_by, erring_of, allows, decided, response}
 use Rattle.cedar_code.specs.Machine.{outcome_of}
+use Rattle.cedar_auth_spec.proofs.Ids.{ids_where, ids_where-append, ids_first, allows_is}
 use Rattle.cedar_service_law.specs.Results.{Results, entered, allowed_by, decided_by}
 use Rattle.cedar_service_law.specs.Jobs.{tells, IsPartToRun, none_to_run, runs, leaves_out}
-
-abbrev ids_where : (PolicyTree → Bool) → List PolicyTree → List (List ℕ)
-ids_where test ps = map (λ p. p.id) (filter test ps)
 
 -- what the runs of these policies enter
 abbrev pub results_of : Request → World → List PolicyTree → Results
 results_of q w ps = record { permits = ids_where (permits q w) ps; forbids = ids_where (forbids q w) ps; erring = filter_map (erring_of q w) ps }
-
-one_id : (b : Bool) (p : PolicyTree) → map (λ (p : PolicyTree). p.id) (if b then p ∷ [] else []) ≡ (if b then p.id ∷ [] else [])
-one_id true p = refl
-one_id false p = refl
-
-ids_where-append : (test : PolicyTree → Bool) (ps : List PolicyTree) (p : PolicyTree)
-    → ids_where test (ps ++ p ∷ []) ≡ ids_where test ps ++ (if test p then p.id ∷ [] else [])
-ids_where-append test ps p =
-    ap (map (λ (p : PolicyTree). p.id)) (filter-append test ps (p ∷ []))
-    ∙ map-append (λ (p : PolicyTree). p.id) (filter test ps) (filter test (p ∷ []))
-    ∙ ap (λ (ids : List (List ℕ)). ids_where test ps ++ ids) (one_id (test p) p)
 
 results : List (List ℕ) → List (List ℕ) → List ErringTree → Results
 results permits forbids erring = record { permits = permits; forbids = forbids; erring = erring }
@@ -63,11 +48,6 @@ results_of-append q w ps p =
     ∙ entered_by (results_of q w ps) p.id p.effect (meaning q w p)
 
 -- what is left out of a part to run enters nothing
-one_more : (b : Bool) (p : PolicyTree) (xs ys : List PolicyTree) → map (λ (p : PolicyTree). p.id) xs ≡ map (λ (p : PolicyTree). p.id) ys
-    → map (λ (p : PolicyTree). p.id) (cond b (p ∷ xs) xs) ≡ map (λ (p : PolicyTree). p.id) (cond b (p ∷ ys) ys)
-one_more true p xs ys e = ap (λ (ids : List (List ℕ)). p.id ∷ ids) e
-one_more false p xs ys e = e
-
 not_kept : (b : Bool) (p : PolicyTree) (xs : List PolicyTree) → b ≡ false → xs ≡ cond b (p ∷ xs) xs
 not_kept true p xs e = cc
 not_kept false p xs e = refl
@@ -75,7 +55,7 @@ not_kept false p xs e = refl
 ids_of_part : (q : Request) (w : World) (test : PolicyTree → Bool) → ((p : PolicyTree) → tells (meaning q w p) ≡ false → test p ≡ false)
     → (part all : List PolicyTree) → IsPartToRun q w part all → ids_where test part ≡ ids_where test all
 ids_of_part q w test idle part all none_to_run = refl
-ids_of_part q w test idle part all (runs p ps qs h) = one_more (test p) p (filter test ps) (filter test qs) (ids_of_part q w test idle ps qs h)
+ids_of_part q w test idle part all (runs p ps qs h) = ids_first (test p) p (filter test ps) (filter test qs) (ids_of_part q w test idle ps qs h)
 ids_of_part q w test idle part all (leaves_out p ps qs e h) =
     ids_of_part q w test idle ps qs h ∙ ap (map (λ (p : PolicyTree). p.id)) (not_kept (test p) p (filter test qs) (idle p e))
 
@@ -100,23 +80,6 @@ results_of_part q w part all h =
     (ids_of_part q w (forbids q w) (λ p e. idle (not (is_permit p.effect)) (meaning q w p) e) part all h)
     (erring_of_part q w part all h)
 
--- the ids of those that pass a test are none where none passes
-not_zero : (n : ℕ) → (suc n == 0) ≡ false
-not_zero n = grind (arith, nat_tests)
-
-one_passes : (b c : Bool) (p : PolicyTree) (ps : List PolicyTree) → (length (map (λ (p : PolicyTree). p.id) ps) == 0) ≡ not c
-    → (length (map (λ (p : PolicyTree). p.id) (cond b (p ∷ ps) ps)) == 0) ≡ not (b || c)
-one_passes true c p ps e = not_zero (length (map (λ (p : PolicyTree). p.id) ps))
-one_passes false c p ps e = e
-
-none_pass : (test : PolicyTree → Bool) (ps : List PolicyTree) → (length (ids_where test ps) == 0) ≡ not (list_any test ps)
-none_pass test [] = refl
-none_pass test (p ∷ ps) = one_passes (test p) (list_any test ps) p (filter test ps) (none_pass test ps)
-
-twice : (b : Bool) → not (not b) ≡ b
-twice true = refl
-twice false = refl
-
 chosen : (b : Bool) (f g : PolicyTree → Bool) (ps : List PolicyTree)
     → (if b then ids_where f ps else ids_where g ps) ≡ map (λ (p : PolicyTree). p.id) (filter (if b then f else g) ps)
 chosen true f g ps = refl
@@ -131,7 +94,6 @@ unfolding answer
 results_decide q w ps =
     let forbidden = ids_where (forbids q w) ps in
     let permitted = ids_where (permits q w) ps in
-    let same : allowed_by (results_of q w ps) ≡ allows q w ps =
-    ap₂ (λ (a b : Bool). a && b) (none_pass (forbids q w) ps) (ap not (none_pass (permits q w) ps) ∙ twice (list_any (permits q w) ps)) in
+    let same : allowed_by (results_of q w ps) ≡ allows q w ps = allows_is q w ps in
     ap (λ (b : Bool). answer b (if b then permitted else forbidden) (filter_map (erring_of q w) ps)) same
     ∙ ap (λ (ids : List (List ℕ)). answer (allows q w ps) ids (filter_map (erring_of q w) ps)) (chosen (allows q w ps) (permits q w) (forbids q w) ps)

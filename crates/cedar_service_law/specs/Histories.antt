@@ -2,7 +2,7 @@
 use Rattle.std.specs.Prelude.{◌≡◌, ℕ, ◌==◌, Bool, true, false, ◌&&◌, if◌then◌else◌, List, [], ◌∷◌, ◌++◌, Option, Some, None, count_by}
 use Rattle.std.specs.List.{list_any}
 use Rattle.std.specs.Option.{option_or}
-use Rattle.cedar_auth.specs.Ready.{ReadyTree}
+use Rattle.cedar_auth_spec.specs.Ready.{ReadyTree}
 use Rattle.cedar_service_law.specs.Service.{ServiceState, Event, Reply, publish, open_job, step, take_answer, published, opened, stepped, taken, Happens}
 
 -- An event and its reply (own).

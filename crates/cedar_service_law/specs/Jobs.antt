@@ -8,8 +8,8 @@ use Rattle.cedar_ast.specs.PolicyTree.{PolicyTree}
 use Rattle.cedar_ast.specs.Response.{is_true, meaning}
 use Rattle.cedar_code.specs.declared.outcome.Outcome.{Outcome}
 use Rattle.cedar_code.specs.Machine.{Configuration, going, ended, start, Step, Executes, outcome_of}
-use Rattle.cedar_auth.specs.Codes.{policy_code}
-use Rattle.cedar_auth.specs.Ready.{ReadyTree}
+use Rattle.cedar_auth_spec.specs.Codes.{policy_code}
+use Rattle.cedar_auth_spec.specs.Ready.{ReadyTree}
 use Rattle.cedar_service_law.specs.Results.{Results, no_results, entered}
 
 -- A job: the version that answers it, its request, the policies that it has still to run, of which the first is under way,

@@ -6,10 +6,9 @@ use Rattle.cedar_schema_spec.specs.SchemaTree.{SchemaTree}
 use Rattle.cedar_schema_spec.specs.Conformance.{Conforms}
 use Rattle.cedar_code.specs.CodeView.{CodeView}
 use Rattle.cedar_check_spec.specs.declared.settings.Settings.{Settings}
-use Rattle.cedar_auth.specs.Codes.{policy_code}
-use Rattle.cedar_auth.specs.Validation.{IsValidatedWith}
-use Rattle.cedar_auth_index.specs.Index.{IndexTree}
-use Rattle.cedar_auth.specs.Private.Sifting.{AreCandidatesFor, Rows}
+use Rattle.cedar_auth_spec.specs.Codes.{policy_code}
+use Rattle.cedar_auth_spec.specs.Validation.{IsValidatedWith}
+use Rattle.cedar_auth_candidates.specs.Candidates.{AreCandidatesFor, CandidatesTree}
 
 -- the codes are those of the policies, one by one
 abbrev pub AreCodes : List CodeView → List PolicyTree → Type 0
@@ -19,6 +18,6 @@ pub record IsKept (settings : Settings) (s : SchemaTree) (ps : List PolicyTree) 
   pub accepted : IsValidatedWith settings s ps
   pub compiled : AreCodes codes ps
 
-pub record IsReady (s : SchemaTree) (ps : List PolicyTree) (w : World) (index : IndexTree) (rows : Rows) : Type 0 where
+pub record IsReady (s : SchemaTree) (ps : List PolicyTree) (w : World) (candidates : CandidatesTree) : Type 0 where
   pub conforms : Conforms s w
-  pub candidates : AreCandidatesFor s ps index rows
+  pub candidates : AreCandidatesFor s ps candidates

@@ -8,8 +8,8 @@ use Rattle.cedar_machine.specs.RestingView.{RestingView}
 use Rattle.cedar_schema_spec.specs.Conformance.{Fits}
 use Rattle.cedar_check_spec.specs.Soundness.{IsAllowedWith}
 use Rattle.cedar_check_spec.specs.declared.settings.Settings.{Settings}
-use Rattle.cedar_auth.specs.Codes.{policy_code}
-use Rattle.cedar_auth.specs.Ready.{ReadyTree}
+use Rattle.cedar_auth_spec.specs.Codes.{policy_code}
+use Rattle.cedar_auth_spec.specs.Ready.{ReadyTree}
 use Rattle.cedar_service_law.specs.Results.{Results}
 use Rattle.cedar_service.specs.Private.Parts.{policies_at}
 

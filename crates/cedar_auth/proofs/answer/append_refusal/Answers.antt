@@ -1,5 +1,5 @@
 use Rattle.std.proofs.Common.{◌∙◌, refl}
-use Rattle.cedar_auth.specs.AnswerJson.{refused_data}
+use Rattle.cedar_auth_spec.specs.AnswerJson.{refused_data}
 use Rattle.cedar_auth.proofs.Texts.{text_behind}
 use Rattle.cedar_auth.proofs.answer.append_refusal.Goals as goal
 

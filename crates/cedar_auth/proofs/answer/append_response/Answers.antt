@@ -1,5 +1,5 @@
 use Rattle.std.proofs.Common.{◌∙◌, refl}
-use Rattle.cedar_auth.specs.AnswerJson.{response_data}
+use Rattle.cedar_auth_spec.specs.AnswerJson.{response_data}
 use Rattle.cedar_auth.proofs.Texts.{text_behind}
 use Rattle.cedar_auth.proofs.answer.append_response.Goals as goal
 

@@ -1,7 +1,7 @@
 use Rattle.std.proofs.Common.{◌≡◌, ◌++◌, drop, map}
 use Rattle.serde_json.specs.Data.{array}
 use Rattle.serde_json.specs.View.{items_of}
-use Rattle.cedar_auth.specs.AnswerJson.{erring_data}
+use Rattle.cedar_auth_spec.specs.AnswerJson.{erring_data}
 use Rattle.cedar_auth.specs.Private.Tokens.{data_tokens, rest_tokens}
 use Rattle.cedar_auth.proofs.answer.write_errings.Given as goal
 

@@ -1,5 +1,5 @@
 use Rattle.std.proofs.Common.{◌≡◌, ◌-◌, length, map, take}
-use Rattle.cedar_auth.specs.Codes.{policy_code}
+use Rattle.cedar_auth_spec.specs.Codes.{policy_code}
 use Rattle.cedar_auth.proofs.codes.codes_of.Given as goal
 
 abbrev pub invariant-loop-policy : goal.invariant-loop-policy

@@ -1,6 +1,6 @@
 use Rattle.std.proofs.Common.{None, inl, inr, refl, ap, subst}
 use Rattle.cedar_check_spec.specs.declared.settings.Settings.{Settings}
-use Rattle.cedar_auth.specs.Validation.{ValidatedTree}
+use Rattle.cedar_auth_spec.specs.Validation.{ValidatedTree}
 use Rattle.cedar_cli.specs.Authorization.{Stands}
 use Rattle.cedar_cli.specs.declared.files.Role.TheVariants.{Policies}
 use Rattle.cedar_cli.proofs.Holding.{hold-back}

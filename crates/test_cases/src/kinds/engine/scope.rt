@@ -10,10 +10,10 @@ use crate::case::Case;
 use crate::case_fault::CaseFault;
 use crate::outcome::Outcome;
 use crate::staff::{request_of_ann, staff};
+use cedar_ast::{Policy, PolicySet};
+use cedar_auth_candidates::{is_met, place_after_scope};
 use cedar_code::{Code, CodeFault, compile};
 use cedar_parser::parse;
-use cedar_ast::{Policy, PolicySet};
-use cedar_auth_scope::{is_met, place_behind};
 use cedar_store::Store;
 use std::alloc::Global;
 
@@ -48,7 +48,7 @@ fn meets(alloc: Global, case: &Case, policy: &Policy, store: &Store) -> Result<b
 fn instructions_behind(alloc: Global, policy: &Policy) -> Result<usize, CodeFault> {
     let code = code_of(alloc, policy)?;
     code.well_formedness();
-    let place = place_behind(policy.scope());
+    let place = place_after_scope(policy.scope());
     let behind = code.instructions().len().saturating_sub(place);
     drop(code);
     Ok(behind)

@@ -1,18 +1,29 @@
 use Rattle.std.proofs.Common.{subst}
+use Rattle.cedar_schema_spec.specs.declared.environment.Environment.{Environment}
 use Rattle.cedar_schema_spec.specs.SchemaTree.{SchemaTree}
 use Rattle.cedar_schema_spec.specs.WellFormed.{AreTypesApart}
-use Rattle.cedar_schema_spec.specs.Conformance.{Conforms}
-use Rattle.cedar_auth.specs.Ready.{ReadyTree}
-use Rattle.cedar_auth.proofs.CandidateRows.{are_candidates, others_are_false}
+use Rattle.cedar_schema_spec.specs.Conformance.{Fits, FitsIn}
+use Rattle.cedar_auth_spec.specs.Candidates.{AreCandidates, OthersAreFalse}
+use Rattle.cedar_auth_spec.specs.Ready.{ReadyTree}
+use Rattle.cedar_auth.proofs.Selected.{others_are_false}
 use Rattle.cedar_auth.proofs.ready.Ready.candidates.Goals as goal
 
 pub returns-clause-exact : goal.returns-clause-exact
-returns-clause-exact c = λ env fits. are_candidates c.args.self.now.schema c.args.self.now.policies.policies env c.positions.result.now (c.positions.ensures env fits)
+returns-clause-exact c =
+    let inside = c.self.inside in
+    let q = c.args.request.now in
+    let ks = c.positions.result.now in
+    subst (λ (r : ReadyTree). (env : Environment) → FitsIn r.schema env q → AreCandidates r.schema r.policies.policies env ks) c.self.view_is
+    (λ env fits. c.positions.ensures inside.validated.schema inside.validated.policies.policies env c.self.invariant.candidates fits)
 
 pub returns-clause-others : goal.returns-clause-others
 returns-clause-others c =
-    let ready = c.args.self.now in
-    others_are_false c.candidates_are_enough.ensures.others ready.schema ready.policies.policies ready.world c.args.request.now c.positions.result.now
-    (subst (λ (r : ReadyTree). AreTypesApart r.schema) c.self.view_is (subst (λ (s : SchemaTree). AreTypesApart s) c.schema.ensures.value c.well_formedness.ensures.apart))
-    (subst (λ (r : ReadyTree). Conforms r.schema r.world) c.self.view_is c.self.invariant.conforms)
-    c.requires c.positions.ensures
+    let inside = c.self.inside in
+    let q = c.args.request.now in
+    let ks = c.positions.result.now in
+    subst (λ (r : ReadyTree). Fits r.schema q → OthersAreFalse r.policies.policies q r.world ks) c.self.view_is
+    (λ fits. others_are_false inside.validated.schema inside.validated.policies.policies inside.store q ks
+    (subst (λ (s : SchemaTree). AreTypesApart s) c.schema.ensures.value c.well_formedness.ensures.apart)
+    c.self.invariant.conforms fits c.candidates_are_enough.ensures.others
+    (λ env fits. c.positions.ensures inside.validated.schema inside.validated.policies.policies env c.self.invariant.candidates fits))
+    c.requires

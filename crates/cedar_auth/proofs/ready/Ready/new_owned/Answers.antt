@@ -4,16 +4,15 @@ use Rattle.cedar_conform_values.specs.declared.conform_fault.ConformFault.TheVar
 use Rattle.cedar_conform_entities.specs.Bytes.{BytesHaveFault}
 use Rattle.cedar_schema_spec.specs.Conformance.{Conforms}
 use Rattle.cedar_schema_spec.specs.SchemaTree.{SchemaTree}
-use Rattle.cedar_auth.specs.Private.Sifting.{AreCandidatesFor}
+use Rattle.cedar_auth_candidates.specs.Candidates.{AreCandidatesFor}
 use Rattle.cedar_auth.proofs.ready.Ready.new_owned.Goals as goal
 
 pub invariant_of-result : goal.invariant_of-result
 invariant_of-result c =
-    let index = c.in-Ok-new.candidates.index in
-    let rows = c.in-Ok-new.candidates.rows in record {
+    let candidates = c.in-Ok-new.candidates in record {
       conforms = subst (λ (s : SchemaTree). Conforms s c.in-Ok.store) c.schema.ensures.value c.in-Ok.ensures.conforms;
-      candidates = subst (λ (s : SchemaTree). AreCandidatesFor s c.args.validated.policies.policies index rows) c.schema-2.ensures.value
-          (subst (λ (set : PolicySetTree). AreCandidatesFor c.schema-2.result.now set.policies index rows) c.policies.ensures.value c.in-Ok-new.ensures);
+      candidates = subst (λ (s : SchemaTree). AreCandidatesFor s c.args.validated.policies.policies candidates) c.schema-2.ensures.value
+          (subst (λ (set : PolicySetTree). AreCandidatesFor c.schema-2.result.now set.policies candidates) c.policies.ensures.value c.in-Ok-new.ensures);
     }
 
 pub returns-in-Err-clause-refused : goal.returns-in-Err-clause-refused

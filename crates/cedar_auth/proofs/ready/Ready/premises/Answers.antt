@@ -2,8 +2,8 @@ use Rattle.std.proofs.Common.{subst}
 use Rattle.cedar_schema_spec.specs.Conformance.{Conforms}
 use Rattle.cedar_schema_spec.specs.SchemaTree.{SchemaTree}
 use Rattle.cedar_schema_spec.specs.WellFormed.{AreTypesApart}
-use Rattle.cedar_auth.specs.Ready.{ReadyTree}
-use Rattle.cedar_auth.specs.Validation.{IsValidatedWith}
+use Rattle.cedar_auth_spec.specs.Ready.{ReadyTree}
+use Rattle.cedar_auth_spec.specs.Validation.{IsValidatedWith}
 use Rattle.cedar_auth.proofs.ready.Ready.premises.Goals as goal
 
 pub returns-clause-apart : goal.returns-clause-apart

@@ -3,8 +3,8 @@ use Rattle.cedar_value.specs.declared.request.Request.{Request}
 use Rattle.cedar_schema_spec.specs.Conformance.{Fits}
 use Rattle.cedar_schema_spec.specs.SchemaTree.{SchemaTree}
 use Rattle.cedar_schema_spec.specs.WellFormed.{AreTypesApart}
-use Rattle.cedar_auth.specs.Headline.{IsAnsweredSoundlyWith}
-use Rattle.cedar_auth.specs.Ready.{ReadyTree}
+use Rattle.cedar_auth_spec.specs.Headline.{IsAnsweredSoundlyWith}
+use Rattle.cedar_auth_spec.specs.Ready.{ReadyTree}
 use Rattle.cedar_auth.proofs.ready.Ready.soundness.Goals as goal
 
 pub returns : goal.returns

@@ -1,8 +1,8 @@
 use Rattle.std.proofs.Common.{◌≡◌, ◌<◌, ℕ, List, length, Contains, OnOk, subst, sym, ◌∙◌}
 use Rattle.std.proofs.lemmas.Result.{on_ok_weaker}
-use Rattle.cedar_auth.specs.Private.Sifting.{policies_at}
+use Rattle.cedar_auth.specs.Private.Selected.{policies_at}
 use Rattle.cedar_auth.specs.Private.Tally.{tally_of}
-use Rattle.cedar_auth.specs.Ready.{ReadyTree}
+use Rattle.cedar_auth_spec.specs.Ready.{ReadyTree}
 use Rattle.cedar_auth.proofs.TalliesOfParts.{selected_gather}
 use Rattle.cedar_auth.proofs.ready.Ready.tally.Goals as goal
 

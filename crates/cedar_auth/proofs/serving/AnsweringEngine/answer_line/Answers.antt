@@ -2,7 +2,7 @@ use Rattle.std.proofs.Common.{◌++◌, inl, inr, refl, ap, ◌∙◌}
 use Rattle.serde_json.specs.Written.{compact_text}
 use Rattle.cedar_ast.specs.Response.{ResponseTree, response}
 use Rattle.cedar_conform_values.specs.Numbers.{number_of}
-use Rattle.cedar_auth.specs.AnswerJson.{response_data, refused_data}
+use Rattle.cedar_auth_spec.specs.AnswerJson.{response_data, refused_data}
 use Rattle.cedar_auth.specs.Private.Tally.{response_by}
 use Rattle.cedar_auth.proofs.Responses.{response_by-tally}
 use Rattle.cedar_auth.proofs.serving.AnsweringEngine.answer_line.Goals as goal

@@ -1,10 +1,10 @@
 use Rattle.std.proofs.Common.{◌≡◌, ℕ, List, length, Contains, ap, subst, ◌∙◌}
 use Rattle.std.specs.List.{range_with_len}
-use Rattle.cedar_auth.specs.Private.Sifting.{policies_at}
+use Rattle.cedar_auth.specs.Private.Selected.{policies_at}
 use Rattle.cedar_auth.specs.Private.Tally.{response_by, tally_of}
-use Rattle.cedar_auth.specs.Validation.{ValidatedTree}
+use Rattle.cedar_auth_spec.specs.Validation.{ValidatedTree}
 use Rattle.cedar_auth.proofs.PoliciesAt.{policies_at-all}
-use Rattle.cedar_auth.proofs.Sifts.{from_range}
+use Rattle.cedar_auth_candidates.proofs.Sifts.{from_range}
 use Rattle.cedar_auth.proofs.Responses.{response_by-tally}
 use Rattle.cedar_auth.proofs.validated.Validated.answer.Goals as goal
 

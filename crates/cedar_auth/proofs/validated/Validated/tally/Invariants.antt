@@ -1,5 +1,5 @@
 use Rattle.std.proofs.Common.{◌≡◌, take}
-use Rattle.cedar_auth.specs.Private.Sifting.{policies_at}
+use Rattle.cedar_auth.specs.Private.Selected.{policies_at}
 use Rattle.cedar_auth.specs.Private.Tally.{tally_of}
 use Rattle.cedar_auth.proofs.validated.Validated.tally.Given as goal
 

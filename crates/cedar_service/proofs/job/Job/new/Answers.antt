@@ -1,6 +1,6 @@
 use Rattle.std.proofs.Common.{ℕ, ◌<◌, nat_lt, List, All, length, refl, sym, ap, subst, ◌∙◌}
-use Rattle.cedar_auth.specs.Candidates.{OthersAreFalse}
-use Rattle.cedar_auth.specs.Ready.{ReadyTree}
+use Rattle.cedar_auth_spec.specs.Candidates.{OthersAreFalse}
+use Rattle.cedar_auth_spec.specs.Ready.{ReadyTree}
 use Rattle.cedar_service.proofs.Lefts.{begun_at}
 use Rattle.cedar_service.proofs.Positions.{candidates_within, candidates_part}
 use Rattle.cedar_service.proofs.Reached.{reached_first, none_allowed}

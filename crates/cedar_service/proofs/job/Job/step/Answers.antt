@@ -4,8 +4,8 @@ use Rattle.cedar_value.specs.World.{World}
 use Rattle.cedar_machine.specs.RestingView.{RestsAfter}
 use Rattle.cedar_ast.specs.PolicyTree.{PolicyTree}
 use Rattle.cedar_schema_spec.specs.Conformance.{Fits}
-use Rattle.cedar_auth.specs.Headline.{IsAnsweredSoundlyWith}
-use Rattle.cedar_auth.specs.Ready.{ReadyTree}
+use Rattle.cedar_auth_spec.specs.Headline.{IsAnsweredSoundlyWith}
+use Rattle.cedar_auth_spec.specs.Ready.{ReadyTree}
 use Rattle.cedar_service_law.specs.Results.{Results}
 use Rattle.cedar_service_law.specs.Jobs.{JobTree}
 use Rattle.cedar_service.specs.Private.Parts.{policies_at}

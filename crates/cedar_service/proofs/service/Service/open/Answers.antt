@@ -1,6 +1,6 @@
 use Rattle.std.proofs.Common.{◌≡◌, ◌+◌, ◌<◌, Some, refl, sym, subst, arith}
 use Rattle.cedar_conform_requests.specs.Requests.{LineDenotes}
-use Rattle.cedar_auth.specs.Ready.{ReadyTree}
+use Rattle.cedar_auth_spec.specs.Ready.{ReadyTree}
 use Rattle.cedar_service_law.specs.Jobs.{JobTree, IsFresh}
 use Rattle.cedar_service_law.specs.Service.{ServiceState, Opens, greatest}
 use Rattle.cedar_service.proofs.Tables.{changed_at}

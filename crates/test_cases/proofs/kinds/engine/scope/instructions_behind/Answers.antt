@@ -1,6 +1,6 @@
-use Rattle.cedar_auth_scope.proofs.Begun.{scope_short}
+use Rattle.cedar_auth_candidates.proofs.Begun.{scope_short}
 use Rattle.test_cases.proofs.kinds.engine.scope.instructions_behind.Goals as goal
 
-pub place_behind-place-requires : goal.place_behind-place-requires
-place_behind-place-requires c =
+pub place_after_scope-place-requires : goal.place_after_scope-place-requires
+place_after_scope-place-requires c =
     rw c.scope.ensures (scope_short c.args.policy.now _ c.in_ok-code.ensures c.well_formedness.ensures.fits)

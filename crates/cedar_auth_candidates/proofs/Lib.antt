@@ -1,0 +1,15 @@
+pub mod Asking
+pub mod Begun
+pub mod CandidateRows
+pub mod Entering
+pub mod Environments
+pub mod Fitting
+pub mod Gathering
+pub mod Made
+pub mod Makings
+mod Meets
+pub mod OpenActions
+pub mod Positions
+pub mod Selected
+pub mod Sifts
+mod Unmet

@@ -1,0 +1,50 @@
+-- What an index of policies keeps, and what is selected by it.
+use Rattle.std.specs.Prelude.{◌≡◌, ℕ, true, List, [], Contains, Option, None, Some, unwrap_or}
+use Rattle.std.specs.List.{slice_get}
+use Rattle.std.specs.Map.{lookup}
+use Rattle.base_bits.specs.Bits.{has_bit}
+use Rattle.cedar_value.specs.Datum.{same_uid}
+use Rattle.cedar_value.specs.World.{World}
+use Rattle.cedar_value.specs.declared.request.Request.{Request}
+use Rattle.cedar_value.specs.declared.uid.Uid.{Uid}
+use Rattle.cedar_ast.specs.PolicyTree.{PolicyTree}
+use Rattle.cedar_auth_candidates.specs.Reached.{uid_in, IsReached}
+
+-- An index of policies: the positions of policies under the uids that scopes name, of principals and of resources, and a row with
+-- a bit for the position of each policy whose scope names neither (own).
+pub record IndexTree : Type 0 where
+  pub principals : List (Uid × List ℕ)
+  pub resources : List (Uid × List ℕ)
+  pub unnamed : List ℕ
+
+-- The positions under a uid, and none where the table lacks it (own).
+abbrev pub positions_under : List (Uid × List ℕ) → Uid → List ℕ
+positions_under table u = unwrap_or (lookup (same_uid u) table) []
+
+-- The position of a policy is kept by the uids that its scope names, of the principal and of the resource: under the first that
+-- there is, and by its bit where there is neither (own).
+abbrev pub IsKept : IndexTree → Option Uid → Option Uid → ℕ → Type 0
+IsKept index (Some u) other k = Contains (positions_under index.principals u) k
+IsKept index None (Some u) k = Contains (positions_under index.resources u) k
+IsKept index None None k = has_bit index.unnamed k ≡ true
+
+-- Each of the policies is kept by what its scope names (own).
+abbrev pub IsIndexOf : List PolicyTree → IndexTree → Type 0
+IsIndexOf ps index =
+    (k : ℕ) (p : PolicyTree) → slice_get ps k ≡ Some p → IsKept index (uid_in p.scope.principal) (uid_in p.scope.resource) k
+
+-- Some of the policies: all their positions, and those of them at which a scope names no uid (own).
+pub record ListingTree : Type 0 where
+  pub positions : List ℕ
+  pub unnamed : List ℕ
+
+-- What the index keeps by a bit, of the positions of the listing, the listing has among its unnamed (own).
+abbrev pub IsListingBy : IndexTree → ListingTree → Type 0
+IsListingBy index listing = (k : ℕ) → Contains listing.positions k → has_bit index.unnamed k ≡ true → Contains listing.unnamed k
+
+-- Of the policies that the index was made of, each one of the listing that the request reaches is selected (own; cedar-spec,
+-- Lean: Cedar.Thm, slicing).
+abbrev pub HasReached : IndexTree → ListingTree → Request → World → List ℕ → Type 0
+HasReached index listing q w selected =
+    (ps : List PolicyTree) → IsIndexOf ps index → IsListingBy index listing
+    → (k : ℕ) (p : PolicyTree) → Contains listing.positions k → slice_get ps k ≡ Some p → IsReached q w p → Contains selected k

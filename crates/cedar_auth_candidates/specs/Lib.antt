@@ -1,0 +1,5 @@
+pub mod Candidates
+pub mod Index
+pub mod Private
+pub mod Reached
+pub mod Scopes

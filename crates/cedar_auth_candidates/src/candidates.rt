@@ -1,0 +1,139 @@
+//! Which policies a request can satisfy, according to its action and to the types of its entities.
+ghost use Rattle.std.specs.Prelude.{◌≡◌, IfOk, OnOk, option_copied};
+ghost use Rattle.std.specs.List.Sorted.{IsStrictlyIncreasing};
+ghost use Rattle.cedar_auth_candidates.specs.Candidates.{AreCandidatesFor, HasPositions, HasSelected, listing_at};
+ghost use Rattle.cedar_auth_candidates.specs.Private.Sifting.{ByAction, cell_at};
+
+use crate::cell::Cell;
+use crate::cells::Cells;
+use crate::index::Index;
+use crate::listing::Listing;
+use crate::positions::Positions;
+use crate::row::Row;
+use crate::row_maker::RowMaker;
+use crate::selection::Selection;
+use cedar_ast::PolicySet;
+use cedar_schema::Schema;
+use cedar_store::Store;
+use cedar_value::{Name, Request, Uid};
+use std::alloc::{AllocError, Global};
+use std::collections::BTreeMap;
+use std::marker::Model;
+
+/// For each environment of a schema the policies whose scopes may be met in it, and the index according to which they are
+/// listed. Contracts see a `CandidatesTree`.
+#[derive(Drop)]
+pub struct Candidates {
+    index: Index,
+    rows: BTreeMap<Uid, Row>,
+}
+
+impl Model for Candidates {
+    ghost use Rattle.cedar_auth_candidates.specs.Candidates.{CandidatesTree};
+
+    ghost Value = { CandidatesTree };
+
+    ghost use Rattle.cedar_auth_candidates.specs.Private.Sifting.{candidates_tree};
+
+    ghost view = { λ candidates. candidates_tree candidates.index candidates.rows };
+}
+
+// What is kept for each action of the schema.
+fn by_action(
+    alloc: Global,
+    schema: &Schema,
+    policies: &PolicySet,
+    index: &Index,
+) -> Result<BTreeMap<Uid, Row>, AllocError>
+    ensures { IfOk result (ByAction schema.now policies.now.policies index.now) }
+{
+    // The schema's actions are in order.
+    schema.well_formedness();
+    let positions = Positions::new(alloc, schema, policies)?;
+    let mut maker = RowMaker {
+        cells: Cells::new(alloc, index),
+        made: BTreeMap::new(alloc),
+    };
+    let mut rows = BTreeMap::new(alloc);
+    for (uid, action) in schema.actions() {
+        let row = maker.row(alloc, schema, policies, uid, action, &positions)?;
+        rows.insert(uid.try_clone(alloc)?, row)?;
+    }
+    Ok(rows)
+}
+
+// What is kept for an action, a type of principals and a type of resources.
+fn cell_in<'r>(
+    rows: &'r BTreeMap<Uid, Row>,
+    action: &Uid,
+    principal: &Name,
+    resource: &Name,
+) -> Option<&'r Cell>
+    ensures { option_copied result ≡ cell_at rows.now action.now principal.now resource.now }
+{
+    let row = rows.get(action)?;
+    let cells = row.cells.get(principal)?;
+    cells.get(resource)
+}
+
+impl Candidates {
+    /// The candidates among these policies for each environment of the schema. 1: memory was refused.
+    pub fn new(alloc: Global, schema: &Schema, policies: &PolicySet) -> Result<Self, AllocError>
+        ensures { IfOk result (AreCandidatesFor schema.now policies.now.policies) }
+    {
+        // The schema's actions are in order.
+        schema.well_formedness();
+        let index = Index::new(alloc, policies)?;
+        let rows = by_action(alloc, schema, policies, &index)?;
+        Ok(Candidates { index, rows })
+    }
+
+    // The listing that is kept for the environment of a request.
+    fn listing(&self, request: &Request) -> Option<&Listing>
+        ensures { option_copied result ≡ listing_at self.now request.now.action request.now.principal.ty request.now.resource.ty }
+    {
+        match cell_in(
+            &self.rows,
+            &request.action,
+            &request.principal.ty,
+            &request.resource.ty,
+        ) {
+            Some(cell) => Some(cell.listing()),
+            None => None,
+        }
+    }
+
+    /// The positions of the candidates for a request that fits the schema, ascending: of the policies whose scopes may be met
+    /// by its action and by the types of its principal and its resource. Takes no memory, and as many comparisons as the
+    /// logarithms of the numbers of actions and of types.
+    pub fn positions(&self, request: &Request) -> &[usize]
+        ensures { HasPositions self.now request.now result.now }
+    {
+        match self.listing(request) {
+            Some(listing) => listing.positions(),
+            None => &[],
+        }
+    }
+
+    /// Selects, of the candidates for a request that fits the schema, those that the request's own entities reach: each other
+    /// one is false (Cedar language reference, policy scope). Takes memory only where the selection has to grow, and time
+    /// according to the policies that name these entities or none, and to what is above the principal and the resource.
+    /// 1: memory was refused.
+    pub fn select<'s>(
+        &self,
+        request: &Request,
+        store: &'s Store,
+        selection: &mut Selection<'s>,
+    ) -> Result<(), AllocError>
+        ensures ascend { OnOk result (IsStrictlyIncreasing selection.new) }
+        ensures selected { OnOk result (HasSelected self.now request.now store.now selection.new) }
+    {
+        match self.listing(request) {
+            Some(listing) => self.index.select(request, store, listing, selection),
+            None => {
+                selection.clear();
+                Ok(())
+            }
+        }
+    }
+}

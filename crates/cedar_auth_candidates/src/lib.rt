@@ -1,0 +1,51 @@
+//! Which policies a request can satisfy: what their scopes leave of them, asked without the machine.
+//!
+//! ```rust
+//! let candidates = Candidates::new(alloc, &schema, &policies)?;
+//! let mut selection = Selection::new(alloc);
+//! candidates.select(&request, &store, &mut selection)?;
+//! for position in selection.positions() {
+//!     // Only these policies can be true or err: each other one is false.
+//!     let policy = policies.policy(*position)?;
+//!     if is_met(policy.scope(), &request, &store) {
+//!         // Of this policy only the conditions are left to be executed, from `place_after_scope(policy.scope())` on.
+//!     }
+//! }
+//! ```
+//!
+//! The policies are sifted three times, each time according to their scopes:
+//!
+//! - [`Candidates`] holds, for each environment of a schema, the positions of the policies whose scopes may be met in it,
+//!   according to the action and to the types of the principal and the resource. They are found once, before any request.
+//! - [`Candidates::select`] leaves out those that name other entities than the request's. A policy that asks for one
+//!   principal, as `principal == User::"ann"` or `principal in Group::"staff"`, is false for every request whose principal is
+//!   neither that entity nor below it; likewise of the resource. So the cost of a request depends on the policies that name
+//!   its own entities, or what these are below, and on those of its environment that name none. One index of the policies
+//!   serves all environments.
+//! - [`is_met`] asks the scope of one policy.
+//!
+//! What each of them promises is in `specs/`: `Candidates` and `Reached`, `Scopes`.
+#![tactic(auto)]
+
+mod action_scope;
+mod candidates;
+mod cell;
+mod cells;
+mod entity_scope;
+mod index;
+mod listing;
+mod positions;
+mod question;
+mod row;
+mod row_maker;
+mod scope;
+mod scope_tests;
+mod selection;
+mod sifting;
+mod tables;
+mod uid_lists;
+
+pub use candidates::Candidates;
+pub use positions::all_positions;
+pub use scope::{is_met, place_after_scope};
+pub use selection::Selection;

@@ -1,7 +1,0 @@
-use Rattle.std.proofs.Common.{take}
-use Rattle.cedar_auth_index.specs.Private.Kept.{Holds}
-use Rattle.cedar_auth_index.proofs.Positions.{AreFound}
-use Rattle.cedar_auth_index.proofs.listing.with_bits.Given as goal
-
-abbrev pub invariant-loop-position : goal.invariant-loop-position
-invariant-loop-position l = AreFound l.row (take l.position-index l.positions) l.found.items × Holds l.found.items (take l.position-index l.positions)

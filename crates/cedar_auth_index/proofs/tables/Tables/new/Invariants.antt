@@ -1,5 +1,0 @@
-use Rattle.cedar_auth_index.specs.Private.Kept.{AreEntered}
-use Rattle.cedar_auth_index.proofs.tables.Tables.new.Given as goal
-
-abbrev pub invariant-loop-position : goal.invariant-loop-position
-invariant-loop-position l = AreEntered l.policies.policies l.tables l.position

@@ -1,6 +1,0 @@
-use Rattle.cedar_auth_index.specs.Private.Kept.{Holds}
-use Rattle.cedar_auth_index.proofs.Asking.{HoldsOrLeft}
-use Rattle.cedar_auth_index.proofs.uid_lists.push_below.Given as goal
-
-abbrev pub invariant-loop-uid : goal.invariant-loop-uid
-invariant-loop-uid l = Holds l.initial.positions.items l.positions.items × HoldsOrLeft l.store l.entity l.lists.entries l.uid-iterator l.positions.items

@@ -1,6 +1,0 @@
-use Rattle.cedar_auth_index.specs.Private.Kept.{Holds}
-use Rattle.cedar_auth_index.proofs.Gathering.{HoldsFirst}
-use Rattle.cedar_auth_index.proofs.uid_lists.push_lists.Given as goal
-
-abbrev pub invariant-loop-uid : goal.invariant-loop-uid
-invariant-loop-uid l = Holds l.initial.positions.items l.positions.items × HoldsFirst l.lists l.uids l.uid-index l.positions.items

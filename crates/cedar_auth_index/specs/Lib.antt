@@ -1,3 +1,0 @@
-pub mod Index
-pub mod Private
-pub mod Reached

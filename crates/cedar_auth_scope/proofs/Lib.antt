@@ -1,3 +1,0 @@
-pub mod Begun
-mod Meets
-mod Unmet

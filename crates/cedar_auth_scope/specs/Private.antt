@@ -1,2 +1,0 @@
--- What proofs and contracts within the crate cite, and nobody needs to believe.
-pub mod Met

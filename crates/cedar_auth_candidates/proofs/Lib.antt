@@ -5,11 +5,11 @@ pub mod Entering
 pub mod Environments
 pub mod Fitting
 pub mod Gathering
+pub mod ListedPositions
 pub mod Made
 pub mod Makings
 mod Meets
 pub mod OpenActions
-pub mod Positions
 pub mod Selected
 pub mod Sifts
 mod Unmet

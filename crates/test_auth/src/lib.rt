@@ -1,18 +1,13 @@
-//! The tests of the authoriser, by its public functions: policies that strict validation accepts, with their answers to
-//! requests and to request lines, and policies and entities that are refused. They stand apart from what they test, since
-//! the tests of a crate are proved with the whole crate once more.
+//! The tests of the authoriser that are no cases, by its public functions: what is kept, lent and handed back, a code that is too
+//! long, and lines in pieces. Answers, candidates, faults and refusals are cases of `test_cases`. The tests of a crate are proved
+//! with the whole crate once more, so that these have a crate of their own.
 //!
-//! The schema and the entities stand in `world.rt`, accepted policies with their answers in `answers.rt` and `lines.rt`,
-//! which of them run in `candidates.rt`, refused ones in `refusals.rt`, entities and requests in `readiness.rt`, and the
-//! same with `decimal` of any text in `any_decimal.rt`.
+//! The schema and the entities are in `world.rt`, what is kept and lent in `kept.rt`, policies that are refused in `refusals.rt`,
+//! entities that are refused in `readiness.rt`, and lines in `lines.rt`.
 #![tactic(auto)]
 
 #[cfg(test)]
-mod answers;
-#[cfg(test)]
-mod any_decimal;
-#[cfg(test)]
-mod candidates;
+mod kept;
 #[cfg(test)]
 mod lines;
 #[cfg(test)]

@@ -1,10 +1,9 @@
 //! A schema of documents, and entities that conform to it. A mistake in them fails each test.
 use cedar_auth::{Ready, Validated};
+use cedar_check_spec::Settings;
 use cedar_parser::parse;
 use cedar_schema::Schema;
-use cedar_check_spec::Settings;
-use cedar_value::{Name, Record, Request, SharedText, Text, Uid, Value};
-use std::alloc::{AllocError, Global};
+use std::alloc::Global;
 use std::test::Fail;
 
 /// Documents with an owner. Its environments, in order: delete by a User, view by an Admin, view by a User, each of a Doc.
@@ -57,13 +56,9 @@ fn validated_with_any_decimal(alloc: Global, policies: &str) -> Result<Validated
     }
 }
 
-/// The same policies, ready to answer over these entities.
-pub fn ready_with_any_decimal(
-    alloc: Global,
-    policies: &str,
-    entities: &[u8],
-) -> Result<Ready, Fail> {
-    let entities = Vec::from_slice(alloc, entities)?;
+/// The same policies, ready to answer over the entities, whose text is handed in.
+pub fn ready_with_any_decimal(alloc: Global, policies: &str) -> Result<Ready, Fail> {
+    let entities = Vec::from_slice(alloc, ENTITIES)?;
     let validated = validated_with_any_decimal(alloc, policies)?;
     match Ready::new_owned(alloc, validated, entities) {
         Ok(ready) => Ok(ready),
@@ -83,46 +78,4 @@ pub fn ready(alloc: Global, policies: &str) -> Result<Ready, Fail> {
             Err("the entities are refused".into())
         }
     }
-}
-
-fn uid(alloc: Global, ty: &str, id: &str) -> Result<Uid, AllocError> {
-    Ok(Uid {
-        ty: Name::new(alloc, Text::read(alloc, ty)?)?,
-        id: Text::read(alloc, id)?,
-    })
-}
-
-/// Who asks, and for what, of which document: to delete it, or to view it with the `n` of the context.
-#[derive(Clone, Copy)]
-pub struct Asked {
-    /// The type of who asks.
-    pub ty: &'static str,
-    /// The id of who asks.
-    pub id: &'static str,
-    /// The `n` of the context of view; None asks to delete.
-    pub n: Option<i64>,
-    /// The document's id.
-    pub doc: &'static str,
-}
-
-fn context(alloc: Global, n: Option<i64>) -> Result<Record, Fail> {
-    let mut pairs = Vec::new(alloc);
-    if let Some(n) = n {
-        pairs.push((SharedText::read(alloc, "n")?, Value::long(n)))?;
-    }
-    match Record::from_pairs(pairs)? {
-        Some(record) => Ok(record),
-        None => Err("a key of the context stands twice".into()),
-    }
-}
-
-/// The request.
-pub fn request(alloc: Global, asked: &Asked) -> Result<Request, Fail> {
-    let action = if asked.n.is_some() { "view" } else { "delete" };
-    Ok(Request {
-        principal: uid(alloc, asked.ty, asked.id)?,
-        action: uid(alloc, "Action", action)?,
-        resource: uid(alloc, "Doc", asked.doc)?,
-        context: context(alloc, asked.n)?,
-    })
 }

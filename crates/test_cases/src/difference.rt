@@ -1,9 +1,7 @@
 //! What is printed of a case that differs.
-use crate::case::Case;
-use crate::case_fault::CaseFault;
 use crate::kinds::outcome;
-use crate::outcome::Outcome;
 use std::alloc::{AllocError, Global};
+use test_case::{Case, CaseFault, Outcome};
 
 /// How a case ended.
 pub enum Ending {
@@ -63,21 +61,21 @@ fn compared(alloc: Global, case: &Case) -> Result<Ending, CaseFault> {
     } = outcome(alloc, case)?;
     if !wanted.is_met(found.as_str()) {
         let wanted = wanted.text.as_str();
-        let told = format!(in alloc; "{name}\n  wanted: {wanted}\n  found:  {found}")?;
-        return Ok(Ending::Differs(told));
+        let difference = format!(in alloc; "{name}\n  wanted: {wanted}\n  found:  {found}")?;
+        return Ok(Ending::Differs(difference));
     }
     match status {
         Some(status) if status != u64::from(ended) => {
-            let told = format!(in alloc;
+            let difference = format!(in alloc;
                 "{name}\n  wanted: status {status}\n  found:  status {ended}"
             )?;
-            Ok(Ending::Differs(told))
+            Ok(Ending::Differs(difference))
         }
         _ => Ok(Ending::Passed),
     }
 }
 
 fn unread(alloc: Global, fault: &CaseFault) -> Result<Ending, AllocError> {
-    let told = format!(in alloc; "a case cannot be run: {fault}")?;
-    Ok(Ending::Differs(told))
+    let difference = format!(in alloc; "a case cannot be run: {fault}")?;
+    Ok(Ending::Differs(difference))
 }

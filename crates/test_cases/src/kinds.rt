@@ -1,14 +1,21 @@
-//! The kinds of cases, in three families.
-use crate::case::Case;
-use crate::case_fault::CaseFault;
-use crate::outcome::Outcome;
+//! The kinds of cases, each in the library that has it.
 use std::alloc::Global;
-
-mod data;
-mod engine;
-mod language;
+use test_case::{Case, CaseFault, Outcome};
 
 /// What the case's call gives.
 pub fn outcome(alloc: Global, case: &Case) -> Result<Outcome, CaseFault> {
-    language::outcome(alloc, case.word("kind")?, case)
+    let kind = case.word("kind")?;
+    if let Some(outcome) = test_cases_language::outcome(alloc, kind, case)? {
+        return Ok(outcome);
+    }
+    if let Some(outcome) = test_cases_data::outcome(alloc, kind, case)? {
+        return Ok(outcome);
+    }
+    if let Some(outcome) = test_cases_machine::outcome(alloc, kind, case)? {
+        return Ok(outcome);
+    }
+    match test_cases_engine::outcome(alloc, kind, case)? {
+        Some(outcome) => Ok(outcome),
+        None => Err(CaseFault::UnknownKind),
+    }
 }

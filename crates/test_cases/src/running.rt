@@ -1,6 +1,6 @@
 //! The cases of a file.
 use crate::difference::{Ending, run_line};
-use std::alloc::{AllocError, Global};
+use std::alloc::Global;
 use std::io;
 
 /// How many cases passed, and how many failed.
@@ -27,9 +27,9 @@ impl Count {
     fn run_case(&mut self, rt: &HostRuntime, alloc: Global, line: &[u8]) -> io::Result<()> {
         match run_line(alloc, line)? {
             Ending::Passed => self.passed = self.passed.saturating_add(1),
-            Ending::Differs(told) => {
+            Ending::Differs(difference) => {
                 self.failed = self.failed.saturating_add(1);
-                rt.println(told.as_str())?;
+                rt.println(difference.as_str())?;
             }
         }
         Ok(())

@@ -4,7 +4,7 @@ use crate::held::{made, once};
 use crate::world::{DELETE, VIEW, lent_text, open, publish, ready, response_text, service};
 use cedar_auth::Ready;
 use cedar_conform_values::ConformFault;
-use cedar_service::{JobId, Response, Service};
+use cedar_service::{JobId, Response, Service, histories_are_fair};
 use rand_core::utils::NextWord;
 use rand_pcg::Pcg32;
 use std::alloc::{AllocError, Global};
@@ -278,7 +278,7 @@ fn some_event(
     }
 }
 
-/// Whether the job goes on: a step does not tell that it is finished, and is not refused.
+/// Whether the job goes on: a step does not report that it is finished, and is not refused.
 fn goes_on(service: &mut Service, job: JobId) -> bool {
     match service.step(job) {
         Ok(finished) => !finished,
@@ -370,6 +370,8 @@ fn check_expected(rt: &impl Abort, alloc: Global, expected: &[String]) -> Result
 
 #[test]
 fn random_events_are_answered_by_their_versions(rt: HostRuntime) -> Result<(), Fail> {
+    // A law, which runs nothing.
+    histories_are_fair();
     let alloc = rt.alloc();
     let expected = all_expected(alloc)?;
     let checked = check_expected(&rt, alloc, &expected);

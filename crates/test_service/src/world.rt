@@ -1,12 +1,11 @@
 //! A schema of documents, entities that conform to it, and what is asked. A mistake in them fails each test.
 use crate::held::{both, made, made_or, once};
+use cedar_ast::{Decision, PolicySet};
 use cedar_ast_expressions::EvaluationError;
 use cedar_auth::{Ready, Validated};
 use cedar_parser::parse;
-use cedar_ast::{Decision, PolicySet};
 use cedar_schema::Schema;
 use cedar_service::{JobId, Response, Service};
-use cedar_check_spec::Settings;
 use std::alloc::{AllocError, Global};
 use std::test::Fail;
 
@@ -59,24 +58,6 @@ pub fn ready(alloc: Global, policies: &str) -> Result<Ready, Fail> {
     )
 }
 
-fn validated_with_any_decimal(alloc: Global, policies: &str) -> Result<Validated, Fail> {
-    let (set, schema) = read(alloc, policies)?;
-    let settings = Settings { any_decimal: true };
-    made_or(
-        Validated::new_with(alloc, schema, set, settings),
-        "the policies are refused",
-    )
-}
-
-/// The policies, accepted with `decimal` of any text, ready to answer over the entities.
-fn ready_with_any_decimal(alloc: Global, policies: &str) -> Result<Ready, Fail> {
-    let validated = validated_with_any_decimal(alloc, policies)?;
-    made_or(
-        Ready::new(alloc, validated, ENTITIES),
-        "the entities are refused",
-    )
-}
-
 /// A service whose current version has the policies.
 pub fn service(alloc: Global, policies: &str) -> Result<Service, Fail> {
     let ready = ready(alloc, policies)?;
@@ -86,16 +67,6 @@ pub fn service(alloc: Global, policies: &str) -> Result<Service, Fail> {
 /// Makes the policies the current version, and gives its number.
 pub fn publish(alloc: Global, service: &mut Service, policies: &str) -> Result<u64, Fail> {
     let ready = ready(alloc, policies)?;
-    made_or(service.publish(ready), "memory was refused")
-}
-
-/// The same, where they are accepted with `decimal` of any text.
-pub fn publish_with_any_decimal(
-    alloc: Global,
-    service: &mut Service,
-    policies: &str,
-) -> Result<u64, Fail> {
-    let ready = ready_with_any_decimal(alloc, policies)?;
     made_or(service.publish(ready), "memory was refused")
 }
 
@@ -128,52 +99,52 @@ fn error_name(error: EvaluationError) -> &'static str {
     }
 }
 
-fn push_determining(told: &mut String, policy: &str) -> Result<(), AllocError> {
-    told.push_str(" ")?;
-    told.push_str(policy)
+fn push_determining(text: &mut String, policy: &str) -> Result<(), AllocError> {
+    text.push_str(" ")?;
+    text.push_str(policy)
 }
 
-fn push_erring(told: &mut String, policy: &str, error: EvaluationError) -> Result<(), AllocError> {
-    told.push_str("!")?;
-    told.push_str(error_name(error))?;
-    told.push_str(" ")?;
-    told.push_str(policy)
+fn push_erring(text: &mut String, policy: &str, error: EvaluationError) -> Result<(), AllocError> {
+    text.push_str("!")?;
+    text.push_str(error_name(error))?;
+    text.push_str(" ")?;
+    text.push_str(policy)
 }
 
-fn push_response(told: &mut String, response: &Response) -> Result<(), AllocError> {
-    told.push_str(decision_name(response.decision))?;
+fn push_response(text: &mut String, response: &Response) -> Result<(), AllocError> {
+    text.push_str(decision_name(response.decision))?;
     for id in response.determining.iter() {
-        push_determining(told, id.as_str())?;
+        push_determining(text, id.as_str())?;
     }
     for erring in response.erring.iter() {
-        push_erring(told, erring.policy.as_str(), erring.error)?;
+        push_erring(text, erring.policy.as_str(), erring.error)?;
     }
     Ok(())
 }
 
-/// A response as a text: the decision, the determining policies, and behind `!` each error with its policy.
+/// A response as a text: the decision, the determining policies, and after `!` each error with its policy.
 pub fn response_text(alloc: Global, response: Response) -> Result<String, AllocError> {
-    let mut told = String::new(alloc);
-    let pushed = push_response(&mut told, &response);
+    let mut text = String::new(alloc);
+    let pushed = push_response(&mut text, &response);
     drop(response);
-    once(told, pushed)
+    once(text, pushed)
 }
 
-fn push_lent(told: &mut String, response: &cedar_auth::Response<'_>) -> Result<(), AllocError> {
-    told.push_str(decision_name(response.decision))?;
+fn push_lent(text: &mut String, response: &cedar_auth::Response<'_>) -> Result<(), AllocError> {
+    text.push_str(decision_name(response.decision))?;
     for id in response.determining.iter() {
-        push_determining(told, id)?;
+        push_determining(text, id)?;
     }
     for erring in response.erring.iter() {
-        push_erring(told, erring.policy, erring.error)?;
+        push_erring(text, erring.policy, erring.error)?;
     }
     Ok(())
 }
 
 /// The same of a response whose ids are lent.
 pub fn lent_text(alloc: Global, response: cedar_auth::Response<'_>) -> Result<String, AllocError> {
-    let mut told = String::new(alloc);
-    let pushed = push_lent(&mut told, &response);
+    let mut text = String::new(alloc);
+    let pushed = push_lent(&mut text, &response);
     drop(response);
-    once(told, pushed)
+    once(text, pushed)
 }

@@ -18,6 +18,6 @@ pub record IsKept (settings : Settings) (s : SchemaTree) (ps : List PolicyTree) 
   pub accepted : IsValidatedWith settings s ps
   pub compiled : AreCodes codes ps
 
-pub record IsReady (s : SchemaTree) (ps : List PolicyTree) (w : World) (candidates : CandidatesTree) : Type 0 where
+pub record IsReady (s : SchemaTree) (ps : List PolicyTree) (w : World) (kept : CandidatesTree) : Type 0 where
   pub conforms : Conforms s w
-  pub candidates : AreCandidatesFor s ps candidates
+  pub candidates : AreCandidatesFor s ps kept

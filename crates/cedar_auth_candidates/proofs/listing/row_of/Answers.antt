@@ -1,5 +1,5 @@
 use Rattle.std.proofs.Common.{[]}
-use Rattle.cedar_auth_candidates.proofs.Positions.{bits_none, bits_more, bits_all, alone_none, alone_more, alone_all}
+use Rattle.cedar_auth_candidates.proofs.ListedPositions.{bits_none, bits_more, bits_all, alone_none, alone_more, alone_all}
 use Rattle.cedar_auth_candidates.proofs.listing.row_of.Goals as goal
 
 pub loop-position-init : goal.loop-position-init

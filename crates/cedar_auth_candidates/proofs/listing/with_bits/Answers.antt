@@ -1,7 +1,7 @@
 use Rattle.std.proofs.Common.{ℕ, List, sym, ap, subst, ◌∙◌, ◌+◌, take}
 use Rattle.std.specs.Global.{Vec}
 use Rattle.cedar_auth_candidates.specs.Private.Kept.{Holds}
-use Rattle.cedar_auth_candidates.proofs.Positions.{AreFound, found_more, found_same, found_all, among_more, among_same, among_all}
+use Rattle.cedar_auth_candidates.proofs.ListedPositions.{AreFound, found_more, found_same, found_all, among_more, among_same, among_all}
 use Rattle.cedar_auth_candidates.proofs.listing.with_bits.Goals.{then-has_bit+in_ok-push, else-has_bit}
 use Rattle.cedar_auth_candidates.proofs.listing.with_bits.Goals as goal
 

@@ -1,6 +1,6 @@
 use Rattle.std.proofs.Common.{take}
 use Rattle.cedar_auth_candidates.specs.Private.Kept.{Holds}
-use Rattle.cedar_auth_candidates.proofs.Positions.{AreFound}
+use Rattle.cedar_auth_candidates.proofs.ListedPositions.{AreFound}
 use Rattle.cedar_auth_candidates.proofs.listing.with_bits.Given as goal
 
 abbrev pub invariant-loop-position : goal.invariant-loop-position

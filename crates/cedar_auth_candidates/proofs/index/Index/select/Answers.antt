@@ -1,6 +1,6 @@
 use Rattle.std.proofs.Common.{ℕ, List, Contains, subst, sym}
 use Rattle.cedar_auth_candidates.specs.Index.{HasReached, IndexTree}
-use Rattle.cedar_auth_candidates.proofs.Positions.{stays, is_added, listed_alone}
+use Rattle.cedar_auth_candidates.proofs.ListedPositions.{stays, is_added, listed_alone}
 use Rattle.cedar_auth_candidates.proofs.Selected.{selected}
 use Rattle.cedar_auth_candidates.proofs.index.Index.select.Goals as goal
 

@@ -39,9 +39,9 @@ decreases-check_record l = suc (3 * pairs_depth l.pairs.now)
 -- what is left joins onto what has been joined
 abbrev pub invariant-check_members-loop-member : goal.invariant-check_members-loop-member
 invariant-check_members-loop-member l =
-    types_onto l.self.settings l.self.schema l.self.environment (held_view l.held) (tree_of l.joined) (expressions_of (drop l.member-index l.others)) ≡ types_onto l.self.settings l.self.schema l.self.environment (held_view l.held) (tree_of l.fn.first) (expressions_of l.others)
+    types_onto l.self.settings l.self.schema.now l.self.environment.now (held_view l.held) (tree_of l.joined) (expressions_of (drop l.member-index l.others)) ≡ types_onto l.self.settings l.self.schema.now l.self.environment.now (held_view l.held) (tree_of l.fn.first) (expressions_of l.others)
 
 -- what is left comes onto what has come in
 abbrev pub invariant-check_record-loop-pair : goal.invariant-check_record-loop-pair
 invariant-check_record-loop-pair l =
-    types_entries l.self.settings l.self.schema l.self.environment (held_view l.held) l.attributes (entries_of (drop l.pair-index l.pairs)) ≡ types_entries l.self.settings l.self.schema l.self.environment (held_view l.held) no_attributes (entries_of l.pairs)
+    types_entries l.self.settings l.self.schema.now l.self.environment.now (held_view l.held) l.attributes (entries_of (drop l.pair-index l.pairs)) ≡ types_entries l.self.settings l.self.schema.now l.self.environment.now (held_view l.held) no_attributes (entries_of l.pairs)

@@ -1,7 +1,6 @@
 pub mod Above
 pub mod BitRows
-pub mod Bits
-pub mod Joins
+pub mod Linked
 pub mod Masks
 pub mod Meets
 pub mod Members

@@ -8,10 +8,11 @@ use Rattle.std.proofs.lemmas.List.Folds.{Any-from_list_any, list_any_at}
 use Rattle.std.proofs.lemmas.List.Quantifiers.{position-Some}
 use Rattle.std.proofs.lemmas.Nat.Bits.{bit_at-zero}
 use Rattle.std.proofs.lemmas.Simd.{get_or-chunk}
+use Rattle.base_search.specs.Numbered.{bit_told}
 use Rattle.cedar_value.specs.Datum.{Datum, boolean, long, text, uid, set, record_of, decimal, same_uid}
 use Rattle.cedar_value.specs.declared.uid.Uid.{Uid}
 use Rattle.base_bits.specs.Bits.{has_bit, HasBit, HaveCommonBit}
-use Rattle.cedar_store.specs.Private.Kept.{bit_told, in_row, has_datum}
+use Rattle.cedar_store.specs.Private.Kept.{in_row, has_datum}
 use Rattle.cedar_store.specs.Private.Mask.{is_numbered, number_told}
 use Rattle.cedar_store.proofs.Masks.{IsMask}
 

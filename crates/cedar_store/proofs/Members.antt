@@ -1,5 +1,5 @@
 -- The uids whose bits a row has, in a list that gains them.
-use Rattle.std.proofs.Common.{◌≡◌, ◌≢◌, ◌↔◌, take, ℕ, ◌+◌, ◌<◌, ◌≤◌, ◌⊎◌, inl, inr, ⊎_elim, Bool, true, false, cond, Bor, List, [], ◌∷◌, ◌++◌, length, get_or, Option, None, Some, IsTrue, refl, sym, ap, subst, ◌∙◌, arith, Contains, nat_lt, lt-ltb}
+use Rattle.std.proofs.Common.{◌≡◌, ◌≢◌, ◌↔◌, take, ℕ, ◌+◌, ◌<◌, ◌≤◌, ◌⊎◌, inl, inr, ⊎_elim, Bool, true, false, cond, Bor, List, [], ◌∷◌, ◌++◌, length, get_or, Option, None, Some, refl, sym, ap, subst, ◌∙◌, arith, Contains, nat_lt, lt-ltb}
 use Rattle.std.specs.List.{AllPairs, IsDistinct, position, position_or_len, slice_get}
 use Rattle.std.proofs.lemmas.Bool.{cases_lt}
 use Rattle.std.proofs.lemmas.List.{append-nil, append_assoc}
@@ -13,20 +13,21 @@ use Rattle.base_bits.specs.Bits.{has_bit, IsNextBit}
 use Rattle.base_reach.specs.Private.Lent.{lent}
 use Rattle.base_reach.proofs.Listed.{nowhere}
 use Rattle.base_reach.proofs.Searching.{lent-push}
+use Rattle.base_search.specs.Numbered.{bit_told}
 use Rattle.cedar_value.specs.Datum.{same_uid}
 use Rattle.cedar_value.specs.Private.Equality.{same_uid-Decides}
 use Rattle.cedar_value.specs.World.{World, Below}
 use Rattle.cedar_value.specs.declared.uid.Uid.{Uid}
 use Rattle.cedar_store.specs.Ancestors.{AddsAncestors}
 use Rattle.cedar_store.specs.Private.Gained.{AddsMembers}
-use Rattle.cedar_store.specs.Private.Kept.{AreAncestors, bit_told, in_row}
+use Rattle.cedar_store.specs.Private.Kept.{AreAncestors, in_row}
 
 by_bool : (b : Bool) → (b ≡ true → ⊥) → b ≡ false
 by_bool true h = absurd (h refl)
 by_bool false h = refl
 
 -- of keys that are distinct, each stands first where it stands
-position_here : (keys : List Uid) (i : ℕ) (u : Uid) → IsDistinct same_uid keys → slice_get keys i ≡ Some u → position (same_uid u) keys ≡ Some i
+pub position_here : (keys : List Uid) (i : ℕ) (u : Uid) → IsDistinct same_uid keys → slice_get keys i ≡ Some u → position (same_uid u) keys ≡ Some i
 position_here keys i u distinct read =
     let within = slice_get_within keys i u read in
     let here : get_or keys i u ≡ u = get_or_from_slice_get keys i u u read in

@@ -1,64 +1,59 @@
--- Numbers: what something lies below has one.
-use Rattle.std.proofs.Common.{◌≡◌, inl, inr, Bool, true, false, cond, List, [], ◌∷◌, ◌++◌, Some, unwrap_or, refl, sym, subst, ◌∙◌, Contains}
-use Rattle.std.specs.Option.{option_map}
-use Rattle.std.proofs.lemmas.List.Elements.{Contains-push, Contains-push_cases}
-use Rattle.indexmap.specs.IndexSet.{IndexSet, contains, Updates}
-use Rattle.base_reach.specs.Closure.{LeadsTo, one_link, more_links}
-use Rattle.base_reach.proofs.Listed.{here, there, nowhere}
-use Rattle.base_reach.proofs.Searching.{IsSearching}
+-- The numbers of uids, which stay where more keys follow.
+use Rattle.std.proofs.Common.{◌≡◌, ℕ, zero, suc, ◌<◌, Bool, true, false, cond, List, [], ◌∷◌, ◌++◌, length, get_or, None, Some, refl, sym, ap, subst, ◌∙◌, arith, nat_lt, lt-ltb, if◌then◌else◌}
+use Rattle.std.specs.List.{list_any, position_or_len}
+use Rattle.std.proofs.lemmas.List.{length-append}
+use Rattle.std.proofs.lemmas.List.Folds.{list_any_at}
+use Rattle.std.proofs.lemmas.List.Quantifiers.{position-Some}
+use Rattle.std.proofs.lemmas.List.Sums.{position_or_len_is}
 use Rattle.cedar_value.specs.Datum.{same_uid}
-use Rattle.cedar_value.specs.World.{EntityTree, World, entry_of, parents_of}
-use Rattle.cedar_value.specs.Private.Parents.{IsParent}
+use Rattle.cedar_value.specs.Private.Equality.{same_uid-Decides}
 use Rattle.cedar_value.specs.declared.uid.Uid.{Uid}
-use Rattle.cedar_store.specs.Private.Kept.{AreNumbered, IsNumbered, KeepsNumbers}
+use Rattle.cedar_store.specs.Private.Kept.{KeepsNumbers, number_in}
 
-kept_case : (b old new : Bool) → new ≡ cond b true old → old ≡ true → new ≡ true
-kept_case true old new is h = is
-kept_case false old new is h = is ∙ h
+by_bool : (b : Bool) → (b ≡ true → ⊥) → b ≡ false
+by_bool true h = absurd (h refl)
+by_bool false h = refl
 
-pub KeepsNumbers-updates : {S : Type 0} (old new : IndexSet Uid S) (v : Uid) → Updates same_uid old new v true → KeepsNumbers old.keys new.keys
-KeepsNumbers-updates old new v updates u h = kept_case (same_uid v u) (contains same_uid old u) (contains same_uid new u) (updates.0 u) h
+front : (us vs : List Uid) (k : ℕ) (d : Uid) → k < length us → get_or (us ++ vs) k d ≡ get_or us k d
+front [] vs k d within = absurd (omega arith)
+front (u ∷ us) vs zero d within = refl
+front (u ∷ us) vs (suc k) d within = front us vs k d (omega arith)
 
--- the parents of these entities have numbers
-abbrev pub AreCounted : List Uid → World → Type 0
-AreCounted keys w = (e : EntityTree) → Contains w e → (p : Uid) → Contains e.parents p → IsNumbered keys p
+last_of : (us : List Uid) (u : Uid) → get_or (us ++ u ∷ []) (length us) u ≡ u
+last_of [] u = refl
+last_of (x ∷ us) u = last_of us u
 
-pub AreCounted-none : (keys : List Uid) → AreCounted keys []
-AreCounted-none keys e m = absurd (nowhere e m)
+number_at : (keys : List Uid) (u : Uid) (n : ℕ) → n < length keys → ((k : ℕ) → k < n → same_uid u (get_or keys k u) ≡ false) → same_uid u (get_or keys n u) ≡ true → number_in keys u ≡ Some n
+number_at keys u n within before here =
+    let first : position_or_len (same_uid u) keys ≡ n = position_or_len_is (same_uid u) keys n u (omega arith) before (λ lt. here) in
+    ap (λ k. cond (nat_lt k (length keys)) (Some k) None) first ∙ ap (λ b. cond b (Some n) None) (lt-ltb n (length keys) within)
 
-pub AreCounted-more : (old new : List Uid) (w more : World) (e : EntityTree) → AreCounted old w → KeepsNumbers old new → ((p : Uid) → Contains e.parents p → IsNumbered new p) → more ≡ w ++ e ∷ [] → AreCounted new more
-AreCounted-more old new w more e counted kept next is f m p l =
-    elim (Contains-push_cases w e f (subst (λ es. Contains es f) is m)) [
-      | inl before ↦ kept p (counted f before p l)
-      | inr last ↦ next p (subst (λ (x : EntityTree). Contains x.parents p) (sym last) l)
-    ]
+number_kept : (keys more : List Uid) → KeepsNumbers keys (keys ++ more)
+number_kept keys more u n at =
+    let was = position-Some (same_uid u) keys n u at in
+    let within = was.0 in
+    let long = length-append keys more in
+    number_at (keys ++ more) u n (omega arith) (λ k less. ap (same_uid u) (front keys more k u (omega arith)) ∙ was.2 k less) (ap (same_uid u) (front keys more n u within) ∙ was.1)
 
--- an entity of the world has this parent
-HasParent : World → Uid → Type 0
-HasParent w p = (e : EntityTree) × Contains w e × Contains e.parents p
+number_next : (keys : List Uid) (u : Uid) → list_any (same_uid u) keys ≡ false → number_in (keys ++ u ∷ []) u ≡ Some (length keys)
+number_next keys u absent =
+    let long = length-append keys (u ∷ []) in
+    number_at (keys ++ u ∷ []) u (length keys) (omega arith) (λ k less. ap (same_uid u) (front keys (u ∷ []) k u less) ∙ by_bool (same_uid u (get_or keys k u)) (λ h. (let there = list_any_at (same_uid u) keys k u less h in absurd (cc))))
+    (ap (same_uid u) (last_of keys u) ∙ (same_uid-Decides u u).1 refl)
 
-parent_step : (e : EntityTree) (w : World) (u p : Uid) (b : Bool) → same_uid e.uid u ≡ b → (IsParent w u p → HasParent w p)
-    → Contains (unwrap_or (option_map (λ x. x.parents) (cond b (Some e) (entry_of w u))) []) p → HasParent (e ∷ w) p
-unfolding HasParent
-parent_step e w u p true same rest m = (e, here e w, m)
-parent_step e w u p false same rest m = let r = rest m in (r.0, there e w r.0 r.1, r.2)
+-- a uid without a number is given the next
+pub keys_more : (old new : List Uid) (u v : Uid) → v ≡ u → list_any (same_uid u) old ≡ false → new ≡ (if list_any (same_uid v) old then old else old ++ v ∷ []) → new ≡ old ++ u ∷ []
+keys_more old new u v same absent is =
+    is ∙ ap (λ (x : Uid). if list_any (same_uid x) old then old else old ++ x ∷ []) same ∙ ap (λ b. cond b old (old ++ u ∷ [])) absent
 
-parent : (w : World) (u p : Uid) → IsParent w u p → HasParent w p
-unfolding HasParent
-parent [] u p m = absurd (nowhere p m)
-parent (e ∷ w) u p m = parent_step e w u p (same_uid e.uid u) refl (parent w u p) m
+pub numbers_gained : (old new : List Uid) (u : Uid) → new ≡ old ++ u ∷ [] → KeepsNumbers old new
+numbers_gained old new u is = subst (KeepsNumbers old) (sym is) (number_kept old (u ∷ []))
 
-pub AreNumbered-counted : (keys : List Uid) (w : World) → AreCounted keys w → AreNumbered keys w
-unfolding HasParent
-AreNumbered-counted keys w counted u p m = let of = parent w u p m in counted of.0 of.1 p of.2
+pub number_gained : (old new : List Uid) (u : Uid) (n : ℕ) → list_any (same_uid u) old ≡ false → new ≡ old ++ u ∷ [] → n ≡ length old → number_in new u ≡ Some n
+number_gained old new u n absent is next = ap (λ (keys : List Uid). number_in keys u) is ∙ number_next old u absent ∙ ap Some (sym next)
 
--- a chain ends with a link
-pub last_link : {A : Type 0} {links : A → List A} {u v : A} → LeadsTo links u v → (p : A) × Contains (links p) v
-last_link (one_link {u = u} l) = (u, l)
-last_link (more_links l rest) = last_link rest
-
--- what a search is still to look at has a number
-pub waiting_numbered : (keys : List Uid) (w : World) (u : Uid) (s : Uid → Bool) (pending rest : List Uid) (x : Uid) → AreNumbered keys w → IsSearching (parents_of w) u s pending → pending ≡ rest ++ x ∷ [] → IsNumbered keys x
-waiting_numbered keys w u s pending rest x numbered search is =
-    let last = last_link (search.waiting x (subst (λ us. Contains us x) (sym is) (Contains-push rest x))) in
-    numbered last.0 x last.1
+pub number_apart : (keys : List Uid) (u v : Uid) (n : ℕ) → number_in keys u ≡ Some n → number_in keys v ≡ Some n → u ≡ v
+number_apart keys u v n p q =
+    let of_u = (position-Some (same_uid u) keys n u p).1 in
+    let of_v = (position-Some (same_uid v) keys n u q).1 in
+    (same_uid-Decides u (get_or keys n u)).0 of_u ∙ sym ((same_uid-Decides v (get_or keys n u)).0 of_v)

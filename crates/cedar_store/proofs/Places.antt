@@ -12,7 +12,7 @@ use Rattle.cedar_value.specs.World.{EntityTree, World, entry_of, has_entity}
 use Rattle.cedar_value.specs.Private.Parents.{IsParent}
 use Rattle.cedar_value.specs.declared.uid.Uid.{Uid}
 use Rattle.cedar_store.specs.Entities.{uids_of, StandsTwice, AreUidsDistinct}
-use Rattle.cedar_store.specs.Private.Kept.{ArePlaces}
+use Rattle.cedar_store.specs.Private.Kept.{ArePlaces, IsPlace}
 
 -- ---- a list and its places
 
@@ -95,7 +95,7 @@ entry_step : (e : EntityTree) (w : World) (u : Uid) (k : ℕ) (b : Bool) → sam
 entry_step e w u k true same first rest = let none = first ((same_uid-Decides e.uid u).0 same) in absurd (omega arith)
 entry_step e w u k false same first rest = rest
 
-entry_of-first : (w : World) (u : Uid) (k : ℕ) → slice_get (uids_of w) k ≡ Some u → ((j : ℕ) → slice_get (uids_of w) j ≡ Some u → k ≤ j) → slice_get w k ≡ entry_of w u
+pub entry_of-first : (w : World) (u : Uid) (k : ℕ) → slice_get (uids_of w) k ≡ Some u → ((j : ℕ) → slice_get (uids_of w) j ≡ Some u → k ≤ j) → slice_get w k ≡ entry_of w u
 entry_of-first [] u k h first = cc
 entry_of-first (e ∷ w) u zero h first = ap (λ b. cond b (Some e) (entry_of w u)) (sym ((same_uid-Decides e.uid u).1 (same_Some _ _ h)))
 entry_of-first (e ∷ w) u (suc k) h first =
@@ -109,14 +109,10 @@ entry_of-nowhere : (w : World) (u : Uid) → ((k : ℕ) → slice_get (uids_of w
 entry_of-nowhere [] u h = refl
 entry_of-nowhere (e ∷ w) u h = nowhere_step e w u (same_uid e.uid u) refl (λ same. h 0 (ap Some same)) (entry_of-nowhere w u (λ k p. h (suc k) p))
 
--- the answer of a look-up: the place where the uid stands
-abbrev pub IsPlace : World → Uid → Option ℕ → Type 0
-IsPlace w u o = (k : ℕ) → (o ≡ Some k) ↔ (slice_get (uids_of w) k ≡ Some u)
-
-pub entry_of-placed : (w : World) (u : Uid) (k : ℕ) → IsPlace w u (Some k) → slice_get w k ≡ entry_of w u
+pub entry_of-placed : (w : World) (u : Uid) (k : ℕ) → IsPlace (uids_of w) u (Some k) → slice_get w k ≡ entry_of w u
 entry_of-placed w u k placed = entry_of-first w u k ((placed k).0 refl) (λ j p. let same : k ≡ j = same_Some _ _ ((placed j).1 p) in omega arith)
 
-pub entry_of-unplaced : (w : World) (u : Uid) → IsPlace w u None → None ≡ entry_of w u
+pub entry_of-unplaced : (w : World) (u : Uid) → IsPlace (uids_of w) u None → None ≡ entry_of w u
 entry_of-unplaced w u placed = entry_of-nowhere w u (λ k p. let h = (placed k).1 p in cc)
 
 stands : (w : World) (u : Uid) (k : ℕ) → slice_get (uids_of w) k ≡ Some u → true ≡ is_some (slice_get w k)
@@ -124,7 +120,7 @@ stands [] u k h = cc
 stands (e ∷ w) u zero h = refl
 stands (e ∷ w) u (suc k) h = stands w u k h
 
-pub has_entity-placed : (w : World) (u : Uid) (o : Option ℕ) → IsPlace w u o → is_some o ≡ has_entity w u
+pub has_entity-placed : (w : World) (u : Uid) (o : Option ℕ) → IsPlace (uids_of w) u o → is_some o ≡ has_entity w u
 has_entity-placed w u None placed = ap is_some (entry_of-unplaced w u placed)
 has_entity-placed w u (Some k) placed = stands w u k ((placed k).0 refl) ∙ ap is_some (entry_of-placed w u k placed)
 

@@ -3,8 +3,8 @@ ghost use Rattle.std.specs.Prelude.{◌≡◌, OnErr, OnOk};
 ghost use Rattle.cedar_store.specs.Private.Gained.{AddsMembers};
 
 use crate::numbers::Numbers;
-use crate::row::Row;
 use base_bits::next_bit;
+use base_search::Row;
 use cedar_value::Uid;
 use std::alloc::AllocError;
 

@@ -17,12 +17,11 @@
 mod ancestors;
 mod entity;
 mod entity_table;
+mod links;
 mod mask;
 mod numbers;
-mod order;
 mod plain_ancestors;
 mod plain_store;
-mod row;
 mod rows;
 mod store;
 mod store_fault;

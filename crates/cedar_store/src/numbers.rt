@@ -1,11 +1,10 @@
 //! The numbers of the uids that something lies below.
-ghost use Rattle.std.specs.Prelude.{◌≡◌, Some, IfOk, OnOk, Contains, position};
-ghost use Rattle.cedar_value.specs.Datum.{same_uid};
-ghost use Rattle.cedar_store.specs.Private.Kept.{AreNumbered, IsNumbered, KeepsNumbers, in_row};
+ghost use Rattle.std.specs.Prelude.{◌≡◌, ◌<◌, Some, length, IfOk, OnOk};
+ghost use Rattle.base_search.specs.Numbered.{AreNumbersOf};
+ghost use Rattle.cedar_store.specs.Private.Kept.{KeepsNumbers, in_row, number_in};
 
-use crate::entity_table::EntityTable;
-use crate::row::Row;
 use crate::uid_hashing::UidHashing;
+use base_search::Row;
 use cedar_value::Uid;
 use indexmap::IndexSet;
 use std::alloc::{AllocError, Global};
@@ -13,44 +12,41 @@ use std::alloc::{AllocError, Global};
 /// The uids that have a number, each at its number.
 pub(crate) type Numbers = IndexSet<Uid, UidHashing>;
 
-/// Each parent of the entities once, in the order of first mention: its place is its number.
-pub(crate) fn numbers_of(alloc: Global, table: &EntityTable) -> Result<Numbers, AllocError>
-    ensures { IfOk result (λ numbers. AreNumbered numbers.keys table.now) }
-{
-    let mut numbers = IndexSet::with_hasher(alloc, table.hashing());
-    for entity in table.entities() {
-        number_all(alloc, &mut numbers, &entity.parents)?;
-    }
-    Ok(numbers)
-}
-
-fn number_all(alloc: Global, numbers: &mut Numbers, uids: &[Uid]) -> Result<(), AllocError>
+/// The numbers of these uids, in order. A uid without one is given the next.
+pub(crate) fn number_all(
+    alloc: Global,
+    numbers: &mut Numbers,
+    uids: &[Uid],
+) -> Result<Vec<usize>, AllocError>
     ensures kept { OnOk result (KeepsNumbers numbers.old.keys numbers.new.keys) }
-    ensures numbered { OnOk result ((u : Uid) → Contains uids.now u → IsNumbered numbers.new.keys u) }
+    ensures found { IfOk result (λ found. AreNumbersOf (number_in numbers.new.keys) uids.now found.items) }
 {
+    let mut found = Vec::with_capacity(alloc, uids.len())?;
     for uid in uids {
-        number(alloc, numbers, uid)?;
+        found.push(number(alloc, numbers, uid)?)?;
     }
-    Ok(())
+    Ok(found)
 }
 
-// Gives the uid the next number, unless it has one.
-fn number(alloc: Global, numbers: &mut Numbers, uid: &Uid) -> Result<(), AllocError>
+// The number of a uid. A uid without one is given the next.
+fn number(alloc: Global, numbers: &mut Numbers, uid: &Uid) -> Result<usize, AllocError>
     ensures kept { OnOk result (KeepsNumbers numbers.old.keys numbers.new.keys) }
-    ensures numbered { OnOk result (IsNumbered numbers.new.keys uid.now) }
+    ensures found { IfOk result (λ number. number_in numbers.new.keys uid.now ≡ Some number) }
 {
-    if !numbers.contains(uid) {
-        numbers.insert(uid.try_clone(alloc)?)?;
+    if let Some(number) = numbers.get_index_of(uid) {
+        return Ok(number);
     }
-    Ok(())
+    let next = numbers.len();
+    numbers.insert(uid.try_clone(alloc)?)?;
+    Ok(next)
 }
 
-/// The number of a uid that has one.
-pub(crate) fn number_of(numbers: &Numbers, uid: &Uid) -> usize
-    requires { IsNumbered numbers.now.keys uid.now }
-    ensures { position (same_uid uid.now) numbers.now.keys ≡ Some result }
+/// The uid of a number.
+pub(crate) fn uid_at(numbers: &Numbers, number: usize) -> &Uid
+    requires { number < length numbers.now.keys }
+    ensures { number_in numbers.now.keys result.now ≡ Some number }
 {
-    numbers.get_index_of(uid).unwrap()
+    &numbers.as_slice()[number]
 }
 
 /// Whether the uid has a number, and the row that bit.

@@ -7,11 +7,12 @@ ghost use Rattle.cedar_store.specs.Faults.{IsThere};
 use crate::ancestors::push_members;
 use crate::entity::Entity;
 use crate::entity_table::EntityTable;
+use crate::links::links_of;
 use crate::mask::meets;
-use crate::numbers::{Numbers, has_uid, numbers_of};
-use crate::row::Row;
-use crate::rows::{all_rows, known_row};
+use crate::numbers::{Numbers, has_uid};
+use crate::rows::{all_rows, row_of};
 use crate::store_fault::StoreFault;
+use base_search::Row;
 use cedar_value::{Hierarchy, Record, Uid, ValueSet};
 use std::alloc::{AllocError, Global};
 use std::marker::Model;
@@ -25,15 +26,14 @@ use std::marker::Model;
 pub struct Store {
     table: EntityTable,
     numbers: Numbers,
-    rows: Vec<Option<Row>>,
+    rows: Vec<Row>,
 }
 
 impl Model for Store {
-    ghost use Rattle.std.specs.Prelude.{ℕ, ◌<◌, length};
     ghost use Rattle.std.specs.Coded.{codes};
     ghost use Rattle.cedar_value.specs.Private.DatumCode.{datum_code};
     ghost use Rattle.cedar_value.specs.World.{World};
-    ghost use Rattle.cedar_store.specs.Private.Kept.{AreRows, IsKnownAt};
+    ghost use Rattle.cedar_store.specs.Private.Kept.{AreRows};
 
     ghost Value = { World };
 
@@ -41,7 +41,7 @@ impl Model for Store {
 
     ghost view = { λ s. s.table };
 
-    ghost invariant = { λ s. AreRows s.numbers.keys s.table s.rows.items × ((k : ℕ) → k < length s.table → IsKnownAt s.rows.items k) };
+    ghost invariant = { λ s. AreRows s.numbers.keys s.table s.rows.items };
 }
 
 impl Store {
@@ -60,8 +60,8 @@ impl Store {
         ensures refused { IfErr result (IsThere entities.items) }
     {
         let table = EntityTable::new(alloc, entities)?;
-        let numbers = numbers_of(alloc, &table)?;
-        let rows = all_rows(alloc, &table, &numbers)?;
+        let (numbers, graph) = links_of(alloc, &table)?;
+        let rows = all_rows(alloc, &table, &numbers, &graph)?;
         Ok(Store {
             table,
             numbers,
@@ -77,7 +77,7 @@ impl Store {
         ensures adds { OnOk result (AddsAncestors self.now low.now found.old.items found.new.items) }
         ensures refused { OnErr result (found.new.items ≡ found.old.items) }
     {
-        match known_row(&self.table, &self.rows, low) {
+        match row_of(&self.table, &self.rows, low) {
             Some(row) => push_members(&self.numbers, row, found),
             None => Ok(()),
         }
@@ -99,14 +99,14 @@ impl Hierarchy for Store {
     }
 
     fn is_below(&self, low: &Uid, high: &Uid) -> bool {
-        match known_row(&self.table, &self.rows, low) {
+        match row_of(&self.table, &self.rows, low) {
             Some(row) => has_uid(&self.numbers, row, high),
             None => false,
         }
     }
 
     fn is_below_any(&self, low: &Uid, highs: &ValueSet) -> bool {
-        match known_row(&self.table, &self.rows, low) {
+        match row_of(&self.table, &self.rows, low) {
             Some(row) => meets(&self.numbers, row.words(), highs),
             None => false,
         }

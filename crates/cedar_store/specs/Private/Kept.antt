@@ -1,14 +1,13 @@
 -- What the stores keep beside their entities.
-use Rattle.std.specs.Prelude.{◌≡◌, ◌↔◌, ℕ, Bool, false, true, List, Option, None, Some, position}
+use Rattle.std.specs.Prelude.{◌≡◌, ◌↔◌, ℕ, ◌≤◌, Bool, false, List, [], Option, Some, get_or, length, position}
 use Rattle.std.specs.BTreeSet.{BTreeSet, contains}
-use Rattle.std.specs.List.{slice_get, list_any}
+use Rattle.std.specs.List.{AllZip, slice_get}
 use Rattle.indexmap.specs.IndexMap.{IndexMap, get}
-use Rattle.base_bits.specs.Bits.{has_bit}
 use Rattle.base_reach.specs.Closure.{IsClosure}
+use Rattle.base_search.specs.Numbered.{AreNumbersOf, bit_told}
 use Rattle.cedar_value.specs.Datum.{Datum, uid, same_uid}
 use Rattle.cedar_value.specs.Order.{uid_cmp}
 use Rattle.cedar_value.specs.World.{EntityTree, World, parents_of}
-use Rattle.cedar_value.specs.Private.Parents.{IsParent}
 use Rattle.cedar_value.specs.declared.uid.Uid.{Uid}
 use Rattle.cedar_store.specs.Entities.{uids_of}
 
@@ -32,37 +31,38 @@ HasAncestors w e s = AreAncestors w e.uid (contains uid_cmp s)
 
 -- ---- rows of bits
 
--- the uid has a number among the keys
-abbrev pub IsNumbered : List Uid → Uid → Type 0
-IsNumbered keys u = list_any (same_uid u) keys ≡ true
+-- the number of the uid: the first place of it among the keys
+abbrev pub number_in : List Uid → Uid → Option ℕ
+number_in keys u = position (same_uid u) keys
 
+-- what has a number keeps it
 abbrev pub KeepsNumbers : List Uid → List Uid → Type 0
-KeepsNumbers old new = (u : Uid) → IsNumbered old u → IsNumbered new u
+KeepsNumbers old new = (u : Uid) (n : ℕ) → number_in old u ≡ Some n → number_in new u ≡ Some n
 
--- what something lies below has a number
-abbrev pub AreNumbered : List Uid → World → Type 0
-AreNumbered keys w = (u p : Uid) → IsParent w u p → IsNumbered keys p
+-- for each entity the numbers of its parents
+abbrev pub AreParentNumbers : List Uid → World → List (List ℕ) → Type 0
+AreParentNumbers keys w lists = AllZip (λ e ns. AreNumbersOf (number_in keys) e.parents ns) w lists
 
-abbrev pub bit_told : List ℕ → Option ℕ → Bool
-bit_told row None = false
-bit_told row (Some n) = has_bit row n
+-- the place where the uid stands, where it does
+abbrev pub IsPlace : List Uid → Uid → Option ℕ → Type 0
+IsPlace us u o = (k : ℕ) → (o ≡ Some k) ↔ (slice_get us k ≡ Some u)
 
--- whether the row has the bit of the uid's number, which is the first place of the uid among the keys
+-- for each key the place of the entity with this uid
+abbrev pub AreKeyPlaces : List Uid → World → List (Option ℕ) → Type 0
+AreKeyPlaces keys w places = AllZip (λ u o. IsPlace (uids_of w) u o) keys places
+
+-- whether the row has the bit of the uid's number
 abbrev pub in_row : List Uid → List ℕ → Uid → Bool
-in_row keys row u = bit_told row (position (same_uid u) keys)
+in_row keys row u = bit_told row (number_in keys u)
 
--- the row has the numbers of what the uid is below, and not its own
-abbrev pub IsRow : List Uid → World → Uid → List ℕ → Type 0
-IsRow keys w u row = AreAncestors w u (in_row keys row) × (in_row keys row u ≡ false)
+-- the row stands at the place of the uid
+abbrev pub IsRowOf : List Uid → List (List ℕ) → Uid → List ℕ → Type 0
+IsRowOf us rows u row = (k : ℕ) × (slice_get us k ≡ Some u) × (row ≡ get_or rows k [])
 
--- the row at the place is known
-abbrev pub IsKnownAt : List (Option (List ℕ)) → ℕ → Type 0
-IsKnownAt rows k = (row : List ℕ) × (slice_get rows k ≡ Some (Some row))
+-- no row stands at a place of the uid
+abbrev pub HasNoRow : List Uid → List (List ℕ) → Uid → Type 0
+HasNoRow us rows u = (k : ℕ) → slice_get us k ≡ Some u → length rows ≤ k
 
--- the row is known that stands at the place of the uid
-abbrev pub IsRowOf : List Uid → List (Option (List ℕ)) → Uid → List ℕ → Type 0
-IsRowOf us rows u row = (k : ℕ) × (slice_get rows k ≡ Some (Some row)) × (slice_get us k ≡ Some u)
-
--- each row that is known is that of the entity at its place
-abbrev pub AreRows : List Uid → World → List (Option (List ℕ)) → Type 0
-AreRows keys w rows = (k : ℕ) (u : Uid) (row : List ℕ) → slice_get rows k ≡ Some (Some row) → slice_get (uids_of w) k ≡ Some u → IsRow keys w u row
+-- each row has the numbers of what the entity at its place is below, and nothing else
+abbrev pub AreRows : List Uid → World → List (List ℕ) → Type 0
+AreRows keys w rows = (k : ℕ) (u : Uid) → slice_get (uids_of w) k ≡ Some u → AreAncestors w u (in_row keys (get_or rows k []))

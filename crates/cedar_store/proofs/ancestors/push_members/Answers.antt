@@ -1,10 +1,9 @@
-use Rattle.std.proofs.Common.{◌≡◌, ◌++◌, ◌∷◌, [], not, if◌then◌else◌, ℕ, ◌<◌, ◌≤◌, ◌^◌, List, length, take, Some, refl, sym, ap, subst, ◌∙◌, arith}
+use Rattle.std.proofs.Common.{◌≡◌, ◌++◌, ◌∷◌, [], not, if◌then◌else◌, ℕ, ◌<◌, ◌≤◌, ◌^◌, List, length, Some, refl, sym, ap, subst, ◌∙◌, arith}
 use Rattle.std.specs.List.{slice_get}
 use Rattle.std.proofs.lemmas.Option.{slice_get-get_or}
-use Rattle.std.proofs.Math.Seq.{take-append_seam}
 use Rattle.base_bits.specs.Bits.{HasNoBitFrom, IsNextBit}
 use Rattle.cedar_value.specs.declared.uid.Uid.{Uid}
-use Rattle.cedar_store.proofs.Members.{HasGained-none, HasGained-begun, HasGained-more, HasGained-all}
+use Rattle.cedar_store.proofs.Members.{HasGained-none, HasGained-more, HasGained-all}
 use Rattle.cedar_store.proofs.ancestors.push_members.Goals as goal
 
 pub members-init : goal.members-init

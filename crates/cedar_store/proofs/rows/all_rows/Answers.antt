@@ -1,20 +1,23 @@
-use Rattle.std.proofs.Common.{◌<◌, ◌≤◌, length, subst, arith}
-use Rattle.cedar_value.specs.World.{World}
-use Rattle.cedar_store.proofs.BitRows.{IsAcyclic-rows, known_more}
+use Rattle.std.proofs.Common.{sym, subst}
+use Rattle.base_search.specs.Faults.{IsThere as IsSearchFault}
+use Rattle.cedar_value.specs.World.{Below}
+use Rattle.cedar_store.proofs.Linked.{acyclic_links, below_by_numbers, number_within, rows_closed}
 use Rattle.cedar_store.proofs.rows.all_rows.Goals as goal
 
-pub loop-place-preserved : goal.loop-place-preserved
-loop-place-preserved c =
-    let place = c.loop-place.place in
-    let within : place < length c.args.table.now = subst (λ (es : World). place < length es) c.entities-place-end.ensures c.loop-place-test.true in
-    record {
-      rows = c.in_ok-find_row.ensures.rows;
-      long = c.in_ok-find_row.ensures.whole;
-      known = known_more c.loop-place.rows.items c.find_row.new.rows.items place c.loop-place.invariant.known c.in_ok-find_row.ensures.kept (c.in_ok-find_row.ensures.found within);
-    }
+pub returns-in-Ok-clause-rows : goal.returns-in-Ok-clause-rows
+returns-in-Ok-clause-rows c = rows_closed c.args.numbers.now.keys c.args.table.now c.args.graph.now.lists c.args.graph.now.places.items c.requires.lists c.requires.places c.in-Ok.rows.items c.requires.distinct c.in-Ok.ensures.rows
 
-pub returns-clause-acyclic : goal.returns-clause-acyclic
-returns-clause-acyclic c =
-    let place = c.loop-place.place in
-    let past : length c.args.table.now ≤ place = subst (λ (es : World). length es ≤ place) c.entities-place-end.ensures c.loop-place-test.false in
-    IsAcyclic-rows c.args.numbers.now.keys c.args.table.now c.loop-place.rows.items c.loop-place.invariant.rows (λ k less. c.loop-place.invariant.known k (omega arith))
+pub returns-in-Ok-clause-acyclic : goal.returns-in-Ok-clause-acyclic
+returns-in-Ok-clause-acyclic c = acyclic_links c.args.numbers.now.keys c.args.table.now c.args.graph.now.lists c.args.graph.now.places.items c.requires.lists c.requires.places c.in-Ok.ensures.acyclic
+
+pub uid_at-requires : goal.uid_at-requires
+uid_at-requires c =
+    number_within c.args.numbers.now.keys c.args.table.now c.args.graph.now.lists c.args.graph.now.places.items c.requires.lists c.requires.places c.in-Err-Circle.number c.in-Err-Circle.number
+    (subst (IsSearchFault c.args.graph.now.lists c.args.graph.now.places.items) c.in-Err-Circle.field-0-is c.in-Err-Circle.ensures.refused)
+
+pub returns-in_ok-try_clone-in-Err-Circle-clause-refused : goal.returns-in_ok-try_clone-in-Err-Circle-clause-refused
+returns-in_ok-try_clone-in-Err-Circle-clause-refused c =
+    let w = c.args.table.now in
+    subst (λ u. Below w u u) (sym c.in_ok-try_clone-in-Err-Circle.ensures)
+    (below_by_numbers c.args.numbers.now.keys w c.args.graph.now.lists c.args.graph.now.places.items c.requires.lists c.requires.places c.uid_at.result.now c.in-Err-Circle.number c.uid_at.ensures
+    (subst (IsSearchFault c.args.graph.now.lists c.args.graph.now.places.items) c.in-Err-Circle.field-0-is c.in-Err-Circle.ensures.refused))

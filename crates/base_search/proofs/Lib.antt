@@ -1,0 +1,4 @@
+pub mod Ahead
+pub mod Finding
+pub mod Numbering
+pub mod Spans

@@ -1,0 +1,4 @@
+pub mod Faults
+pub mod Links
+pub mod Numbered
+pub mod Private

@@ -30,7 +30,7 @@ use Rattle.cedar_conform_values.specs.WrittenUids.{IsUidObject, WritesUid, UidAt
 use Rattle.cedar_conform_values.specs.Numbers.{number_of}
 use Rattle.cedar_conform_values.specs.declared.conform_fault.ConformFault.{ConformFault}
 use Rattle.cedar_conform_values.specs.declared.conform_fault.ConformFault.TheVariants.{OutOfMemory, Json, Shape, UnknownType, NoSuchAction, ActionDoesNotApply}
-use Rattle.cedar_conform_requests.specs.Requests.{is_request_key, Names, Lacks, IsShapeless, context_of, Denotes, HasFault}
+use Rattle.cedar_conform.specs.Requests.{is_request_key, Names, Lacks, IsShapeless, context_of, Denotes, HasFault}
 use Rattle.cedar_auth_spec.specs.AnswerJson.{response_data, refused_data}
 use Rattle.cedar_auth.specs.AnswerLine.{AnswersLine}
 use Rattle.cedar_auth_spec.specs.Ready.{ReadyTree}

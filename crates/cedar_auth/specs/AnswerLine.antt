@@ -6,7 +6,7 @@ use Rattle.cedar_ast.specs.Response.{response}
 use Rattle.cedar_conform_values.specs.declared.conform_fault.ConformFault.{ConformFault}
 use Rattle.cedar_conform_values.specs.declared.conform_fault.ConformFault.TheVariants.{OutOfMemory}
 use Rattle.cedar_conform_values.specs.Numbers.{number_of}
-use Rattle.cedar_conform_requests.specs.Requests.{LineDenotes, LineHasFault}
+use Rattle.cedar_conform.specs.Requests.{LineDenotes, LineHasFault}
 use Rattle.cedar_auth_spec.specs.AnswerJson.{response_data, refused_data}
 use Rattle.cedar_auth_spec.specs.Ready.{ReadyTree}
 

@@ -4,7 +4,7 @@ ghost use Rattle.std.specs.List.Sorted.{IsStrictlyIncreasing};
 ghost use Rattle.cedar_ast.specs.Response.{ErringTree, response};
 ghost use Rattle.cedar_conform_values.specs.declared.conform_fault.ConformFault.TheVariants.{OutOfMemory};
 ghost use Rattle.cedar_conform_entities.specs.Bytes.{BytesDenote, BytesHaveFault};
-ghost use Rattle.cedar_conform_requests.specs.Requests.{LineDenotes, LineHasFault};
+ghost use Rattle.cedar_conform.specs.Requests.{LineDenotes, LineHasFault};
 ghost use Rattle.cedar_schema_spec.specs.Conformance.{Conforms, Fits, FitsIn};
 ghost use Rattle.cedar_schema_spec.specs.WellFormed.{AreTypesApart};
 ghost use Rattle.cedar_schema_spec.specs.declared.environment.Environment.{Environment as EnvironmentTree};

@@ -6,7 +6,7 @@ ghost use Rattle.base_lines.specs.Lines.{lines_of, ended_lines_of};
 ghost use Rattle.base_lines.specs.AnswerText.{AnswersEach, AnswersFirst, BeginsAnswers, BeginsAnswerText, IsAnswerText, Receives, Writes};
 ghost use Rattle.cedar_conform_values.specs.declared.conform_fault.ConformFault.TheVariants.{OutOfMemory};
 ghost use Rattle.cedar_conform_values.specs.Numbers.{number_of};
-ghost use Rattle.cedar_conform_requests.specs.Requests.{LineDenotes};
+ghost use Rattle.cedar_conform.specs.Requests.{LineDenotes};
 ghost use Rattle.cedar_schema_spec.specs.Conformance.{Fits};
 ghost use Rattle.cedar_auth_spec.specs.AnswerJson.{refused_data};
 ghost use Rattle.cedar_auth.specs.AnswerLine.{AnswersLine};

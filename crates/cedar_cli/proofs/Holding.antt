@@ -7,7 +7,7 @@ use Rattle.cedar_schema_spec.specs.Conformance.{Conforms}
 use Rattle.cedar_schema_spec.specs.SchemaTree.{SchemaTree}
 use Rattle.cedar_schema_spec.specs.WellFormed.{AreTypesApart}
 use Rattle.cedar_check_spec.specs.declared.settings.Settings.{Settings}
-use Rattle.cedar_conform_requests.specs.Requests.{LineDenotes}
+use Rattle.cedar_conform.specs.Requests.{LineDenotes}
 use Rattle.cedar_auth_spec.specs.Headline.{IsAnsweredSoundlyWith}
 use Rattle.cedar_auth_spec.specs.Ready.{ReadyTree}
 use Rattle.cedar_auth_spec.specs.Validation.{IsValidatedWith, ValidatedTree}

@@ -6,7 +6,7 @@ use Rattle.cedar_ast.specs.PolicySetTree.{PolicySetTree}
 use Rattle.cedar_schema_spec.specs.Conformance.{Conforms}
 use Rattle.cedar_schema_spec.specs.SchemaTree.{SchemaTree}
 use Rattle.cedar_schema_spec.specs.WellFormed.{AreTypesApart}
-use Rattle.cedar_conform_requests.specs.Requests.{LineDenotes}
+use Rattle.cedar_conform.specs.Requests.{LineDenotes}
 use Rattle.cedar_check_spec.specs.declared.settings.Settings.{Settings}
 use Rattle.base_lines.specs.AnswerText.{AnswersFirst, BeginsAnswers, Writes}
 use Rattle.base_lines.specs.Lines.{lines_of}

@@ -4,7 +4,7 @@ use Rattle.cedar_ast.specs.Linking.{HasExtraSlot, HasMissingSlot, IsLinked, IsTe
 use Rattle.cedar_ast.specs.PolicySetTree.{PolicySetTree, ids_in}
 use Rattle.cedar_ast.specs.PolicyTree.{TemplateTree}
 use Rattle.cedar_ast.specs.declared.link.Link.{Link}
-use Rattle.cedar_conform_requests.specs.Links.{BytesDenoteLinks, LinksAreRefused}
+use Rattle.cedar_conform.specs.Links.{BytesDenoteLinks, LinksAreRefused}
 use Rattle.cedar_conform_values.specs.Numbers.{number_of}
 use Rattle.cedar_conform_values.specs.declared.conform_fault.ConformFault.{ConformFault}
 use Rattle.cedar_conform_values.specs.declared.conform_fault.ConformFault.TheVariants.{OutOfMemory}

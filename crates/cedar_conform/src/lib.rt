@@ -1,4 +1,5 @@
-//! Entities, requests and links of the Cedar policy language, read from their JSON according to a schema.
+//! Requests and links of the Cedar policy language, read from their JSON according to a schema; passes on what reads entities
+//! and values.
 //!
 //! ```rust
 //! use cedar_conform::{fits, read_entities, read_request};
@@ -8,18 +9,25 @@
 //! assert!(rt; fits(&schema, &request));
 //! ```
 //!
-//! What is here is passed on from the crates that hold it: cedar_conform_entities, cedar_conform_requests, and below both
-//! cedar_conform_values.
+//! Lines one after another are read with [`read_request_with`], whose reader of JSON is kept from line to line. Entities are
+//! read by cedar_conform_entities, values and uids by cedar_conform_values.
 #![tactic(auto)]
+
+mod context;
+mod fitting;
+mod laws;
+mod links;
+mod request;
 
 pub use cedar_conform_entities::{
     denoted_worlds_are_exact, denoted_worlds_conform, read_entities, read_entities_owned,
     sound_entities_conform,
 };
-pub use cedar_conform_requests::{
-    denoted_requests_fit, fits, one_request, read_links, read_request, read_request_with,
-};
 pub use cedar_conform_values::{
     ConformFault, is_member, is_record_member, one_written_uid, read_record, read_value,
     read_values_belong, uid_of_object, written_uid,
 };
+pub use fitting::fits;
+pub use laws::{denoted_requests_fit, one_request};
+pub use links::read_links;
+pub use request::{read_request, read_request_with};

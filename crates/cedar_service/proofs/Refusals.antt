@@ -4,7 +4,7 @@ use mathlib.Core.Logic.{inl, inr}
 use Rattle.cedar_conform_values.specs.declared.conform_fault.ConformFault.{ConformFault}
 use Rattle.cedar_conform_values.specs.declared.conform_fault.ConformFault.TheVariants.{OutOfMemory, DuplicateEntity, Cycle, Json, Shape, UnknownType, WrongType, MissingAttribute, ExtraAttribute, BadAncestor, ActionDiffers, NumberRange, NoSuchAction, ActionDoesNotApply}
 use Rattle.cedar_conform_values.specs.Numbers.{number_of}
-use Rattle.cedar_conform_requests.specs.Requests.{LineHasFault}
+use Rattle.cedar_conform.specs.Requests.{LineHasFault}
 use Rattle.cedar_service_law.specs.Service.{ServiceState, RefusesOpen}
 
 apart : (fault : ConformFault) → (fault ≡ OutOfMemory) ⊎ (fault ≢ OutOfMemory)

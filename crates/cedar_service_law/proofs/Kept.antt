@@ -9,7 +9,7 @@ use Rattle.cedar_ast.specs.Response.{ResponseTree}
 use Rattle.cedar_value.specs.Datum.{Datum}
 use Rattle.cedar_code.specs.declared.outcome.Outcome.{Outcome}
 use Rattle.cedar_code.specs.Machine.{Configuration, going, ended, start, Step, Steps}
-use Rattle.cedar_conform_requests.specs.Requests.{LineDenotes}
+use Rattle.cedar_conform.specs.Requests.{LineDenotes}
 use Rattle.cedar_service_law.specs.Results.{Results, entered}
 use Rattle.cedar_auth_spec.specs.Ready.{ReadyTree}
 use Rattle.cedar_auth_spec.specs.Codes.{policy_code}

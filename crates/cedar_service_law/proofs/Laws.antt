@@ -7,7 +7,7 @@ use Rattle.cedar_ast.specs.Response.{ResponseTree, response}
 use Rattle.cedar_conform_values.specs.declared.conform_fault.ConformFault.{ConformFault}
 use Rattle.cedar_conform_values.specs.declared.conform_fault.ConformFault.TheVariants.{OutOfMemory, DuplicateEntity, Cycle, Json, Shape, UnknownType, WrongType, MissingAttribute, ExtraAttribute, BadAncestor, ActionDiffers, NumberRange, NoSuchAction, ActionDoesNotApply}
 use Rattle.cedar_conform_values.specs.Numbers.{number_of}
-use Rattle.cedar_conform_requests.specs.Requests.{LineDenotes}
+use Rattle.cedar_conform.specs.Requests.{LineDenotes}
 use Rattle.cedar_service_law.specs.Results.{decided_by}
 use Rattle.cedar_auth_spec.specs.Ready.{ReadyTree}
 use Rattle.cedar_service_law.specs.Jobs.{most_steps, JobTree, IsPartToRun, are_none, job_at}

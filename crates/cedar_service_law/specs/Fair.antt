@@ -2,7 +2,7 @@
 use Rattle.std.specs.Prelude.{◌≡◌, ◌≢◌, ◌⊎◌, ◌↔◌, ℕ, ◌+◌, ◌<◌, ◌≤◌, Bool, true, false, List, Option, Some, None}
 use Rattle.cedar_value.specs.declared.request.Request.{Request}
 use Rattle.cedar_ast.specs.Response.{ResponseTree, response}
-use Rattle.cedar_conform_requests.specs.Requests.{LineDenotes}
+use Rattle.cedar_conform.specs.Requests.{LineDenotes}
 use Rattle.cedar_auth_spec.specs.Ready.{ReadyTree}
 use Rattle.cedar_service_law.specs.Jobs.{most_steps}
 use Rattle.cedar_service_law.specs.Service.{ServiceState, Reply, publish, open_job, step, take_answer, published, opened, stepped, taken, refused, greatest, first_state, IsFaultOfLine}

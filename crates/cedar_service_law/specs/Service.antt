@@ -6,7 +6,7 @@ use Rattle.cedar_schema_spec.specs.SchemaTree.{SchemaTree}
 use Rattle.cedar_conform_values.specs.declared.conform_fault.ConformFault.{ConformFault}
 use Rattle.cedar_conform_values.specs.declared.conform_fault.ConformFault.TheVariants.{OutOfMemory}
 use Rattle.cedar_conform_values.specs.Numbers.{number_of}
-use Rattle.cedar_conform_requests.specs.Requests.{LineDenotes, LineHasFault}
+use Rattle.cedar_conform.specs.Requests.{LineDenotes, LineHasFault}
 use Rattle.cedar_auth_spec.specs.Ready.{ReadyTree}
 use Rattle.cedar_service_law.specs.Results.{decided_by}
 use Rattle.cedar_service_law.specs.Jobs.{JobTree, Jobs, job_at, ChangesAt, IsFresh, Advances, is_finished}

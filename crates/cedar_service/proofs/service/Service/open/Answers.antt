@@ -1,5 +1,5 @@
 use Rattle.std.proofs.Common.{◌≡◌, ◌+◌, ◌<◌, Some, refl, sym, subst, arith}
-use Rattle.cedar_conform_requests.specs.Requests.{LineDenotes}
+use Rattle.cedar_conform.specs.Requests.{LineDenotes}
 use Rattle.cedar_auth_spec.specs.Ready.{ReadyTree}
 use Rattle.cedar_service_law.specs.Jobs.{JobTree, IsFresh}
 use Rattle.cedar_service_law.specs.Service.{ServiceState, Opens, greatest}

@@ -1,0 +1,137 @@
+-- Which request a JSON denotes, and that there is but one.
+use Rattle.std.proofs.Common.{◌≡◌, ℕ, Bool, true, false, inl, inr, List, [], ◌∷◌, Contains, Option, Some, None, Result, Ok, Err, refl, sym, ap, subst, ◌∙◌}
+use Rattle.std.specs.Prelude.{◌≢◌, codes, IfErr, IfOk, MatchOption, MatchResult}
+use Rattle.std.specs.List.Sorted.{IsStrictlySortedBy}
+use Rattle.std.specs.Map.{keys_of}
+use Rattle.serde_json.specs.Data.{Data}
+use Rattle.serde_json.specs.Find.{get}
+use Rattle.base_reach.proofs.Listed.{nowhere}
+use Rattle.base_json.specs.JsonTree.{json_of}
+use Rattle.cedar_value.specs.Datum.{Datum, record_of, fields_of, pairs_of}
+use Rattle.cedar_value.specs.Order.{uid_cmp}
+use Rattle.cedar_value.specs.declared.request.Request.{Request}
+use Rattle.cedar_value.specs.declared.uid.Uid.{Uid}
+use Rattle.cedar_schema_types.specs.Membership.{Member}
+use Rattle.cedar_schema_types.specs.Types.{TypeTree}
+use Rattle.cedar_schema_spec.specs.Conformance.{Fits}
+use Rattle.cedar_schema_spec.specs.Declarations.{IsAction}
+use Rattle.cedar_schema_spec.specs.SchemaTree.{SchemaTree, environments_of, HasEnvironment}
+use Rattle.cedar_schema_spec.specs.WellFormed.{AreListsDeclared, IsListedInOrder}
+use Rattle.cedar_conform_values.specs.Belonging.{ReadValuesBelong}
+use Rattle.cedar_conform_values.specs.Values.{value_read}
+use Rattle.cedar_conform_values.specs.WrittenUids.{UidAt, WritesUid, WritesOneUid}
+use Rattle.cedar_conform_values.specs.declared.conform_fault.ConformFault.{ConformFault}
+use Rattle.cedar_conform_values.specs.declared.conform_fault.ConformFault.TheVariants.{OutOfMemory, Json, UnknownType, NoSuchAction, ActionDoesNotApply}
+use Rattle.cedar_conform.specs.Private.Answers.{IsAnswer}
+use Rattle.cedar_conform.specs.Requests.{Denotes, HasFault, HasUidsFault, HasContextFault, IsShapeless, LineDenotes, LineHasFault, Names, context_of}
+use Rattle.cedar_conform.proofs.EnvironmentSources.{one_context, action_declared, principal_declared, resource_declared}
+
+-- ---- what a JSON denotes fits
+
+denoted_fits : ReadValuesBelong → (s : SchemaTree) (d : Data) (q : Request) → Denotes s d q → Fits s q
+denoted_fits belong s d q h = (
+  record { action = q.action; principal = q.principal.ty; resource = q.resource.ty; context = h.context_type },
+  record {
+    listed = h.applies;
+    principal = refl;
+    action = refl;
+    resource = refl;
+    context = subst (Member h.context_type) (sym h.context) (belong h.context_type (context_of d) h.fine);
+  },
+)
+
+pub denoted_line_fits : ReadValuesBelong → (s : SchemaTree) (line : List ℕ) (q : Request) → LineDenotes s line q → Fits s q
+denoted_line_fits belong s line q h = at (json_of line) h
+  where
+    at : (o : Option Data) → MatchOption o ⊥ (λ d. Denotes s d q) → Fits s q
+    at None h = absurd h
+    at (Some d) h = denoted_fits belong s d q h
+
+pub answer_fits : ReadValuesBelong → (s : SchemaTree) (d : Data) (result : Result Request ConformFault) → IsAnswer s d result → IfOk result (Fits s)
+answer_fits belong s d (Ok q) h = denoted_fits belong s d q h
+answer_fits belong s d (Err f) h = tt
+
+pub answer_tells : (s : SchemaTree) (line : List ℕ) (d : Data) (result : Result Request ConformFault) → Some d ≡ json_of line → IsAnswer s d result → IfErr result (λ e. e ≢ OutOfMemory → LineHasFault s line e)
+answer_tells s line d (Ok q) is h = tt
+answer_tells s line d (Err f) is h = λ other. subst (λ o. MatchOption o (f ≡ Json) (λ x. HasFault s x f)) is (h other)
+
+-- ---- there is but one
+
+pub one_uid_at : WritesOneUid → (k : List ℕ) (d : Data) (u v : Uid) → UidAt k d u → UidAt k d v → u ≡ v
+one_uid_at one k d u v h g = at (get k d) h g
+  where
+    at : (o : Option Data) → MatchOption o ⊥ (λ found. WritesUid found u) → MatchOption o ⊥ (λ found. WritesUid found v) → u ≡ v
+    at None h g = absurd h
+    at (Some found) h g = one found u v h g
+
+pairs_back : (ps : List (List ℕ × Datum)) → pairs_of (fields_of ps) ≡ ps
+pairs_back [] = refl
+pairs_back (p ∷ ps) = ap (λ (xs : List (List ℕ × Datum)). p ∷ xs) (pairs_back ps)
+
+abbrev fields_in : Datum → List (List ℕ × Datum)
+fields_in (record_of fs) = pairs_of fs
+fields_in _ = []
+
+one_record : (ps qs : List (List ℕ × Datum)) → record_of (fields_of ps) ≡ record_of (fields_of qs) → ps ≡ qs
+one_record ps qs e = sym (pairs_back ps) ∙ ap fields_in e ∙ pairs_back qs
+
+module _ (one : WritesOneUid) (s : SchemaTree) (up : IsStrictlySortedBy uid_cmp (keys_of s.actions)) where
+  same_request : (d : Data) (q r : Request) → Denotes s d q → Denotes s d r → q ≡ r
+  same_request d q r h g =
+      let p = one_uid_at one (codes "principal") d q.principal r.principal h.names.principal_at g.names.principal_at in
+      let a = one_uid_at one (codes "action") d q.action r.action h.names.action_at g.names.action_at in
+      let b = one_uid_at one (codes "resource") d q.resource r.resource h.names.resource_at g.names.resource_at in
+      let t = one_context s.actions up _ _ h.applies g.applies a in
+      let context = one_record q.context r.context (h.context ∙ ap (λ (x : TypeTree). (value_read x (context_of d)).value) t ∙ sym g.context) in
+      λ i. record { principal = p i; action = a i; resource = b i; context = context i }
+
+pub one_line_request : WritesOneUid → (s : SchemaTree) (line : List ℕ) (q r : Request) → IsListedInOrder s → LineDenotes s line q → LineDenotes s line r → q ≡ r
+one_line_request one s line q r up h g = at (json_of line) h g
+  where
+    at : (o : Option Data) → MatchOption o ⊥ (λ d. Denotes s d q) → MatchOption o ⊥ (λ d. Denotes s d r) → q ≡ r
+    at None h g = absurd h
+    at (Some d) h g = same_request one s up.1 d q r h g
+
+-- where no other refusal can be, memory ran out
+pub memory_alone : (f : ConformFault) → (f ≢ OutOfMemory → ⊥) → f ≡ OutOfMemory
+memory_alone OutOfMemory never = refl
+memory_alone _ never = absurd (never (λ e. cc))
+
+module _ (one : WritesOneUid) (s : SchemaTree) (up : IsStrictlySortedBy uid_cmp (keys_of s.actions)) (declared : AreListsDeclared s) (d : Data) where
+  no_uids_fault : (q : Request) → Denotes s d q → (f : ConformFault) → HasUidsFault s q.principal q.action q.resource f → ⊥
+  no_uids_fault q h UnknownType (inl none) = principal_declared s declared _ h.applies none
+  no_uids_fault q h UnknownType (inr none) = resource_declared s declared _ h.applies none
+  no_uids_fault q h NoSuchAction none = none (action_declared s _ h.applies)
+  no_uids_fault q h ActionDoesNotApply none = none.1 h.context_type h.applies
+  no_uids_fault q h _ none = none
+
+  named : (q : Request) → Denotes s d q → (p a r : Uid) → Names d p a r → (f : ConformFault) → HasUidsFault s p a r f → HasUidsFault s q.principal q.action q.resource f
+  named q h p a r names f fault =
+      let pe = one_uid_at one (codes "principal") d p q.principal names.principal_at h.names.principal_at in
+      let ae = one_uid_at one (codes "action") d a q.action names.action_at h.names.action_at in
+      let re = one_uid_at one (codes "resource") d r q.resource names.resource_at h.names.resource_at in
+      subst (λ (x : Uid). HasUidsFault s q.principal q.action x f) re (subst (λ (x : Uid). HasUidsFault s q.principal x r f) ae (subst (λ (x : Uid). HasUidsFault s x a r f) pe fault))
+
+  no_shape_fault : (q : Request) → Denotes s d q → IsShapeless d → ⊥
+  no_shape_fault q h (inl keys) = let both : true ≡ false = sym h.keys ∙ keys in cc
+  no_shape_fault q h (inr (inl lacks)) = lacks q.principal h.names.principal_at
+  no_shape_fault q h (inr (inr (inl lacks))) = lacks q.action h.names.action_at
+  no_shape_fault q h (inr (inr (inr lacks))) = lacks q.resource h.names.resource_at
+
+  no_context_fault : (q : Request) → Denotes s d q → (f : ConformFault) → HasContextFault s d f → ⊥
+  no_context_fault q h f fault =
+      let t = one_context s.actions up _ _ h.applies fault.applies (one_uid_at one (codes "action") d q.action fault.action h.names.action_at fault.names.action_at) in
+      let none = ap (λ (x : TypeTree). (value_read x (context_of d)).faults) (sym t) ∙ h.fine in
+      nowhere f (subst (λ (fs : List ConformFault). Contains fs f) none fault.broken)
+
+  no_fault : (q : Request) → Denotes s d q → (f : ConformFault) → HasFault s d f → ⊥
+  no_fault q h f (inl shape) = no_shape_fault q h shape.1
+  no_fault q h f (inr (inl (p, a, r, names, fault))) = no_uids_fault q h f (named q h p a r names f fault)
+  no_fault q h f (inr (inr fault)) = no_context_fault q h f fault
+
+  only_answer : (q : Request) → Denotes s d q → (result : Result Request ConformFault) → IsAnswer s d result → MatchResult result (λ found. found ≡ q) (λ e. e ≡ OutOfMemory)
+  only_answer q h (Ok found) g = same_request one s up d found q g h
+  only_answer q h (Err f) g = memory_alone f (λ other. no_fault q h f (g other))
+
+  pub only_of : (line : List ℕ) → Some d ≡ json_of line → (result : Result Request ConformFault) → IsAnswer s d result → (q : Request) → LineDenotes s line q → MatchResult result (λ found. found ≡ q) (λ e. e ≡ OutOfMemory)
+  only_of line is result g q h = only_answer q (subst (λ o. MatchOption o ⊥ (λ x. Denotes s x q)) (sym is) h) result g

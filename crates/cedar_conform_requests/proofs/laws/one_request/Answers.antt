@@ -1,5 +1,0 @@
-use Rattle.cedar_conform_requests.proofs.RequestLemmas.{one_line_request}
-use Rattle.cedar_conform_requests.proofs.laws.one_request.Goals as goal
-
-pub returns : goal.returns
-returns c = one_line_request c.one_written_uid.ensures

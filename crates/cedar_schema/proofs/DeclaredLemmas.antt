@@ -1,8 +1,7 @@
 -- What is declared one by one is well formed as a whole.
-use Rattle.std.proofs.Common.{◌≡◌, codes, ℕ, suc, bytes_eq, Bool, true, false, cond, nat_eq, List, [], ◌∷◌, Option, Some, None, option_map, unwrap_or, IfSome, All, Contains, refl, sym, ap, ◌∙◌, subst, Ordering, Less, Equal, Greater}
+use Rattle.std.proofs.Common.{◌≡◌, codes, ℕ, Bool, true, false, cond, nat_eq, List, [], ◌∷◌, Option, Some, None, option_map, unwrap_or, IfSome, All, Contains, refl, sym, ap, ◌∙◌, subst, Ordering, Less, Equal, Greater}
 use Rattle.std.proofs.lemmas.Cmp.{nat_list_cmp_total}
 use Rattle.std.proofs.lemmas.List.Elements.{All-nil, All-cons, All-head, All-tail, All-append, All-contains, All-weaker}
-use Rattle.std.proofs.lemmas.Slice.Eq.{bytes_eq-Decides}
 use Rattle.std.proofs.lemmas.Map.Views.{All-values-insert_entry, All-keys-insert_entry, Contains-from_any, tells_apart}
 use Rattle.std.specs.BTreeMap.{insert_entry, is_at}
 use Rattle.std.specs.BTreeSet.{insert_key}
@@ -20,7 +19,7 @@ use Rattle.cedar_value.specs.declared.uid.Uid.{Uid}
 use Rattle.cedar_schema_json.specs.declared.schema_fault.SchemaFault.{SchemaFault}
 use Rattle.cedar_schema_json.specs.declared.schema_fault.SchemaFault.TheVariants.{Shape}
 use Rattle.cedar_schema_spec.specs.declared.environment.Environment.{Environment}
-use Rattle.cedar_schema_json.specs.Naming.{qualified, or_else, listed, place_from, resolved}
+use Rattle.cedar_schema_json.specs.Naming.{qualified, or_else, resolved}
 use Rattle.cedar_schema_json.specs.Reading.{Scope, text_at}
 use Rattle.cedar_schema_json.specs.Entries.{EntryTree, whole_names, entity_key_faults, unless_null}
 use Rattle.cedar_schema.specs.Each.{each_faults, each_onto}
@@ -36,7 +35,7 @@ use Rattle.cedar_schema.specs.Private.SettingView.{IsSettingOf}
 use Rattle.cedar_schema_spec.specs.WellFormed.{IsOrderedRecord, AreMembersDeclared, AreActionContextsOrdered, AreContextsOrdered, NamesOnly, IsWellFormed}
 use Rattle.cedar_schema.proofs.ExpandedOrder.{shape_ordered, context_ordered}
 use Rattle.cedar_schema_spec.specs.Private.Linked.{actions_listed}
-use Rattle.cedar_schema.proofs.InsertedKeys.{here, there, all_keys, kept_key, new_key, sorted_more}
+use Rattle.cedar_schema.proofs.InsertedKeys.{all_keys, kept_key, new_key, sorted_more}
 use Rattle.cedar_schema.proofs.NameEnds.{no_first, no_second, is_no_action}
 use Rattle.cedar_schema.proofs.NamedTypes.{names_more, shape_named, context_named}
 use Rattle.cedar_schema.proofs.ResolvedNames.{IsOf, resolved_in}

@@ -7,7 +7,6 @@ pub mod EnvironmentLemmas
 pub mod EnvironmentOrder
 pub mod ExpandedOrder
 pub mod InsertedKeys
-pub mod Joins
 pub mod NameEnds
 pub mod NamedTypes
 pub mod Numbered

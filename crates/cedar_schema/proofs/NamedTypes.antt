@@ -1,6 +1,6 @@
 -- Each entity type that a schema's JSON names in a type is declared.
-use Rattle.std.proofs.Common.{◌≡◌, codes, ℕ, zero, suc, bytes_eq, Bool, true, false, cond, nat_eq, List, [], ◌∷◌, ◌++◌, length, Option, Some, None, option_map, option_and_then, unwrap_or, IfSome, Contains, Ordering, Less, Equal, Greater}
-use Rattle.std.specs.List.{slice_get, list_any, AllByRecursion}
+use Rattle.std.proofs.Common.{codes, ℕ, zero, suc, bytes_eq, Bool, true, false, cond, List, [], ◌∷◌, ◌++◌, length, Option, Some, None, option_map, option_and_then, unwrap_or, IfSome, Contains, Ordering, Less, Equal, Greater}
+use Rattle.std.specs.List.{slice_get, AllByRecursion}
 use Rattle.std.specs.Ordering.{nat_cmp, match_ordering}
 use Rattle.std.specs.Cmp.Lexicographic.{slice_cmp}
 use Rattle.serde_json.specs.Data.{Data, null, boolean, number, string, array, object, Members, no_members, member}

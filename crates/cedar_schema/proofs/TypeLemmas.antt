@@ -13,12 +13,14 @@ use Rattle.std.proofs.lemmas.Slice.Eq.{bytes_eq-Decides}
 use Rattle.base_bits.specs.Bits.{has_bit}
 use Rattle.base_reach.proofs.Listed.{is_false}
 use Rattle.base_reach.specs.Closure.{LeadsTo}
+use Rattle.base_search.specs.Numbered.{bit_told}
+use Rattle.base_search.proofs.Finding.{no_bit}
 use Rattle.cedar_value.specs.Order.{text_cmp, uid_cmp}
 use Rattle.cedar_value.specs.Private.Same.{text_same, uid_same}
 use Rattle.cedar_value.specs.declared.uid.Uid.{Uid}
 use Rattle.cedar_schema.specs.declared.schema.descents.Descents.{Descents}
-use Rattle.cedar_schema.specs.Private.Kept.{AreRows, AreTypeRows, HasTypeBit, bit_told, has_number, has_row, in_row, type_bit}
-use Rattle.cedar_schema.proofs.Numbered.{equal_from, no_bit}
+use Rattle.cedar_schema.specs.Private.Kept.{AreRows, AreTypeRows, has_number, has_row, in_row, type_bit}
+use Rattle.cedar_schema.proofs.Numbered.{equal_from}
 
 pub and_first : (b c : Bool) → (b && c) ≡ true → b ≡ true
 and_first true c h = refl

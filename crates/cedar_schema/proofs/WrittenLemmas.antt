@@ -16,8 +16,8 @@ use Rattle.cedar_schema_json.specs.Lists.{set_onto}
 use Rattle.cedar_schema.specs.Each.{each_onto}
 use Rattle.cedar_schema.specs.Declaring.{uid_of, entity_type_of, action_of}
 use Rattle.cedar_schema_spec.specs.SchemaTree.{EntityTypeTree, ActionTree}
-use Rattle.cedar_schema.specs.Schemas.{Setting, sections_of, setting_of, scope_in, schema_in, uids_onto}
-use Rattle.cedar_schema.specs.Written.{IsWrittenType, IsWrittenAction, TypesAreWritten, ActionsAreWritten, NamesAreKept, UidsAreKept}
+use Rattle.cedar_schema.specs.Schemas.{sections_of, setting_of, scope_in, schema_in, uids_onto}
+use Rattle.cedar_schema.specs.Written.{TypesAreWritten, ActionsAreWritten, NamesAreKept, UidsAreKept}
 use Rattle.cedar_schema.proofs.InsertedKeys.{all_keys, kept_key, new_key}
 
 module _ {K V : Type 0} (R : K → K → Ordering) (exact : (a b : K) → R a b ≡ Equal → a ≡ b) where

@@ -1,11 +1,11 @@
 -- Which schema a JSON denotes, and which refusals it gives.
-use Rattle.std.specs.Prelude.{◌≡◌, ◌≢◌, ◌⊎◌, ℕ, List, [], Contains, MatchOption}
+use Rattle.std.specs.Prelude.{◌≡◌, ◌⊎◌, ℕ, List, [], Contains, MatchOption}
 use Rattle.serde_json.specs.Data.{Data}
 use Rattle.serde_json.specs.Find.{as_object}
 use Rattle.base_json.specs.JsonTree.{json_of}
 use Rattle.cedar_value.specs.declared.uid.Uid.{Uid}
 use Rattle.cedar_schema_json.specs.declared.schema_fault.SchemaFault.{SchemaFault}
-use Rattle.cedar_schema_json.specs.declared.schema_fault.SchemaFault.TheVariants.{OutOfMemory, Json, Shape, ActionCycle}
+use Rattle.cedar_schema_json.specs.declared.schema_fault.SchemaFault.TheVariants.{Json, Shape, ActionCycle}
 use Rattle.cedar_schema_spec.specs.Descents.{ActionDescends}
 use Rattle.cedar_schema_spec.specs.SchemaTree.{SchemaTree}
 use Rattle.cedar_schema.specs.Schemas.{schema_of, written_faults}

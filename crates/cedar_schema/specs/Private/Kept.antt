@@ -1,9 +1,11 @@
 -- What a schema keeps beside what it declares.
-use Rattle.std.specs.Prelude.{◌≡◌, ◌↔◌, ◌<◌, IsTrue, IsSome, Bool, false, true, ◌&&◌, bytes_eq, ℕ, List, [], ◌∷◌, Contains, Option, None, Some, option_map, unwrap_or}
+use Rattle.std.specs.Prelude.{◌≡◌, ◌≢◌, ◌↔◌, ◌<◌, IsTrue, Bool, false, true, ◌&&◌, bytes_eq, ℕ, List, [], ◌∷◌, Contains, Option, None, Some, get_or, set, option_map, unwrap_or}
+use Rattle.std.specs.List.{AllZip, slice_get}
 use Rattle.std.specs.BTreeMap.{BTreeMap, get, btree_map_len}
 use Rattle.std.specs.BTreeSet.{BTreeSet, contains, insert_key}
 use Rattle.std.specs.declared.cmp.Ordering.{Ordering}
 use Rattle.base_bits.specs.Bits.{has_bit}
+use Rattle.base_search.specs.Numbered.{AreNumbersOf, bit_told}
 use Rattle.cedar_value.specs.Order.{text_cmp, uid_cmp}
 use Rattle.cedar_value.specs.declared.uid.Uid.{Uid}
 use Rattle.base_reach.specs.Closure.{LeadsTo, IsClosure}
@@ -11,25 +13,38 @@ use Rattle.cedar_schema.specs.declared.schema.descents.Descents.{Descents}
 
 -- ---- numbers
 
--- what has an entry keeps one
-abbrev pub KeepsKeys : {A B : Type 0} → (A → A → Ordering) → BTreeMap A B → BTreeMap A B → Type 0
-KeepsKeys {A} R old new = (u : A) → IsSome (get R old u) → IsSome (get R new u)
+-- what has a number keeps it
+abbrev pub KeepsNumbers : {A : Type 0} → (A → A → Ordering) → BTreeMap A ℕ → BTreeMap A ℕ → Type 0
+KeepsNumbers {A} R old new = (u : A) (n : ℕ) → get R old u ≡ Some n → get R new u ≡ Some n
 
 -- no two have the same number, and the next is free
 pub record AreApart {A : Type 0} (R : A → A → Ordering) (numbers : BTreeMap A ℕ) : Type 0 where
   pub apart : (u v : A) (n : ℕ) → get R numbers u ≡ Some n → get R numbers v ≡ Some n → u ≡ v
   pub free : (u : A) (n : ℕ) → get R numbers u ≡ Some n → n < btree_map_len numbers
 
--- what links lead to has a number, and no two have the same
-pub record AreNumbered {A : Type 0} (R : A → A → Ordering) (up : A → List A) (numbers : BTreeMap A ℕ) : Type 0 where
-  pub apart : (u v : A) (n : ℕ) → get R numbers u ≡ Some n → get R numbers v ≡ Some n → u ≡ v
-  pub whole : (u p : A) → Contains (up u) p → IsSome (get R numbers p)
+-- for each key the numbers of what it links to
+abbrev pub AreLinkNumbers : {A : Type 0} → (A → A → Ordering) → (A → List A) → BTreeMap A ℕ → List A → List (List ℕ) → Type 0
+AreLinkNumbers R up numbers keys lists = AllZip (λ u ns. AreNumbersOf (get R numbers) (up u) ns) keys lists
+
+-- a place of the element among the first keys, where it is one of them
+abbrev pub IsPlaceBelow : {A : Type 0} → List A → ℕ → A → Option ℕ → Type 0
+IsPlaceBelow keys bound u None = (k : ℕ) → k < bound → slice_get keys k ≢ Some u
+IsPlaceBelow keys bound u (Some k) = slice_get keys k ≡ Some u
+
+-- each number has the place of its key among the first keys, where it is one of them
+abbrev pub ArePlacesBelow : {A : Type 0} → (A → A → Ordering) → BTreeMap A ℕ → List A → ℕ → List (Option ℕ) → Type 0
+ArePlacesBelow {A} R numbers keys bound places = (u : A) (n : ℕ) → get R numbers u ≡ Some n → IsPlaceBelow keys bound u (get_or places n None)
+
+-- the places where a number, if there is one, has this one
+abbrev pub with_place : List (Option ℕ) → Option ℕ → ℕ → List (Option ℕ)
+with_place places None place = places
+with_place places (Some n) place = set places n (Some place)
 
 -- ---- rows of bits
 
-abbrev pub bit_told : List ℕ → Option ℕ → Bool
-bit_told row None = false
-bit_told row (Some n) = has_bit row n
+-- each row that is there is the one at a place of its key
+abbrev pub AreRowsAt : {A : Type 0} → (A → A → Ordering) → List A → List (List ℕ) → BTreeMap A (List ℕ) → Type 0
+AreRowsAt {A} R keys rows found = (u : A) (row : List ℕ) → get R found u ≡ Some row → (k : ℕ) × (slice_get keys k ≡ Some u) × (row ≡ get_or rows k [])
 
 -- whether the row has the bit of the element's number
 abbrev pub in_row : {A : Type 0} → (A → A → Ordering) → BTreeMap A ℕ → List ℕ → A → Bool

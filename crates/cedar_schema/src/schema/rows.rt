@@ -14,7 +14,7 @@ ghost use Rattle.cedar_schema_json.specs.declared.schema_fault.SchemaFault.TheVa
 use crate::schema::action::Action;
 use crate::schema::ancestors::actions_above;
 use crate::schema::descents::Descents;
-use crate::schema::row::Row;
+use base_search::Row;
 use cedar_schema_json::SchemaFault;
 use cedar_value::{Name, Uid};
 use std::alloc::{AllocError, Global};

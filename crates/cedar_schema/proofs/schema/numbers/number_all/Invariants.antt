@@ -1,11 +1,12 @@
-use Rattle.std.proofs.Common.{drop}
-use Rattle.cedar_schema.specs.Private.Kept.{AreApart, KeepsKeys}
-use Rattle.cedar_schema.proofs.Numbered.{AreDone, HasKey}
+use Rattle.std.proofs.Common.{take}
+use Rattle.std.specs.BTreeMap.{get}
+use Rattle.base_search.specs.Numbered.{AreNumbersOf}
+use Rattle.cedar_schema.specs.Private.Kept.{AreApart, KeepsNumbers}
 use Rattle.cedar_schema.proofs.schema.numbers.number_all.Given as goal
 
 abbrev pub invariant-loop-key : goal.invariant-loop-key
 invariant-loop-key g l = record {
   apart : AreApart g.K.Ord.cmp l.numbers;
-  kept : KeepsKeys g.K.Ord.cmp l.initial.numbers l.numbers;
-  numbered : AreDone (HasKey g.K.Ord.cmp l.numbers) (drop l.key-index l.keys) l.keys;
+  kept : KeepsNumbers g.K.Ord.cmp l.initial.numbers l.numbers;
+  found : AreNumbersOf (get g.K.Ord.cmp l.numbers) (take l.key-index l.keys) l.found.items;
 }

@@ -1,7 +1,7 @@
 //! What is printed of a case that differs.
 use crate::kinds::outcome;
 use std::alloc::{AllocError, Global};
-use test_case::{Case, CaseFault, Outcome};
+use test_cases_parts::{Case, CaseFault, Outcome};
 
 /// How a case ended.
 pub enum Ending {

@@ -1,21 +1,30 @@
-//! The kinds of cases, each in the library that has it.
+//! The kinds of cases: those of the engine, which are answers, services and runs of the program, and those of its parts.
 use std::alloc::Global;
-use test_case::{Case, CaseFault, Outcome};
+use test_cases_parts::{Case, CaseFault, Outcome};
+
+mod answer;
+mod authorize;
+mod candidates;
+mod faults;
+mod service;
+mod validate;
+mod words;
 
 /// What the case's call gives.
 pub fn outcome(alloc: Global, case: &Case) -> Result<Outcome, CaseFault> {
     let kind = case.word("kind")?;
-    if let Some(outcome) = test_cases_language::outcome(alloc, kind, case)? {
-        return Ok(outcome);
-    }
-    if let Some(outcome) = test_cases_data::outcome(alloc, kind, case)? {
-        return Ok(outcome);
-    }
-    if let Some(outcome) = test_cases_machine::outcome(alloc, kind, case)? {
-        return Ok(outcome);
-    }
-    match test_cases_engine::outcome(alloc, kind, case)? {
-        Some(outcome) => Ok(outcome),
-        None => Err(CaseFault::UnknownKind),
-    }
+    let outcome = match kind {
+        "answer" => answer::outcome(alloc, case)?,
+        "authorize" => authorize::outcome(alloc, case)?,
+        "candidates" => candidates::outcome(alloc, case)?,
+        "faults" => faults::outcome(alloc, case)?,
+        "service" => service::outcome(alloc, case)?,
+        "validate" => validate::outcome(alloc, case)?,
+        "words" => words::outcome(alloc, case)?,
+        _ => match test_cases_parts::part_outcome(alloc, kind, case)? {
+            Some(outcome) => outcome,
+            None => return Err(CaseFault::UnknownKind),
+        },
+    };
+    Ok(outcome)
 }

@@ -1,12 +1,17 @@
-//! `test_cases`, the runner of the cases: it reads files of cases, JSON Lines with one case a line, and compares what each case's
-//! call gives with what the case says. It prints each case that differs, and at last `N passed, M failed`.
+//! The runner of the cases: it makes the call of each case, and compares what it gives with what the case says.
 //!
-//! A case has a name, the kind of its call, the inputs that the kind takes, and the exact text that is wanted, `stdout`. The kinds
-//! are in the libraries that `kinds` names.
+//! It reads files of cases, JSON Lines with one case a line. It prints each case that differs, and at last `N passed, M failed`.
+//!
+//! A case has a name, the kind of its call, the inputs that the kind takes, and the exact text that is wanted, `stdout`. Each module
+//! of `kinds` says what one kind takes and gives; the kinds of the engine's parts are in `test_cases_parts`.
 #![tactic(auto)]
 
 mod difference;
 mod kinds;
+mod program_files;
+mod ready_files;
+mod response_line;
+mod response_text;
 mod running;
 
 use crate::running::Count;

@@ -1,8 +1,18 @@
-//! The tests of the language's crates that are no cases: the examples that open the crates, and faults that are made by hand.
+//! Tests of the language, of expressions and of values that cannot be written as cases.
+//!
+//! - `faults`: faults that are made by hand.
+//! - `records`, `patterns`, `uids`, `values`: what a refused record hands back, and what is made by hand.
+//!
 //! What texts are read as or refused with is in the cases of `test_cases`.
 #![tactic(auto)]
 
 #[cfg(test)]
-mod examples;
-#[cfg(test)]
 mod faults;
+#[cfg(test)]
+mod patterns;
+#[cfg(test)]
+mod records;
+#[cfg(test)]
+mod uids;
+#[cfg(test)]
+mod values;

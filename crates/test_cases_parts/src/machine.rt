@@ -1,0 +1,22 @@
+//! Kinds of cases for code, for runs of the machine, for scopes and for stores.
+//!
+//! A module of `kinds` says what each kind takes and gives.
+mod code_text;
+mod entity_list;
+mod expression_code;
+mod expression_value;
+mod given_text;
+mod kinds;
+mod request_input;
+mod run_text;
+mod staff;
+mod staff_run;
+mod step_lines;
+mod store_asks;
+mod store_refusal;
+mod store_worlds;
+
+pub use given_text::policies_of;
+pub use kinds::outcome;
+pub use request_input::request_of;
+pub use run_text::error_name;

@@ -8,8 +8,8 @@ use std::simd::prelude::*;
 // How many words one vector holds.
 const LANES: usize = 8;
 
-/// Whether two rows of one length have some bit in common. It goes over whole vectors of 8 words, and over the words that
-/// are left one by one. Takes no memory.
+/// Whether two rows of one length have some bit in common. It compares vectors of 8 words, and then the words that are left one
+/// by one. Takes no memory.
 pub fn any_common(a: &[u64], b: &[u64]) -> bool
     requires same_length { length a.now ≡ length b.now }
     ensures { IsTrue result ↔ HaveCommonBit a.now b.now }

@@ -2,7 +2,7 @@
 ghost use Rattle.std.specs.Prelude.{◌≡◌, ℕ, ◌*◌, ◌+◌, ◌<◌, ◌≤◌, IfNone, IfSome};
 ghost use Rattle.base_bits.specs.Bits.{HasNoBitFrom, IsNextBit};
 
-// How many words have a number that a `usize` holds for each of their bits.
+// The most words of a row in which the number of each bit is a `usize`.
 const MOST_WORDS: usize = usize::MAX / 64 + 1;
 
 /// The least number from `from` on whose bit is set, and None where there is none up to `usize::MAX`.

@@ -14,7 +14,7 @@ pub fn has_bit(row: &[u64], n: usize) -> bool
     }
 }
 
-/// Sets bit n of words that have a place for it.
+/// Sets bit n. The words have a place for it.
 pub fn set_bit(words: &mut [u64], n: usize)
     requires { n < 64 * length words.old }
     ensures { (m : ℕ) → has_bit words.new m ≡ (has_bit words.old m || nat_eq n m) }
@@ -22,7 +22,11 @@ pub fn set_bit(words: &mut [u64], n: usize)
     words[n / 64] |= 1 << (n % 64);
 }
 
-/// Sets bit n, for which the row grows where it is too short. Refused where memory runs out; the row is then as it was.
+/// Sets bit n. The row grows where it is too short.
+///
+/// # Errors
+///
+/// Fails only when out of memory. The row is then as it was.
 pub fn insert_bit(row: &mut Vec<u64>, n: usize) -> Result<(), AllocError>
     ensures set { OnOk result ((m : ℕ) → has_bit row.new.items m ≡ (has_bit row.old.items m || nat_eq n m)) }
     ensures refused { OnErr result (row.new.items ≡ row.old.items) }
@@ -32,7 +36,11 @@ pub fn insert_bit(row: &mut Vec<u64>, n: usize) -> Result<(), AllocError>
     Ok(())
 }
 
-/// Sets each bit that is set in the other row. Refused where memory runs out; the row is then as it was.
+/// Sets each bit that is set in the other row. The row grows where it is too short.
+///
+/// # Errors
+///
+/// Fails only when out of memory. The row is then as it was.
 pub fn join(row: &mut Vec<u64>, other: &[u64]) -> Result<(), AllocError>
     ensures joined { OnOk result ((m : ℕ) → has_bit row.new.items m ≡ (has_bit row.old.items m || has_bit other.now m)) }
     ensures refused { OnErr result (row.new.items ≡ row.old.items) }
@@ -44,7 +52,7 @@ pub fn join(row: &mut Vec<u64>, other: &[u64]) -> Result<(), AllocError>
     Ok(())
 }
 
-// Has the row at least so many words, by words without a bit, and no more room than these need.
+// Makes the row at least so many words long, by adding words without a bit, and takes no more room than these need.
 fn grow(row: &mut Vec<u64>, len: usize) -> Result<(), AllocError>
     ensures long { OnOk result (len ≤ vec_len row.new) }
     ensures same { OnOk result ((k : ℕ) → slice_index row.new.items k ≡ slice_index row.old.items k) }

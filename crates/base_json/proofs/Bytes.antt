@@ -41,7 +41,7 @@ past_space bs i h e = ap (lex between) (drop_more bs i 0 h) ∙ lex_space (get_o
 past_operator : (c : ℕ) (bs : List ℕ) (i : ℕ) → class c ≡ operator → i < length bs → get_or bs i 0 ≡ c → lex between (drop i bs) ≡ operator_lexeme c ∷ lex between (drop (i + 1) bs)
 past_operator c bs i k h e = ap (lex between) (drop_more bs i 0 h ∙ ap (λ x. x ∷ drop (i + 1) bs) e) ∙ lex_operator c _ k
 
--- ---- what stands round an item
+-- ---- what is around an item
 
 pub bracket_passed : (bs : List ℕ) (i at : ℕ) → lex between bs ≡ lex between (drop i bs) → i < length bs → get_or bs i 0 ≡ 91 → lex between (drop (i + 1) bs) ≡ lex between (drop at bs)
     → tokens bs ≡ begin_array ∷ tokens (drop at bs)

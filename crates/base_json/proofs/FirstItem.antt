@@ -20,7 +20,7 @@ no_close : (ts : List Token) (x : Json × List Token) (o : Option (List Token)) 
 no_close ts x None e f = refl
 no_close ts x (Some r) e f = not_found x (sym (value_is 126 (Token.end_array ∷ r)) ∙ ap (value 126) (sym (closed_array ts r e)) ∙ f)
 
--- what stands behind an object
+-- what follows an object
 abbrev pub behind : List ℕ → List Token
 behind us = punctuate after_value (lex between us)
 

@@ -10,7 +10,7 @@ abbrev pub no_bad : List Token → Bool
 no_bad [] = true
 no_bad (t ∷ ts) = is_good t && no_bad ts
 
--- where o is an answer of ts, p is the same with us behind what is left, and what was read holds no bad token
+-- where o is an answer of ts, p is the same with us after what is left, and what was read holds no bad token
 abbrev pub Followed : {A : Type 0} → List Token → List Token → Option (A × List Token) → Option (A × List Token) → Type 0
 Followed ts us None p = ⊤
 Followed ts us (Some a) p = (p ≡ Some (a.0, a.1 ++ us)) × (no_bad a.1 ≡ true → no_bad ts ≡ true)

@@ -1,4 +1,4 @@
--- The lexemes of bytes behind which neither a string nor a word goes on are the same with more bytes behind them.
+-- The lexemes of bytes after which neither a string nor a word goes on are the same with more bytes after them.
 use Rattle.std.proofs.Common.{◌≡◌, ℕ, true, List, [], ◌∷◌, ◌++◌, refl, sym, ap, ap₂, ◌∙◌, append_assoc}
 use Rattle.std.proofs.lemmas.Bool.{false≢true, and_parts}
 use Rattle.json.specs.Align.{is_good}

@@ -1,4 +1,4 @@
--- The tokens of lexemes that end with a brace are the same with more lexemes behind it.
+-- The tokens of lexemes that end with a brace are the same with more lexemes after it.
 use Rattle.std.proofs.Common.{◌≡◌, Bool, true, false, ◌&&◌, List, [], ◌∷◌, ◌++◌, refl, sym, ap, ◌∙◌}
 use Rattle.std.proofs.lemmas.Bool.{false≢true}
 use Rattle.json.specs.Align.{is_good}
@@ -16,7 +16,7 @@ all_good (colon ∷ ls) = all_good ls
 abbrev pub closing : List Lexeme → List Lexeme
 closing ls = token end_object ∷ ls
 
--- a token stands where it is allowed: what comes of it, whatever follows
+-- a token is where it is allowed: what comes of it, whatever follows
 abbrev Placed : Place → Token → Bool → (Place → List Token) → Type 0
 Placed p t c k = (n : Place) × (u : Token) × (is_good t ≡ true) × ((j : Place → List Token) → place_token p t c j ≡ u ∷ j n) × (no_bad (k n) ≡ true)
 

@@ -1,4 +1,4 @@
--- A word that ends within some bytes is the same with more bytes behind them.
+-- A word that ends within some bytes is the same with more bytes after them.
 use Rattle.std.proofs.Common.{◌≡◌, ℕ, suc, ◌+◌, ◌-◌, Bool, true, false, cond, ◌&&◌, ◌||◌, ◌==◌, nat_eq, List, [], ◌∷◌, ◌++◌, length, take, drop, Option, Some, None, option_and_then, inl, inr, ◌⊎◌, refl, sym, ap, ap₂, ◌∙◌, subst, arith, length-append}
 use Rattle.std.proofs.lemmas.Bool.{true≢false, false≢true, eqb-true, or_cases}
 use Rattle.std.proofs.lemmas.List.{take-append-le}
@@ -29,7 +29,7 @@ AllOther [] = ⊤
 AllOther (n ∷ ns) = (class n ≡ other) × AllOther ns
 
 module _ (us : List ℕ) where
-  -- o is what a part leaves of bytes in which the word ends, and p what it leaves of them with more behind
+  -- o is what a part leaves of bytes in which the word ends, and p what it leaves of them with more after
   abbrev Extends : Option (List ℕ) → Option (List ℕ) → Type 0
   Extends None p = p ≡ None
   Extends (Some r) p = (p ≡ Some (r ++ us)) × Ends r

@@ -4,7 +4,7 @@ use Rattle.std.specs.Str.{is_utf8}
 use Rattle.serde_json.specs.Data.{Data}
 use Rattle.serde_json.specs.Read.{read}
 
--- The JSON tree of these bytes, which have to be UTF-8 and one JSON text (RFC 8259, as serde_json states it: no deeper
--- than 127, of a repeated key the last, no number beyond a float's range).
+-- The JSON tree of these bytes, which have to be UTF-8 and one JSON text (RFC 8259, as serde_json states it: at most 127 deep,
+-- the last value of a repeated key, no number beyond a float's range).
 abbrev pub json_of : List ℕ → Option Data
 json_of bytes = if is_utf8 bytes then read bytes else None

@@ -1,4 +1,4 @@
-//! What stands before an item of a list and behind it, without its spaces.
+//! What comes before an item of a list and after it, without the spaces.
 ghost use Rattle.std.specs.Prelude.{◌≡◌, ◌+◌, ◌<◌, ◌≤◌, ◌∷◌, drop, length, slice_index, IfSome};
 ghost use Rattle.std.specs.Str.{IsCharBoundary};
 ghost use Rattle.json.specs.Token.{begin_array};
@@ -6,7 +6,8 @@ ghost use Rattle.json.specs.Lex.{between, after_value, lex, punctuate, tokens};
 
 use crate::object_end::is_space;
 
-/// Where the text goes on behind the bracket that it begins with, and behind spaces; None where it does not begin as a list does.
+/// The position after the bracket that begins the text and the spaces that follow it. None where the text does not begin as a
+/// list does.
 pub(crate) fn items_start(text: &str) -> Option<usize>
     ensures tokens { IfSome result (λ at. tokens text.now ≡ begin_array ∷ tokens (drop at text.now)) }
     ensures boundary { IfSome result (λ at. IsCharBoundary text.now at) }
@@ -21,8 +22,8 @@ pub(crate) fn items_start(text: &str) -> Option<usize>
     }
 }
 
-/// Where what is left begins behind an item that ends at `end`: at the bracket that ends the list, or at the object that follows
-/// a comma; None where neither follows.
+/// The position at which the rest begins, after an item that ends at `end`: the bracket that ends the list, or the object that
+/// follows a comma. None where neither follows.
 pub(crate) fn left_behind(bytes: &[u8], end: usize) -> Option<usize>
     ensures tokens { IfSome result (λ at. punctuate after_value (lex between (drop end bytes.now)) ≡ tokens (drop at bytes.now)) }
     ensures within { IfSome result (λ at. at < length bytes.now) }
@@ -35,7 +36,7 @@ pub(crate) fn left_behind(bytes: &[u8], end: usize) -> Option<usize>
     next_at(bytes, comma + 1, b'{')
 }
 
-// Where the byte stands, if it is the first behind spaces.
+// The position of the byte, if it is the first after spaces.
 fn next_at(bytes: &[u8], from: usize, byte: u8) -> Option<usize>
     ensures lexemes { IfSome result (λ at. lex between (drop from bytes.now) ≡ lex between (drop at bytes.now)) }
     ensures within { IfSome result (λ at. at < length bytes.now) }
@@ -49,7 +50,7 @@ fn next_at(bytes: &[u8], from: usize, byte: u8) -> Option<usize>
     }
 }
 
-// Where the first byte stands that is no space, from `from` on.
+// The position of the first byte from `from` on that is not a space.
 fn skip_spaces(bytes: &[u8], from: usize) -> usize
     ensures { lex between (drop from bytes.now) ≡ lex between (drop result bytes.now) }
 {

@@ -17,8 +17,8 @@ use json::{Reader, Scratch};
 use serde_json::Value;
 use std::alloc::{AllocError, Global};
 
-/// The tree of the object that begins the text, and where what is left begins behind it; None where no object is read from its
-/// own bytes, or something else than an object or the list's end stands behind it.
+/// The tree of the object that begins the text, and the position at which the rest begins after it. None where the object
+/// cannot be read from its own bytes, or where neither an object nor the end of the list follows.
 pub(crate) fn first_object(
     alloc: Global,
     text: &str,
@@ -45,7 +45,7 @@ pub(crate) fn first_object(
     }
 }
 
-// The tree that the text is as an item of a list, where it is one.
+// The tree of the text as an item of a list, where the text is one item.
 fn item_alone(alloc: Global, text: &str, scratch: &mut Scratch) -> Result<Option<Value>, AllocError>
     ensures { IfOk result (λ found. IfSome found (λ v. converted of_json (value 126 (tokens text.now)) ≡ Some (view v, []))) }
 {

@@ -20,7 +20,7 @@ use std::marker::Model;
 /// How deep arrays and objects may nest in an item: the list itself is one of a text's 127 levels.
 pub(crate) const ITEM_DEPTH: usize = 126;
 
-/// The items of a JSON text that is a list, one after another, so that the tree of one can be let go before the next is read
+/// The items of a JSON text that is a list, one after another, so that the tree of one can be freed before the next is read
 /// (RFC 8259, section 5). Contracts see the tokens that are to come.
 #[derive(Drop)]
 pub struct ItemReader<'r> {
@@ -39,7 +39,7 @@ impl<'r> Model for ItemReader<'r> {
 }
 
 impl<'r> ItemReader<'r> {
-    /// The items of the text where it begins as a list does. Takes memory by the length of the text.
+    /// The items of the text where it begins as a list does. The memory that it takes grows with the length of the text.
     pub(crate) fn open(
         text: &'r str,
         scratch: &'r mut Scratch,
@@ -55,7 +55,8 @@ impl<'r> ItemReader<'r> {
         }
     }
 
-    /// The items that the text begins with, as if their list's bracket had been passed. Takes memory by the length of the text.
+    /// The items that the text begins with, as if the bracket of their list had been passed. The memory that it takes grows
+    /// with the length of the text.
     pub(crate) fn over(
         text: &'r str,
         scratch: &'r mut Scratch,
@@ -67,8 +68,12 @@ impl<'r> ItemReader<'r> {
         })
     }
 
-    /// The next item's tree, and None where the list ended and the text with it. Refused as Invalid where what is to come are
-    /// no items up to the end of a list and of its text, at the item where that shows, and else only when out of memory.
+    /// The next item's tree, or None where the list ended and the text with it.
+    ///
+    /// # Errors
+    ///
+    /// `Invalid` where the rest of the text is not the items of a list up to its end: at the item where that shows. Fails
+    /// otherwise only when out of memory.
     pub fn next(&mut self, alloc: Global) -> Result<Option<Value>, TreeFault>
         ensures items { MatchResult result
             (λ found. MatchOption found (to_come self.old ≡ Some no_items)
@@ -79,8 +84,12 @@ impl<'r> ItemReader<'r> {
         next_item(alloc, &mut self.reader)
     }
 
-    /// Reads what is to come, and keeps nothing of it. Refused as Invalid exactly where it is no items up to the end of a list
-    /// and of its text, and else only when out of memory.
+    /// Reads the rest of the text, and keeps nothing of it.
+    ///
+    /// # Errors
+    ///
+    /// `Invalid` exactly where the rest is not the items of a list up to the end of the list and of the text. Fails otherwise
+    /// only when out of memory.
     pub fn skip_rest(&mut self, alloc: Global) -> Result<(), TreeFault>
         ensures { MatchResult result (λ _. IsSome (to_come self.old)) (λ e. e ≡ Invalid → to_come self.old ≡ None) }
     {
@@ -88,7 +97,7 @@ impl<'r> ItemReader<'r> {
         Ok(())
     }
 
-    // Whether an item was next, which is let go.
+    // Whether there was a next item. The item is read and freed.
     fn skip_item(&mut self, alloc: Global) -> Result<bool, TreeFault>
         ensures items { MatchResult result
             (λ found. MatchBool found (is_some (to_come self.old) ≡ is_some (to_come self.new)) (IsSome (to_come self.old)))
@@ -106,7 +115,7 @@ impl<'r> ItemReader<'r> {
     }
 }
 
-// Whether the text begins as a list does, whose bracket is passed then.
+// Whether the text begins as a list does. If so, its bracket is passed.
 fn opens_list(reader: &mut Reader<'_>) -> bool
     ensures { MatchBool result (tree_of_tokens reader.old ≡ option_map array (to_come reader.new))
         (option_and_then as_array (tree_of_tokens reader.old) ≡ None) }

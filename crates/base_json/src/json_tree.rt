@@ -7,8 +7,11 @@ ghost use Rattle.base_json.specs.JsonTree.{json_of};
 use serde_json::Value;
 use std::alloc::{AllocError, Global};
 
-/// The JSON tree of the bytes, and None exactly where they are no UTF-8, no JSON, or nest deeper than
-/// 127 (RFC 8259). Refused only when out of memory.
+/// The JSON tree of the bytes. None exactly where they are not UTF-8, not JSON, or nest deeper than 127 (RFC 8259).
+///
+/// # Errors
+///
+/// Fails only when out of memory.
 pub fn read_json(alloc: Global, bytes: &[u8]) -> Result<Option<Value>, AllocError>
     ensures { IfOk result (λ found. option_map view found ≡ json_of bytes.now) }
 {

@@ -1,4 +1,4 @@
-//! The JSON tree of bytes, by one definition for schemas, entities, requests and links.
+//! Reads bytes as JSON: one text, texts one after another, or a long list object by object.
 //!
 //! ```rust
 //! use base_json::read_json;
@@ -9,10 +9,12 @@
 //! }
 //! ```
 //!
-//! Texts one after another are read with room that is kept from text to text. A reader answers what `read_json` answers. Of a
-//! short text the most costly part is to make the room in which its tokens are found; a reader makes that once:
+//! To read many texts, use a reader, which keeps its buffers from text to text. It gives what `read_json` gives. For a short
+//! text, making the buffers costs the most, and a reader makes them once:
 //!
 //! ```rust
+//! use base_json::JsonReader;
+//!
 //! let mut reader = JsonReader::new(alloc);
 //! for line in lines {
 //!     if let Some(json) = reader.read(alloc, line)? {
@@ -21,10 +23,12 @@
 //! }
 //! ```
 //!
-//! A long list is read object by object, in room for the longest of them. Where the bytes of an object alone do not show how it
-//! reads, a reader of all that follows goes on:
+//! A long list is read object by object, in memory for the longest of them. Where an object cannot be read from its own bytes
+//! alone, a reader of the whole rest goes on:
 //!
 //! ```rust
+//! use base_json::ObjectReader;
+//!
 //! if let Ok(mut objects) = ObjectReader::open(alloc, bytes) {
 //!     while let Some(json) = objects.next(alloc)? {
 //!         println!(rt; "{json}")?;

@@ -6,8 +6,8 @@ ghost use Rattle.serde_json.specs.Read.{number_of, number_from, float_of};
 use fast_float::Numeral;
 use serde_json::Number;
 
-/// The number that a token writes: an integer where it is one of 64 bits, else the nearest float of 64 bits; None beyond
-/// a float's range (RFC 8259, section 6). Takes no memory.
+/// The number that a token writes: an integer where it is one of 64 bits, else the nearest float of 64 bits; None beyond a
+/// float's range (RFC 8259, section 6).
 pub(crate) fn number_of(text: &str) -> Option<Number>
     ensures { option_map number_view result ≡ number_of text.now }
 {

@@ -4,7 +4,7 @@ ghost use Rattle.json.specs.Lex.{between, in_word, in_string, class};
 ghost use Rattle.json.specs.Word.{is_operator, is_space};
 ghost use Rattle.base_json.specs.Private.Modes.{mode_next, mode_behind, mode_of, is_between};
 
-// How the lexer of JSON goes on.
+// The state of the lexer of JSON between two bytes.
 #[derive(Clone, Copy, Drop)]
 enum Mode {
     Between,
@@ -13,8 +13,8 @@ enum Mode {
     InEscape,
 }
 
-/// Where the object ends that begins the bytes: behind the brace that closes as many as were opened, of those that stand in
-/// no string. There no string and no word goes on.
+/// The position at which the object that begins the bytes ends: after the brace that closes as many braces as were opened.
+/// Braces inside strings do not count. No string and no word goes on after that position.
 pub(crate) fn object_end(bytes: &[u8]) -> Option<usize>
     ensures within { IfSome result (λ end. (0 < end) × (end ≤ length bytes.now)) }
     ensures closes { IfSome result (λ end. slice_index bytes.now (end - 1) ≡ 125) }

@@ -13,16 +13,16 @@ use serde_json::Value;
 use std::alloc::{AllocError, Global};
 use std::marker::Model;
 
-// How much of a text is passed at least before it is let go, so that the rest is not moved often.
+// How many bytes are passed at least before they are freed, so that the rest is not moved often.
 const LET_GO: usize = 65536;
 
-/// The objects of a JSON text that is a list, one after another, each read from its own bytes: so memory goes by the longest of
-/// them beside what is left of the text, and what has been read is let go (RFC 8259, sections 4 and 5). Contracts see the
+/// The objects of a JSON text that is a list, one after another, each read from its own bytes (RFC 8259, sections 4 and 5).
+/// What has been read is freed, so memory depends on the longest object and on what is left of the text. Contracts see the
 /// tokens that are to come.
 #[derive(Drop)]
 pub struct ObjectReader {
     text: String,
-    // Where what is left begins.
+    // The position at which the rest begins.
     offset: usize,
     scratch: Scratch,
 }
@@ -43,7 +43,7 @@ impl Model for ObjectReader {
 }
 
 impl ObjectReader {
-    /// The objects of the bytes where they begin as a list does. Hands the bytes back where they are no UTF-8 or do not begin
+    /// The objects of the bytes where they begin as a list does. Hands the bytes back where they are not UTF-8 or do not begin
     /// so. Takes no memory.
     pub fn open(alloc: Global, bytes: Vec<u8>) -> Result<ObjectReader, Vec<u8>>
         ensures { MatchResult result (λ objects. json_of bytes.items ≡ option_map array (to_come objects))
@@ -63,8 +63,12 @@ impl ObjectReader {
         }
     }
 
-    /// The next item's tree, where an object is next that is read from its own bytes and something stands behind it; None where
-    /// not, and then nothing has changed: `rest` goes on. Refused only when out of memory.
+    /// The tree of the next item, where that item is an object that is read from its own bytes and more follows it. Otherwise
+    /// None, and nothing has changed: `rest` goes on.
+    ///
+    /// # Errors
+    ///
+    /// Fails only when out of memory.
     pub fn next(&mut self, alloc: Global) -> Result<Option<Value>, AllocError>
         ensures items { IfOk result (λ found. MatchOption found (self.new ≡ self.old)
             (λ v. to_come self.old ≡ option_map (item (view v)) (to_come self.new))) }
@@ -83,7 +87,7 @@ impl ObjectReader {
         Ok(Some(item))
     }
 
-    /// What is left, item by item, by a reader with room for all of it.
+    /// The rest, item by item, from a reader with room for all of it.
     pub fn rest(&mut self) -> Result<ItemReader<'_>, AllocError>
         ensures { IfOk result (λ items. items ≡ self.old) }
     {
@@ -91,8 +95,8 @@ impl ObjectReader {
         ItemReader::over(&self.text[offset..], &mut self.scratch)
     }
 
-    // Lets what was passed go where it is more than half of a long text: so all that is ever moved is less than the text. What is
-    // left is moved to the front of its room, and the room behind it is given back.
+    // Frees what was passed where it is more than half of a long text, so all that is ever moved is less than the text. What is
+    // left is moved to the front of its buffer, and the room after it is given back.
     fn let_go(&mut self) -> Result<(), AllocError>
         ensures { IfOk result (λ _. self.new ≡ self.old) }
     {

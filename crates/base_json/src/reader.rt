@@ -18,8 +18,8 @@ use std::alloc::{AllocError, Global};
 // How deep arrays and objects may nest.
 const MAX_DEPTH: usize = 127;
 
-/// Reads JSON texts with room that is kept from text to text: for the texts with escapes, as long as the longest text, and
-/// for the places of a text's tokens.
+/// Reads JSON texts with buffers that are kept from text to text: one for strings with escapes, as long as the longest text,
+/// and one for the places of a text's tokens.
 #[derive(Drop)]
 pub struct JsonReader {
     scratch: Scratch,
@@ -33,8 +33,11 @@ impl JsonReader {
         }
     }
 
-    /// The JSON tree of the bytes, and None exactly where they are no UTF-8, no JSON, or nest deeper than 127
-    /// (RFC 8259). Refused only when out of memory.
+    /// The JSON tree of the bytes. None exactly where they are not UTF-8, not JSON, or nest deeper than 127 (RFC 8259).
+    ///
+    /// # Errors
+    ///
+    /// Fails only when out of memory.
     pub fn read(&mut self, alloc: Global, bytes: &[u8]) -> Result<Option<Value>, AllocError>
         ensures { IfOk result (λ found. option_map view found ≡ json_of bytes.now) }
     {
@@ -50,8 +53,12 @@ impl JsonReader {
         }
     }
 
-    /// The items of the bytes, to be read one after another, where they begin as a list does; and None where they do not, or
-    /// are no UTF-8: so they are no JSON that is a list (RFC 8259, section 5). Refused only when out of memory.
+    /// The items of the bytes, to be read one after another, where the bytes begin as a list does (RFC 8259, section 5). None
+    /// where they do not begin so, or are not UTF-8: then they are not a JSON list.
+    ///
+    /// # Errors
+    ///
+    /// Fails only when out of memory.
     pub fn items<'r>(&'r mut self, bytes: &'r [u8]) -> Result<Option<ItemReader<'r>>, AllocError>
         ensures { IfOk result (λ found. MatchOption found (option_and_then as_array (json_of bytes.now) ≡ None)
             (λ items. json_of bytes.now ≡ option_map array (to_come items))) }

@@ -12,7 +12,7 @@ use json::{Reader, Token};
 use serde_json::{Map, Value};
 use std::alloc::Global;
 
-/// The tree of the next value, whose arrays and objects may nest `depth` deep; of a repeated key the last value counts
+/// The tree of the next value, whose arrays and objects may nest `depth` deep. Where a key is repeated, its last value counts
 /// (RFC 8259).
 #[cycle(read_tree)]
 #[inline(always)]

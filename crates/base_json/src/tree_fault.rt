@@ -1,11 +1,11 @@
-//! Why tokens make no tree.
+//! The errors of building a tree from tokens.
 use std::alloc::{AllocError, AllocFailed};
 use thiserror::Error;
 
 /// Why tokens make no tree.
 #[derive(Clone, Copy, Debug, PartialEq, Eq, Error)]
 pub enum TreeFault {
-    /// Memory was refused.
+    /// Out of memory.
     #[error("out of memory")]
     OutOfMemory,
     /// They are not a JSON text, or nest deeper than 127, or a number is beyond a float's range.

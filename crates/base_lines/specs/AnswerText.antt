@@ -3,7 +3,7 @@ use Rattle.std.specs.Prelude.{◌≡◌, ℕ, List, [], ◌∷◌, ◌++◌, tak
 use Rattle.std.specs.Io.KnownBytes.{Appends, Consumes}
 use Rattle.base_lines.specs.Lines.{line_feed, lines_of}
 
--- Which text answers which line, both without their LF; an engine says it (own).
+-- Which text answers which line, both without their LF. An engine defines it (own).
 abbrev pub Answering : Type 1
 Answering = List ℕ → List ℕ → Type 0
 
@@ -29,10 +29,10 @@ BeginsAnswers answers lines text = (more : List ℕ) × AnswersFirst answers lin
 abbrev pub BeginsAnswerText : Answering → List ℕ → List ℕ → Type 0
 BeginsAnswerText answers input text = (more : List ℕ) × IsAnswerText answers input (text ++ more)
 
--- What a sink took between these two states of what was written to it, where that is known, has the fact (own).
+-- What a sink took between these two states has the fact, where it is known what was written to the sink (own).
 abbrev pub Writes : Option (List ℕ) → Option (List ℕ) → (List ℕ → Type 0) → Type 0
 Writes old new P = (text : List ℕ) × Appends old new text × P text
 
--- What a source gave between these two states of what it has left, where that is known, has the fact (own).
+-- What a source gave between these two states has the fact, where it is known what the source has left (own).
 abbrev pub Receives : Option (List ℕ) → Option (List ℕ) → (List ℕ → Type 0) → Type 0
 Receives old new P = (given : List ℕ) × Consumes old new given × P given

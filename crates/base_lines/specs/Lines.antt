@@ -5,7 +5,7 @@ use Rattle.std.specs.Prelude.{ℕ, ◌==◌, List, [], ◌∷◌, if◌then◌el
 abbrev pub line_feed : ℕ
 line_feed = 10
 
--- The byte goes to the front of the first line, which it is where there is none (own).
+-- The byte is put in front of the first line, or is a line itself where there is none (own).
 abbrev pub onto_first : ℕ → List (List ℕ) → List (List ℕ)
 onto_first b [] = (b ∷ []) ∷ []
 onto_first b (l ∷ ls) = (b ∷ l) ∷ ls
@@ -15,7 +15,7 @@ abbrev pub lines_of : List ℕ → List (List ℕ)
 lines_of [] = []
 lines_of (b ∷ bs) = if b == line_feed then [] ∷ lines_of bs else onto_first b (lines_of bs)
 
--- The byte goes to the front of the first line, if there is one (own).
+-- The byte is put in front of the first line, if there is one (own).
 abbrev pub onto_ended : ℕ → List (List ℕ) → List (List ℕ)
 onto_ended b [] = []
 onto_ended b (l ∷ ls) = (b ∷ l) ∷ ls

@@ -9,7 +9,7 @@ use crate::serve_fault::ServeFault;
 use crate::sink::Sink;
 use std::alloc::{AllocError, Global};
 
-/// From so many bytes of answers on they are written.
+/// Answers that wait are written once they have so many bytes.
 const FLUSH_AT: usize = 8192;
 
 /// The bytes before the first LF, and those after it.
@@ -25,7 +25,7 @@ fn cut_line(bytes: &[u8]) -> Option<(&[u8], &[u8])>
     None
 }
 
-/// Appends the answer line of a line to `out`. Where memory runs out `out` is as before.
+/// Appends the answer line of a line to `out`. Where memory runs out, `out` is as before.
 fn append_answer<E: Engine>(
     alloc: Global,
     engine: &E,
@@ -46,7 +46,7 @@ fn append_answer<E: Engine>(
     Ok(())
 }
 
-/// Appends the answer line of the line that `line` begins and `end` ends, and empties `line`. Where nothing waits in `line`
+/// Appends the answer line of the line that `line` begins and `end` ends, and empties `line`. Where nothing waits in `line`,
 /// the line is lent as it was read.
 pub(crate) fn end_line<E: Engine>(
     alloc: Global,

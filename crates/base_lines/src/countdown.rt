@@ -10,7 +10,7 @@ impl Countdown {
         Countdown(call)
     }
 
-    /// One more call. Whether it is the one that fails.
+    /// Counts one more call, and returns whether it is the one that fails.
     pub(crate) fn ends(&mut self) -> bool {
         let now = self.0 == 1;
         self.0 = self.0.saturating_sub(1);

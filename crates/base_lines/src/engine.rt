@@ -5,13 +5,13 @@ use std::alloc::{AllocError, Global};
 
 /// Answers one line at a time.
 pub trait Engine {
-    /// What is used again from line to line, so that a line takes no memory for it.
+    /// The room that is used again from line to line, so that a line takes no memory for it.
     type Buffers;
 
     // Whether the second text answers the first.
     ghost answers: { Self → List ℕ → List ℕ → Type 0 };
 
-    /// Appends the answer to the line, without its LF, to `out`. Where memory runs out `out` is as before.
+    /// Appends the answer to the line to `out`. The line is given without its LF. Where memory runs out, `out` is as before.
     fn answer_line(
         &self,
         alloc: Global,

@@ -5,8 +5,8 @@ ghost use Rattle.base_lines.specs.Lines.{lines_of};
 
 use crate::engine::Engine;
 
-/// Where each line has an answer, what begins the answers of some first lines is a beginning of an answer text of the
-/// whole input. A law over the definitions alone.
+/// Suppose that each line has an answer. Then a text that begins the answers of some first lines also begins an answer text of
+/// the whole input. A law: it runs no code.
 pub fn beginnings_go_on<E: Engine>()
     ensures { (engine : E) → ((line : List ℕ) → (answer : List ℕ) × E.answers engine line answer)
         → (input text : List ℕ) → BeginsAnswers (E.answers engine) (lines_of input) text

@@ -1,4 +1,4 @@
-//! Answers input line by line: for each line of a source, one line to a sink, as an engine answers it.
+//! Reads input line by line, and writes the answer of an engine to each line.
 //!
 //! ```rust
 //! use base_lines::{SliceSource, VecSink, serve};
@@ -6,11 +6,11 @@
 //! let mut source = SliceSource::new(b"ping\nping\n");
 //! let mut sink = VecSink::new(alloc);
 //! serve(alloc, &engine, &mut buffers, &mut source, &mut sink)?;
-//! assert_eq!(rt; sink.bytes(), b"pong\npong\n");
+//! assert_eq!(rt; sink.bytes(), b"pong\npong\n".as_slice());
 //! ```
 //!
-//! What an engine answers to a line is its own. [`serve`] says of any engine which answers were written, at its end and
-//! after each failure. A source, a sink and an engine of one's own are an `impl` of [`Source`], [`Sink`], [`Engine`].
+//! [`serve`] promises, for any engine, which answers were written, at its end and after each failure. To use your own source,
+//! sink or engine, implement [`Source`], [`Sink`] or [`Engine`].
 #![tactic(auto)]
 
 mod chunk;

@@ -10,7 +10,7 @@ use thiserror::Error;
 /// Why serving stopped before the end of the input.
 #[derive(Clone, Copy, Debug, PartialEq, Eq, Error)]
 pub enum ServeFault {
-    /// 1: a growth of memory was refused.
+    /// 1: out of memory.
     #[error("out of memory")]
     OutOfMemory,
     /// 2: the source failed.

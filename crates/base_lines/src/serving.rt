@@ -13,10 +13,10 @@ use crate::sink::Sink;
 use crate::source::Source;
 use std::alloc::Global;
 
-/// So many bytes are read at a time, at most.
+/// How many bytes are read at a time, at most.
 const CHUNK: usize = 4096;
 
-/// Reads all there is. At `Ok` and after `OutOfMemory` some answer lines wait in `out`.
+/// Reads the whole source. At `Ok` and after `OutOfMemory` some answer lines wait in `out`.
 fn answer_all<E: Engine, S: Source, K: Sink>(
     alloc: Global,
     engine: &E,
@@ -61,13 +61,15 @@ fn answer_all<E: Engine, S: Source, K: Sink>(
     Ok(())
 }
 
-/// Answers each line of the source by one line to the sink: LF behind what the engine answers. At `Ok` all of the answer text
-/// was written. `buffers` is the engine's room for what it uses again from line to line.
+/// Answers each line of the source by one line to the sink, which ends with LF. At `Ok` all of the answer text was written.
+/// `buffers` is the engine's room for what it uses again from line to line. Before each read all answers so far are written, so
+/// a peer may wait for one answer before it sends the next line.
 ///
-/// 1 where memory ran out: the answers of some first lines were written, whole. 2 only where the source failed during
-/// the call: the answers to the lines that were read with their LF were written, whole. 3 only where the sink failed
-/// during the call: a beginning of the answers was written, which may end within a line. Before each read all answers so far
-/// are written, so that a peer that waits for one before it sends on gets it.
+/// # Errors
+///
+/// - 1: out of memory. The answers of some first lines were written, whole.
+/// - 2: the source failed during the call. The answers to the lines that were read with their LF were written, whole.
+/// - 3: the sink failed during the call. A beginning of the answers was written, which may end within a line.
 pub fn serve<E: Engine, S: Source, K: Sink>(
     alloc: Global,
     engine: &E,

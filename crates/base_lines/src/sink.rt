@@ -17,7 +17,7 @@ pub use vec_sink::VecSink;
 #[error("a write failed")]
 pub struct WriteFailed;
 
-/// Where bytes are written to. A sink counts its failures; a write that takes none of some bytes is one.
+/// Where bytes are written to. A sink counts its failures. A write that is given bytes and takes none of them is a failure.
 pub trait Sink {
     // The bytes that were written, where they are known.
     ghost written: { Self → Option (List ℕ) } = { λ _. None };
@@ -25,8 +25,8 @@ pub trait Sink {
     // How often a write failed.
     ghost failed: { Self → ℕ };
 
-    /// Takes some bytes of the front of `bytes`, at least one if there is one, and answers how many. A write that
-    /// fails takes none.
+    /// Takes some bytes of the front of `bytes`, at least one if there is one, and returns how many. A write that fails takes
+    /// none.
     fn write(&mut self, bytes: &[u8]) -> Result<usize, WriteFailed>
         requires { failed self.old < 2 ^ 64 - 1 }
         ensures bytes { WriteAppends (written self.old) (written self.new) result bytes.now }

@@ -29,8 +29,8 @@ pub trait Source {
     // How often a read failed.
     ghost failed: { Self → ℕ };
 
-    /// Reads into the front of `buf`, and answers how many bytes it put there. Where `buf` has room, `Ok(0)` is the
-    /// end of the input. A read that fails gives nothing.
+    /// Reads into the front of `buf`, and returns how many bytes it put there. Where `buf` has room, `Ok(0)` is the end of the
+    /// input. A read that fails gives nothing.
     fn read(&mut self, buf: &mut [u8]) -> Result<usize, ReadFailed>
         requires { failed self.old < 2 ^ 64 - 1 }
         ensures bytes { ReadConsumes (left self.old) (left self.new) result buf.new }

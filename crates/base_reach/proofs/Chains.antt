@@ -14,7 +14,7 @@ pub link_more : {A : Type 0} {links : A → List A} {u v p : A} → LeadsTo link
 link_more (one_link l) m = more_links l (one_link m)
 link_more (more_links l rest) m = more_links l (link_more rest m)
 
--- two chains, one after the other
+-- two chains, one after another
 pub chain_on : {A : Type 0} {links : A → List A} {u v p : A} → LeadsTo links u v → LeadsTo links v p → LeadsTo links u p
 chain_on (one_link l) m = more_links l m
 chain_on (more_links l rest) m = more_links l (chain_on rest m)

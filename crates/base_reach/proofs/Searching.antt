@@ -21,7 +21,7 @@ pub record Gains {A : Type 0} (old new : A → Bool) (u : A) : Type 0 where
 abbrev pub IsMet : {A : Type 0} → (A → Bool) → List A → A → Type 0
 IsMet s pending v = (s v ≡ true) ⊎ Contains pending v
 
--- where a search stands: links lead to all that was met, and what was looked at has its links met
+-- where a search is: links lead to all that was met, and what was looked at has its links met
 pub record IsSearching {A : Type 0} (links : A → List A) (u : A) (s : A → Bool) (pending : List A) : Type 0 where
   pub found : (v : A) → s v ≡ true → LeadsTo links u v
   pub waiting : (v : A) → Contains pending v → LeadsTo links u v

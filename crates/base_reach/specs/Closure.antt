@@ -13,7 +13,7 @@ pub data LeadsTo {A : Type 0} (links : A → List A) : A → A → Type 0 where
 abbrev pub IsClosure : {A : Type 0} → (A → List A) → A → (A → Bool) → Type 0
 IsClosure {A} links u test = (v : A) → IsTrue (test v) ↔ LeadsTo links u v
 
--- Each element that has links is listed, so that there are no more of them than the list is long (own).
+-- Each element that has links is listed, so there are no more of them than the list is long (own).
 abbrev pub AreListed : {A : Type 0} → (A → List A) → List A → Type 0
 AreListed {A} links sources = (u v : A) → Contains (links u) v → Contains sources u
 

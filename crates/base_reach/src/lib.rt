@@ -1,4 +1,4 @@
-//! What chains of links lead to: the transitive closure of a relation, as a definition, and a plain search for it.
+//! What chains of links lead to (the transitive closure of a relation): the definition, its lemmas, and a plain search.
 //!
 //! ```rust
 //! use base_reach::closure_from;

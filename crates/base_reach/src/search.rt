@@ -9,9 +9,12 @@ use crate::links::Links;
 use std::alloc::{AllocError, Global};
 use std::collections::BTreeSet;
 
-/// All that one or more links lead to from a key, the key itself only where links lead back to it.
-/// Each key is put into the set once, and then what it links to is looked at, so that the work goes by
-/// the number of links. Refused only when out of memory.
+/// All keys that one or more links lead to from a key. The key itself is among them only where links lead back to it. Each key
+/// is put into the set once, and then its links are looked at, so the work grows with the number of links.
+///
+/// # Errors
+///
+/// Fails only when out of memory.
 pub fn closure_from<K: Key, G: Links<K>>(
     alloc: Global,
     graph: &G,

@@ -30,7 +30,7 @@ module _ (links : ℕ → List ℕ) where
 
 -- ---- the search's steps
 
--- where a search stands: all that was met is ahead, and what was looked at has its links met
+-- where a search is: all that was met is ahead, and what was looked at has its links met
 pub record IsSearching (links : ℕ → List ℕ) (list : List ℕ) (s : ℕ → Bool) (pending : List ℕ) : Type 0 where
   pub found : (v : ℕ) → s v ≡ true → IsAhead links list v
   pub waiting : (v : ℕ) → Contains pending v → IsAhead links list v

@@ -1,4 +1,4 @@
--- What a refusal says of the links.
+-- What a refusal says about the links.
 use Rattle.std.specs.Prelude.{ℕ, List, Option}
 use Rattle.base_reach.specs.Closure.{LeadsTo}
 use Rattle.base_search.specs.Links.{next}

@@ -3,7 +3,7 @@ use Rattle.std.specs.Prelude.{◌≡◌, ℕ, Bool, false, List, Option, None, S
 use Rattle.std.specs.List.{AllZip}
 use Rattle.base_bits.specs.Bits.{has_bit}
 
--- Whether the row has the number, where there is one (own).
+-- Whether the row has the number, if there is one (own).
 abbrev pub bit_told : List ℕ → Option ℕ → Bool
 bit_told row None = false
 bit_told row (Some n) = has_bit row n

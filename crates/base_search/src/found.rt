@@ -13,7 +13,7 @@ pub(crate) struct Found {
 }
 
 impl Found {
-    /// No row yet, of so many lists.
+    /// No row yet, for so many lists.
     pub(crate) fn new(alloc: Global, lists: usize) -> Result<Self, AllocError>
         ensures rows { IfOk result (λ found. length found.rows.items ≡ lists) }
         ensures known { IfOk result (λ found. found.known.items ≡ replicate lists false) }

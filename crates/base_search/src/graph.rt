@@ -9,7 +9,7 @@ use crate::lists::Lists;
 pub struct Graph {
     /// The numbers that each of the searched things links to.
     pub lists: Lists,
-    /// The place of the list of each number, None where it links to nothing.
+    /// The place of the list of each number. None where the number links to nothing.
     pub places: Vec<Option<usize>>,
 }
 

@@ -13,8 +13,8 @@
 //! assert!(rt; rows[2].has(0) && rows[2].has(2) && !rows[0].has(0));
 //! ```
 //!
-//! Whoever searches gives numbers to what links lead to, and lists the numbers that each of its things
-//! links to. What nothing links to has a list, but no number: the rows have no bit for it.
+//! The caller gives a number to each thing that links lead to, and a list of such numbers to each thing that has links. A thing
+//! to which nothing links has a list, but no number: the rows have no bit for it.
 #![tactic(auto)]
 
 mod found;

@@ -2,9 +2,9 @@
 use crate::graph::Graph;
 use std::alloc::{AllocError, Global};
 
-/// The numbers, those that a number links to before itself. Where links lead in a circle, the first of the
-/// order whose links do not all lead to numbers before it is on a circle. Each link is followed once. Whatever
-/// the order, the same rows are found by it; a good one saves work.
+/// The numbers, each after those that it links to. Where links lead in a circle, the first number of the order whose links do
+/// not all lead to earlier numbers is on a circle. Each link is followed once. Any order leads to the same rows; a good one
+/// saves work.
 pub(crate) fn order_of(alloc: Global, graph: &Graph) -> Result<Vec<usize>, AllocError> {
     let mut walk = Walk::new(alloc, graph.places.len())?;
     for number in 0..graph.places.len() {
@@ -21,9 +21,9 @@ struct Walk {
     met: Vec<bool>,
     // How many of its links were followed.
     followed: Vec<usize>,
-    // The numbers from where the walk began to where it stands.
+    // The numbers from the start of the walk to where it is now.
     path: Vec<usize>,
-    // Those that the walk came back from.
+    // The numbers that the walk came back from.
     order: Vec<usize>,
 }
 
@@ -46,7 +46,7 @@ impl Walk {
         Ok(())
     }
 
-    // Goes on until it has come back from where it began.
+    // Goes on until the walk has come back to its start.
     fn finish(&mut self, graph: &Graph) -> Result<(), AllocError> {
         for _step in 0..usize::MAX {
             let Some(number) = self.path.last().copied() else {

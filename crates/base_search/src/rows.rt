@@ -13,11 +13,11 @@ use crate::search::row_over;
 use crate::search_fault::SearchFault;
 use std::alloc::{AllocError, Global};
 
-/// For each list the row of its numbers and of all that links lead to from them. A number on a circle of links
-/// is in the row of its own list.
+/// For each list, the row of its numbers and of all that links lead to from them. A number on a circle of links is in the row
+/// of its own list.
 ///
-/// A row is joined from those of the numbers in its list, so that the cost goes by the number of links times
-/// the words of a row, but where links lead in a circle.
+/// A row is joined from the rows of the numbers in its list. Without circles the cost is the number of links times the words of
+/// a row.
 pub fn closed_rows(alloc: Global, graph: &Graph) -> Result<Vec<Row>, AllocError>
     ensures long { IfOk result (λ rows. length rows.items ≡ length graph.now.lists) }
     ensures rows { IfOk result (λ rows. AreClosed graph.now.lists graph.now.places.items rows.items) }
@@ -30,8 +30,11 @@ pub fn closed_rows(alloc: Global, graph: &Graph) -> Result<Vec<Row>, AllocError>
     all_rows(alloc, graph, found)
 }
 
-/// The same where links lead in no circle, and else a number on a circle. It ends at the first circle that it
-/// finds.
+/// The same where links lead in no circle. The search ends at the first circle that it finds.
+///
+/// # Errors
+///
+/// A number on a circle, or out of memory.
 pub fn acyclic_rows(alloc: Global, graph: &Graph) -> Result<Vec<Row>, SearchFault>
     ensures long { IfOk result (λ rows. length rows.items ≡ length graph.now.lists) }
     ensures rows { IfOk result (λ rows. AreClosed graph.now.lists graph.now.places.items rows.items) }
@@ -49,7 +52,7 @@ pub fn acyclic_rows(alloc: Global, graph: &Graph) -> Result<Vec<Row>, SearchFaul
     Ok(all_rows(alloc, graph, found)?)
 }
 
-// Finds the row of a number that is on no circle.
+// Finds the row of a number that is not on a circle.
 fn find_acyclic(
     alloc: Global,
     graph: &Graph,

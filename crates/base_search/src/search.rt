@@ -10,8 +10,8 @@ use crate::graph::Graph;
 use crate::row::Row;
 use std::alloc::{AllocError, Global};
 
-/// The numbers of a list, and all that links lead to from them: each has its bit set once. Then what is known
-/// of it is joined, and else what it links to is looked at.
+/// The numbers of a list, and all that links lead to from them: each has its bit set once. Where the closure of a number is
+/// known already, its row is joined, and otherwise its links are followed.
 pub(crate) fn row_over(
     alloc: Global,
     graph: &Graph,

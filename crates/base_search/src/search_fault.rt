@@ -7,7 +7,7 @@ use thiserror::Error;
 /// Why a search that refuses circles gives no rows.
 #[derive(Debug, Drop, Error)]
 pub enum SearchFault {
-    /// Memory was refused. It says nothing of the links.
+    /// Out of memory. It says nothing about the links.
     #[error("out of memory")]
     OutOfMemory,
     /// Links lead from this number back to itself.

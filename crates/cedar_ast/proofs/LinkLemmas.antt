@@ -1,4 +1,4 @@
--- What stands at an id, and which templates have no link.
+-- What is at an id, and which templates have no link.
 use Rattle.std.proofs.Common.{◌≡◌, ℕ, Bool, true, false, List, [], ◌∷◌, map, length, get_or, Option, Some, None, cond, refl, sym, ap, ◌∙◌, arith, String, string_bytes, inl, inr}
 use Rattle.std.specs.Prelude.{Contains, is_some, ok_or, IfOk, IfErr}
 use Rattle.std.specs.Map.{lookup}

@@ -1,4 +1,4 @@
--- Whether something stands at an id.
+-- Whether something is at an id.
 use Rattle.std.proofs.Common.{◌≡◌, ℕ, Bool, true, false, ◌||◌, List, [], ◌∷◌, ◌++◌, Option, Some, cond, map, refl, sym, ap, subst, append_assoc, ◌∙◌, String, string_bytes}
 use Rattle.std.specs.Prelude.{is_some, Contains}
 use Rattle.std.specs.List.{list_any}
@@ -46,7 +46,7 @@ found-Contains id es here = found-list_any id es ∙ list_any-from_Contains text
 pub in_neither : (xs ys : List (List ℕ)) (k : List ℕ) → (Contains xs k → ⊥) → (Contains ys k → ⊥) → Contains (xs ++ ys) k → ⊥
 in_neither xs ys k no_left no_right here = ⊎_elim no_left no_right (Contains-append_cases xs ys k here)
 
--- ids of which none stands twice, with one more
+-- ids of which none is repeated, with one more
 pub distinct-push : (ks : List (List ℕ)) (k : List ℕ) → AreDistinct ks → (Contains ks k → ⊥) → AreDistinct (ks ++ k ∷ [])
 distinct-push ks k apart absent =
     AllPairs-from_IsDistinct bytes_eq-Decides (ks ++ k ∷ []) (IsDistinct-push text_equivalence ks k (IsDistinct-from_AllPairs bytes_eq-Decides ks apart) free)
@@ -54,7 +54,7 @@ distinct-push ks k apart absent =
     free : list_any (bytes_eq k) ks ≡ false
     free = false_from_ne_true _ (λ found. absent (Contains-from_any (λ x y. (bytes_eq-Decides x y).0) k ks found))
 
--- and with that one behind the first of them
+-- and with that one after the first of them
 pub distinct-between : (xs ys : List (List ℕ)) (k : List ℕ) → AreDistinct (xs ++ ys) → (Contains (xs ++ ys) k → ⊥) → AreDistinct ((xs ++ k ∷ []) ++ ys)
 distinct-between xs ys k apart absent =
     AllPairs-from_IsDistinct bytes_eq-Decides _ (IsDistinct-IsPermutation bytes_eq text_equivalence.symm _ _ moved

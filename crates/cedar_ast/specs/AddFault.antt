@@ -1,4 +1,4 @@
--- What a fault of adding tells.
+-- What a fault of adding reports.
 use Rattle.std.specs.Prelude.{ℕ}
 use Rattle.cedar_ast.specs.declared.statement.Statement.{Statement}
 use Rattle.cedar_ast.specs.declared.add_fault.AddFault.{AddFault}
@@ -9,7 +9,7 @@ abbrev pub number_of : AddFault → ℕ
 number_of (OutOfMemory s) = 1
 number_of (DuplicateId s) = 204
 
--- What was handed in (this project).
+-- The statement that the call was given (this project).
 abbrev pub refused : AddFault → Statement
 refused (OutOfMemory s) = s
 refused (DuplicateId s) = s

@@ -25,7 +25,7 @@ entity_literal u = literal (uid u)
 abbrev pub compared : BinaryOperator → Variable → Expression → Expression
 compared op x e = binary op (variable x) e
 
--- What a scope asks of the principal or the resource (Cedar language reference, policy scope).
+-- What a scope requires of the principal or the resource (Cedar language reference, policy scope).
 abbrev pub entity_scope_of : Variable → EntityScope → Expression
 entity_scope_of x entity.Any = literal (boolean true)
 entity_scope_of x (entity.Equal u) = compared operator.Equal x (entity_literal u)
@@ -33,26 +33,26 @@ entity_scope_of x (entity.In u) = compared operator.In x (entity_literal u)
 entity_scope_of x (entity.Is ty) = unary (Is ty) (variable x)
 entity_scope_of x (entity.IsIn ty u) = and (unary (Is ty) (variable x)) (compared operator.In x (entity_literal u))
 
--- What a scope asks of the action (Cedar language reference, policy scope).
+-- What a scope requires of the action (Cedar language reference, policy scope).
 abbrev pub action_scope_of : ActionScope → Expression
 action_scope_of action.Any = literal (boolean true)
 action_scope_of (action.Equal u) = compared operator.Equal Action (entity_literal u)
 action_scope_of (action.In u) = compared operator.In Action (entity_literal u)
 action_scope_of (action.InSet us) = compared operator.In Action (set_with (expressions_of (map entity_literal us)))
 
--- What a condition asks: that of `when` as it stands, that of `unless` negated (Cedar language reference, policy
+-- What a condition requires: the expression of `when` as it is, that of `unless` negated (Cedar language reference, policy
 -- conditions).
 abbrev pub asked_by : ConditionKind → Expression → Expression
 asked_by When e = e
 asked_by Unless e = unary Not e
 
--- What all conditions ask, in order (Cedar language reference, policy conditions).
+-- What all conditions require, in order (Cedar language reference, policy conditions).
 abbrev pub conditions_of : List Condition → Expression
 conditions_of [] = literal (boolean true)
 conditions_of (c ∷ []) = asked_by c.kind c.body
 conditions_of (c ∷ d ∷ cs) = and (asked_by c.kind c.body) (conditions_of (d ∷ cs))
 
--- The condition of a policy: what it asks of principal, action and resource, and then its conditions (Cedar language
+-- The condition of a policy: what it requires of principal, action and resource, and then its conditions (Cedar language
 -- reference, policies; cedar-spec, Lean: Policy.toExpr).
 abbrev pub condition_of : PolicyTree → Expression
 condition_of p =

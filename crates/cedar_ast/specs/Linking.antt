@@ -15,14 +15,14 @@ use Rattle.cedar_ast.specs.declared.statement.Statement.TheVariants as statement
 use Rattle.cedar_ast.specs.PolicyTree.{PolicyTree, TemplateTree}
 use Rattle.cedar_ast.specs.PolicySetTree.{PolicySetTree, entered}
 
--- The entity that a reference stands for: that which it names, or for a slot the uid that is given for it, if one is
--- (Cedar language reference, policy templates; cedar-spec, Lean: EntityUIDOrSlot.link?).
+-- The entity that a reference denotes: the one that it names, or for a slot the uid that is given for it, if one is (Cedar
+-- language reference, policy templates; cedar-spec, Lean: EntityUIDOrSlot.link?).
 abbrev pub entity_of : EntityReference → Option Uid → Option Uid
 entity_of (Entity u) given = Some u
 entity_of Slot given = given
 
--- What a template's scope asks of the principal or the resource once its slot is replaced by what is given, if it has
--- none or something is given (Cedar language reference, policy templates; cedar-spec, Lean: ScopeTemplate.link?).
+-- What a template's scope requires of the principal or the resource once its slot is replaced by what is given, if it has none
+-- or something is given (Cedar language reference, policy templates; cedar-spec, Lean: ScopeTemplate.link?).
 abbrev pub entity_scope_linked : TemplateEntityScope → Option Uid → Option EntityScope
 entity_scope_linked template.Any given = Some entity.Any
 entity_scope_linked (template.Equal r) given = option_map entity.Equal (entity_of r given)
@@ -30,7 +30,7 @@ entity_scope_linked (template.In r) given = option_map entity.In (entity_of r gi
 entity_scope_linked (template.Is ty) given = Some (entity.Is ty)
 entity_scope_linked (template.IsIn ty r) given = option_map (entity.IsIn ty) (entity_of r given)
 
--- A template's scope with both its slots replaced, if for each that it has a uid is given (Cedar language reference,
+-- A template's scope with both its slots replaced, if a uid is given for each slot that it has (Cedar language reference,
 -- policy templates; cedar-spec, Lean: PrincipalScopeTemplate.link?, ResourceScopeTemplate.link?).
 abbrev pub scope_linked : TemplateScope → Slots → Option Scope
 scope_linked t slots =
@@ -38,8 +38,8 @@ scope_linked t slots =
     (entity_scope_linked t.resource slots.resource))
     (entity_scope_linked t.principal slots.principal)
 
--- The link of a template: the policy of the link's id that is the template with each slot replaced by its uid, if for
--- each a uid is given (Cedar language reference, policy templates; cedar-spec, Lean: Template.link?).
+-- The link of a template: the policy with the link's id that is the template with each slot replaced by its uid, if a uid is
+-- given for each (Cedar language reference, policy templates; cedar-spec, Lean: Template.link?).
 abbrev pub link_of : TemplateTree → List ℕ → Slots → Option PolicyTree
 link_of t id slots =
     option_map (λ s. record { id = id; annotations = t.annotations; effect = t.effect; scope = s; conditions = t.conditions })

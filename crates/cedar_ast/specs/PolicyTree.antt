@@ -6,8 +6,8 @@ use Rattle.cedar_ast.specs.declared.scope.Scope.{Scope}
 use Rattle.cedar_ast.specs.declared.template_scope.TemplateScope.{TemplateScope}
 use Rattle.cedar_ast.specs.declared.condition.Condition.{Condition}
 
--- What a policy and a template share: the id, the annotations in order, the effect, what the scope asks, and the
--- conditions in order (Cedar language reference, policies; cedar-spec, Lean: Cedar.Spec.Policy).
+-- What a policy and a template share: the id, the annotations in order, the effect, the scope, and the conditions in order
+-- (Cedar language reference, policies; cedar-spec, Lean: Cedar.Spec.Policy).
 pub record PolicyRecord (S : Type 0) : Type 0 where
   pub id : List ℕ
   pub annotations : List Annotation

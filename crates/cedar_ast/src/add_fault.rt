@@ -8,7 +8,7 @@ use thiserror::Error;
 /// Why a policy or a template is not added to a set. It is handed back.
 #[derive(Debug, Drop, Error)]
 pub enum AddFault {
-    /// 1: memory was refused.
+    /// 1: out of memory.
     #[error("out of memory")]
     OutOfMemory(Statement),
     /// 204: a policy or a template of the set has this id already.

@@ -4,10 +4,10 @@ ghost use Rattle.std.specs.Prelude.{◌≡◌, IfOk};
 use cedar_value::Text;
 use std::alloc::{AllocError, Global};
 
-/// A name with a text, which means nothing to an evaluation (Cedar language reference, annotations).
+/// A name with a text. It has no meaning for an evaluation (Cedar language reference, annotations).
 #[derive(Drop)]
 pub struct Annotation {
-    /// The name behind the `@`.
+    /// The name after the `@`.
     pub name: Text,
     /// The text in brackets.
     pub value: Text,

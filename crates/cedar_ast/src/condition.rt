@@ -18,7 +18,7 @@ pub enum ConditionKind {
 pub struct Condition {
     /// Whether the expression is to hold.
     pub kind: ConditionKind,
-    /// What stands between the braces.
+    /// The expression between the braces.
     pub body: Expr,
 }
 

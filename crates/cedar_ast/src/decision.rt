@@ -1,6 +1,6 @@
-//! What is decided of a request.
+//! The decision about a request.
 
-/// What is decided of a request (Cedar language reference, authorization).
+/// The decision about a request (Cedar language reference, authorization).
 #[derive(Clone, Copy, Debug, PartialEq, Eq)]
 pub enum Decision {
     /// Some permit is satisfied and no forbid is.

@@ -1,4 +1,4 @@
-//! Policies of the Cedar policy language, the templates that they may be linked from, and the sets of both.
+//! Policies, templates and sets of both; the definitions of the condition of a policy and of the response.
 //!
 //! ```rust
 //! use cedar_ast::{Effect, Expr, Policy, PolicySet, Statement};

@@ -10,7 +10,7 @@ use thiserror::Error;
 /// Why a template of a set is not linked.
 #[derive(Clone, Copy, Debug, PartialEq, Eq, Error)]
 pub enum LinkFault {
-    /// 1: memory was refused.
+    /// 1: out of memory.
     #[error("out of memory")]
     OutOfMemory,
     /// 204: a policy or a template of the set has the link's id already.
@@ -62,7 +62,7 @@ impl From<AddFault> for LinkFault {
     }
 }
 
-// The fault of a link that is not added.
+// The fault of linking for the fault of adding the link.
 fn same_fault(fault: &AddFault) -> LinkFault
     ensures { number_of result ≡ add_fault_number fault.now }
 {

@@ -84,7 +84,7 @@ fn linked_scope(
     }))
 }
 
-// What is asked of the principal or the resource once the slot is replaced, or none where nothing is given for it.
+// The scope of the principal or the resource once its slot is replaced. None where the slot is given no uid.
 fn linked_entity_scope(
     alloc: Global,
     scope: &TemplateEntityScope,

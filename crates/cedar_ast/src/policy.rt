@@ -14,8 +14,8 @@ use std::alloc::{AllocError, Global};
 use std::fmt;
 use std::marker::Model;
 
-/// What a policy and a template share, over what a scope is of. Contracts see a `PolicyRecord`
-/// (Cedar language reference, policies and policy templates).
+/// What a policy and a template share; `S` is the kind of their scope. Contracts see a `PolicyRecord` (Cedar language
+/// reference, policies and policy templates).
 #[derive(Drop)]
 pub struct PolicyOver<S> {
     id: Text,
@@ -28,8 +28,8 @@ pub struct PolicyOver<S> {
 /// A policy, which contracts see as a `PolicyTree` (Cedar language reference, policies).
 pub type Policy = PolicyOver<Scope>;
 
-/// A policy whose scope has slots in the place of entities, which contracts see as a `TemplateTree` (Cedar language
-/// reference, policy templates).
+/// A policy whose scope has slots in place of entities, which contracts see as a `TemplateTree` (Cedar language reference,
+/// policy templates).
 pub type Template = PolicyOver<TemplateScope>;
 
 impl<S> Model for PolicyOver<S> {
@@ -88,7 +88,7 @@ impl<S> PolicyOver<S> {
         &self.annotations
     }
 
-    /// What the policy, or one that is linked to the template, does where it is satisfied.
+    /// The effect of the policy, or of the policies that are linked from the template.
     pub fn effect(&self) -> Effect
         ensures { result ≡ self.now.effect }
     {
@@ -102,7 +102,7 @@ impl<S> PolicyOver<S> {
         &self.conditions
     }
 
-    /// What the scope asks, slots of a template included, lent.
+    /// The scope, lent. The scope of a template may have slots.
     pub fn scope(&self) -> &S
         ensures { result.now ≡ self.now.scope }
     {
@@ -111,8 +111,8 @@ impl<S> PolicyOver<S> {
 }
 
 impl PolicyOver<Scope> {
-    /// The expression that is true where the policy is satisfied: what the scope asks of principal, action and
-    /// resource, and then the conditions in order (Cedar language reference, policy scope and conditions).
+    /// The expression that is true where the policy is satisfied: the scope's conditions on principal, action and resource, and
+    /// then the policy's conditions in order (Cedar language reference, policy scope and conditions).
     pub fn condition(&self, alloc: Global) -> Result<Expr, AllocError>
         ensures { IfOk result (λ e. e ≡ condition_of self.now) }
     {
@@ -129,7 +129,7 @@ impl fmt::Debug for PolicyOver<Scope> {
     }
 }
 
-// What is asked of the action, of the resource, and by the conditions.
+// The scope's conditions on the action and the resource, and then the policy's conditions.
 fn from_action(alloc: Global, scope: &Scope, conditions: &[Condition]) -> Result<Expr, AllocError>
     ensures { IfOk result (λ e. e ≡ and (action_scope_of scope.now.action)
         (and (entity_scope_of Variable.Resource scope.now.resource) (conditions_of conditions.now))) }
@@ -139,7 +139,7 @@ fn from_action(alloc: Global, scope: &Scope, conditions: &[Condition]) -> Result
     Expr::and(alloc, action, rest)
 }
 
-// What is asked of the resource and by the conditions.
+// The scope's condition on the resource, and then the policy's conditions.
 fn from_resource(
     alloc: Global,
     scope: &EntityScope,
@@ -180,7 +180,7 @@ fn of_type(alloc: Global, name: Variable, ty: &Name) -> Result<Expr, AllocError>
     Expr::unary(alloc, operator, Expr::variable(name))
 }
 
-// What the scope asks of the principal or the resource.
+// The scope's condition on the principal or the resource.
 fn entity_scope(alloc: Global, name: Variable, scope: &EntityScope) -> Result<Expr, AllocError>
     ensures { IfOk result (λ e. e ≡ entity_scope_of name scope.now) }
 {
@@ -197,7 +197,7 @@ fn entity_scope(alloc: Global, name: Variable, scope: &EntityScope) -> Result<Ex
     }
 }
 
-// What the scope asks of the action.
+// The scope's condition on the action.
 fn action_scope(alloc: Global, scope: &ActionScope) -> Result<Expr, AllocError>
     ensures { IfOk result (λ e. e ≡ action_scope_of scope.now) }
 {

@@ -20,8 +20,8 @@ use indexmap::IndexMap;
 use std::alloc::{AllocFailed, Global};
 use std::marker::Model;
 
-/// Policies and templates in the order in which they were added, each with an id of its own. Contracts see the list of
-/// the policies beside that of the templates; no id stands twice in the two.
+/// Policies and templates in the order in which they were added, each with its own id. Contracts see the list of the policies
+/// and the list of the templates. No id is in them twice.
 #[derive(Drop)]
 pub struct PolicySet {
     policies: IndexMap<String, Policy>,
@@ -86,8 +86,12 @@ impl PolicySet {
         Some(template)
     }
 
-    /// Enters a policy or a template as the last one. A refusal hands it back and leaves the set as it was: 204 where a
-    /// policy or a template of the set has its id, 1 where memory was refused.
+    /// Enters a policy or a template as the last one.
+    ///
+    /// # Errors
+    ///
+    /// 204 where a policy or a template of the set has its id, 1 when out of memory. Each hands the statement back and leaves
+    /// the set as it was.
     pub fn add(&mut self, statement: Statement) -> Result<(), AddFault>
         ensures ok { OnOk result (self.new ≡ entered self.old statement) }
         ensures duplicate { IfErr result (λ fault. number_of fault ≡ 204 → Contains (ids_in self.old) (id_of statement)) }
@@ -118,9 +122,17 @@ impl PolicySet {
     }
 
     /// Enters a template of the set with its slots replaced, as the policy of this id, as the last one (Cedar language
-    /// reference, policy templates). A refusal leaves the set as it was: 204 where a policy or a template of the set has
-    /// the id, 210 where no template has the template's id, 211 where nothing is given for one of its slots, 212 where a
-    /// uid is given for a slot that it does not have, 1 where memory was refused.
+    /// reference, policy templates).
+    ///
+    /// # Errors
+    ///
+    /// Each leaves the set as it was.
+    ///
+    /// - 1: out of memory.
+    /// - 204: a policy or a template of the set has the id.
+    /// - 210: no template of the set has the template's id.
+    /// - 211: nothing is given for one of the template's slots.
+    /// - 212: a uid is given for a slot that the template does not have.
     pub fn link(&mut self, template: &str, id: &str, slots: &Slots) -> Result<(), LinkFault>
         ensures ok { OnOk result (IsLinked self.old self.new template.now id.now slots.now) }
         ensures distinct { OnOk result (Contains (ids_in self.old) id.now → ⊥) }
@@ -149,7 +161,7 @@ impl PolicySet {
         Ok(())
     }
 
-    // The link of a template of the set, which is not entered.
+    // The link of a template of the set. It is not entered.
     fn linked(&self, template: &str, id: &str, slots: &Slots) -> Result<Policy, LinkFault>
         ensures ok { IfOk result (IsLinkIn self.now template.now id.now slots.now) }
         ensures no_such_template { IfErr result (λ fault. link_fault_number fault ≡ 210
@@ -171,7 +183,7 @@ impl PolicySet {
     }
 }
 
-// Whether something stands at the id.
+// Whether the id is taken.
 fn is_taken<T>(entries: &IndexMap<String, T>, id: &str) -> bool
     ensures taken { result ≡ true → Contains (keys_of entries.now.entries) id.now }
     ensures free { result ≡ false → Contains (keys_of entries.now.entries) id.now → ⊥ }
@@ -180,7 +192,7 @@ fn is_taken<T>(entries: &IndexMap<String, T>, id: &str) -> bool
     entries.contains_key(id)
 }
 
-// Puts something at an id that is free, as the last one.
+// Puts a value at an id that is free, as the last one.
 fn put<T: Drop>(
     entries: &mut IndexMap<String, T>,
     id: String,

@@ -5,7 +5,7 @@ use crate::uids::Uids;
 use cedar_value::{Name, Uid};
 use std::alloc::{AllocError, Global};
 
-/// What a policy's scope asks of the principal or the resource (Cedar language reference, policy scope).
+/// What a policy's scope requires of the principal or the resource (Cedar language reference, policy scope).
 #[derive(Drop)]
 pub enum EntityScope {
     /// Nothing.
@@ -20,7 +20,7 @@ pub enum EntityScope {
     IsIn(Name, Uid),
 }
 
-/// What a policy's scope asks of the action (Cedar language reference, policy scope).
+/// What a policy's scope requires of the action (Cedar language reference, policy scope).
 #[derive(Drop)]
 pub enum ActionScope {
     /// Nothing.
@@ -50,10 +50,10 @@ impl ActionScope {
 /// The scope of a policy (Cedar language reference, policy scope).
 #[derive(Drop)]
 pub struct Scope {
-    /// What is asked of the principal.
+    /// What the principal has to be.
     pub principal: EntityScope,
-    /// What is asked of the action.
+    /// What the action has to be.
     pub action: ActionScope,
-    /// What is asked of the resource.
+    /// What the resource has to be.
     pub resource: EntityScope,
 }

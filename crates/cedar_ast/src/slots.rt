@@ -1,4 +1,4 @@
-//! What a link gives for the slots of a template.
+//! The uids that a link gives for the slots of a template.
 use cedar_value::Uid;
 
 /// The uids that a link gives for the slots of a template (Cedar language reference, policy templates).

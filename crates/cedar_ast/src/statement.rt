@@ -1,4 +1,4 @@
-//! What a text of policies consists of.
+//! The statements of a policy text.
 ghost use Rattle.std.specs.Prelude.{◌≡◌};
 ghost use Rattle.cedar_ast.specs.PolicySetTree.{id_of};
 

@@ -9,11 +9,11 @@ use cedar_value::{Name, Uid};
 pub enum EntityReference {
     /// An entity.
     Entity(Uid),
-    /// The slot of the variable whose scope it stands in: `?principal` or `?resource`.
+    /// The slot of the variable whose scope this is: `?principal` or `?resource`.
     Slot,
 }
 
-/// What a template's scope asks of the principal or the resource (Cedar language reference, policy templates).
+/// What a template's scope requires of the principal or the resource (Cedar language reference, policy templates).
 #[derive(Drop)]
 pub enum TemplateEntityScope {
     /// Nothing.
@@ -47,10 +47,10 @@ impl TemplateEntityScope {
 /// The scope of a template (Cedar language reference, policy templates).
 #[derive(Drop)]
 pub struct TemplateScope {
-    /// What is asked of the principal.
+    /// What the principal has to be.
     pub principal: TemplateEntityScope,
-    /// What is asked of the action, which has no slot.
+    /// What the action has to be. It has no slot.
     pub action: ActionScope,
-    /// What is asked of the resource.
+    /// What the resource has to be.
     pub resource: TemplateEntityScope,
 }

@@ -82,7 +82,7 @@ resource_is = refl
 context_has_b : value (unary (one.Get b) (variable variable_named.Context)) ≡ Ok (boolean true)
 context_has_b = refl
 
--- `&&`: the right side is not evaluated behind false, and must be a Boolean behind true
+-- `&&`: the right side is not evaluated after false, and must be a Boolean after true
 and_stops : value (and (truth false) (number 1)) ≡ Ok (boolean false)
 and_stops = refl
 
@@ -289,7 +289,7 @@ get_missing_entity = refl
 get_number : value (unary (one.Get a) (number 1)) ≡ Err «Type»
 get_number = refl
 
--- `like`: a star stands for any run of characters
+-- `like`: a star denotes any run of characters
 like : is_match (Star ∷ Character 97 ∷ []) (98 ∷ 98 ∷ 97 ∷ []) ≡ true
 like = refl
 

@@ -1,4 +1,4 @@
--- A set of the keys that were met, of which none stands twice.
+-- A set of the keys that were met, of which none is repeated.
 use Rattle.std.proofs.Common.{◌≡◌, ℕ, ◌+◌, ◌<◌, Bool, true, false, cond, ◌||◌, Bor, List, [], ◌∷◌, ◌++◌, length, get_or, take, map, Ordering, Some, refl, sym, ap, subst, ◌∙◌, add-one, arith}
 use Rattle.std.specs.Prelude.{Contains}
 use Rattle.std.specs.BTreeSet.{BTreeSet, contains, Updates}
@@ -24,7 +24,7 @@ texts bs = map (λ b. b.now) bs
 abbrev pub by_bytes : Bor (List ℕ) → Bor (List ℕ) → Ordering
 by_bytes a b = slice_cmp nat_cmp a.now b.now
 
--- none of the keys stands twice, and the set has them and no others
+-- none of the keys is repeated, and the set has them and no others
 pub record IsSetOf (bs : List (Bor (List ℕ))) (s : BTreeSet (Bor (List ℕ))) : Type 0 where
   pub distinct : AreDistinct (texts bs)
   pub has : (q : Bor (List ℕ)) → contains by_bytes s q ≡ list_any (bytes_eq q.now) (texts bs)
@@ -60,7 +60,7 @@ IsSetOf-next bs i d old new within known fresh updates =
     let next : take (i + 1) bs ≡ take i bs ++ (get_or bs i d ∷ []) = rw add-one (take-suc bs i d within) in
     subst (λ cs. IsSetOf cs new) (sym next) (IsSetOf-push (take i bs) (get_or bs i d) old new known fresh updates)
 
--- a key that the set has already is the first that stood before
+-- a key that the set has already is the first that came before
 pub first_repeated-found : (bs : List (Bor (List ℕ))) (i : ℕ) (d : Bor (List ℕ)) (s : BTreeSet (Bor (List ℕ))) → i < length bs → IsSetOf (take i bs) s
     → contains by_bytes s (get_or bs i d) ≡ true → IsFirstRepeated (texts bs) i
 first_repeated-found bs i d s within known found = record {

@@ -51,9 +51,8 @@ set_of_values vs = set (members_of (set_from vs))
 abbrev pub record_of_pairs : List (List ℕ × Datum) → Datum
 record_of_pairs ps = record_of (fields_of (record_from ps))
 
--- What an expression means for a request over a world: operands from left to right, the first error is the
--- result, and only then their kinds are tested (Cedar language reference, operators; cedar-spec, Lean:
--- Cedar.Spec.evaluate).
+-- What an expression means for a request over a world. Operands are evaluated from left to right, the first error is the
+-- result, and only then are their kinds tested (Cedar language reference, operators; cedar-spec, Lean: Cedar.Spec.evaluate).
 abbrev mutual
   pub eval : Expression → Request → World → Answer Datum
   eval (literal v) q w = Ok v

@@ -1,9 +1,9 @@
--- What a kind of the code stands for.
+-- What a kind of the code denotes.
 use Rattle.cedar_ast_expressions.specs.Expression.{Expression, literal, variable, and, or, if_else, unary, binary, set_with, record_with, expressions_of, entries_of}
 use Rattle.cedar_ast_expressions.specs.declared.expression.ExprKind.{ExprKind}
 use Rattle.cedar_ast_expressions.specs.declared.expression.ExprKind.TheVariants.{Literal, Variable, And, Or, If, Unary, Binary, Set, Record}
 
--- The expression that a kind stands for (this project).
+-- The expression that a kind denotes (this project).
 abbrev pub expression_of : ExprKind → Expression
 expression_of (Literal v) = literal v
 expression_of (Variable x) = variable x

@@ -7,12 +7,11 @@ abbrev pub keys_in : Entries → List (List ℕ)
 keys_in no_entries = []
 keys_in (entry k e fs) = k ∷ keys_in fs
 
--- No key stands twice (Cedar language reference, records).
+-- No key is repeated (Cedar language reference, records).
 abbrev pub AreDistinct : List (List ℕ) → Type 0
 AreDistinct ks = AllPairs (λ k l. k ≢ l) ks
 
--- The key at a position, from 0, stands among those before it, of which none stands twice (Cedar language reference,
--- records).
+-- The key at a position, from 0, is among those before it, none of which is repeated (Cedar language reference, records).
 pub record IsFirstRepeated (ks : List (List ℕ)) (place : ℕ) : Type 0 where
   pub distinct : AreDistinct (take place ks)
   pub key : List ℕ

@@ -24,12 +24,12 @@ is_long n = not (int_lt n (negsuc 9223372036854775807)) && int_lt n (pos 9223372
 abbrev pub long_or_overflow : ℤ → Answer Datum
 long_or_overflow n = if is_long n then Ok (long n) else Err error.Overflow
 
--- `!`, which wants a Boolean (Cedar language reference, operators, `!`).
+-- `!`, which takes a Boolean (Cedar language reference, operators, `!`).
 abbrev pub not_of : Datum → Answer Datum
 not_of (boolean b) = Ok (boolean (not b))
 not_of _ = Err error.«Type»
 
--- `-` of one operand, which wants a number (Cedar language reference, operators, unary `-`).
+-- `-` of one operand, which takes a number (Cedar language reference, operators, unary `-`).
 abbrev pub negative_of : Datum → Answer Datum
 negative_of (long n) = long_or_overflow (pos 0 -ℤ n)
 negative_of _ = Err error.«Type»
@@ -41,12 +41,12 @@ pub data Source : Type 0 where
   absent : Source
   present : List (List ℕ × Datum) → Source
 
--- Where those of an entity are looked for (Cedar language reference, operators, `has` and `.`).
+-- Where the attributes of an entity are looked for (Cedar language reference, operators, `has` and `.`).
 abbrev pub entity_source : Option (List (List ℕ × Datum)) → Source
 entity_source None = absent
 entity_source (Some ps) = present ps
 
--- Where those of a value are looked for (Cedar language reference, operators, `has` and `.`).
+-- Where the attributes of a value are looked for (Cedar language reference, operators, `has` and `.`).
 abbrev pub source : World → Datum → Source
 source w (record_of fs) = present (pairs_of fs)
 source w (uid u) = entity_source (attributes_of w u)
@@ -64,18 +64,18 @@ abbrev pub attribute_of : Option Datum → Answer Datum
 attribute_of None = Err error.MissingAttribute
 attribute_of (Some v) = Ok v
 
--- Access: of an absent entity one error, and of an absent attribute another (Cedar language reference, operators, `.`).
+-- Access: an absent entity gives one error, and an absent attribute another (Cedar language reference, operators, `.`).
 abbrev pub get_in : List ℕ → Source → Answer Datum
 get_in a no_source = Err error.«Type»
 get_in a absent = Err error.MissingEntity
 get_in a (present ps) = attribute_of (value_at a ps)
 
--- `like`, which wants a text (Cedar language reference, operators, `like`).
+-- `like`, which takes a string (Cedar language reference, operators, `like`).
 abbrev pub like_of : Datum → (List ℕ → Bool) → Answer Datum
 like_of (text s) matches = Ok (boolean (matches (chars s)))
 like_of _ matches = Err error.«Type»
 
--- `is`, which wants an entity (Cedar language reference, operators, `is`).
+-- `is`, which takes an entity (Cedar language reference, operators, `is`).
 abbrev pub is_of : List ℕ → Datum → Answer Datum
 is_of ty (uid u) = Ok (boolean (bytes_eq u.ty ty))
 is_of ty _ = Err error.«Type»
@@ -85,12 +85,12 @@ abbrev pub decimal_or_error : Option ℤ → Answer Datum
 decimal_or_error None = Err error.Decimal
 decimal_or_error (Some z) = Ok (decimal z)
 
--- `decimal`, which wants a decimal's text (Cedar language reference, decimal).
+-- `decimal`, which takes a string that writes a decimal (Cedar language reference, decimal).
 abbrev pub decimal_of_value : Datum → Answer Datum
 decimal_of_value (text s) = decimal_or_error (decimal_of s)
 decimal_of_value _ = Err error.«Type»
 
--- Of a set what is said of it, else the error type (Cedar language reference, set operators).
+-- The test's answer for a set, else the error type (Cedar language reference, set operators).
 abbrev pub of_set : (List Datum → Bool) → Datum → Answer Datum
 of_set f (set ms) = Ok (boolean (f (list_of ms)))
 of_set f _ = Err error.«Type»
@@ -111,17 +111,17 @@ unary_of w (operator.Is ty) x = is_of ty x
 unary_of w operator.Decimal x = decimal_of_value x
 unary_of w operator.IsEmpty x = of_set is_empty x
 
--- Of two numbers what is said of them, else the error type (Cedar language reference, operators).
+-- The operation's answer for two numbers, else the error type (Cedar language reference, operators).
 abbrev pub of_longs : (ℤ → ℤ → Answer Datum) → Datum → Datum → Answer Datum
 of_longs f (long m) (long n) = f m n
 of_longs f _ _ = Err error.«Type»
 
--- Of two decimals what is said of them, else the error type (Cedar language reference, decimal).
+-- The test's answer for two decimals, else the error type (Cedar language reference, decimal).
 abbrev pub of_decimals : (ℤ → ℤ → Bool) → Datum → Datum → Answer Datum
 of_decimals f (decimal m) (decimal n) = Ok (boolean (f m n))
 of_decimals f _ _ = Err error.«Type»
 
--- Of two sets what is said of them, else the error type (Cedar language reference, set operators).
+-- The test's answer for two sets, else the error type (Cedar language reference, set operators).
 abbrev pub of_sets : (List Datum → List Datum → Bool) → Datum → Datum → Answer Datum
 of_sets f (set ms) (set ns) = Ok (boolean (f (list_of ms) (list_of ns)))
 of_sets f _ _ = Err error.«Type»
@@ -137,7 +137,7 @@ abbrev pub is_in : World → Uid → Datum → Bool
 is_in w u (uid v) = same_uid u v || below w u v
 is_in w u _ = false
 
--- `in`: in an entity, or in one of a set, whose members must all be entities (Cedar language reference, operators, `in`).
+-- `in`: in an entity, or in one of a set, all of whose members must be entities (Cedar language reference, operators, `in`).
 abbrev pub in_of : World → Datum → Datum → Answer Datum
 in_of w (uid u) (uid v) = Ok (boolean (is_in w u (uid v)))
 in_of w (uid u) (set ms) =

@@ -10,7 +10,7 @@ abbrev pub replace_variable : Uid → Variable → Expression
 replace_variable u Action = literal (uid u)
 replace_variable u x = variable x
 
--- An expression, the action replaced by a uid wherever it stands (cedar-spec, Lean: substituteAction).
+-- An expression, with the action replaced by a uid wherever it occurs (cedar-spec, Lean: substituteAction).
 abbrev mutual
   pub replace : Uid → Expression → Expression
   replace u (literal v) = literal v

@@ -10,8 +10,8 @@ use cedar_value::SharedText;
 use std::alloc::{AllocError, Global};
 use std::marker::Model;
 
-/// The keys of a record expression with their expressions, in the order in which they are written. No key stands
-/// twice (Cedar language reference, records). Contracts see the list of the pairs.
+/// The keys of a record expression with their expressions, in the order in which they are written. No key is repeated (Cedar
+/// language reference, records). Contracts see the list of the pairs.
 #[cycle(expression)]
 #[derive(Drop)]
 pub struct Entries {
@@ -45,8 +45,8 @@ impl Model for Entries {
 }
 
 impl Entries {
-    /// The entries of these pairs. A refusal hands them back: 203 where a key stands twice, 1 where memory was
-    /// refused (Cedar language reference, records).
+    /// The entries of these pairs (Cedar language reference, records). An error hands the pairs back: 203 where a key is
+    /// repeated, 1 when out of memory.
     pub(crate) fn new(alloc: Global, pairs: Vec<(SharedText, Expr)>) -> Result<Self, RecordFault>
         ensures ok { IfOk result (λ r. r ≡ pairs.items) }
         ensures distinct { IfOk result (λ r. AreDistinct (keys_of r)) }
@@ -65,7 +65,7 @@ impl Entries {
         requires { keys_of pairs.items ≡ keys_of others.now }
         ensures { result ≡ pairs.items }
     {
-        // That the others' keys are distinct is a law of theirs.
+        // The keys of the others are distinct.
         let _others = others.pairs();
         Entries { pairs }
     }
@@ -78,7 +78,11 @@ impl Entries {
         &self.pairs
     }
 
-    /// A copy of the keys, in order. 1: memory was refused.
+    /// A copy of the keys, in order.
+    ///
+    /// # Errors
+    ///
+    /// Fails only when out of memory.
     pub fn keys(&self, alloc: Global) -> Result<Keys, AllocError>
         ensures { IfOk result (λ k. k ≡ keys_of self.now) }
     {
@@ -87,7 +91,11 @@ impl Entries {
         })
     }
 
-    /// A copy, equal to the original. 1: memory was refused.
+    /// A copy, equal to the original.
+    ///
+    /// # Errors
+    ///
+    /// Fails only when out of memory.
     #[cycle(copy)]
     pub fn try_clone(&self, alloc: Global) -> Result<Self, AllocError>
         ensures { IfOk result (λ r. r ≡ self.now) }
@@ -123,7 +131,7 @@ fn copy_keys(alloc: Global, pairs: &[(SharedText, Expr)]) -> Result<Vec<SharedTe
     Ok(keys)
 }
 
-// Whether no key stands twice.
+// Whether no key is repeated.
 fn are_distinct(alloc: Global, pairs: &[(SharedText, Expr)]) -> Result<bool, AllocError>
     ensures { IfOk result (λ b. IsTrue b ↔ AreDistinct (keys_of pairs.now)) }
 {

@@ -14,7 +14,7 @@ impl PartialEq for Expr {
 
     ghost laws = { partial_equiv_from_equiv expression_equivalence };
 
-    /// Whether the two are the same tree, entries and members in the same order. Takes no memory.
+    /// Whether the two are the same tree, entries and members in the same order.
     fn eq(&self, other: &Self) -> bool
         ensures gives { result ≡ same_expression self.now other.now }
         ensures equal { IsTrue result ↔ (self.now ≡ other.now) }

@@ -1,13 +1,13 @@
-//! Why an evaluation has no value.
+//! The errors of an evaluation.
 use thiserror::Error;
 
 /// Why an evaluation has no value (Cedar language reference, operators; cedar-spec, Lean: `Cedar.Spec.Error`).
 #[derive(Clone, Copy, Debug, PartialEq, Eq, Error)]
 pub enum EvaluationError {
-    /// A result is no number of 64 bits.
+    /// A result is not a number of 64 bits.
     #[error("overflow")]
     Overflow,
-    /// An attribute was asked of an entity that is absent.
+    /// A policy reads an attribute of an entity that does not exist.
     #[error("missing entity")]
     MissingEntity,
     /// An attribute is absent.
@@ -16,7 +16,7 @@ pub enum EvaluationError {
     /// An operand is of the wrong kind.
     #[error("type")]
     Type,
-    /// A text is no decimal.
+    /// A string is not a decimal.
     #[error("decimal")]
     Decimal,
 }

@@ -88,7 +88,11 @@ impl Expr {
         Expr::new(ExprKind::Variable(name))
     }
 
-    /// `left && right`. 1: memory was refused.
+    /// `left && right`.
+    ///
+    /// # Errors
+    ///
+    /// Fails only when out of memory.
     pub fn and(alloc: Global, left: Expr, right: Expr) -> Result<Self, AllocError>
         ensures { IfOk result (λ e. e ≡ and left right) }
     {
@@ -96,7 +100,11 @@ impl Expr {
         Ok(Expr::new(ExprKind::And(left, right)))
     }
 
-    /// `left || right`. 1: memory was refused.
+    /// `left || right`.
+    ///
+    /// # Errors
+    ///
+    /// Fails only when out of memory.
     pub fn or(alloc: Global, left: Expr, right: Expr) -> Result<Self, AllocError>
         ensures { IfOk result (λ e. e ≡ or left right) }
     {
@@ -104,7 +112,11 @@ impl Expr {
         Ok(Expr::new(ExprKind::Or(left, right)))
     }
 
-    /// `if condition then if_true else if_false`. 1: memory was refused.
+    /// `if condition then if_true else if_false`.
+    ///
+    /// # Errors
+    ///
+    /// Fails only when out of memory.
     pub fn if_else(
         alloc: Global,
         condition: Expr,
@@ -118,7 +130,11 @@ impl Expr {
         Ok(Expr::new(ExprKind::If(condition, if_true, if_false)))
     }
 
-    /// An operator on its operand. 1: memory was refused.
+    /// An operator on its operand.
+    ///
+    /// # Errors
+    ///
+    /// Fails only when out of memory.
     pub fn unary(alloc: Global, operator: UnaryOperator, operand: Expr) -> Result<Self, AllocError>
         ensures { IfOk result (λ e. e ≡ unary operator operand) }
     {
@@ -126,7 +142,11 @@ impl Expr {
         Ok(Expr::new(ExprKind::Unary(operator, operand)))
     }
 
-    /// An operator on its operands. 1: memory was refused.
+    /// An operator on its operands.
+    ///
+    /// # Errors
+    ///
+    /// Fails only when out of memory.
     pub fn binary(
         alloc: Global,
         operator: BinaryOperator,
@@ -146,8 +166,12 @@ impl Expr {
         Expr::new(ExprKind::Set(members))
     }
 
-    /// The record of these keys with their expressions, in the order in which they are written. A refusal hands them
-    /// back: 203 where a key stands twice, 1 where memory was refused (Cedar language reference, records).
+    /// The record of these keys with their expressions, in the order in which they are written (Cedar language reference,
+    /// records).
+    ///
+    /// # Errors
+    ///
+    /// 203 where a key is repeated, 1 when out of memory. Each hands the pairs back.
     pub fn record(alloc: Global, pairs: Vec<(SharedText, Expr)>) -> Result<Self, RecordFault>
         ensures ok { IfOk result (λ e. e ≡ record_with (entries_of pairs.items)) }
         ensures distinct { IfOk result (λ e. AreDistinct (keys_of pairs.items)) }
@@ -158,8 +182,12 @@ impl Expr {
         Ok(Expr::new(ExprKind::Record(entries)))
     }
 
-    /// A copy in which the variable `action` is replaced by a uid wherever it stands, as the strict checker types a
-    /// condition in an environment. 1: memory was refused.
+    /// A copy in which the variable `action` is replaced by a uid wherever it occurs, as the strict checker types a condition
+    /// in an environment.
+    ///
+    /// # Errors
+    ///
+    /// Fails only when out of memory.
     pub fn with_action(&self, alloc: Global, action: &Uid) -> Result<Self, AllocError>
         ensures { IfOk result (λ e. e ≡ replace action.now self.now) }
     {
@@ -173,7 +201,11 @@ impl Expr {
         &self.kind
     }
 
-    /// A copy, equal to the original. 1: memory was refused.
+    /// A copy, equal to the original.
+    ///
+    /// # Errors
+    ///
+    /// Fails only when out of memory.
     #[cycle(copy)]
     pub fn try_clone(&self, alloc: Global) -> Result<Self, AllocError>
         ensures { IfOk result (λ e. e ≡ self.now) }
@@ -209,7 +241,7 @@ impl Expr {
     }
 }
 
-// Both, each in a box.
+// The two expressions, each in a box.
 fn boxed(alloc: Global, left: Expr, right: Expr) -> Result<(Box<Expr>, Box<Expr>), AllocError>
     ensures left { IfOk result (λ both. both.0.value ≡ left) }
     ensures right { IfOk result (λ both. both.1.value ≡ right) }
@@ -223,7 +255,7 @@ fn boxed(alloc: Global, left: Expr, right: Expr) -> Result<(Box<Expr>, Box<Expr>
     }
 }
 
-// A copy of a part. A function of its own, so that each level of a high expression stands on little of the call stack.
+// A copy of a part. It is a separate function, so that each level of a high expression needs little of the call stack.
 #[cycle(copy)]
 #[inline(never)]
 fn clone_part(alloc: Global, part: &Expr) -> Result<Box<Expr>, AllocError>

@@ -7,7 +7,7 @@ use std::alloc::{AllocError, Global};
 use std::collections::BTreeSet;
 use std::marker::Model;
 
-/// Keys of which none stands twice, in the order in which they are written. Contracts see the list of their bytes.
+/// Keys without repetition, in the order in which they are written. Contracts see the list of their bytes.
 #[derive(Drop)]
 pub struct Keys {
     pub(crate) texts: Vec<SharedText>,
@@ -34,8 +34,12 @@ impl Keys {
     }
 }
 
-/// The position from 0 of the first key that stands before it already, or none where no key stands twice (Cedar
-/// language reference, records). Comparisons grow with the count of keys times its logarithm. 1: memory was refused.
+/// The position, from 0, of the first key that is equal to an earlier one, or none where no key is repeated (Cedar language
+/// reference, records). Comparisons grow with the count of keys times its logarithm.
+///
+/// # Errors
+///
+/// Fails only when out of memory.
 pub fn first_repeated(alloc: Global, keys: &[&str]) -> Result<Option<usize>, AllocError>
     ensures distinct { IfOk result (λ o. MatchOption o (AreDistinct (map (λ k. k.now) keys.now)) (λ place. AreDistinct (map (λ k. k.now) keys.now) → ⊥)) }
     ensures first { IfOk result (λ o. IfSome o (IsFirstRepeated (map (λ k. k.now) keys.now))) }

@@ -1,4 +1,4 @@
-//! Expressions of the Cedar policy language, and what they mean.
+//! Expressions of the Cedar policy language, and the definition of their evaluation.
 //!
 //! ```rust
 //! use cedar_ast_expressions::{BinaryOperator, Expr, Variable};
@@ -9,7 +9,7 @@
 //! assert!(rt; within != Expr::literal(Value::boolean(true)));
 //! ```
 //!
-//! The definitions of expressions and of their evaluation stand in `specs/`.
+//! The definitions of expressions and of their evaluation are in `specs/`.
 #![tactic(auto)]
 
 mod entries;

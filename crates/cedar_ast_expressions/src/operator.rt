@@ -16,11 +16,11 @@ pub enum UnaryOperator {
     Has(Text),
     /// `.a` or `["a"]`, of a record or an entity.
     Get(Text),
-    /// `like p`, of a text.
+    /// `like p`, of a string.
     Like(Pattern),
     /// `is T`, of an entity.
     Is(Name),
-    /// `decimal(s)`, of a text.
+    /// `decimal(s)`, of a string.
     Decimal,
     /// `isEmpty()`, of a set.
     IsEmpty,
@@ -53,7 +53,7 @@ impl PartialEq for UnaryOperator {
 
     ghost laws = { partial_equiv_from_equiv unary_equivalence };
 
-    /// Whether the two are one operator, with the same key, pattern or name. Takes no memory.
+    /// Whether the two are one operator, with the same key, pattern or name.
     fn eq(&self, other: &Self) -> bool
         ensures gives { result ≡ same_unary self.now other.now }
         ensures equal { IsTrue result ↔ (self.now ≡ other.now) }

@@ -10,10 +10,10 @@ use thiserror::Error;
 /// Why a record expression is not made. The pairs are handed back.
 #[derive(Drop, Error)]
 pub enum RecordFault {
-    /// 1: memory was refused.
+    /// 1: out of memory.
     #[error("out of memory")]
     OutOfMemory(Vec<(SharedText, Expr)>),
-    /// 203: a key stands twice.
+    /// 203: a key is repeated.
     #[error("a key stands twice")]
     DuplicateKey(Vec<(SharedText, Expr)>),
 }
@@ -29,7 +29,7 @@ impl RecordFault {
         }
     }
 
-    /// The pairs that were handed in.
+    /// The pairs that the call was given.
     pub fn into_pairs(self) -> Vec<(SharedText, Expr)>
         ensures { result.items ≡ refused self }
     {

@@ -10,7 +10,7 @@ use Rattle.cedar_auth_spec.specs.Codes.{policy_code}
 use Rattle.cedar_auth.specs.Private.Kept.{AreCodes}
 use Rattle.cedar_auth.proofs.Taken.{take-next}
 
--- what stands at a place of a list of images
+-- what is at a place of a list of images
 pub mapped_at : {A B : Type 0} (f : A → B) (xs : List A) (i : ℕ) (x : A) → Some x ≡ slice_get xs i → Some (f x) ≡ slice_get (map f xs) i
 mapped_at f [] i x e = cc
 mapped_at f (y ∷ ys) zero x e = let d : x ≡ y = cc in ap (λ z. Some (f z)) d
@@ -30,7 +30,7 @@ no_code [] (y ∷ ys) i p same e d = cc
 no_code (x ∷ xs) (y ∷ ys) zero p same e d = cc
 no_code (x ∷ xs) (y ∷ ys) (suc i) p same e d = no_code xs ys i p (cc) e d
 
--- one more code behind those that were made
+-- one more code after those that were made
 pub codes_more : (ps : List PolicyTree) (cs cs' : List CodeView) (n : ℕ) (p : PolicyTree) (c : CodeView)
     → map (λ (c : CodeView). c.instructions) cs ≡ take (length cs) (map policy_code ps) → n ≡ length cs → Some p ≡ slice_get ps n → c.instructions ≡ policy_code p → cs' ≡ cs ++ c ∷ []
     → map (λ (c : CodeView). c.instructions) cs' ≡ take (length cs') (map policy_code ps)
@@ -41,7 +41,7 @@ codes_more ps cs cs' n p c h e at same is =
     ∙ sym (take-next (map policy_code ps) (length cs) (policy_code p) (sym (mapped_at policy_code ps (length cs) p (at ∙ ap (slice_get ps) e))))
     ∙ ap (λ (k : ℕ). take k (map policy_code ps)) (sym (ap length is ∙ length-append cs (c ∷ [])))
 
--- no policy is left behind those codes
+-- no policy is left after those codes
 pub codes_all : (ps : List PolicyTree) (cs : List CodeView) (n : ℕ)
     → map (λ (c : CodeView). c.instructions) cs ≡ take (length cs) (map policy_code ps) → n ≡ length cs → None ≡ slice_get ps n → AreCodes cs ps
 codes_all ps cs n h e at =

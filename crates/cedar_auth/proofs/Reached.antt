@@ -1,4 +1,4 @@
--- A policy that is no candidate, or that the request's own entities do not reach, is false.
+-- A policy that is not a candidate, or that the request's own entities do not reach, is false.
 use Rattle.std.proofs.Common.{◌≡◌, Bool, true, false, ◌||◌, ◌⊎◌, inl, inr, ⊎_elim, None, Some, refl, sym, ap, ap₂, subst, ◌∙◌}
 use Rattle.std.specs.Prelude.{Ok}
 use Rattle.std.specs.Str.{bytes_eq}

@@ -1,5 +1,6 @@
--- Policies that are no candidates, or are not selected, are false.
-use Rattle.std.proofs.Common.{List, ℕ}
+-- Policies that are not candidates, or are not selected, are false.
+use Rattle.std.proofs.Common.{◌<◌, List, ℕ, Contains, length}
+use Rattle.std.proofs.lemmas.Option.{slice_get_within}
 use Rattle.cedar_value.specs.World.{World}
 use Rattle.cedar_value.specs.declared.request.Request.{Request}
 use Rattle.cedar_ast.specs.PolicyTree.{PolicyTree}
@@ -24,3 +25,8 @@ module _ (s : SchemaTree) (ps : List PolicyTree) (w : World) (q : Request) (ks :
 
   pub leaves_false : IsSelected s ps fits.0 q w ks → LeavesFalse ps q w ks
   leaves_false selected i p at out = unreached_is_false s fits.0 q w p apart conforms fits.1 (λ h. out (selected.reached i p at h.0 h.1))
+
+-- there is a policy at each position that is selected
+pub selected_within : (s : SchemaTree) (ps : List PolicyTree) (env : Environment) (q : Request) (w : World) (ks : List ℕ) → IsSelected s ps env q w ks
+    → (k : ℕ) → Contains ks k → k < length ps
+selected_within s ps env q w ks selected k m = let at = selected.among k m in slice_get_within ps k at.0 at.1

@@ -11,7 +11,7 @@ pub take-next : {X : Type 0} (xs : List X) (i : ℕ) (x : X) → slice_get xs i 
 take-next xs i x e =
     rw add-one (take-suc xs i x (slice_get_within xs i x e) ∙ ap (λ y. take i xs ++ y ∷ []) (get_or_from_slice_get xs i x x e))
 
--- one more element behind those that were taken
+-- one more element after those that were taken
 pub taken-more : {X : Type 0} (xs ys ys' : List X) (n : ℕ) (x y : X)
     → ys ≡ take (length ys) xs → n ≡ length ys → Some x ≡ slice_get xs n → y ≡ x → ys' ≡ ys ++ y ∷ [] → ys' ≡ take (length ys') xs
 taken-more {X} xs ys ys' n x y h e at same is =
@@ -21,7 +21,7 @@ taken-more {X} xs ys ys' n x y h e at same is =
     ∙ sym (take-next xs (length ys) x (ap (slice_get xs) (sym e) ∙ sym at)) in
     is ∙ more ∙ ap (λ (k : ℕ). take k xs) (sym (ap length is ∙ length-append ys (y ∷ [])))
 
--- no element is left behind those that were taken
+-- no element is left after those that were taken
 pub taken-all : {X : Type 0} (xs ys : List X) (n : ℕ) → ys ≡ take (length ys) xs → n ≡ length ys → None ≡ slice_get xs n → ys ≡ xs
 taken-all xs ys n h e at =
     elim (slice_get_cases xs n).1 [

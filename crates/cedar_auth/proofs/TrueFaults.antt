@@ -1,4 +1,4 @@
--- Out of memory is no fault of a value: what is found in its JSON is always another.
+-- Out of memory is not a fault of a value: what is found in its JSON is always another.
 use Rattle.std.proofs.Common.{◌≢◌, ℕ, ℤ, Bool, true, false, not, List, [], ◌∷◌, ◌++◌, Option, Some, None}
 use Rattle.std.specs.List.{AllByRecursion}
 use Rattle.std.specs.Option.{option_map, option_and_then}

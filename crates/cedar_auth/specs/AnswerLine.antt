@@ -10,12 +10,12 @@ use Rattle.cedar_conform.specs.Requests.{LineDenotes, LineHasFault}
 use Rattle.cedar_auth_spec.specs.AnswerJson.{response_data, refused_data}
 use Rattle.cedar_auth_spec.specs.Ready.{ReadyTree}
 
--- The text is the response to the request that the line denotes by the schema, by the evaluation of every policy over the
--- world (Cedar language reference, authorization).
+-- The text is the response to the request that the line denotes for the schema: the evaluation of every policy over the world
+-- (Cedar language reference, authorization).
 abbrev pub IsResponse : ReadyTree → List ℕ → List ℕ → Type 0
 IsResponse r line text = (q : Request) × LineDenotes r.schema line q × (text ≡ compact_text (response_data (response r.policies.policies q r.world)))
 
--- The text is the refusal of a fault that the line has by the schema; out of memory is not a fault of a line (own).
+-- The text is the refusal of a fault that the line has for the schema. Out of memory is not a fault of a line (own).
 abbrev pub IsRefusal : ReadyTree → List ℕ → List ℕ → Type 0
 IsRefusal r line text = (fault : ConformFault) × (fault ≢ OutOfMemory) × LineHasFault r.schema line fault × (text ≡ compact_text (refused_data (number_of fault)))
 

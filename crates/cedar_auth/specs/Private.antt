@@ -1,4 +1,4 @@
--- What proofs and private contracts speak of, and no public clause.
+-- What proofs and private contracts use. No public clause uses it.
 pub mod Kept
 pub mod Selected
 pub mod Tally

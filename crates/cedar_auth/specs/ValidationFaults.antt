@@ -17,17 +17,17 @@ pub record HasReportWith (settings : Settings) (s : SchemaTree) (ps : List Polic
   pub warnings : AreWarningsWith settings s ps report.warnings.items
   pub some : ¬ AreFaultsWith settings s ps []
 
--- Under these settings the schema and the policies have the fault; out of memory is none of theirs (own).
+-- Under these settings the schema and the policies have the fault. Out of memory is not such a fault (own).
 abbrev pub HasFaultWith : Settings → SchemaTree → List PolicyTree → ValidationFault → Type 0
 HasFaultWith settings s ps OutOfMemory = Unit {0}
 HasFaultWith settings s ps (Faults report) = HasReportWith settings s ps report
 HasFaultWith settings s ps TooLong = HasLongCode ps
 
--- The schema and the policies have the fault, with no setting on; out of memory is none of theirs (own).
+-- The schema and the policies have the fault, with no setting on. Out of memory is not such a fault (own).
 abbrev pub HasFault : SchemaTree → List PolicyTree → ValidationFault → Type 0
 HasFault = HasFaultWith default_settings
 
--- The number of a refusal; None of a report, whose faults have numbers of their own (own).
+-- The number of a refusal. None for a report, whose faults have their own numbers (own).
 abbrev pub number_of : ValidationFault → Option ℕ
 number_of OutOfMemory = Some 1
 number_of (Faults report) = None

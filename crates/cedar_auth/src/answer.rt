@@ -1,4 +1,4 @@
-//! The texts of answers: compact JSON as `serde_json` writes it, written straight behind what a buffer holds.
+//! The texts of answers: compact JSON as `serde_json` writes it, appended to a buffer.
 ghost use Rattle.std.specs.Prelude.{◌≡◌, ℕ, List, ◌++◌, length, map, OnOk, OnErr, vec_len};
 ghost use Rattle.json.specs.Print.{print};
 ghost use Rattle.serde_json.specs.Data.{string, array};
@@ -101,7 +101,7 @@ fn write_refusal(writer: &mut Writer, number: u16) -> Result<(), AllocError>
     Ok(())
 }
 
-/// Gives the buffer back to `out`: with what was written where that went well, else cut to its first `before` bytes.
+/// Gives the buffer back to `out`: with what was written where that went well, and otherwise cut to its first `before` bytes.
 fn hand_back(
     out: &mut Vec<u8>,
     writer: Writer,
@@ -120,7 +120,7 @@ fn hand_back(
     written
 }
 
-/// Appends the answer to a request that was read to `out`. Where memory runs out `out` is as before.
+/// Appends the response to a request to `out`. Where memory runs out, `out` is as before.
 pub(crate) fn append_response(
     alloc: Global,
     response: &Told<'_, '_>,
@@ -135,8 +135,7 @@ pub(crate) fn append_response(
     hand_back(out, writer, before, written)
 }
 
-/// Appends the answer to a line that was refused, with the refusal's number, to `out`. Where memory runs out `out` is
-/// as before.
+/// Appends the answer to a line that was refused to `out`: the refusal's number. Where memory runs out, `out` is as before.
 pub(crate) fn append_refusal(
     alloc: Global,
     number: u16,

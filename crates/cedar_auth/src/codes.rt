@@ -17,8 +17,8 @@ fn code_of(alloc: Global, policy: &Policy) -> Result<Code, CodeFault>
     compile(alloc, &condition)
 }
 
-/// The code of each policy, in order. 1: memory was refused. 701: the code of some policy would have over 1,000,000
-/// instructions.
+/// The code of each policy, in order. Refused with 1 when out of memory, and with 701 where the code of some policy would have
+/// over 1,000,000 instructions.
 pub(crate) fn codes_of(alloc: Global, policies: &PolicySet) -> Result<Vec<Code>, CodeFault>
     ensures ok { IfOk result (λ codes. AreCodes codes.items policies.now.policies) }
     ensures too_long { IsErrOf result CodeFault.TooLong → HasLongCode policies.now.policies }

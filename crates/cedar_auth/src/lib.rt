@@ -1,7 +1,8 @@
-//! The authoriser of the Cedar policy language: policies that strict validation accepted for a schema, entities that
-//! conform to it, and the answers that they give.
+//! The authoriser: policies that strict validation accepts, entities that conform to the schema, and the answers to requests.
 //!
 //! ```
+//! use cedar_auth::{Ready, Validated, serve};
+//!
 //! let validated = Validated::new(alloc, schema, policies)?;
 //! let ready = Ready::new(alloc, validated, &entities_json)?;
 //! if ready.fits(&request) {
@@ -12,9 +13,9 @@
 //! serve(alloc, &ready, &mut source, &mut sink)?;
 //! ```
 //!
-//! [`engine_is_sound`] says what all of it is for, over definitions alone: read `specs/Headline.antt` of cedar_auth_spec first.
-//! What answers a line is in `specs/AnswerLine.antt`. Policies are accepted by strict validation as it is documented, or under settings
-//! (`Validated::new_with`), which stay with them and say which errors their answers may name.
+//! [`engine_is_sound`] is the promise of the engine as a whole: read `specs/Headline.antt` of cedar_auth_spec first. What
+//! answers a line is defined in `specs/AnswerLine.antt`. Policies are accepted by strict validation as it is documented, or
+//! under settings (`Validated::new_with`). The settings stay with the policies and say which errors their answers may name.
 #![tactic(auto)]
 
 mod answer;

@@ -1,12 +1,12 @@
-//! Validated policies that got no entities.
+//! Validated policies whose entities are refused.
 use crate::validated::Validated;
 use cedar_conform_values::ConformFault;
 
-/// Validated policies that were handed in, handed back, and why the entities handed in with them are refused.
+/// Validated policies that are handed back, and why the entities given with them are refused.
 #[derive(Drop)]
 pub struct NotReady {
-    /// Why.
+    /// Why the entities are refused.
     pub fault: ConformFault,
-    /// The policies, with their schema, that were handed in.
+    /// The policies, with their schema, that the call was given.
     pub validated: Validated,
 }

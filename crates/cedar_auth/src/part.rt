@@ -36,8 +36,8 @@ impl<'v> Model for Part<'v> {
 }
 
 impl<'v> Part<'v> {
-    // Whether the policy's condition is true for the request, or its error. Its scope is asked first, and where that is met,
-    // the code of its conditions is executed.
+    // Whether the policy's condition is true for the request, or its error. The scope is tested first. Where the request meets
+    // it, the code of the policy's conditions is executed.
     pub(crate) fn verdict<H: Hierarchy>(
         &self,
         alloc: Global,
@@ -47,7 +47,7 @@ impl<'v> Part<'v> {
     ) -> Result<Result<bool, EvaluationError>, AllocError>
         ensures { IfOk result (λ v. v ≡ verdict_of (meaning request.now (H.world hierarchy.now) self.now)) }
     {
-        // Laws of codes: they run nothing.
+        // Where the scope is true, the execution comes to the code of the conditions with an empty stack. No code is too long.
         true_sides_are_passed();
         self.code.well_formedness();
         let scope = self.policy.scope();

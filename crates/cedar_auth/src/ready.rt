@@ -65,12 +65,12 @@ impl Model for Ready {
 }
 
 impl Ready {
-    /// The policies, ready to answer requests over the entities that the bytes denote by the schema (Cedar
-    /// documentation, entities JSON). Takes a copy of the bytes.
+    /// The policies, ready to answer requests over the entities that the bytes denote for the schema (Cedar documentation,
+    /// entities JSON). Takes a copy of the bytes.
     ///
     /// # Errors
     ///
-    /// 1 where memory was refused, and else 401, 402 or 501 to 509 only where that fault is in the bytes. Each hands the
+    /// 1 when out of memory, and otherwise 401, 402 or 501 to 509 only where that fault is in the bytes. Each hands the
     /// policies back.
     pub fn new(alloc: Global, validated: Validated, entities: &[u8]) -> Result<Ready, NotReady>
         ensures holds { IfOk result (λ r. (r.schema ≡ validated.schema) × (r.policies ≡ validated.policies)) }
@@ -89,13 +89,13 @@ impl Ready {
         }
     }
 
-    /// As [`Ready::new`], of bytes that it owns: it frees them as they are read, so that the bytes and the entities are
-    /// never in memory as a whole at the same time.
+    /// Like [`Ready::new`], but owns the bytes. It frees them as they are read, so the bytes and the entities are never in
+    /// memory as a whole at the same time.
     ///
     /// # Errors
     ///
-    /// As those of [`Ready::new`]. After an error the bytes are lost: a caller that may want to call again, as when memory
-    /// was refused, calls [`Ready::new`] or keeps a copy.
+    /// Those of [`Ready::new`]. After an error the bytes are lost. A caller that may want to call again, for example when out
+    /// of memory, calls [`Ready::new`] or keeps a copy.
     pub fn new_owned(
         alloc: Global,
         validated: Validated,
@@ -157,8 +157,11 @@ impl Ready {
         (part.code, part.policy.id().as_str(), part.policy.effect())
     }
 
-    /// The request that a line denotes by the schema (Cedar documentation, entities and context in JSON). Refused with 1
-    /// when out of memory, and else with 501 to 506 or 509 to 511 only where that fault is in the line.
+    /// The request that a line denotes for the schema (Cedar documentation, entities and context in JSON).
+    ///
+    /// # Errors
+    ///
+    /// 1 when out of memory, and otherwise 501 to 506 or 509 to 511 only where that fault is in the line.
     pub fn read(&self, alloc: Global, line: &[u8]) -> Result<Request, ConformFault>
         ensures denotes { IfOk result (LineDenotes self.now.schema line.now) }
         ensures fits { IfOk result (Fits self.now.schema) }
@@ -168,7 +171,7 @@ impl Ready {
         read_request(alloc, self.validated.schema(), line)
     }
 
-    // As `read`, by a reader of JSON whose room is kept from line to line.
+    // Like `read`, with a JSON reader whose buffers are kept from line to line.
     pub(crate) fn read_with(
         &self,
         alloc: Global,
@@ -190,17 +193,20 @@ impl Ready {
         cedar_conform::fits(self.validated.schema(), request)
     }
 
-    /// The response to a request that fits, by the evaluation of every policy (Cedar language reference,
-    /// authorization). Every policy's code runs safely, the errors that are named are overflow and missing entity
-    /// alone, or a decimal error where the settings have `any_decimal` on, and the response is Cedar's. 1: memory was
-    /// refused, which is never a decision.
+    /// The response to a request that fits, from the evaluation of every policy (Cedar language reference, authorization).
+    /// Every policy's code runs safely, and the response is Cedar's. The only errors that it names are overflow and missing
+    /// entity, and also a decimal error where the settings have `any_decimal` on.
+    ///
+    /// # Errors
+    ///
+    /// Fails only when out of memory, which is never a decision.
     pub fn answer(&self, alloc: Global, request: &Request) -> Result<Response<'_>, AllocError>
         requires { Fits self.now.schema request.now }
         ensures ok { IfOk result (λ r. r ≡ response self.now.policies.policies request.now self.now.world) }
         ensures errors { IfOk result (λ r. (x : ErringTree) → Contains r.erring x → IsAllowedWith self.now.settings x.error) }
         ensures sound { IsAnsweredSoundlyWith self.now.settings self.now.policies.policies request.now self.now.world }
     {
-        // A law, which runs nothing.
+        // Every request that fits is answered soundly.
         self.soundness();
         let mut selection = Selection::new(alloc);
         let mut tally = Tally::new(alloc);
@@ -208,16 +214,16 @@ impl Ready {
         Ok(tally.into_response())
     }
 
-    /// The positions of the candidates for a request that fits, ascending: of the policies whose scopes may be met by its
-    /// action and by the types of its principal and resource. A policy at another position is false for it. Takes no
-    /// memory, and comparisons by the logarithm of the number of actions and of types.
+    /// The positions of the candidates for a request that fits, ascending: the policies whose scopes a request with this action
+    /// and with entities of these types may meet. A policy at another position is false for it. Takes no memory, and as many
+    /// comparisons as the logarithm of the number of actions and of types.
     pub fn candidates(&self, request: &Request) -> &[usize]
         requires { Fits self.now.schema request.now }
         ensures exact { (env : EnvironmentTree) → FitsIn self.now.schema env request.now
             → AreCandidates self.now.schema self.now.policies.policies env result.now }
         ensures others { OthersAreFalse self.now.policies.policies request.now self.now.world result.now }
     {
-        // Laws, which run nothing.
+        // The policies that are left out are false, since no action's type is an entity type.
         candidates_are_enough();
         self.validated.schema().well_formedness();
         self.candidates.positions(request)
@@ -234,7 +240,7 @@ impl Ready {
         ensures others { OnOk result (LeavesFalse self.now.policies.policies request.now self.now.world selection.new) }
         ensures within { OnOk result ((k : ℕ) → Contains selection.new k → k < length self.now.policies.policies) }
     {
-        // A law of schemas, which does nothing.
+        // No action's type is an entity type, as in each schema.
         self.validated.schema().well_formedness();
         self.candidates.select(request, &self.store, selection)
     }
@@ -255,44 +261,44 @@ impl Ready {
             .tally(alloc, request, &self.store, selection.positions(), tally)
     }
 
-    /// Every request that fits is answered soundly: what [`engine_is_sound`] says of these policies, under their settings,
-    /// and this world. It is a law, and runs nothing.
+    /// Every request that fits is answered soundly: what [`engine_is_sound`] says of these policies, under their settings, and
+    /// this world. A law: it runs no code.
     pub fn soundness(&self)
         ensures { (q : RequestTree) → Fits self.now.schema q → IsAnsweredSoundlyWith self.now.settings self.now.policies.policies q self.now.world }
     {
-        // Laws, which run nothing.
+        // The theorem of the engine, and its premise that no action's type is an entity type.
         engine_is_sound();
         self.validated.schema().well_formedness();
     }
 
-    /// What [`engine_is_sound`] asks for holds of these policies and this world: no action's type is an entity type, strict
-    /// validation under the settings accepts the policies for the schema, and the world conforms to it. It is a law, and
-    /// runs nothing.
+    /// The premises of [`engine_is_sound`] hold of these policies and this world: no action's type is an entity type, strict
+    /// validation under the settings accepts the policies for the schema, and the world conforms to it. A law: it runs no code.
     pub fn premises(&self)
         ensures apart { AreTypesApart self.now.schema }
         ensures validated { IsValidatedWith self.now.settings self.now.schema self.now.policies.policies }
         ensures conforms { Conforms self.now.schema self.now.world }
     {
-        // A law of schemas, which does nothing.
+        // No action's type is an entity type, as in each schema.
         self.validated.schema().well_formedness();
     }
 
-    /// Every request that a line denotes by the schema is answered soundly: what [`engine_is_sound`] says of these policies,
-    /// under their settings, and this world. It is a law, and runs nothing.
+    /// Every request that a line denotes for the schema is answered soundly: what [`engine_is_sound`] says of these policies,
+    /// under their settings, and this world. A law: it runs no code.
     pub fn lines_are_answered_soundly(&self)
         ensures { (line : List ℕ) (q : RequestTree) → LineDenotes self.now.schema line q
             → IsAnsweredSoundlyWith self.now.settings self.now.policies.policies q self.now.world }
     {
-        // Laws, which run nothing.
+        // A request that a line denotes fits the schema, and is then answered soundly.
         denoted_requests_fit();
         self.soundness();
     }
 
-    /// Each line has an answer: it denotes a request by the schema, or it has a fault. It is a law, and runs nothing.
+    /// Each line has an answer: it denotes a request for the schema, or it has a fault. A law: it runs no code.
     pub fn lines_have_answers(&self)
         ensures { (line : List ℕ) → (text : List ℕ) × AnswersLine self.now line text }
     {
-        // Laws, which run nothing.
+        // Each step of reading a line has a value or a fault: uids, names, actions of the schema, and contexts as values of
+        // their types.
         uid_or_none();
         is_name_tells_names();
         tests_of_schemas_decide();

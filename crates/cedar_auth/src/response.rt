@@ -1,4 +1,4 @@
-//! What is answered to a request.
+//! The response to a request.
 use cedar_ast::Decision;
 use cedar_ast_expressions::EvaluationError;
 use std::marker::Model;
@@ -8,7 +8,7 @@ use std::marker::Model;
 pub struct Erring<'p> {
     /// The policy's id.
     pub policy: &'p str,
-    /// Why its condition has no value.
+    /// The error of its condition.
     pub error: EvaluationError,
 }
 
@@ -25,7 +25,7 @@ impl<'p> Model for Erring<'p> {
 /// (Cedar language reference, authorization).
 #[derive(Drop)]
 pub struct Response<'p> {
-    /// What is decided.
+    /// The decision.
     pub decision: Decision,
     /// The satisfied permits where the request is allowed, else the satisfied forbids.
     pub determining: Vec<&'p str>,

@@ -1,10 +1,10 @@
-//! The room that answers take.
+//! The buffers that are kept from line to line.
 use crate::tally::Tally;
 use base_json::JsonReader;
 use cedar_auth_candidates::Selection;
 use std::alloc::Global;
 
-/// The room for a line's JSON, for the policies that are selected for a request, and for how they end, which is used again
+/// The buffers for a line's JSON, for the policies that are selected for a request, and for how they end. They are used again
 /// from line to line.
 #[derive(Drop)]
 pub struct Room<'r> {
@@ -14,7 +14,7 @@ pub struct Room<'r> {
 }
 
 impl<'r> Room<'r> {
-    /// Room for nothing yet. It takes no memory.
+    /// Empty buffers.
     pub(crate) fn new(alloc: Global) -> Room<'r> {
         Room {
             reader: JsonReader::new(alloc),

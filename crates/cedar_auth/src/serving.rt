@@ -66,12 +66,14 @@ impl<'r> Engine for Answering<'r> {
     }
 }
 
-/// Answers each line of the source by one line to the sink: the response of the policies to the request that the line
-/// denotes by the schema, or `{"refused":N}`. At `Ok` all of the answer text was written.
+/// Answers each line of the source by one line to the sink: the response of the policies to the request that the line denotes for
+/// the schema, or `{"refused":N}`. At `Ok` all of the answer text was written.
 ///
-/// 1 where memory ran out: the answers of some first lines were written, whole. 2 only where the source failed during
-/// the call: the answers to the lines that were read with their LF were written, whole. 3 only where the sink failed
-/// during the call: a beginning of the answers was written, which may end within a line.
+/// # Errors
+///
+/// - 1: out of memory. The answers of some first lines were written, whole.
+/// - 2: the source failed during the call. The answers to the lines that were read with their LF were written, whole.
+/// - 3: the sink failed during the call. A beginning of the answers was written, which may end within a line.
 pub fn serve<S: Source, K: Sink>(
     alloc: Global,
     ready: &Ready,
@@ -97,15 +99,15 @@ pub fn serve<S: Source, K: Sink>(
     ensures read_rose { IsErrOf result ServeFault.ReadFailed → S.failed source.old < S.failed source.new }
     ensures write_rose { IsErrOf result ServeFault.WriteFailed → K.failed sink.old < K.failed sink.new }
 
-    // Each request that a line denotes by the schema is answered soundly: no other error is named than overflow and missing
-    // entity, or a decimal error where the settings have `any_decimal` on.
+    // Each request that a line denotes for the schema is answered soundly: the only errors that are named are overflow and
+    // missing entity, and a decimal error where the settings have `any_decimal` on.
     ensures sound { (line : List ℕ) (q : RequestTree) → LineDenotes ready.now.schema line q
         → IsAnsweredSoundlyWith ready.now.settings ready.now.policies.policies q ready.now.world }
     // And so is each other request that fits.
     ensures fitting { (q : RequestTree) → Fits ready.now.schema q
         → IsAnsweredSoundlyWith ready.now.settings ready.now.policies.policies q ready.now.world }
 {
-    // Laws, which run nothing.
+    // Each line has an answer, and each request that a line denotes is answered soundly.
     ready.soundness();
     ready.lines_are_answered_soundly();
     ready.lines_have_answers();

@@ -77,7 +77,7 @@ impl<'p> Tally<'p> {
         self.forbids.is_empty() && !self.permits.is_empty()
     }
 
-    /// The response, lent: allowed is what no forbid forbids and some permit permits.
+    /// The response, lent: `allow` where some permit is satisfied and no forbid is.
     pub(crate) fn told(&self) -> Told<'_, 'p>
         ensures { result ≡ response_by self.now }
     {
@@ -96,7 +96,7 @@ impl<'p> Tally<'p> {
         }
     }
 
-    /// The response: allowed is what no forbid forbids and some permit permits. It takes the lists.
+    /// The response: `allow` where some permit is satisfied and no forbid is. It takes the lists.
     pub(crate) fn into_response(self) -> Response<'p>
         ensures { result ≡ response_by self.entry }
     {

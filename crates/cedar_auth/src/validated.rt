@@ -63,7 +63,7 @@ fn judge(
     ensures codes { IfOk result (λ codes. AreCodes codes.items policies.now.policies) }
     ensures refused { IfErr result (HasFaultWith settings schema.now policies.now.policies) }
 {
-    // A law of typing: it runs nothing.
+    // Policies have no fault exactly where each of them is accepted, and they have one report only.
     typing_is_determined();
     let Ok(report) = check_with(alloc, schema, policies, settings) else {
         return Err(ValidationFault::OutOfMemory);
@@ -80,9 +80,12 @@ fn judge(
 
 impl Validated {
     /// The policies for the schema, where strict validation as it is documented accepts each of them in every environment
-    /// (Cedar documentation, policy validation): `new_with` with no setting on. A refusal hands both back: with the report
-    /// where that has faults, 701 where the code of some policy would have over 1,000,000 instructions, 1 where memory was
-    /// refused.
+    /// (Cedar documentation, policy validation): `new_with` with no setting on.
+    ///
+    /// # Errors
+    ///
+    /// The report, where it has faults; 701 where the code of some policy would have over 1,000,000 instructions; 1 when out of
+    /// memory. Each hands schema and policies back.
     pub fn new(
         alloc: Global,
         schema: Schema,
@@ -97,8 +100,12 @@ impl Validated {
     }
 
     /// The policies for the schema, where strict validation under these settings accepts each of them in every environment
-    /// (Cedar documentation, policy validation). A refusal hands schema and policies back: with the report where that has
-    /// faults, 701 where the code of some policy would have over 1,000,000 instructions, 1 where memory was refused.
+    /// (Cedar documentation, policy validation).
+    ///
+    /// # Errors
+    ///
+    /// The report, where it has faults; 701 where the code of some policy would have over 1,000,000 instructions; 1 when out of
+    /// memory. Each hands schema and policies back.
     pub fn new_with(
         alloc: Global,
         schema: Schema,
@@ -181,8 +188,12 @@ impl Validated {
         Ok(())
     }
 
-    /// The response to a request over a hierarchy of entities, by the evaluation of every policy (Cedar language
-    /// reference, authorization). 1: memory was refused, which is never a decision.
+    /// The response to a request over a hierarchy of entities, from the evaluation of every policy (Cedar language reference,
+    /// authorization).
+    ///
+    /// # Errors
+    ///
+    /// Fails only when out of memory, which is never a decision.
     pub fn answer<H: Hierarchy>(
         &self,
         alloc: Global,

@@ -9,7 +9,7 @@ use thiserror::Error;
 /// Why policies are not accepted for a schema.
 #[derive(Drop, Error)]
 pub enum ValidationFault {
-    /// 1: memory was refused.
+    /// 1: out of memory.
     #[error("out of memory")]
     OutOfMemory,
     /// Strict validation finds faults, each of which has its own number, 601 to 607.
@@ -21,7 +21,7 @@ pub enum ValidationFault {
 }
 
 impl ValidationFault {
-    /// The refusal's number; None of a report, whose faults have numbers of their own.
+    /// The refusal's number. None for a report, whose faults have their own numbers.
     pub fn number(&self) -> Option<u16>
         ensures { result ≡ number_of self.now }
     {

@@ -26,7 +26,7 @@ use Rattle.cedar_auth_candidates.proofs.Sifts.{both_sifted, alike_sifted, sifted
 
 -- ---- look-ups
 
--- three look-ups, one after the other
+-- three look-ups, one after another
 three : (rows : Rows) (u : Uid) (n m : List ℕ) (row : Row) (cells : Cells) (cell : ListingTree)
     → get uid_cmp rows u ≡ Some row → get text_cmp row.cells.value n ≡ Some cells → get text_cmp cells m ≡ Some cell → cell_at rows u n m ≡ Some cell
 three rows u n m row cells cell a b c =

@@ -1,6 +1,5 @@
 -- What is looked up for a request that is one of an environment.
 use Rattle.std.proofs.Common.{◌≡◌, ℕ, List, [], Contains, Option, Some, None, Result, Ok, Err, OnOk, sym, ap, subst, ◌∙◌}
-use Rattle.std.proofs.lemmas.Option.{slice_get_within}
 use Rattle.cedar_value.specs.World.{World}
 use Rattle.cedar_value.specs.declared.request.Request.{Request}
 use Rattle.cedar_value.specs.declared.uid.Uid.{Uid}
@@ -45,7 +44,7 @@ module _ (candidates : CandidatesTree) (q : Request) where
       let listed = subst (λ (l : ListingTree). IsListingBy candidates.index l) one kept.listed in
       record {
         reached = λ k p at candidate reaches. reached ps are.indexed listed k p ((exact.exact k).1 (p, at, candidate)) at reaches;
-        within = λ k m. let at = (exact.exact k).0 (among k m) in slice_get_within ps k at.0 at.1;
+        among = λ k m. (exact.exact k).0 (among k m);
       }
 
   -- there is a listing for each request that is one of an environment

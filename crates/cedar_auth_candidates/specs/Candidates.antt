@@ -1,5 +1,5 @@
 -- Which policies are kept for each environment of a schema.
-use Rattle.std.specs.Prelude.{◌≡◌, ◌<◌, ℕ, List, Contains, length, Option, Some, option_and_then}
+use Rattle.std.specs.Prelude.{◌≡◌, ℕ, List, Contains, Option, Some, option_and_then}
 use Rattle.std.specs.BTreeMap.{is_at}
 use Rattle.std.specs.List.{slice_get}
 use Rattle.std.specs.Map.{lookup}
@@ -16,8 +16,8 @@ use Rattle.cedar_auth_spec.specs.Candidates.{AreCandidates}
 use Rattle.cedar_auth_candidates.specs.Index.{IndexTree, IsIndexOf, IsListingBy, ListingTree}
 use Rattle.cedar_auth_candidates.specs.Reached.{IsReached}
 
--- What is kept of the policies: their index, and for each action, each type of its principals and each type of its resources
--- a listing (own).
+-- What is kept about the policies: their index, and a listing for each action, each type of its principals and each type of its
+-- resources (own).
 pub record CandidatesTree : Type 0 where
   pub index : IndexTree
   pub rows : List (Uid × List (List ℕ × List (List ℕ × ListingTree)))
@@ -27,32 +27,33 @@ abbrev pub listing_at : CandidatesTree → Uid → List ℕ → List ℕ → Opt
 listing_at candidates u n m =
     option_and_then (λ cells. lookup (is_at (text_cmp m)) cells) (option_and_then (λ row. lookup (is_at (text_cmp n)) row) (lookup (is_at (uid_cmp u)) candidates.rows))
 
--- There is a listing according to the index, of just the policies whose scopes may be met in the environment (own).
+-- There is a listing of the index, with exactly the policies whose scopes may be met in the environment (own).
 pub record IsKeptFor (s : SchemaTree) (ps : List PolicyTree) (index : IndexTree) (env : Environment) (found : Option ListingTree) : Type 0 where
   pub listing : ListingTree
   pub is : found ≡ Some listing
   pub candidates : AreCandidates s ps env listing.positions
   pub listed : IsListingBy index listing
 
--- The index is one of these policies, and for each environment of the schema a listing is kept, of just the policies whose
+-- The index is one of these policies, and for each environment of the schema a listing is kept, with exactly the policies whose
 -- scopes may be met in it (own).
 pub record AreCandidatesFor (s : SchemaTree) (ps : List PolicyTree) (candidates : CandidatesTree) : Type 0 where
   pub indexed : IsIndexOf ps candidates.index
   pub kept : (env : Environment) → Contains (environments_of s.actions) env → IsKeptFor s ps candidates.index env (listing_at candidates env.action env.principal env.resource)
 
--- The positions are those of the policies whose scopes may be met in the environment of the request, whatever the schema and the
--- policies are that the candidates are of (own).
+-- The positions are those of the policies whose scopes may be met in the environment of the request. This holds for each schema
+-- and policies for which these are the candidates (own).
 abbrev pub HasPositions : CandidatesTree → Request → List ℕ → Type 0
 HasPositions candidates q positions =
     (s : SchemaTree) (ps : List PolicyTree) (env : Environment) → AreCandidatesFor s ps candidates → FitsIn s env q → AreCandidates s ps env positions
 
--- Each policy whose scope may be met in the environment, and that the request reaches, is selected, and there is a policy at each
--- position (own; cedar-spec, Lean: Cedar.Thm, slicing).
+-- Each policy whose scope may be met in the environment, and that the request reaches, is selected, and each position is that of
+-- a policy whose scope may be met in the environment (own; cedar-spec, Lean: Cedar.Thm, slicing).
 pub record IsSelected (s : SchemaTree) (ps : List PolicyTree) (env : Environment) (q : Request) (w : World) (positions : List ℕ) : Type 0 where
   pub reached : (k : ℕ) (p : PolicyTree) → slice_get ps k ≡ Some p → IsCandidate s env p → IsReached q w p → Contains positions k
-  pub within : (k : ℕ) → Contains positions k → k < length ps
+  pub among : (k : ℕ) → Contains positions k → (p : PolicyTree) × (slice_get ps k ≡ Some p) × IsCandidate s env p
 
--- The same of the environment of the request, whatever the schema and the policies are that the candidates are of (own).
+-- The same for the environment of the request. This holds for each schema and policies for which these are the candidates
+-- (own).
 abbrev pub HasSelected : CandidatesTree → Request → World → List ℕ → Type 0
 HasSelected candidates q w positions =
     (s : SchemaTree) (ps : List PolicyTree) (env : Environment) → AreCandidatesFor s ps candidates → FitsIn s env q → IsSelected s ps env q w positions

@@ -1,4 +1,4 @@
--- What an index of policies keeps, and what is selected by it.
+-- What an index of policies keeps, and what it selects.
 use Rattle.std.specs.Prelude.{◌≡◌, ℕ, true, List, [], Contains, Option, None, Some, unwrap_or}
 use Rattle.std.specs.List.{slice_get}
 use Rattle.std.specs.Map.{lookup}
@@ -21,14 +21,14 @@ pub record IndexTree : Type 0 where
 abbrev pub positions_under : List (Uid × List ℕ) → Uid → List ℕ
 positions_under table u = unwrap_or (lookup (same_uid u) table) []
 
--- The position of a policy is kept by the uids that its scope names, of the principal and of the resource: under the first that
--- there is, and by its bit where there is neither (own).
+-- The position of a policy is kept according to the uids that its scope names for the principal and for the resource: under the
+-- first that there is, and as a bit where there is neither (own).
 abbrev pub IsKept : IndexTree → Option Uid → Option Uid → ℕ → Type 0
 IsKept index (Some u) other k = Contains (positions_under index.principals u) k
 IsKept index None (Some u) k = Contains (positions_under index.resources u) k
 IsKept index None None k = has_bit index.unnamed k ≡ true
 
--- Each of the policies is kept by what its scope names (own).
+-- Each of the policies is kept according to what its scope names (own).
 abbrev pub IsIndexOf : List PolicyTree → IndexTree → Type 0
 IsIndexOf ps index =
     (k : ℕ) (p : PolicyTree) → slice_get ps k ≡ Some p → IsKept index (uid_in p.scope.principal) (uid_in p.scope.resource) k
@@ -38,11 +38,11 @@ pub record ListingTree : Type 0 where
   pub positions : List ℕ
   pub unnamed : List ℕ
 
--- What the index keeps by a bit, of the positions of the listing, the listing has among its unnamed (own).
+-- The positions of the listing that the index keeps as bits are among the listing's unnamed (own).
 abbrev pub IsListingBy : IndexTree → ListingTree → Type 0
 IsListingBy index listing = (k : ℕ) → Contains listing.positions k → has_bit index.unnamed k ≡ true → Contains listing.unnamed k
 
--- Of the policies that the index was made of, each one of the listing that the request reaches is selected (own; cedar-spec,
+-- Each policy of the listing that the request reaches is selected, where the index was made of these policies (own; cedar-spec,
 -- Lean: Cedar.Thm, slicing).
 abbrev pub HasReached : IndexTree → ListingTree → Request → World → List ℕ → Type 0
 HasReached index listing q w selected =

@@ -1,4 +1,4 @@
--- Which policies the entities of a request reach, by the uids that scopes name.
+-- Which policies the entities of a request reach, given the uids that scopes name.
 use Rattle.std.specs.Prelude.{◌≡◌, ◌⊎◌, Option, None, Some}
 use Rattle.cedar_value.specs.World.{World, Below}
 use Rattle.cedar_value.specs.declared.request.Request.{Request}
@@ -15,7 +15,7 @@ uid_in (entity.In u) = Some u
 uid_in (entity.Is ty) = None
 uid_in (entity.IsIn ty u) = Some u
 
--- The entity is the one that the scope names, or is below it; a scope that names none asks nothing of it (Cedar language
+-- The entity is the one that the scope names, or is below it. A scope that names no entity is always reached (Cedar language
 -- reference, policy scope).
 abbrev pub Reaches : World → Uid → EntityScope → Type 0
 Reaches w e scope = (u : Uid) → uid_in scope ≡ Some u → (e ≡ u) ⊎ Below w e u

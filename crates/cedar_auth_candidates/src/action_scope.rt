@@ -1,4 +1,4 @@
-//! What a scope asks of the action.
+//! What a scope requires of the action.
 ghost use Rattle.std.specs.Prelude.{◌≡◌, ◌≤◌};
 ghost use Rattle.cedar_ast.specs.Condition.{action_scope_of};
 ghost use Rattle.cedar_code.specs.Code.{size, most_instructions};
@@ -20,7 +20,7 @@ fn is_within_one<H: Hierarchy>(action: &Uid, uids: &[Uid], hierarchy: &H) -> boo
     false
 }
 
-/// Whether the action is what the scope asks for (Cedar language reference, policy scope).
+/// Whether the action is what the scope requires (Cedar language reference, policy scope).
 pub(crate) fn is_met<H: Hierarchy>(scope: &ActionScope, action: &Uid, hierarchy: &H) -> bool
     ensures { result ≡ is_action_met (H.world hierarchy.now) action.now scope.now }
 {
@@ -32,7 +32,7 @@ pub(crate) fn is_met<H: Hierarchy>(scope: &ActionScope, action: &Uid, hierarchy:
     }
 }
 
-/// How many instructions the code of what the scope asks for has.
+/// How many instructions the code of the condition on the action has.
 pub(crate) fn size_of(scope: &ActionScope) -> usize
     requires { size (action_scope_of scope.now) ≤ most_instructions }
     ensures { result ≡ size (action_scope_of scope.now) }

@@ -20,8 +20,8 @@ use std::alloc::{AllocError, Global};
 use std::collections::BTreeMap;
 use std::marker::Model;
 
-/// For each environment of a schema the policies whose scopes may be met in it, and the index according to which they are
-/// listed. Contracts see a `CandidatesTree`.
+/// For each environment of a schema, the policies whose scopes may be met in it, and the index that lists them. Contracts see a
+/// `CandidatesTree`.
 #[derive(Drop)]
 pub struct Candidates {
     index: Index,
@@ -38,7 +38,7 @@ impl Model for Candidates {
     ghost view = { λ candidates. candidates_tree candidates.index candidates.rows };
 }
 
-// What is kept for each action of the schema.
+// The rows of the actions of the schema.
 fn by_action(
     alloc: Global,
     schema: &Schema,
@@ -62,7 +62,7 @@ fn by_action(
     Ok(rows)
 }
 
-// What is kept for an action, a type of principals and a type of resources.
+// The cell of an action, a type of principals and a type of resources.
 fn cell_in<'r>(
     rows: &'r BTreeMap<Uid, Row>,
     action: &Uid,
@@ -77,7 +77,11 @@ fn cell_in<'r>(
 }
 
 impl Candidates {
-    /// The candidates among these policies for each environment of the schema. 1: memory was refused.
+    /// The candidates among these policies for each environment of the schema.
+    ///
+    /// # Errors
+    ///
+    /// Fails only when out of memory.
     pub fn new(alloc: Global, schema: &Schema, policies: &PolicySet) -> Result<Self, AllocError>
         ensures { IfOk result (AreCandidatesFor schema.now policies.now.policies) }
     {
@@ -103,9 +107,9 @@ impl Candidates {
         }
     }
 
-    /// The positions of the candidates for a request that fits the schema, ascending: of the policies whose scopes may be met
-    /// by its action and by the types of its principal and its resource. Takes no memory, and as many comparisons as the
-    /// logarithms of the numbers of actions and of types.
+    /// The positions of the candidates for a request that fits the schema, ascending: the policies whose scopes a request with
+    /// this action and with entities of these types may meet. Takes no memory, and as many comparisons as the logarithms of the
+    /// numbers of actions and of types.
     pub fn positions(&self, request: &Request) -> &[usize]
         ensures { HasPositions self.now request.now result.now }
     {
@@ -115,10 +119,13 @@ impl Candidates {
         }
     }
 
-    /// Selects, of the candidates for a request that fits the schema, those that the request's own entities reach: each other
-    /// one is false (Cedar language reference, policy scope). Takes memory only where the selection has to grow, and time
-    /// according to the policies that name these entities or none, and to what is above the principal and the resource.
-    /// 1: memory was refused.
+    /// Selects, of the candidates for a request that fits the schema, those that the request's own entities reach. Each other
+    /// candidate is false (Cedar language reference, policy scope). Takes memory only where the selection has to grow. The time
+    /// grows with the policies that name these entities or none, and with what is above the principal and the resource.
+    ///
+    /// # Errors
+    ///
+    /// Fails only when out of memory.
     pub fn select<'s>(
         &self,
         request: &Request,

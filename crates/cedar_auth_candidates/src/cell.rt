@@ -22,7 +22,7 @@ impl Model for Cell {
 }
 
 impl Cell {
-    /// A cell of its own. 1: memory was refused.
+    /// A cell of its own.
     pub(crate) fn new(alloc: Global, listing: Listing) -> Result<Cell, AllocError>
         ensures { IfOk result (λ c. c ≡ listing) }
     {
@@ -30,7 +30,7 @@ impl Cell {
         Ok(Cell { listing })
     }
 
-    /// The same cell for one more environment. Takes no memory. 1: too many have it.
+    /// The same cell for one more environment. Refused where too many environments share it.
     pub(crate) fn share(&self) -> Result<Cell, AllocError>
         ensures { IfOk result (λ c. c ≡ self.now) }
     {

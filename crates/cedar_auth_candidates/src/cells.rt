@@ -11,8 +11,8 @@ use std::collections::BTreeMap;
 use std::hash::{DefaultHasher, Hash, Hasher};
 use std::marker::Model;
 
-/// The cells that were made for environments, by digests of their positions, so that environments with the same candidates
-/// share one. Contracts see the index by which the cells are listed.
+/// The cells that were made for environments, found by digests of their positions, so that environments with the same
+/// candidates share one. Contracts see the index that lists the cells.
 #[derive(Drop)]
 pub(crate) struct Cells<'i> {
     index: &'i Index,
@@ -61,7 +61,7 @@ impl<'i> Cells<'i> {
         }
     }
 
-    /// The cell of these positions: one that was made already, if there is such a one. 1: memory was refused.
+    /// The cell of these positions: one that was made already, if there is one.
     pub(crate) fn cell(&mut self, alloc: Global, positions: &[usize]) -> Result<Cell, AllocError>
         ensures same { self.new ≡ self.old }
         ensures positions { IfOk result (λ c. c.positions ≡ positions.now) }

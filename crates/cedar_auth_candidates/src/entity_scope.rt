@@ -1,4 +1,4 @@
-//! What a scope asks of the principal or the resource.
+//! What a scope requires of the principal or the resource.
 ghost use Rattle.std.specs.Prelude.{◌≡◌, ◌||◌};
 ghost use Rattle.cedar_value.specs.Datum.{same_uid};
 ghost use Rattle.cedar_value.specs.World.{below};
@@ -17,7 +17,7 @@ pub(crate) fn is_within<H: Hierarchy>(low: &Uid, high: &Uid, hierarchy: &H) -> b
     low == high || hierarchy.is_below(low, high)
 }
 
-/// Whether the entity is what the scope asks for (Cedar language reference, policy scope).
+/// Whether the entity is what the scope requires (Cedar language reference, policy scope).
 pub(crate) fn is_met<H: Hierarchy>(scope: &EntityScope, entity: &Uid, hierarchy: &H) -> bool
     ensures { result ≡ is_entity_met (H.world hierarchy.now) entity.now scope.now }
 {
@@ -30,7 +30,7 @@ pub(crate) fn is_met<H: Hierarchy>(scope: &EntityScope, entity: &Uid, hierarchy:
     }
 }
 
-/// How many instructions the code of what the scope asks for has.
+/// How many instructions the code of the condition on the entity has.
 pub(crate) fn size_of(scope: &EntityScope) -> usize
     ensures { (x : Variable) → result ≡ size (entity_scope_of x scope.now) }
 {

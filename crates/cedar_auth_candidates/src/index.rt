@@ -1,4 +1,4 @@
-//! Policies by the entities that their scopes name.
+//! Policies, found by the entities that their scopes name.
 ghost use Rattle.std.specs.Prelude.{◌≡◌, ℕ, Contains, IfOk, OnOk};
 ghost use Rattle.std.specs.List.Sorted.{IsStrictlyIncreasing};
 ghost use Rattle.cedar_auth_candidates.specs.Index.{HasReached, IsIndexOf, IsListingBy};
@@ -12,8 +12,8 @@ use cedar_value::Request;
 use std::alloc::{AllocError, Global};
 use std::marker::Model;
 
-/// Positions of policies by the one entity that each policy's scope names: under its principal, else under its resource, and
-/// apart where it names neither. Contracts see an `IndexTree`.
+/// Positions of policies, found by the one entity that each policy's scope names: under its principal, or else under its
+/// resource. Those that name neither are kept apart. Contracts see an `IndexTree`.
 #[derive(Drop)]
 pub(crate) struct Index {
     tables: Tables,
@@ -30,7 +30,7 @@ impl Model for Index {
 }
 
 impl Index {
-    /// The index of all policies of the set, by what their scopes name. 1: memory was refused.
+    /// The index of all policies of the set.
     pub(crate) fn new(alloc: Global, policies: &PolicySet) -> Result<Self, AllocError>
         ensures { IfOk result (IsIndexOf policies.now.policies) }
     {
@@ -38,7 +38,7 @@ impl Index {
         Ok(Index { tables })
     }
 
-    /// The listing of some of the policies, by their positions. 1: memory was refused.
+    /// The listing of the policies at these positions.
     pub(crate) fn list(&self, alloc: Global, positions: &[usize]) -> Result<Listing, AllocError>
         ensures positions { IfOk result (λ listing. listing.positions ≡ positions.now) }
         ensures listed { IfOk result (IsListingBy self.now) }
@@ -48,10 +48,9 @@ impl Index {
         Ok(listing)
     }
 
-    /// Selects, of the policies of a listing that was made by the index, those that a request's own entities reach: each other
-    /// one is false (Cedar language reference, policy scope). Takes memory only where the selection has to grow, and time
-    /// according to the policies that name these entities or none, and to what is above the principal and the resource.
-    /// 1: memory was refused.
+    /// Selects, of the policies of a listing that was made by the index, those that a request's own entities reach. Each other
+    /// policy is false (Cedar language reference, policy scope). Takes memory only where the selection has to grow. The time
+    /// grows with the policies that name these entities or none, and with what is above the principal and the resource.
     pub(crate) fn select<'s>(
         &self,
         request: &Request,
@@ -61,7 +60,7 @@ impl Index {
     ) -> Result<(), AllocError>
         ensures ascend { OnOk result (IsStrictlyIncreasing selection.new) }
         ensures reached { OnOk result (HasReached self.now listing.now request.now store.now selection.new) }
-        // It selects none that the listing lacks.
+        // It selects only policies of the listing.
         ensures within { OnOk result ((k : ℕ) → Contains selection.new k → Contains listing.now.positions k) }
     {
         selection.clear();

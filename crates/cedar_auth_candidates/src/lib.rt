@@ -1,13 +1,16 @@
-//! Which policies a request can satisfy: what their scopes leave of them, asked without the machine.
+//! Which policies a request can satisfy, according to their scopes alone, found without running their code.
 //!
 //! ```rust
+//! use cedar_auth_candidates::{Candidates, Selection, is_met};
+//!
 //! let candidates = Candidates::new(alloc, &schema, &policies)?;
 //! let mut selection = Selection::new(alloc);
 //! candidates.select(&request, &store, &mut selection)?;
 //! for position in selection.positions() {
 //!     // Only these policies can be true or err: each other one is false.
-//!     let policy = policies.policy(*position)?;
-//!     if is_met(policy.scope(), &request, &store) {
+//!     if let Some(policy) = policies.policy(*position)
+//!         && is_met(policy.scope(), &request, &store)
+//!     {
 //!         // Of this policy only the conditions are left to be executed, from `place_after_scope(policy.scope())` on.
 //!     }
 //! }
@@ -17,12 +20,12 @@
 //!
 //! - [`Candidates`] holds, for each environment of a schema, the positions of the policies whose scopes may be met in it,
 //!   according to the action and to the types of the principal and the resource. They are found once, before any request.
-//! - [`Candidates::select`] leaves out those that name other entities than the request's. A policy that asks for one
-//!   principal, as `principal == User::"ann"` or `principal in Group::"staff"`, is false for every request whose principal is
-//!   neither that entity nor below it; likewise of the resource. So the cost of a request depends on the policies that name
-//!   its own entities, or what these are below, and on those of its environment that name none. One index of the policies
+//! - [`Candidates::select`] leaves out those that name other entities than the request's. A policy that names one principal,
+//!   for example `principal == User::"ann"` or `principal in Group::"staff"`, is false for every request whose principal is
+//!   neither that entity nor below it; the same holds for the resource. So the cost of a request depends on the policies that
+//!   name its own entities, or what these are below, and on those of its environment that name none. One index of the policies
 //!   serves all environments.
-//! - [`is_met`] asks the scope of one policy.
+//! - [`is_met`] tests the scope of one policy.
 //!
 //! What each of them promises is in `specs/`: `Candidates` and `Reached`, `Scopes`.
 #![tactic(auto)]

@@ -7,7 +7,7 @@ use base_bits::{has_bit, insert_bit};
 use std::alloc::{AllocError, Global};
 use std::marker::Model;
 
-/// Some of the policies of an index, by their positions, as the candidates of an environment. Contracts see a `ListingTree`.
+/// Some of the policies of an index, given as their positions: the candidates of an environment. Contracts see a `ListingTree`.
 #[derive(Drop)]
 pub(crate) struct Listing {
     positions: Vec<usize>,
@@ -28,7 +28,7 @@ impl Model for Listing {
     ghost invariant = { λ l. IsListed l.row.items l.positions.items l.unnamed.items };
 }
 
-/// Those of the positions whose bits are set.
+/// The positions whose bits are set.
 pub(crate) fn with_bits(
     alloc: Global,
     row: &[u64],
@@ -59,7 +59,7 @@ fn row_of(alloc: Global, positions: &[usize]) -> Result<Vec<u64>, AllocError>
 }
 
 impl Listing {
-    /// The listing of these positions, of which those are unnamed.
+    /// The listing of these positions. The second list has those of them that name no entity.
     pub(crate) fn new(
         alloc: Global,
         positions: &[usize],
@@ -77,7 +77,7 @@ impl Listing {
         })
     }
 
-    /// All positions, lent. Takes no memory.
+    /// All positions, lent.
     pub(crate) fn positions(&self) -> &[usize]
         ensures { result.now ≡ self.now.positions }
     {

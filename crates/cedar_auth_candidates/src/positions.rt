@@ -9,7 +9,7 @@ use cedar_ast::PolicySet;
 use cedar_schema::Schema;
 use std::alloc::{AllocError, Global};
 
-/// The positions of all policies, ascending, and apart those of the policies whose scopes leave the action open, and of the
+/// The positions of all policies, ascending. They are also kept apart as those whose scopes leave the action open, and the
 /// others.
 #[derive(Drop)]
 pub(crate) struct Positions {
@@ -18,7 +18,11 @@ pub(crate) struct Positions {
     pub(crate) asking: Vec<usize>,
 }
 
-/// The positions of all policies of the set, ascending. 1: memory was refused.
+/// The positions of all policies of the set, ascending.
+///
+/// # Errors
+///
+/// Fails only when out of memory.
 pub fn all_positions(alloc: Global, policies: &PolicySet) -> Result<Vec<usize>, AllocError>
     ensures { IfOk result (λ v. v.items ≡ range_with_len 0 (length policies.now.policies)) }
 {
@@ -30,7 +34,7 @@ pub fn all_positions(alloc: Global, policies: &PolicySet) -> Result<Vec<usize>, 
 }
 
 impl Positions {
-    /// The positions of the policies of the set. 1: memory was refused.
+    /// The positions of the policies of the set.
     pub(crate) fn new(
         alloc: Global,
         schema: &Schema,

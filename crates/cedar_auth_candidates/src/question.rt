@@ -1,17 +1,17 @@
-//! What the scopes of policies are asked.
+//! The questions about the scopes of policies.
 use cedar_value::{Name, Uid};
 
-/// What the scope of a policy is asked.
+/// A question about the scope of a policy.
 #[derive(Clone, Copy)]
 pub(crate) enum Question<'a> {
     /// Whether it leaves the action open.
     AnyAction,
-    /// Whether it asks for some action.
+    /// Whether it requires some action.
     SomeAction,
-    /// Whether the action is what it asks for.
+    /// Whether the action is what it requires.
     Action(&'a Uid),
-    /// Whether a principal of the type may be.
+    /// Whether a principal of the type may be what it requires.
     Principal(&'a Name),
-    /// Whether a resource of the type may be.
+    /// Whether a resource of the type may be what it requires.
     Resource(&'a Name),
 }

@@ -1,4 +1,4 @@
-//! What is kept for an action: the candidates for each type of its principals and each type of its resources.
+//! The candidates of an action, for each type of its principals and each type of its resources.
 ghost use Rattle.std.specs.Prelude.{◌≡◌, IfOk};
 ghost use Rattle.cedar_auth_candidates.specs.Private.Sifting.{ByPrincipal, ByResource, OfPrincipal, OfResource};
 
@@ -13,20 +13,20 @@ use std::alloc::{AllocError, Global};
 use std::collections::{BTreeMap, BTreeSet};
 use std::rc::Rc;
 
-/// For each type of resources the candidates.
+/// For each type of resources, the candidates.
 pub(crate) type ByResource = BTreeMap<Name, Cell>;
 
-/// The same for each type of principals.
+/// For each type of principals, the cells of the types of resources.
 pub(crate) type ByPrincipal = BTreeMap<Name, ByResource>;
 
-/// What is kept for an action, or for several that leave the same policies and apply to the same types.
+/// The candidates of an action, or of several actions that leave the same policies and apply to the same types.
 #[derive(Drop)]
 pub(crate) struct Row {
     pub(crate) cells: Rc<ByPrincipal>,
 }
 
 impl Row {
-    /// A row of its own. 1: memory was refused.
+    /// A row of its own.
     pub(crate) fn new(alloc: Global, cells: ByPrincipal) -> Result<Row, AllocError>
         ensures { IfOk result (λ row. row.cells.value ≡ cells) }
     {
@@ -34,7 +34,7 @@ impl Row {
         Ok(Row { cells })
     }
 
-    /// The same row for one more action. Takes no memory. 1: too many have it.
+    /// The same row for one more action. Refused where too many actions share it.
     pub(crate) fn share(&self) -> Result<Row, AllocError>
         ensures { IfOk result (λ row. row.cells.value ≡ self.now.cells.value) }
     {
@@ -43,7 +43,7 @@ impl Row {
     }
 }
 
-// What is kept for a type of resources: the positions that it leaves.
+// The cell of a type of resources: the positions that it leaves.
 fn of_resource(
     alloc: Global,
     schema: &Schema,
@@ -60,7 +60,7 @@ fn of_resource(
     Ok(cell)
 }
 
-// For each of these types of resources what is kept for it.
+// The cells of these types of resources.
 fn by_resource(
     alloc: Global,
     schema: &Schema,
@@ -80,7 +80,7 @@ fn by_resource(
     Ok(row)
 }
 
-// What is kept for a type of principals.
+// The cells of a type of principals.
 fn of_principal(
     alloc: Global,
     schema: &Schema,
@@ -98,7 +98,7 @@ fn of_principal(
     Ok(row)
 }
 
-/// What is kept for each type of principals of an action, of these positions. 1: memory was refused.
+/// The cells of each type of principals of an action, for these positions.
 pub(crate) fn by_principal(
     alloc: Global,
     schema: &Schema,

@@ -17,15 +17,15 @@ use std::alloc::{AllocError, Global};
 use std::collections::{BTreeMap, BTreeSet};
 use std::hash::{DefaultHasher, Hash, Hasher};
 
-/// A row, and an action that it was made for.
+/// A row, and an action for which it was made.
 #[derive(Drop)]
 pub(crate) struct MadeRow<'s> {
     pub(crate) action: &'s Action,
     pub(crate) row: Row,
 }
 
-/// The cells that were made, and the rows of actions that no scope asks for, by digests of their types: such actions that apply
-/// to the same types share one.
+/// The cells that were made, and the rows of actions that no scope names, found by digests of their types. Such actions that
+/// apply to the same types share one row.
 #[derive(Drop)]
 pub(crate) struct RowMaker<'s> {
     pub(crate) cells: Cells<'s>,
@@ -66,7 +66,7 @@ fn found<'m, 's>(
 }
 
 impl<'s> RowMaker<'s> {
-    // The row of an action that no scope asks for: one that was made already, if there is such a one.
+    // The row of an action that no scope names: one that was made already, if there is one.
     fn open_row(
         &mut self,
         alloc: Global,
@@ -94,7 +94,7 @@ impl<'s> RowMaker<'s> {
         Ok(row)
     }
 
-    /// The row of an action. 1: memory was refused.
+    /// The row of an action.
     pub(crate) fn row(
         &mut self,
         alloc: Global,

@@ -47,15 +47,15 @@ impl<'s> Selection<'s> {
         &self.positions
     }
 
-    /// Has the selection be of nothing, and keeps its room.
+    /// Empties the selection, and keeps its room.
     pub fn clear(&mut self)
         ensures { self.new ≡ [] }
     {
         self.positions.clear();
     }
 
-    // Adds what is kept under the entity and under all that it is below. What it is below is looked up; or, where fewer uids
-    // have lists, each of these is asked whether the entity is below it.
+    // Adds the positions that are kept under the entity and under all that it is below. These are looked up one by one. Where
+    // fewer uids have lists, each of those uids is tested instead for whether the entity is below it.
     pub(crate) fn push_reached(
         &mut self,
         lists: &UidLists,

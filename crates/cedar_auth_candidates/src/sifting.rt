@@ -1,4 +1,4 @@
-//! Positions, sifted by what scopes are asked.
+//! Positions whose scopes answer a question with yes.
 ghost use Rattle.std.specs.Prelude.{◌↔◌, IsTrue, IfOk};
 ghost use Rattle.std.specs.List.{slice_get};
 ghost use Rattle.cedar_auth_candidates.specs.Private.Sifting.{Holds, OfPolicy, SiftedBy};
@@ -32,7 +32,7 @@ fn holds_at(schema: &Schema, policies: &PolicySet, question: Question<'_>, posit
     }
 }
 
-/// The positions at which the scope of the policy answers with yes, in order. 1: memory was refused.
+/// The positions at which the scope of the policy answers with yes, in order.
 pub(crate) fn sifted(
     alloc: Global,
     schema: &Schema,

@@ -1,4 +1,4 @@
-//! What an index keeps.
+//! The tables that an index keeps.
 ghost use Rattle.std.specs.Prelude.{◌≡◌, ◌<◌, length, IfOk, OnOk, option_copied};
 ghost use Rattle.cedar_auth_candidates.specs.Private.Kept.{AreEntered, IsEntered, IsPolicyAt, KeepsTables};
 ghost use Rattle.cedar_auth_candidates.specs.Reached.{uid_in};
@@ -12,8 +12,8 @@ use indexmap::IndexMap;
 use std::alloc::{AllocError, Global};
 use std::hash::{DefaultHasher, Hash};
 
-/// Positions of policies by the one entity that each policy's scope names: under its principal, else under its resource, and
-/// by a bit where it names neither.
+/// Positions of policies, found by the one entity that each policy's scope names: under its principal, or else under its
+/// resource. A bit marks those that name neither.
 #[derive(Drop)]
 pub(crate) struct Tables {
     pub(crate) principals: UidLists,
@@ -60,7 +60,7 @@ fn feed(digest: &mut DefaultHasher, scope: &EntityScope) {
 }
 
 impl Tables {
-    /// The tables of all policies of the set. 1: memory was refused.
+    /// The tables of all policies of the set.
     pub(crate) fn new(alloc: Global, policies: &PolicySet) -> Result<Self, AllocError>
         ensures { IfOk result (λ t. AreEntered policies.now.policies t (length policies.now.policies)) }
     {
@@ -77,7 +77,7 @@ impl Tables {
         Ok(tables)
     }
 
-    // Keeps the position of a policy by what its scope names.
+    // Keeps the position of a policy under what its scope names.
     fn enter(&mut self, alloc: Global, scope: &Scope, position: usize) -> Result<(), AllocError>
         ensures kept { OnOk result (KeepsTables self.old self.new) }
         ensures entered { OnOk result (IsEntered self.new scope.now position) }

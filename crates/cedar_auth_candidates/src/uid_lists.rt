@@ -79,7 +79,7 @@ pub(crate) fn push_lists(
     Ok(())
 }
 
-/// Appends the positions that are kept under each uid that the entity is below: each uid is asked.
+/// Appends the positions that are kept under each uid that the entity is below. Each uid with a list is tested.
 pub(crate) fn push_below(
     lists: &UidLists,
     entity: &Uid,

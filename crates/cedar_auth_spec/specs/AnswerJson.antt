@@ -32,6 +32,6 @@ response_data r =
     (member (codes "determining") (array (items_of (map string r.determining)))
     (member (codes "erring") (array (items_of (map erring_data r.erring))) no_members)))
 
--- A refusal of a line, by its number: `{"refused":N}` (own).
+-- The refusal of a line, with its number: `{"refused":N}` (own).
 abbrev pub refused_data : ℕ → Data
 refused_data n = object (member (codes "refused") (number (unsigned n)) no_members)

@@ -1,4 +1,4 @@
--- Which policies run for a request, by their positions.
+-- Which policies run for a request, given as their positions.
 use Rattle.std.specs.Prelude.{◌≡◌, ◌↔◌, ◌<◌, ◌≤◌, ℕ, suc, false, List, [], ◌∷◌, length, Contains, Some, Ok}
 use Rattle.std.specs.List.{slice_get}
 use Rattle.cedar_value.specs.Datum.{boolean}
@@ -15,7 +15,7 @@ abbrev pub Ascend : ℕ → ℕ → List ℕ → Type 0
 Ascend low high [] = Unit {0}
 Ascend low high (k ∷ ks) = (low ≤ k) × (k < high) × Ascend (suc k) high ks
 
--- The positions, ascending, of just those policies whose scopes may be met in the environment (own).
+-- The positions, ascending, of exactly those policies whose scopes may be met in the environment (own).
 pub record AreCandidates (s : SchemaTree) (ps : List PolicyTree) (env : Environment) (positions : List ℕ) : Type 0 where
   pub ascend : Ascend 0 (length ps) positions
   pub exact : (i : ℕ) → Contains positions i ↔ ((p : PolicyTree) × (slice_get ps i ≡ Some p) × IsCandidate s env p)

@@ -25,16 +25,16 @@ use Rattle.cedar_auth_spec.specs.Validation.{IsValidatedWith}
 
 -- ---- every policy's code runs safely
 
--- An end is safe under these settings: it is a Boolean, or one of the errors that they leave, which are overflow and missing
--- entity, and with the setting on a decimal error. No stack fault is, nor a type error or a missing attribute (Cedar
+-- An end is safe under these settings: it is a Boolean, or an error that they leave. These errors are overflow and missing
+-- entity, and with the setting on a decimal error. A stack fault, a type error or a missing attribute is not safe (Cedar
 -- documentation, policy validation: what validation does not find).
 abbrev pub IsSafeWith : Settings → Outcome → Type 0
 IsSafeWith settings (Value v) = IsTruth v
 IsSafeWith settings (Error e) = IsAllowedWith settings e
 IsSafeWith settings StackFault = ⊥
 
--- The policy's code runs to the end that the evaluation of its condition has, after so many steps, which are no more than
--- it has instructions, and that end is safe under these settings (cedar-spec, Lean: Cedar.Thm.Validation; own: the code).
+-- The policy's code runs to the end that the evaluation of its condition has. It takes so many steps, no more than it has
+-- instructions, and that end is safe under these settings (cedar-spec, Lean: Cedar.Thm.Validation; own: the code).
 pub record RunsSafelyWith (settings : Settings) (p : PolicyTree) (q : Request) (w : World) : Type 0 where
   pub steps : ℕ
   pub runs : Executes (policy_code p) q w steps (outcome_of (meaning q w p))
@@ -47,7 +47,7 @@ pub record RunsSafelyWith (settings : Settings) (p : PolicyTree) (q : Request) (
 abbrev pub IsSatisfied : Request → World → PolicyTree → Type 0
 IsSatisfied q w p = meaning q w p ≡ Ok (boolean true)
 
--- The policy errs: its condition has no value, but this error. So it is not satisfied (Cedar language reference,
+-- The policy errs: its condition has this error in place of a value. So it is not satisfied (Cedar language reference,
 -- authorization, errors).
 abbrev pub Errs : Request → World → PolicyTree → EvaluationError → Type 0
 Errs q w p e = meaning q w p ≡ Err e
@@ -68,22 +68,22 @@ pub record IsCedars (ps : List PolicyTree) (q : Request) (w : World) (r : Respon
   pub decision : (r.decision ≡ Allow) ↔ (SomeIsSatisfied Permit ps q w × ¬ SomeIsSatisfied Forbid ps q w)
   -- the determining policies are named: the satisfied permits where it is allowed, the satisfied forbids where it is denied
   pub determining : (id : List ℕ) → Contains r.determining id ↔ ((p : PolicyTree) × Contains ps p × (p.id ≡ id) × (p.effect ≡ determining_effect r.decision) × IsSatisfied q w p)
-  -- the policies that err are named, each with its error; being not satisfied, they take no other part
+  -- the policies that err are named, each with its error; they are not satisfied, so they take no other part
   pub erring : (x : ErringTree) → Contains r.erring x ↔ ((p : PolicyTree) × Contains ps p × (p.id ≡ x.id) × Errs q w p x.error)
 
 -- ---- the headline
 
--- What is promised of a request under these settings: every policy's code runs safely, the response names no other error than
--- those that they leave, which are overflow and missing entity, and with the setting on a decimal error, and it is Cedar's
--- (Cedar language reference, authorization; cedar-spec, Lean: Cedar.Thm).
+-- What is promised of a request under these settings. Every policy's code runs safely. The response names only errors that the
+-- settings leave: overflow and missing entity, and with the setting on a decimal error. And it is Cedar's (Cedar language
+-- reference, authorization; cedar-spec, Lean: Cedar.Thm).
 pub record IsAnsweredSoundlyWith (settings : Settings) (ps : List PolicyTree) (q : Request) (w : World) : Type 0 where
   pub runs : (p : PolicyTree) → Contains ps p → RunsSafelyWith settings p q w
   pub errors : (x : ErringTree) → Contains (response ps q w).erring x → IsAllowedWith settings x.error
   pub cedars : IsCedars ps q w (response ps q w)
 
 -- Where strict validation under these settings accepts the policies for the schema, and the world and the request conform to
--- it, the request is answered soundly. That no action's type is an entity type is so of every schema that is read (Cedar
--- documentation, policy validation; cedar-spec, Lean: Cedar.Thm).
+-- it, the request is answered soundly. The premise that no action's type is an entity type holds of every schema that is read
+-- (Cedar documentation, policy validation; cedar-spec, Lean: Cedar.Thm).
 abbrev pub EngineIsSoundWith : Settings → Type 0
 EngineIsSoundWith settings = (s : SchemaTree) (ps : List PolicyTree) (w : World) (q : Request) → AreTypesApart s → IsValidatedWith settings s ps → Conforms s w → Fits s q → IsAnsweredSoundlyWith settings ps q w
 

@@ -12,8 +12,8 @@ use Rattle.cedar_check_spec.specs.declared.settings.Settings.{Settings}
 pub record IsValidatedWith (settings : Settings) (s : SchemaTree) (ps : List PolicyTree) : Type 0 where
   pub each : (p : PolicyTree) → Contains ps p → IsAcceptedWith settings s p
 
--- A schema, and policies that strict validation under these settings accepts for it, beside their templates (Cedar
--- documentation, policy validation; own: the settings).
+-- A schema, the policies that strict validation under these settings accepts for it, and their templates (Cedar documentation,
+-- policy validation; own: the settings).
 pub record ValidatedTree : Type 0 where
   pub schema : SchemaTree
   pub policies : PolicySetTree

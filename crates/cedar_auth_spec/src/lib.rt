@@ -1,4 +1,4 @@
-//! What an authoriser of the Cedar policy language promises, as definitions.
+//! What the authoriser promises, as definitions.
 //!
 //! The crate has no code. Read `specs/` in this order:
 //!

@@ -1,4 +1,4 @@
--- An expression in which the action does not stand is as it was, the action replaced.
+-- An expression in which the action does not occur is as it was, the action replaced.
 use Rattle.std.proofs.Common.{◌≡◌, Bool, true, false, refl, ap, ap₂}
 use Rattle.std.specs.Prelude.{◌||◌}
 use Rattle.cedar_value.specs.declared.uid.Uid.{Uid}
@@ -42,6 +42,6 @@ mutual
   unmentioned_entries u no_entries h = refl
   unmentioned_entries u (entry k e fs) h = ap₂ (entry k) (unmentioned u e (first (mentions e) (entries_mention fs) h)) (unmentioned_entries u fs (second (mentions e) (entries_mention fs) h))
 
--- of a condition by its parts, the one in which it may stand is another
+-- of a condition by its parts, the one in which it may be is another
 pub whole_replaced : (u : Uid) (p a b : Expression) → mentions p ≡ false → mentions b ≡ false → replace u (and p (and a b)) ≡ and p (and (replace u a) b)
 whole_replaced u p a b p_stays b_stays = ap₂ (λ x y. and x (and (replace u a) y)) (unmentioned u p p_stays) (unmentioned u b b_stays)

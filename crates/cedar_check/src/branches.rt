@@ -1,4 +1,4 @@
-//! The row of `if`, by its branches.
+//! The row of `if`: what its branches give.
 ghost use Rattle.std.specs.Prelude.{◌≡◌, IfOk, option_and_then, option_map};
 ghost use Rattle.cedar_check_operators.specs.View.{held_view, typed_view, typing_view};
 ghost use Rattle.cedar_check.specs.Private.View.{joined_branches, kept_branch};
@@ -8,8 +8,8 @@ use cedar_check_operators::{
 };
 use std::alloc::{AllocError, Global};
 
-/// The first branch, behind a condition that is known true: it gains what the condition gains too. It takes
-/// memory where both gain.
+/// The first branch, after a condition that is known true: it gains what the condition gains too. It takes memory where both
+/// gain.
 pub(crate) fn if_known<'a>(
     gained: Vec<Capability<'a>>,
     first: Typing<'a>,
@@ -42,8 +42,7 @@ fn joined<'a>(
     Ok(Typing::Typed(Typed { ty, gained }))
 }
 
-/// The two branches, behind a condition of which nothing is known: they join, and gain what both ways
-/// gain.
+/// The two branches, after a condition of which nothing is known: their types join, and they gain what both of them gain.
 pub(crate) fn if_joined<'a>(
     alloc: Global,
     gained: &[Capability<'a>],

@@ -62,7 +62,8 @@ impl<'a> Checker<'a> {
         }
     }
 
-    // The type of an expression where these are gained beside what is held. It takes memory where both are some.
+    // The type of an expression where these capabilities are gained in addition to those that are held. It takes memory where
+    // there are some of both.
     #[cycle(check)]
     #[inline(never)]
     fn check_holding(
@@ -251,7 +252,7 @@ impl<'a> Checker<'a> {
         Ok(binary_type(self.alloc, self.schema, operator, left, right, &x.ty, &y.ty))
     }
 
-    // What the first type joins to with those of the members.
+    // What the first type and those of the members join to.
     #[cycle(check)]
     #[inline(never)]
     fn check_members(

@@ -64,8 +64,8 @@ fn fault_at(
     })
 }
 
-// Adds the fault of a policy in an environment in which its condition is of this form, if it is one; whether the condition is
-// known false there.
+// Adds the fault of a policy in an environment, where its condition has this form and the form is a fault. Returns whether the
+// condition is known false there.
 fn add_fault(
     alloc: Global,
     environment: &Environment,
@@ -88,7 +88,7 @@ fn add_fault(
     }
 }
 
-// The forms of a condition that are known by signatures: none of one that names the action.
+// The forms of a condition for the signatures: none where the condition names the action.
 fn known_forms(
     alloc: Global,
     settings: Settings,
@@ -105,8 +105,8 @@ fn known_forms(
     }
 }
 
-// Adds the faults of a policy, one for each environment in which its condition is not accepted; whether that is known
-// false in each.
+// Adds the faults of a policy, one for each environment in which its condition is not accepted. Returns whether it is known
+// false in each environment.
 fn check_everywhere(
     alloc: Global,
     settings: Settings,
@@ -143,8 +143,8 @@ fn check_everywhere(
     Ok(impossible)
 }
 
-/// Adds the faults of a policy, one for each environment in which it is not accepted, in the order of the
-/// environments; whether no request can satisfy it. 1: memory was refused.
+/// Adds the faults of a policy, one for each environment in which it is not accepted, in the order of the environments.
+/// Returns whether no request can satisfy the policy.
 pub(crate) fn check_policy(
     alloc: Global,
     settings: Settings,

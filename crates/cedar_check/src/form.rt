@@ -16,16 +16,16 @@ use cedar_check_spec::Settings;
 use cedar_schema::{Environment, Schema, Truth};
 use std::alloc::{AllocError, Global};
 
-/// What is known of a condition, or why it has no type of Booleans.
+/// What is known of a condition, or why its type is not Boolean.
 #[derive(Clone, Copy)]
 pub(crate) enum Form {
     /// What is known of it.
     Known(Truth),
-    /// Why there is no such type.
+    /// Why it has no such type.
     Refused(TypeFault),
 }
 
-// The form that a typing tells.
+// The form that a typing shows.
 fn form_in(typing: Typing<'_>) -> Form
     ensures { form_view result ≡ option_and_then (λ x. truth_in x.ty) (typing_view typing.entry) }
 {
@@ -38,7 +38,7 @@ fn form_in(typing: Typing<'_>) -> Form
     }
 }
 
-// The form of a condition in which the variable is nowhere.
+// The form of a condition in which the variable does not occur.
 fn form_of_open<'a>(checker: Checker<'a>, condition: &'a Expr) -> Result<Form, AllocError>
     ensures { IfOk result (λ form. form_view form ≡ option_and_then (λ x. truth_in x.ty) (type_of_with checker.entry.settings checker.entry.schema.now checker.entry.environment.now [] condition.now)) }
 {
@@ -46,7 +46,7 @@ fn form_of_open<'a>(checker: Checker<'a>, condition: &'a Expr) -> Result<Form, A
     Ok(form_in(typing))
 }
 
-// The form of a condition by its parts, of which that of the action alone is copied.
+// The form of a condition, from its parts. Only the condition on the action is copied.
 fn form_of_parts(checker: Checker<'_>, parts: Parts<'_>) -> Result<Form, AllocError>
     ensures { IfOk result (λ form. form_view form ≡ option_and_then (λ x. truth_in x.ty) (type_of_with checker.entry.settings checker.entry.schema.now checker.entry.environment.now [] (and parts.entry.principal.now (and (replace checker.entry.environment.now.action parts.entry.action.now) parts.entry.rest.now)))) }
 {
@@ -61,7 +61,7 @@ fn form_of_parts(checker: Checker<'_>, parts: Parts<'_>) -> Result<Form, AllocEr
     form
 }
 
-// The form of a condition in which the variable may stand anywhere.
+// The form of a condition in which the variable may occur anywhere.
 fn form_of_whole(checker: Checker<'_>, condition: &Expr) -> Result<Form, AllocError>
     ensures { IfOk result (λ form. form_view form ≡ option_and_then (λ x. truth_in x.ty) (type_of_with checker.entry.settings checker.entry.schema.now checker.entry.environment.now [] (replace checker.entry.environment.now.action condition.now))) }
 {
@@ -74,8 +74,7 @@ fn form_of_whole(checker: Checker<'_>, condition: &Expr) -> Result<Form, AllocEr
     form
 }
 
-/// The form of a condition in an environment, with the environment's action in the place of the
-/// variable.
+/// The form of a condition in an environment, with the environment's action in place of the variable.
 #[tactic(auto, using(crate::proofs::Unmentioned::unmentioned, crate::proofs::Unmentioned::whole_replaced))]
 pub(crate) fn form_of(
     alloc: Global,

@@ -12,8 +12,7 @@ use cedar_check_spec::Settings;
 use cedar_schema::{Environment, Schema};
 use std::alloc::{AllocError, Global};
 
-/// The forms of a condition that does not name the action, one for each signature, by an environment of each. 1: memory was
-/// refused.
+/// The forms of a condition that does not name the action, one for each signature, from an environment of each.
 pub(crate) fn forms_in(
     alloc: Global,
     settings: Settings,
@@ -32,7 +31,7 @@ pub(crate) fn forms_in(
     Ok(forms)
 }
 
-/// The form of a condition in an environment, by the number of its signature and the forms that are known.
+/// The form of a condition in an environment: the known form of the environment's signature, where it has a number.
 pub(crate) fn form_at(
     alloc: Global,
     settings: Settings,

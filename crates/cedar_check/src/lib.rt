@@ -1,13 +1,15 @@
-//! The strict checker of the Cedar policy language (Cedar documentation, strict validation).
+//! The strict checker: it types policies in each environment of a schema, and reports their faults and warnings.
 //!
 //! ```
+//! use cedar_check::check;
+//!
 //! let schema = Schema::read(alloc, schema_json)?;
 //! let policies = parse(alloc, policy_text)?;
 //! let report = check(alloc, &schema, &policies)?;
 //! assert!(rt; report.faults.is_empty());
 //! ```
 //!
-//! A service that wants `decimal` of any text, as of an attribute, calls `check_with` and says so in its
+//! A service that needs `decimal` of any string, for example of an attribute, calls `check_with` and turns that on in its
 //! settings.
 //!
 //! A report is a relation: a fault for each pair of a policy and an environment in which the policy is not

@@ -1,4 +1,4 @@
-//! Where the variable `action` stands.
+//! Where the variable `action` occurs.
 ghost use Rattle.std.specs.Prelude.{◌≡◌};
 ghost use Rattle.cedar_ast_expressions.specs.Expression.{entries_of, expressions_of};
 ghost use Rattle.cedar_check.specs.Private.Mention.{is_action, mentions, any_mentions, entries_mention};
@@ -16,7 +16,7 @@ fn is_action(variable: Variable) -> bool
     }
 }
 
-/// Whether the variable `action` stands in an expression, at whatever depth. Takes no memory.
+/// Whether the variable `action` occurs in an expression, at any depth.
 #[cycle(mention)]
 pub(crate) fn mentions_action(expression: &Expr) -> bool
     ensures { result ≡ mentions expression.now }
@@ -36,7 +36,7 @@ pub(crate) fn mentions_action(expression: &Expr) -> bool
     }
 }
 
-// Whether it stands in one of these members.
+// Whether it occurs in one of these members.
 #[cycle(mention)]
 fn members_mention(members: &[Expr]) -> bool
     ensures { result ≡ any_mentions (expressions_of members.now) }
@@ -49,7 +49,7 @@ fn members_mention(members: &[Expr]) -> bool
     false
 }
 
-// Whether it stands in the value of one of these entries.
+// Whether it occurs in the value of one of these entries.
 #[cycle(mention)]
 fn entries_mention(pairs: &[(SharedText, Expr)]) -> bool
     ensures { result ≡ entries_mention (entries_of pairs.now) }

@@ -8,27 +8,27 @@ use cedar_ast_expressions::{Expr, ExprKind};
 /// The parts of a condition `principal && (action && rest)`.
 #[derive(Clone, Copy)]
 pub(crate) struct Parts<'c> {
-    /// What is asked of the principal.
+    /// The scope's condition on the principal.
     pub(crate) principal: &'c Expr,
-    /// What is asked of the action.
+    /// The scope's condition on the action.
     pub(crate) action: &'c Expr,
-    /// What else is asked.
+    /// The rest of the condition.
     pub(crate) rest: &'c Expr,
 }
 
-/// A condition, by where the variable `action` is in it.
+/// A condition, sorted according to where the variable `action` occurs in it.
 #[derive(Clone, Copy)]
 pub(crate) enum Prepared<'c> {
     /// Nowhere.
     Open(&'c Expr),
-    /// In what is asked of the action alone.
+    /// In the scope's condition on the action alone.
     Parts(Parts<'c>),
     /// Somewhere.
     Whole(&'c Expr),
 }
 
 impl<'c> Prepared<'c> {
-    /// The condition, searched for the variable. Takes no memory.
+    /// The condition, searched for the variable.
     pub(crate) fn new(condition: &'c Expr) -> Self
         ensures condition { condition_in result ≡ condition.now }
         ensures ready { IsReady result }

@@ -18,14 +18,13 @@ use std::alloc::{AllocError, Global};
 /// What strict validation finds in a set of policies (Cedar documentation, policy validation).
 #[derive(Drop)]
 pub struct Report {
-    /// Where policies are not accepted, in the order of the policies, and of one policy in that of the
-    /// environments.
+    /// Where policies are not accepted: in the order of the policies, and for one policy in the order of the environments.
     pub faults: Vec<Fault>,
     /// 650: the ids of the policies that no request can satisfy, in the order of the policies.
     pub warnings: Vec<Text>,
 }
 
-// Adds what is found in one policy more.
+// Adds what is found in one more policy.
 fn check_next(
     alloc: Global,
     settings: Settings,
@@ -50,7 +49,7 @@ fn check_next(
 ///
 /// # Errors
 ///
-/// 1: memory was refused.
+/// Fails only when out of memory.
 pub fn check_with(
     alloc: Global,
     schema: &Schema,
@@ -89,7 +88,7 @@ pub fn check_with(
 ///
 /// # Errors
 ///
-/// 1: memory was refused.
+/// Fails only when out of memory.
 pub fn check(alloc: Global, schema: &Schema, policies: &PolicySet) -> Result<Report, AllocError>
     ensures faults { IfOk result (λ report. AreFaultsWith default_settings schema.now policies.now.policies (map fault_view report.faults.items)) }
     ensures warnings { IfOk result (λ report. AreWarningsWith default_settings schema.now policies.now.policies report.warnings.items) }

@@ -1,4 +1,4 @@
-//! The rows of strict typing that type no part of the expression.
+//! The rows of strict typing for expressions whose parts are typed already, or that have none.
 ghost use Rattle.std.specs.Prelude.{◌≡◌, IfOk};
 ghost use Rattle.cedar_schema_types.specs.Types.{boolean};
 ghost use Rattle.cedar_value.specs.Datum.{uid as uid_datum};
@@ -26,7 +26,7 @@ fn uid_type<'a>(alloc: Global, schema: &Schema, uid: &'a Uid) -> Typing<'a>
     }
 }
 
-/// The row of literals. Takes no memory.
+/// The row of literals.
 pub(crate) fn literal_type<'a>(alloc: Global, schema: &Schema, value: &'a Value) -> Typing<'a>
     ensures { typing_view result ≡ literal_type schema.now value.now }
 {
@@ -42,8 +42,7 @@ pub(crate) fn literal_type<'a>(alloc: Global, schema: &Schema, value: &'a Value)
     }
 }
 
-/// The row of variables; `action` has none, since the environment's action stands in its place. Takes no
-/// memory.
+/// The row of variables. `action` has none, since the environment's action replaces it.
 pub(crate) fn variable_type<'a>(
     alloc: Global,
     environment: &'a Environment,
@@ -59,8 +58,7 @@ pub(crate) fn variable_type<'a>(
     }
 }
 
-/// The row of `&&`, by the right side, where the left is not known false. It takes memory where both sides
-/// gain.
+/// The row of `&&` where the left side is not known false: what the right side gives. It takes memory where both sides gain.
 pub(crate) fn and_right<'a>(
     alloc: Global,
     truth: Truth,
@@ -87,7 +85,7 @@ pub(crate) fn and_right<'a>(
     }
 }
 
-/// The row of `||`, by the right side, where nothing is known of the left.
+/// The row of `||` where nothing is known of the left side: what the right side gives.
 #[tactic(auto, using(crate::proofs::Kept::kept_in))]
 pub(crate) fn or_right<'a>(
     alloc: Global,
@@ -114,7 +112,7 @@ pub(crate) fn or_right<'a>(
     }
 }
 
-/// A Boolean with what it gains; what has another type is refused.
+/// A Boolean with what it gains. Another type is refused.
 pub(crate) fn boolean_alone<'a>(typing: Typing<'a>) -> Typing<'a>
     ensures { typing_view result ≡ on_boolean (typing_view typing.entry) (λ f g. gaining (boolean f) g) }
 {
@@ -131,8 +129,8 @@ pub(crate) fn boolean_alone<'a>(typing: Typing<'a>) -> Typing<'a>
     }
 }
 
-/// Why an operator on a refused operand has no type: `decimal` of what is no literal is refused for that,
-/// where it may not be asked of any text.
+/// Why an operator on a refused operand has no type. Where `decimal` takes literals alone, an operand that is not a literal is
+/// itself the fault.
 pub(crate) fn unary_fault(
     settings: Settings,
     operator: &UnaryOperator,

@@ -1,4 +1,4 @@
-//! Signatures of environments, by which conditions that do not name the action are typed.
+//! Signatures of environments. A condition that does not name the action is typed once for each of them.
 ghost use Rattle.std.specs.Prelude.{◌≡◌, IfOk, IfSome, length};
 ghost use Rattle.std.specs.List.Sorted.{IsSearchInRange};
 ghost use Rattle.std.specs.declared.cmp.Ordering.TheVariants.{Equal};
@@ -9,8 +9,8 @@ use cedar_schema::Environment;
 use std::alloc::{AllocError, Global};
 use std::cmp::Ordering;
 
-/// How many signatures are told apart at most. An environment of any other signature has no number, so that to number
-/// environments takes time by their count.
+/// How many signatures are distinguished at most. An environment of any other signature has no number, so the time to number
+/// the environments grows with their count.
 const MOST_SIGNATURES: usize = 4096;
 
 /// The signatures of environments: the types of the principal, of the resource and of the context. A condition that does not
@@ -24,7 +24,7 @@ pub(crate) struct Signatures<'a> {
 }
 
 impl<'a> Signatures<'a> {
-    /// The signatures of these environments. 1: memory was refused.
+    /// The signatures of these environments.
     pub(crate) fn new(alloc: Global, environments: &'a [Environment]) -> Result<Self, AllocError>
         ensures { IfOk result (λ s. AreNumbered s.examples.items s.numbers.items environments.now) }
     {
@@ -66,7 +66,7 @@ fn numbers_of(
     Ok(numbers)
 }
 
-// The number of an environment. What the search finds is compared once more, so that no answer depends on the order.
+// The number of an environment. What the search finds is compared once more, so no answer depends on the order.
 fn number_of(examples: &[&Environment], environment: &Environment) -> Option<usize>
     ensures { IfSome result (IsNumberOf examples.now environment.now) }
 {
@@ -79,7 +79,7 @@ fn number_of(examples: &[&Environment], environment: &Environment) -> Option<usi
     }
 }
 
-// The place of the environment's signature, or that at which it is to be put.
+// The place of the environment's signature, or the place at which to insert it.
 fn search(examples: &[&Environment], environment: &Environment) -> Result<usize, usize>
     ensures { IsSearchInRange result (length examples.now) }
 {

@@ -1,4 +1,4 @@
-//! An order of types, by which equal ones are found.
+//! An order of types, to find equal ones by search.
 ghost use Rattle.std.specs.Prelude.{◌≡◌};
 ghost use Rattle.std.specs.declared.cmp.Ordering.TheVariants.{Equal};
 ghost use Rattle.cedar_schema_types.specs.TypeKind.{attributes_of};
@@ -7,7 +7,7 @@ use cedar_schema::{Attribute, Truth, Type, TypeKind};
 use cedar_value::Name;
 use std::cmp::Ordering;
 
-/// The order of two types: by their kinds, and then by what these hold. Takes no memory.
+/// The order of two types: first their kinds, and then what these hold.
 #[cycle(order)]
 pub(crate) fn order_types(left: &Type, right: &Type) -> Ordering
     ensures { result ≡ Equal → left.now ≡ right.now }
@@ -44,7 +44,7 @@ fn order_attributes(left: &[Attribute], right: &[Attribute]) -> Ordering
     Ordering::Equal
 }
 
-// The order of two attributes: by name, then by whether they are required, then by type.
+// The order of two attributes: first their names, then whether they are required, then their types.
 #[cycle(order)]
 fn order_attribute(left: &Attribute, right: &Attribute) -> Ordering
     ensures name { result ≡ Equal → left.now.name ≡ right.now.name }
@@ -60,7 +60,7 @@ fn order_attribute(left: &Attribute, right: &Attribute) -> Ordering
     order_types(&left.ty, &right.ty)
 }
 
-/// The order of two names. Takes no memory.
+/// The order of two names.
 pub(crate) fn order_names(left: &Name, right: &Name) -> Ordering
     ensures { result ≡ Equal → left.now ≡ right.now }
 {

@@ -126,7 +126,7 @@ guard_beside_false : of_users (and (or (has principal (codes "age")) (has princi
 unfolding same_expression
 guard_beside_false = refl
 
--- what is behind a type test is looked at where the test may hold
+-- what is after a type test is looked at where the test may hold
 behind_test : of_all (and (unary (one.Is (codes "Admin")) principal) (greater (get principal (codes "level")) (number 3))) ≡ Some False ∷ Some Any ∷ Some False ∷ []
 behind_test = refl
 
@@ -137,7 +137,7 @@ absent_entity = refl
 context_has : forms schema (policy entity.Any (action.Equal (act (codes "view"))) (and (unary one.Not (has (variable Context) (codes "n"))) ill_typed)) ≡ Some False ∷ Some False ∷ Some False ∷ []
 context_has = refl
 
--- an action scope is known, and what is behind a false one is not looked at
+-- an action scope is known, and what is after a false one is not looked at
 in_group : forms schema (policy entity.Any (action.In (act (codes "read"))) (literal (boolean true))) ≡ Some False ∷ Some True ∷ Some True ∷ []
 unfolding below leads
 in_group = refl

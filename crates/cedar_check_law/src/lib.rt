@@ -1,11 +1,11 @@
-//! Strict validation of the Cedar policy language is sound: the laws of typing.
+//! The laws of strict typing: what validation accepts is safe to evaluate, and there is one typing and one report.
 //!
 //! The definitions are in `specs/` of cedar_check_spec. Each law is the contract of a function with an empty body.
 //!
-//! A policy that is accepted for a schema is safe to evaluate: [`typing_is_sound`] says that its condition
-//! is a Boolean for every request that fits the schema and every world that conforms to it, or else that a
-//! number left the 64 bits or an entity was missing, and that nothing else can go wrong. Under the setting
-//! `any_decimal` a string that does not write a decimal is the third thing that can.
+//! A policy that is accepted for a schema is safe to evaluate. [`typing_is_sound`] says that, for every request that fits the
+//! schema and every world that conforms to it, its condition is a Boolean, or a number left the 64 bits, or an entity was
+//! missing. Nothing else can go wrong. Under the setting `any_decimal` there is a third error: a string that does not write a
+//! decimal.
 #![tactic(auto)]
 
 ghost use Rattle.cedar_check_spec.specs.Candidates.{CandidatesAreEnough, FalseOnesMayGo};
@@ -14,12 +14,13 @@ ghost use Rattle.cedar_check_spec.specs.Soundness.{PremisesAreMet, PremisesAreMe
 
 use cedar_check_spec::Settings;
 
-/// What is typed evaluates to a member of its type, or overflows, or meets an absent entity; where it is
-/// true, what it gains holds. To replace `action` by the request's action changes no evaluation. So the
-/// condition of an accepted policy is a Boolean, or one of the two errors, and no response names another
-/// error (cedar-spec, Lean: Cedar.Thm.Validation). Some schema, world, request and policy meet the
-/// premises. It is one statement for all settings, where the error `decimal` is left too under the setting
-/// `any_decimal`; the clauses without `with` are its reading with no setting on.
+/// An expression that has a type evaluates to a member of the type, or overflows, or meets an absent entity. Where it is true,
+/// what it gains holds. To replace `action` by the request's action changes no evaluation. So the condition of an accepted
+/// policy is a Boolean, or one of the two errors, and no response names another error (cedar-spec, Lean: Cedar.Thm.Validation).
+/// Some schema, world, request and policy meet the premises.
+///
+/// The statement covers all settings: under the setting `any_decimal` the error `decimal` is possible too. The clauses without
+/// `with` are its reading with no setting on. A law: it runs no code.
 pub fn typing_is_sound()
     ensures typing { SoundTyping }
     ensures replacement { SoundReplacement }
@@ -32,10 +33,10 @@ pub fn typing_is_sound()
     ensures premises_with { (settings : Settings) → PremisesAreMetWith settings }
 {}
 
-/// Typing leaves no choice, whatever the settings: an expression has no two types, and gains no two sets of
-/// capabilities; what is known true or known false gains nothing. Policies have one list of faults and one of
-/// warnings. There is a fault just where a policy is not accepted in an environment, so that policies have no
-/// fault just where each of them is accepted; a policy that no request can satisfy has none.
+/// Typing leaves no choice, whatever the settings. An expression has at most one type and gains at most one set of
+/// capabilities, and what is known true or known false gains nothing. Policies have one list of faults and one of warnings.
+/// There is a fault exactly where a policy is not accepted in an environment, so policies have no fault exactly where each of
+/// them is accepted. A policy that no request can satisfy has no fault. A law: it runs no code.
 pub fn typing_is_determined()
     ensures typing { (settings : Settings) → TypingIsOneWith settings }
     ensures known { (settings : Settings) → KnownGainsNothingWith settings }
@@ -45,9 +46,8 @@ pub fn typing_is_determined()
     ensures impossible { (settings : Settings) → ImpossibleHasNoFaultWith settings }
 {}
 
-/// A policy whose scope cannot be met in the request's environment, by the types of its entities or by the
-/// action, is false, whether it is accepted or not. To leave out policies that are false changes no
-/// response.
+/// A policy whose scope cannot be met in the request's environment, because of the types of its entities or the action, is
+/// false, whether it is accepted or not. To leave out policies that are false changes no response. A law: it runs no code.
 pub fn candidates_are_enough()
     ensures others { CandidatesAreEnough }
     ensures response { FalseOnesMayGo }

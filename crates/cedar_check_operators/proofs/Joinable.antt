@@ -21,7 +21,7 @@ abbrev mutual
   attributes_height no_attributes = 0
   attributes_height (attribute k r t rest) = max (suc (height t)) (attributes_height rest)
 
--- what stands in a list nests less deep than all of it
+-- what is in a list nests less deep than all of it
 pub height_here : (a : List Attribute) (i : ℕ) (x : Attribute) → i < length a → x ≡ get_or a i x → height x.ty + 1 ≤ attributes_height (attributes_of a)
 height_here [] i x h e = absurd (omega arith)
 height_here (y ∷ a) zero x h e = let same : height x.ty ≡ height y.ty = ap (λ (z : Attribute). height z.ty) e in omega arith

@@ -19,7 +19,7 @@ capability_view c = record { on = c.on.now; key = c.key.now }
 abbrev pub held_view : List Capability → spec.Capabilities
 held_view xs = map capability_view xs
 
--- The type, whether it is lent or was put together (own).
+-- The type, whether it is lent or was built (own).
 abbrev pub tree_of : LentType → TypeTree
 tree_of (lent.Boolean f) = kind.boolean f
 tree_of lent.Long = kind.long
@@ -33,7 +33,7 @@ tree_of (lent.Made t) = t
 abbrev pub typed_view : Typed → rule.Typed
 typed_view t = record { ty = tree_of t.ty; gained = held_view t.gained.items }
 
--- The typing, and None where there is none; its reason is not seen, which tests fix (own).
+-- The typing, and None where there is none. The reason is not seen; tests fix it (own).
 abbrev pub typing_view : Typing → Option rule.Typed
 typing_view (answer.Typed t) = Some (typed_view t)
 typing_view (answer.Refused f) = None

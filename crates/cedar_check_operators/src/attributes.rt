@@ -14,7 +14,7 @@ use crate::typing::{Typed, Typing};
 use cedar_schema::{Attribute, Schema, Truth};
 use std::alloc::{AllocError, Global};
 
-// The row of `has`, by what is declared.
+// The row of `has`, for what is declared.
 fn has_found<'a>(
     alloc: Global,
     held: &[Capability<'a>],
@@ -54,14 +54,14 @@ pub(crate) fn has_type<'a>(
     }
 }
 
-// Whether the attribute may be read: where it is required, or held.
+// Whether the attribute may be read: it is required, or it is held.
 fn may_read(held: &[Capability<'_>], this: Capability<'_>, attribute: &Attribute) -> bool
     ensures { result ≡ (attribute.now.required || is_held (capability_view this.entry) (held_view held.now)) }
 {
     attribute.required || is_held(this, held)
 }
 
-// The row of `.`, by what is declared in a type that was not put together.
+// The row of `.`, for what is declared in a type that is lent.
 fn get_lent<'a>(
     alloc: Global,
     held: &[Capability<'a>],
@@ -80,7 +80,7 @@ fn get_lent<'a>(
     }
 }
 
-// The row of `.`, by what is declared in a type that was put together.
+// The row of `.`, for what is declared in a type that was built.
 fn get_made<'a>(
     alloc: Global,
     held: &[Capability<'a>],
@@ -100,7 +100,7 @@ fn get_made<'a>(
     }
 }
 
-/// The row of `.`. It takes memory where the type was put together.
+/// The row of `.`. It takes memory where the type was built.
 pub(crate) fn get_type<'a>(
     alloc: Global,
     schema: &'a Schema,

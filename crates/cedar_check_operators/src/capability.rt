@@ -54,7 +54,7 @@ pub fn extended<'a>(
     Ok(all)
 }
 
-/// The ones and the others. Where either are none, it takes no memory.
+/// The ones and the others. Where one of the two lists is empty, it takes no memory.
 pub fn together<'a>(
     one: Vec<Capability<'a>>,
     two: Vec<Capability<'a>>,
@@ -71,7 +71,7 @@ pub fn together<'a>(
     Ok(all)
 }
 
-/// Those of the first that the second has, in order.
+/// The capabilities of the first list that the second has, in order.
 pub fn common<'a>(
     alloc: Global,
     one: &[Capability<'a>],

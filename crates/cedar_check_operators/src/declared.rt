@@ -1,4 +1,4 @@
-//! What a schema declares, as the rows of typing ask for it.
+//! Look-ups in a schema for the rows of typing.
 ghost use Rattle.std.specs.Prelude.{◌≡◌, ◌||◌, option_copied, option_map};
 ghost use Rattle.cedar_schema_spec.specs.Declarations.{action_below, is_action, is_action_type, is_entity_type, type_below};
 ghost use Rattle.cedar_schema_types.specs.Lookup.{attribute_at};
@@ -17,7 +17,7 @@ pub fn is_action(schema: &Schema, uid: &Uid) -> bool
     schema.has_action(uid)
 }
 
-/// Whether the one type descends from the other. Takes no memory.
+/// Whether the one type descends from the other.
 pub(crate) fn type_below(schema: &Schema, low: &Name, high: &Name) -> bool
     ensures { result ≡ type_below schema.now low.now high.now }
 {
@@ -31,15 +31,14 @@ fn action_below(schema: &Schema, low: &Uid, high: &Uid) -> bool
     schema.action_descends(low, high)
 }
 
-/// Whether the one action is the other, or descends from it. Takes no memory.
+/// Whether the one action is the other, or descends from it.
 pub(crate) fn is_or_descends(schema: &Schema, low: &Uid, high: &Uid) -> bool
     ensures { result ≡ is_or_descends schema.now low.now high.now }
 {
     low == high || action_below(schema, low, high)
 }
 
-/// What a type declares at a name: None where it has no attributes, and None inside where none is of the
-/// name. Takes no memory.
+/// What a type declares at a name. None where the type has no attributes, and `Some(None)` where it has none of this name.
 pub(crate) fn declared<'t>(
     schema: &'t Schema,
     ty: TypeGlance<'t>,
@@ -67,8 +66,7 @@ fn is_action_type(schema: &Schema, name: &Name) -> bool
     schema.has_action_type(name)
 }
 
-/// Whether the name is that of a declared entity type, or of the type of a declared action. Takes no
-/// memory.
+/// Whether the name is that of a declared entity type, or of the type of a declared action.
 pub(crate) fn is_declared_type(schema: &Schema, name: &Name) -> bool
     ensures { result ≡ (is_entity_type schema.now name.now || is_action_type schema.now name.now) }
 {

@@ -21,7 +21,7 @@ pub(crate) fn known(truth: bool) -> Truth
     if truth { Truth::True } else { Truth::False }
 }
 
-// What is known of the equality of two literals; None where one is no literal.
+// What is known of the equality of two literals. None where one of the two is not a literal.
 fn literals_equal(left: &Expr, right: &Expr) -> Option<Truth>
     ensures two { is_some result ≡ two_literals left.now right.now }
     ensures known { IfSome result (λ truth. Some (boolean truth) ≡ equal_literal_type left.now right.now) }
@@ -35,7 +35,7 @@ fn literals_equal(left: &Expr, right: &Expr) -> Option<Truth>
     }
 }
 
-// The row of `==`, of types that do not join: known false of two entity types.
+// The row of `==` for types that do not join: known false for two entity types.
 fn apart<'a>(alloc: Global, left: &LentType<'a>, right: &LentType<'a>) -> Typing<'a>
     ensures { typing_view result ≡ option_and_then as_type (apart (entity_in (tree_of left.now)) (entity_in (tree_of right.now))) }
 {
@@ -54,7 +54,7 @@ fn apart<'a>(alloc: Global, left: &LentType<'a>, right: &LentType<'a>) -> Typing
     }
 }
 
-/// The row of `==`. Takes no memory.
+/// The row of `==`.
 pub(crate) fn equal_type<'a>(
     alloc: Global,
     left: &Expr,

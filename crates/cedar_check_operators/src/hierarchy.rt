@@ -20,7 +20,7 @@ use cedar_schema::{Schema, Truth};
 use cedar_value::{Name, Uid, ValueKind};
 use std::alloc::Global;
 
-/// The row of `is`. Takes no memory.
+/// The row of `is`.
 pub(crate) fn is_type<'a>(
     alloc: Global,
     schema: &Schema,
@@ -97,7 +97,7 @@ fn named_action<'e>(schema: &Schema, left: &'e Expr) -> Option<&'e Uid>
     }
 }
 
-// What is known by the two types alone.
+// What the two types alone show.
 fn by_types(schema: &Schema, low: &Name, high: &Name) -> Truth
     ensures { result ≡ any_if (bytes_eq low.now high.now || type_below schema.now low.now high.now) }
 {
@@ -121,7 +121,7 @@ fn in_truth(schema: &Schema, left: &Expr, right: &Expr, low: &Name, high: &Name)
     }
 }
 
-/// The row of `in`. Takes no memory.
+/// The row of `in`.
 pub(crate) fn in_type<'a>(
     alloc: Global,
     schema: &Schema,

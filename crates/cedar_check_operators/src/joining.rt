@@ -15,7 +15,7 @@ fn join_truths(left: Truth, right: Truth) -> Truth
     if left == right { left } else { Truth::Any }
 }
 
-// What two record types join to.
+// The join of two record types.
 fn join_records<'a>(
     alloc: Global,
     one: &RecordType,
@@ -31,7 +31,7 @@ fn join_records<'a>(
     }
 }
 
-// What two types of sets join to.
+// The join of two types of sets.
 fn join_sets<'a>(alloc: Global, one: &Type, two: &Type) -> Result<Option<LentType<'a>>, AllocError>
     ensures { IfOk result (λ joined. option_map tree_of joined ≡ join (set one.now) (set two.now)) }
 {
@@ -41,8 +41,8 @@ fn join_sets<'a>(alloc: Global, one: &Type, two: &Type) -> Result<Option<LentTyp
     }
 }
 
-/// What two types join to, if anything (Cedar documentation, strict validation). Of Booleans, numbers,
-/// texts, decimals and lent entities it takes no memory.
+/// The join of two types, if they have one (Cedar documentation, strict validation). For Booleans, numbers, strings, decimals
+/// and lent entities it takes no memory.
 pub fn join_types<'a>(
     alloc: Global,
     one: &LentType<'a>,

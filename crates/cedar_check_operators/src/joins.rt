@@ -33,7 +33,7 @@ fn records_join(one: &[Attribute], two: &[Attribute]) -> bool
     true
 }
 
-/// Whether two types join (Cedar documentation, strict validation). Takes no memory.
+/// Whether two types join (Cedar documentation, strict validation).
 #[cycle(joins)]
 pub(crate) fn types_join(one: TypeGlance<'_>, two: TypeGlance<'_>) -> bool
     ensures { result ≡ is_some (join (type_seen one.entry) (type_seen two.entry)) }

@@ -9,23 +9,22 @@ use cedar_schema::{RecordType, Truth, Type, TypeKind};
 use cedar_value::Name;
 use std::alloc::{AllocError, Global};
 
-/// The type of an expression. That of a Boolean, a number, a text, an entity or an attribute takes no
-/// memory.
+/// The type of an expression. That of a Boolean, a number, a string, an entity or an attribute takes no memory.
 #[derive(Drop)]
 pub enum LentType<'a> {
     /// Booleans, and what is known of them.
     Boolean(Truth),
     /// Whole numbers.
     Long,
-    /// Texts.
+    /// Strings.
     String,
     /// Decimals.
     Decimal,
-    /// The entities of a type, by its name in the schema or in the policy.
+    /// The entities of a type, with its name as the schema or the policy has it.
     Entity(&'a Name),
     /// A type that the schema has.
     Lent(&'a Type),
-    /// A type that was put together.
+    /// A type that was built.
     Made(Type),
 }
 
@@ -36,7 +35,7 @@ pub(crate) enum TypeGlance<'a> {
     Boolean(Truth),
     /// Whole numbers.
     Long,
-    /// Texts.
+    /// Strings.
     String,
     /// Decimals.
     Decimal,
@@ -79,7 +78,7 @@ impl<'a> LentType<'a> {
         }
     }
 
-    /// A look at the type that outlives it, where it was not put together.
+    /// A look at the type that outlives it, where the type was not built.
     pub(crate) fn lent_glance(&self) -> Option<TypeGlance<'a>>
         ensures { IfSome result (λ glance. type_seen glance ≡ tree_of self.now) }
     {
@@ -144,7 +143,7 @@ impl<'a> LentType<'a> {
         }
     }
 
-    /// Whether it is the type of texts.
+    /// Whether it is the type of strings.
     pub(crate) fn is_string(&self) -> bool
         ensures { result ≡ is_string (tree_of self.now) }
     {
@@ -194,7 +193,7 @@ impl<'a> LentType<'a> {
         }
     }
 
-    /// The entity type that `in` asks for on its right.
+    /// The entity type that the right operand of `in` has.
     pub(crate) fn target(&self) -> Option<&Name>
         ensures { option_map (λ name. name.now) result ≡ target_in (tree_of self.now) }
     {

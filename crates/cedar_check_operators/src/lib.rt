@@ -1,5 +1,4 @@
-//! The rules of strict typing for single operators of the Cedar policy language: types, lent where they can be,
-//! capabilities, joins, and what an operator gives by the types of its operands.
+//! The typing rules of single operators: what an operator gives for the types of its operands.
 //!
 //! ```rust
 //! use cedar_check_operators::{LentType, Typing, binary_type, join_types};
@@ -18,9 +17,8 @@
 //! }
 //! ```
 //!
-//! Types are lent from the schema and the policy wherever they can be, so that a Boolean, a number, a
-//! text, an entity or an attribute takes no memory. The walk of a whole expression, and of policies, stands
-//! in cedar_check.
+//! Types are lent from the schema and the policy wherever they can be, so that a Boolean, a number, a string, an entity or an
+//! attribute takes no memory. The walk of a whole expression, and of policies, is in cedar_check.
 #![tactic(auto)]
 
 mod attributes;

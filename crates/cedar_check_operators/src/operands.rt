@@ -1,4 +1,4 @@
-//! Operators that ask for operands of one kind: a Boolean, whole numbers, decimals.
+//! Operators on operands of one kind: a Boolean, whole numbers, decimals.
 ghost use Rattle.std.specs.Prelude.{◌≡◌, option_and_then};
 ghost use Rattle.cedar_check_spec.specs.Rows.{as_type, decimals_type, longs_type};
 ghost use Rattle.cedar_check_spec.specs.Typing.{flipped};
@@ -10,7 +10,7 @@ use crate::typing::Typing;
 use cedar_schema::Truth;
 use std::alloc::Global;
 
-// True and false exchanged.
+// True for false, and false for true.
 pub(crate) fn flipped(truth: Truth) -> Truth
     ensures { result ≡ flipped truth }
 {

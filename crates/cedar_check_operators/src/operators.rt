@@ -1,4 +1,4 @@
-//! The rows of operators, by the types of their operands.
+//! The rows of operators, for the types of their operands.
 ghost use Rattle.std.specs.Prelude.{◌≡◌, IfOk, option_and_then};
 ghost use Rattle.cedar_check_spec.specs.Rows.{IsUnaryRow, as_type, binary_type, decimal_type, literal_decimal_type};
 ghost use Rattle.cedar_check_operators.specs.View.{held_view, tree_of, typed_view, typing_view};
@@ -19,8 +19,8 @@ use cedar_schema::{Schema, Truth};
 use cedar_value::{Value, ValueKind};
 use std::alloc::{AllocError, Global};
 
-// Why `decimal` of what is no text has no type: with the setting on for its kind, and else since it is no
-// string literal.
+// Why `decimal` of an operand that is not a string has no type. With the setting on the fault is its type, and otherwise that
+// it is not a string literal.
 fn no_text(settings: Settings) -> TypeFault {
     if settings.any_decimal {
         TypeFault::OperandKind
@@ -29,7 +29,7 @@ fn no_text(settings: Settings) -> TypeFault {
     }
 }
 
-// The row of `decimal`, of a literal: a string that is a decimal's.
+// The row of `decimal` for a literal: a string that is a valid decimal.
 fn literal_decimal_type<'a>(alloc: Global, settings: Settings, value: &Value) -> Typing<'a>
     ensures { typing_view result ≡ literal_decimal_type value.now }
 {
@@ -42,8 +42,7 @@ fn literal_decimal_type<'a>(alloc: Global, settings: Settings, value: &Value) ->
     }
 }
 
-// The row of `decimal`: one string literal that is a decimal's, and with the setting on any text that is no
-// literal.
+// The row of `decimal`: one string literal that is a valid decimal. With the setting on also any string that is not a literal.
 fn decimal_type<'a>(
     alloc: Global,
     settings: Settings,
@@ -64,8 +63,7 @@ fn decimal_type<'a>(
     }
 }
 
-/// The rows of the operators on one operand. But for `has`, and for `.` of a type that was put together,
-/// it takes no memory.
+/// The rows of the operators on one operand. Takes no memory, except for `has`, and for `.` of a type that was built.
 #[tactic(auto, using(crate::proofs::Held::unary_answered))]
 pub fn unary_type<'a>(
     alloc: Global,

@@ -1,4 +1,4 @@
-//! Types that are put together: of sets and of records.
+//! Types that are built: of sets and of records.
 ghost use Rattle.std.specs.Prelude.{◌≡◌, IfOk, OnOk, option_and_then, true};
 ghost use Rattle.cedar_schema_types.specs.Ordered.{with_attribute};
 ghost use Rattle.cedar_schema_types.specs.Types.{set};

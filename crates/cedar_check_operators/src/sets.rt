@@ -25,7 +25,7 @@ fn any_where<'a>(alloc: Global, one: TypeGlance<'_>, two: TypeGlance<'_>) -> Typ
     }
 }
 
-/// The row of `contains`. Takes no memory.
+/// The row of `contains`.
 pub(crate) fn contains_type<'a>(alloc: Global, one: &LentType<'a>, two: &LentType<'a>) -> Typing<'a>
     ensures { typing_view result ≡ option_and_then as_type (option_and_then (λ m. any_where (join m (tree_of two.now))) (element_in (tree_of one.now))) }
 {
@@ -35,7 +35,7 @@ pub(crate) fn contains_type<'a>(alloc: Global, one: &LentType<'a>, two: &LentTyp
     }
 }
 
-/// The row of `containsAll` and `containsAny`. Takes no memory.
+/// The row of `containsAll` and `containsAny`.
 pub(crate) fn sets_type<'a>(alloc: Global, one: &LentType<'a>, two: &LentType<'a>) -> Typing<'a>
     ensures { typing_view result ≡ option_and_then as_type (sets_type (tree_of one.now) (tree_of two.now)) }
 {
@@ -48,7 +48,7 @@ pub(crate) fn sets_type<'a>(alloc: Global, one: &LentType<'a>, two: &LentType<'a
     }
 }
 
-/// The row of `isEmpty`. Takes no memory.
+/// The row of `isEmpty`.
 pub(crate) fn is_empty_type<'a>(alloc: Global, ty: &LentType<'a>) -> Typing<'a>
     ensures { typing_view result ≡ option_and_then (λ m. as_type (boolean Any)) (element_in (tree_of ty.now)) }
 {

@@ -29,7 +29,7 @@ absent_step : (b : Bool) (k : List ℕ) (p : Pair) (o : Option Datum) → bytes_
 absent_step true k p o e n h = absurd (n (text_from_same p.0 k e))
 absent_step false k p o e n h = h
 
--- no value at what is no key
+-- no value at what is not a key
 pub absent : (k : List ℕ) (ps : List Pair) → (Contains (keys ps) k → ⊥) → value_at k ps ≡ None
 absent k [] n = refl
 absent k (p ∷ ps) n =

@@ -21,7 +21,7 @@ use Rattle.cedar_schema_types.specs.Lookup.{attribute_at}
 use Rattle.cedar_schema_types.specs.declared.attribute.Attribute.{Attribute}
 use Rattle.cedar_schema_types.specs.Ordered.{with_attribute}
 
--- what may stand where this is declared
+-- what may be where this is declared
 abbrev pub FitsDeclared : Option Attribute → Option Datum → Type 0
 FitsDeclared None o = IsAbsent o
 FitsDeclared (Some d) o = MayStand d.required (Member d.ty) o

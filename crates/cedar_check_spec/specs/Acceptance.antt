@@ -12,9 +12,8 @@ use Rattle.cedar_check_spec.specs.Typing.{TypesWith}
 use Rattle.cedar_check_spec.specs.declared.settings.Settings.{Settings}
 use Rattle.cedar_ast_expressions.specs.Replacement.{replace}
 
--- Under these settings, in the environment, the policy's condition, with the environment's action in the place of the
--- variable, is typed as a Boolean of which this is known, from no held capabilities (cedar-spec, Lean: Cedar.Validation,
--- typechecker).
+-- Under these settings, in the environment, the policy's condition is typed as a Boolean of which this is known. The
+-- environment's action replaces the variable, and no capabilities are held (cedar-spec, Lean: Cedar.Validation, typechecker).
 abbrev pub HasFormWith : Settings → SchemaTree → Environment → PolicyTree → Truth → Type 0
 HasFormWith settings s env p f = (g : Capabilities) × TypesWith settings s env [] (replace env.action (condition_of p)) (kind.boolean f) g
 

@@ -1,4 +1,4 @@
--- Which policies can be satisfied in an environment, by their scopes alone (Cedar language reference, policy scope).
+-- Which policies can be satisfied in an environment, according to their scopes alone (Cedar language reference, policy scope).
 use Rattle.std.specs.Prelude.{◌≡◌, ◌⊎◌, ℕ, Bool, false, List, filter, Ok}
 use Rattle.cedar_value.specs.Datum.{boolean}
 use Rattle.cedar_value.specs.World.{World}
@@ -19,7 +19,7 @@ use Rattle.cedar_schema_spec.specs.WellFormed.{AreTypesApart}
 use Rattle.cedar_schema_spec.specs.Conformance.{Conforms, FitsIn}
 use Rattle.cedar_check_spec.specs.Typing.{IsInOne, IsOrDescends}
 
--- An entity of the type may be what the scope of a principal or a resource asks for (Cedar language reference, policy scope).
+-- An entity of the type may be what the scope of a principal or a resource requires (Cedar language reference, policy scope).
 abbrev pub MayMeet : SchemaTree → List ℕ → EntityScope → Type 0
 MayMeet s n entity.Any = Unit {0}
 MayMeet s n (entity.Equal u) = n ≡ u.ty
@@ -27,7 +27,7 @@ MayMeet s n (entity.In u) = IsOrDescends s n u.ty
 MayMeet s n (entity.Is m) = n ≡ m
 MayMeet s n (entity.IsIn m u) = (n ≡ m) × IsOrDescends s n u.ty
 
--- The action is what its scope asks for, by the schema's links (Cedar language reference, policy scope).
+-- The action is what its scope requires, according to the schema's links (Cedar language reference, policy scope).
 abbrev pub Meets : SchemaTree → Uid → ActionScope → Type 0
 Meets s a action.Any = Unit {0}
 Meets s a (action.Equal u) = a ≡ u
@@ -40,7 +40,7 @@ pub record IsCandidate (s : SchemaTree) (env : Environment) (p : PolicyTree) : T
   pub action : Meets s env.action p.scope.action
   pub resource : MayMeet s env.resource p.scope.resource
 
--- A policy that is no candidate in the request's environment is false, whether or not it is accepted (own).
+-- A policy that is not a candidate in the request's environment is false, whether or not it is accepted (own).
 abbrev pub CandidatesAreEnough : Type 0
 CandidatesAreEnough = (s : SchemaTree) (env : Environment) (q : Request) (w : World) (p : PolicyTree) → AreTypesApart s → Conforms s w → FitsIn s env q → ¬ IsCandidate s env p → eval (condition_of p) q w ≡ Ok (boolean false)
 

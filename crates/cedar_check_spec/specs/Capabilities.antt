@@ -13,7 +13,8 @@ pub record Capability : Type 0 where
   pub on : Expression
   pub key : List ℕ
 
--- A set of capabilities, as a list in which order and repeats say nothing (cedar-spec, Lean: Cedar.Validation, capabilities).
+-- A set of capabilities, as a list in which order and repeats have no meaning (cedar-spec, Lean: Cedar.Validation,
+-- capabilities).
 abbrev pub Capabilities : Type 0
 Capabilities = List Capability
 
@@ -34,11 +35,11 @@ pub record IsCommon (a b d : Capabilities) : Type 0 where
 pub record AreSame (a b : Capabilities) : Type 0 where
   pub each : (x : Capability) → Has x a ↔ Has x b
 
--- The test holds of just the capabilities that are held (own).
+-- The test holds of exactly the capabilities that are held (own).
 abbrev pub TellsHeld : (Capability → Bool) → Capabilities → Type 0
 TellsHeld holds held = (x : Capability) → Decides (holds x) (Has x held)
 
--- The last are those of the first that the second has too, in the order of the first (cedar-spec, Lean: Cedar.Validation,
+-- The last list has those of the first that the second has too, in the order of the first (cedar-spec, Lean: Cedar.Validation,
 -- capabilities: intersection).
 pub record AreKept (one two kept : Capabilities) : Type 0 where
   pub by_test : (holds : Capability → Bool) → TellsHeld holds two → kept ≡ filter holds one

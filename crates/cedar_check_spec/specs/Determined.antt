@@ -13,7 +13,7 @@ use Rattle.cedar_check_spec.specs.Acceptance.{IsAcceptedInWith, IsAcceptedWith, 
 use Rattle.cedar_check_spec.specs.Reports.{FaultTree, fault_at, AreFaultsOfWith, AreFaultsWith, AreWarningsWith}
 use Rattle.cedar_check_spec.specs.declared.settings.Settings.{Settings}
 
--- Under these settings an expression has no two types, and gains no two sets of capabilities (own).
+-- Under these settings an expression has at most one type, and gains at most one set of capabilities (own).
 abbrev pub TypingIsOneWith : Settings → Type 0
 TypingIsOneWith settings = (s : SchemaTree) (env : Environment) (held one two : Capabilities) (e : Expression) (t u : TypeTree) → TypesWith settings s env held e t one → TypesWith settings s env held e u two → (t ≡ u) × AreSame one two
 
@@ -49,7 +49,7 @@ pub record IsRefusal (settings : Settings) (s : SchemaTree) (ps : List PolicyTre
 abbrev pub FaultsAreRefusalsWith : Settings → Type 0
 FaultsAreRefusalsWith settings = (s : SchemaTree) (ps : List PolicyTree) (faults : List FaultTree) → AreFaultsWith settings s ps faults → (f : FaultTree) → Contains faults f ↔ IsRefusal settings s ps f
 
--- Under these settings policies have no fault just where each of them is accepted (Cedar documentation, policy validation).
+-- Under these settings policies have no fault exactly where each of them is accepted (Cedar documentation, policy validation).
 abbrev pub AcceptedHaveNoFaultWith : Settings → Type 0
 AcceptedHaveNoFaultWith settings = (s : SchemaTree) (ps : List PolicyTree) → AreFaultsWith settings s ps [] ↔ ((p : PolicyTree) → Contains ps p → IsAcceptedWith settings s p)
 

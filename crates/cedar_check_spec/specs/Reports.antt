@@ -7,7 +7,7 @@ use Rattle.cedar_schema_spec.specs.SchemaTree.{SchemaTree, environments_of}
 use Rattle.cedar_check_spec.specs.Acceptance.{IsAcceptedInWith, IsImpossibleWith}
 use Rattle.cedar_check_spec.specs.declared.settings.Settings.{Settings}
 
--- A policy, by its id, and an environment in which it is not accepted, by its action and its two types (Cedar
+-- A policy, given by its id, and an environment in which it is not accepted, given by its action and its two types (Cedar
 -- documentation, policy validation).
 pub record FaultTree : Type 0 where
   pub policy : List ℕ

@@ -38,22 +38,23 @@ as_type t = Some (record { ty = t; gained = [] })
 abbrev pub gaining : TypeTree → Capabilities → Option Typed
 gaining t g = Some (record { ty = t; gained = g })
 
--- What is known of a Boolean type, and None of another type (Cedar documentation, strict validation).
+-- What is known of a Boolean type, and None for another type (Cedar documentation, strict validation).
 abbrev pub truth_in : TypeTree → Option Truth
 truth_in (kind.boolean f) = Some f
 truth_in _ = None
 
--- The name of an entity type, and None of another type (Cedar documentation, strict validation).
+-- The name of an entity type, and None for another type (Cedar documentation, strict validation).
 abbrev pub entity_in : TypeTree → Option (List ℕ)
 entity_in (kind.entity n) = Some n
 entity_in _ = None
 
--- The type of a set's members, and None of another type (Cedar documentation, strict validation).
+-- The type of a set's members, and None for another type (Cedar documentation, strict validation).
 abbrev pub element_in : TypeTree → Option TypeTree
 element_in (kind.set t) = Some t
 element_in _ = None
 
--- The entity type that `in` asks for on its right: that of one entity, or of a set's members (Cedar language reference, `in`).
+-- The entity type that the right operand of `in` has: that of one entity, or of a set's members (Cedar language reference,
+-- `in`).
 abbrev pub target_in : TypeTree → Option (List ℕ)
 target_in (kind.entity n) = Some n
 target_in (kind.set t) = entity_in t
@@ -86,19 +87,19 @@ abbrev pub get_row : Bool → Option Attribute → Option Typed
 get_row held None = None
 get_row held (Some d) = only_if (d.required || held) (as_type d.ty)
 
--- The row of `decimal` of a literal: a decimal, where it is a string that writes one (Cedar documentation, strict validation:
--- decimal).
+-- The row of `decimal` for a literal: a decimal, where the literal is a string that writes one (Cedar documentation, strict
+-- validation: decimal).
 abbrev pub literal_decimal_type : Datum → Option Typed
 literal_decimal_type (text t) = only_if (is_some (decimal_of t)) (as_type kind.decimal)
 literal_decimal_type _ = None
 
--- The row of `decimal`: of one string literal that writes a decimal, and with the setting on of any string that is not a
+-- The row of `decimal`: for one string literal that writes a decimal, and with the setting on for any string that is not a
 -- literal (Cedar documentation, strict validation: decimal; own: the setting).
 abbrev pub decimal_type : Settings → Expression → TypeTree → Option Typed
 decimal_type settings (literal v) t = literal_decimal_type v
 decimal_type settings _ t = only_if (settings.any_decimal && is_string t) (as_type kind.decimal)
 
--- The rows of the operators on one operand, by its expression and its typing, with a test of which capabilities are held
+-- The rows of the operators on one operand, given its expression and its typing, with a test of which capabilities are held
 -- (Cedar documentation, strict validation).
 abbrev pub unary_row : Settings → SchemaTree → (Capability → Bool) → UnaryOperator → Expression → Typed → Option Typed
 unary_row settings s holds operator.Not e t = option_and_then (λ f. as_type (kind.boolean (flipped f))) (truth_in t.ty)
@@ -115,7 +116,7 @@ unary_row settings s holds operator.IsEmpty e t = option_and_then (λ m. as_type
 pub record IsUnaryRow (settings : Settings) (s : SchemaTree) (held : Capabilities) (op : UnaryOperator) (e : Expression) (t : Typed) (typing : Option Typed) : Type 0 where
   pub by_test : (holds : Capability → Bool) → TellsHeld holds held → typing ≡ unary_row settings s holds op e t
 
--- Known false of two entity types that differ, and None of others (Cedar documentation, strict validation: `==`).
+-- Known false for two entity types that differ, and None for others (Cedar documentation, strict validation: `==`).
 abbrev pub apart : Option (List ℕ) → Option (List ℕ) → Option TypeTree
 apart (Some m) (Some n) = only_if (not (bytes_eq m n)) (Some (kind.boolean False))
 apart _ _ = None
@@ -125,7 +126,7 @@ abbrev pub any_or : Option TypeTree → Option TypeTree → Option TypeTree
 any_or (Some v) r = Some (kind.boolean Any)
 any_or None r = r
 
--- The row of `==` of two literals: known by their values (Cedar documentation, strict validation: `==`).
+-- The row of `==` for two literals: their values say what is known (Cedar documentation, strict validation: `==`).
 abbrev pub equal_literal_type : Expression → Expression → Option TypeTree
 equal_literal_type (literal v) (literal x) = Some (kind.boolean (known (same v x)))
 equal_literal_type _ _ = None
@@ -154,7 +155,8 @@ abbrev pub is_in_written : SchemaTree → Expression → Option (List Uid) → B
 is_in_written s (literal (uid u)) (Some vs) = list_any (is_or_descends s u) vs
 is_in_written s _ _ = false
 
--- What is known of `in`, by its operands as written and by their entity types (Cedar documentation, strict validation: `in`).
+-- What is known of `in`, from its operands as written and from their entity types (Cedar documentation, strict validation:
+-- `in`).
 abbrev pub in_truth : SchemaTree → Expression → Expression → List ℕ → List ℕ → Truth
 in_truth s a b m n = cond (names_action s a && is_some (written_uids b)) (known (is_in_written s a (written_uids b))) (any_if (bytes_eq m n || type_below s m n))
 
@@ -162,20 +164,20 @@ in_truth s a b m n = cond (names_action s a && is_some (written_uids b)) (known 
 abbrev pub any_where : Option TypeTree → Option TypeTree
 any_where r = option_map (λ v. kind.boolean Any) r
 
--- The row of `containsAll` and `containsAny`: any Boolean of two sets whose members' types join (Cedar documentation, strict
+-- The row of `containsAll` and `containsAny`: any Boolean for two sets whose members' types join (Cedar documentation, strict
 -- validation: set operators).
 abbrev pub sets_type : TypeTree → TypeTree → Option TypeTree
 sets_type t u = option_and_then (λ m. option_and_then (λ n. any_where (join m n)) (element_in u)) (element_in t)
 
--- This type, of two whole numbers (Cedar documentation, strict validation: arithmetic and comparison).
+-- This type, for two whole numbers (Cedar documentation, strict validation: arithmetic and comparison).
 abbrev pub longs_type : TypeTree → TypeTree → TypeTree → Option TypeTree
 longs_type v t u = only_if (is_long t && is_long u) (Some v)
 
--- Any Boolean, of two decimals (Cedar documentation, strict validation: decimal).
+-- Any Boolean, for two decimals (Cedar documentation, strict validation: decimal).
 abbrev pub decimals_type : TypeTree → TypeTree → Option TypeTree
 decimals_type t u = only_if (is_decimal t && is_decimal u) (Some (kind.boolean Any))
 
--- The rows of the operators on two operands, by their expressions and their types (Cedar documentation, strict validation).
+-- The rows of the operators on two operands, given their expressions and their types (Cedar documentation, strict validation).
 abbrev pub binary_type : SchemaTree → BinaryOperator → Expression → Expression → TypeTree → TypeTree → Option TypeTree
 binary_type s binary_operator.Equal a b t u = equal_type a b t u
 binary_type s binary_operator.Less a b t u = longs_type (kind.boolean Any) t u

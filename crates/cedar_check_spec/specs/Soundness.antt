@@ -25,8 +25,8 @@ use Rattle.cedar_check_spec.specs.Acceptance.{IsAcceptedWith}
 use Rattle.cedar_check_spec.specs.Settings.{default_settings}
 use Rattle.cedar_check_spec.specs.declared.settings.Settings.{Settings}
 
--- The errors that validation leaves: a sum or product beyond 64 bits, the attribute of an entity that the world lacks, and
--- with the setting on a text that is no decimal's (Cedar documentation, policy validation: what validation does not find).
+-- The errors that validation leaves: a sum or product beyond 64 bits, the attribute of an entity that the world lacks, and with
+-- the setting on a string that is not a decimal (Cedar documentation, policy validation: what validation does not find).
 abbrev pub IsAllowedWith : Settings → EvaluationError → Type 0
 IsAllowedWith settings Overflow = Unit {0}
 IsAllowedWith settings MissingEntity = Unit {0}
@@ -44,14 +44,14 @@ pub record PromiseWith (settings : Settings) (q : Request) (w : World) (e : Expr
   pub value : GoodWith settings (Member t) (eval e q w)
   pub gains : eval e q w ≡ Ok (boolean true) → Hold q w gained
 
--- Every typing keeps its promise: for each schema whose action types are no entity types, each world that conforms, each
--- request that fits one of its environments, and held capabilities that hold (cedar-spec, Lean: Cedar.Thm.Validation,
--- type of is sound).
+-- Every typing keeps its promise: for each schema whose action types are not entity types, each world that conforms, each
+-- request that fits one of its environments, and held capabilities that hold (cedar-spec, Lean: Cedar.Thm.Validation, type of
+-- is sound).
 abbrev pub SoundTypingWith : Settings → Type 0
 SoundTypingWith settings = (s : SchemaTree) (env : Environment) (q : Request) (w : World) (held gained : Capabilities) (e : Expression) (t : TypeTree) → AreTypesApart s → Conforms s w → FitsIn s env q → Hold q w held → TypesWith settings s env held e t gained → PromiseWith settings q w e t gained
 
--- To put the request's action in the place of the variable changes no evaluation (cedar-spec, Lean: Cedar.Thm.Validation,
--- substitution of the action).
+-- To replace the variable by the request's action changes no evaluation (cedar-spec, Lean: Cedar.Thm.Validation, substitution
+-- of the action).
 abbrev pub SoundReplacement : Type 0
 SoundReplacement = (q : Request) (w : World) (e : Expression) → eval (replace q.action e) q w ≡ eval e q w
 

@@ -28,15 +28,15 @@ use Rattle.cedar_schema_spec.specs.Declarations.{IsEntityType, IsAction, IsActio
 use Rattle.cedar_check_spec.specs.Capabilities.{Capabilities, Has, IsUnion, IsCommon}
 use Rattle.cedar_check_spec.specs.declared.settings.Settings.{Settings}
 
--- The attributes of an entity type's shape; a type that the schema gives no shape, which is an action's, has none
--- (Cedar documentation, JSON schema format: shape).
+-- The attributes of an entity type's shape. A type to which the schema gives no shape, which is an action's, has none (Cedar
+-- documentation, JSON schema format: shape).
 abbrev pub shape_attributes : Option TypeTree → Option Attributes
 shape_attributes None = Some no_attributes
 shape_attributes (Some (kind.record_of a)) = Some a
 shape_attributes (Some _) = None
 
--- The attributes that a record type declares, or the shape of an entity type; no other type has any (Cedar documentation,
--- strict validation: attribute access).
+-- The attributes that a record type declares, or those of the shape of an entity type. No other type has any (Cedar
+-- documentation, strict validation: attribute access).
 abbrev pub attributes_in : SchemaTree → TypeTree → Option Attributes
 attributes_in s (kind.record_of a) = Some a
 attributes_in s (kind.entity n) = shape_attributes (shape_of s n)
@@ -85,11 +85,11 @@ abbrev pub is_literal : Expression → Bool
 is_literal (literal v) = true
 is_literal _ = false
 
--- Whether both are (Cedar documentation, strict validation: `==`).
+-- Whether both expressions are literals (Cedar documentation, strict validation: `==`).
 abbrev pub two_literals : Expression → Expression → Bool
 two_literals a b = is_literal a && is_literal b
 
--- The uid that a literal writes, if it is a uid's (Cedar language reference, policy grammar: Entity).
+-- The uid that a literal writes, if it writes one (Cedar language reference, policy grammar: Entity).
 abbrev pub one_uid : Expression → Option Uid
 one_uid (literal (uid u)) = Some u
 one_uid _ = None
@@ -120,7 +120,7 @@ NamesAction s _ = ⊥
 abbrev pub AreWritten : SchemaTree → Expression → Expression → Type 0
 AreWritten s a b = NamesAction s a × IsSome (written_uids b)
 
--- The action is one of these, or descends from one by the schema's links (Cedar language reference, `in`).
+-- The action is one of these, or descends from one according to the schema's links (Cedar language reference, `in`).
 abbrev pub IsInOne : SchemaTree → Uid → List Uid → Type 0
 IsInOne s u vs = (v : Uid) × Contains vs v × ((u ≡ v) ⊎ ActionDescends s u v)
 
@@ -135,35 +135,36 @@ pub data Target : TypeTree → List ℕ → Type 0 where
 
 mutual
   -- Under these settings, in an environment of a schema, where these capabilities are held, the expression has the type and
-  -- gains the capabilities, which hold where it is true: one rule for each row of the table of strict validation (Cedar
-  -- documentation, strict validation; cedar-spec, Lean: Cedar.Validation, typechecker).
+  -- gains the capabilities, which hold where it is true. There is one rule for each row of the table of strict validation
+  -- (Cedar documentation, strict validation; cedar-spec, Lean: Cedar.Validation, typechecker).
   pub data TypesWith (settings : Settings) (s : SchemaTree) (env : Environment) : Capabilities → Expression → TypeTree → Capabilities → Type 0 where
-    -- a literal has its own type: what is known of a Boolean, whole numbers, texts
+    -- a literal has its own type: what is known of a Boolean, whole numbers, strings
     of_boolean : {h : Capabilities} {b : Bool} → TypesWith settings s env h (literal (boolean b)) (kind.boolean (known b)) []
     of_long : {h : Capabilities} {n : ℤ} → TypesWith settings s env h (literal (long n)) kind.long []
     of_text : {h : Capabilities} {t : List ℕ} → TypesWith settings s env h (literal (text t)) kind.string []
     -- a uid has its entity type, which is declared, or the uid is that of a declared action
     of_uid : {h : Capabilities} {u : Uid} → IsEntityType s u.ty ⊎ IsAction s u → TypesWith settings s env h (literal (uid u)) (kind.entity u.ty) []
-    -- the variables have the types of the environment; `action` has no rule, since its uid stands in its place
+    -- the variables have the types of the environment; `action` has no rule, since its uid replaces it
     of_principal : {h : Capabilities} → TypesWith settings s env h (variable Principal) (kind.entity env.principal) []
     of_resource : {h : Capabilities} → TypesWith settings s env h (variable Resource) (kind.entity env.resource) []
     of_context : {h : Capabilities} → TypesWith settings s env h (variable Context) env.context []
-    -- `!`: true and false are exchanged, and any stays
+    -- `!`: true becomes false, false becomes true, and any stays
     of_not : {h g : Capabilities} {e : Expression} {f : Truth} → TypesWith settings s env h e (kind.boolean f) g → TypesWith settings s env h (unary operator.Not e) (kind.boolean (flipped f)) []
-    -- `&&`: behind what is known false nothing is typed; else the right side is typed where the gains of the left are held,
-    -- and both gain where the right side is not known false
+    -- `&&`: after a left side that is known false nothing is typed; else the right side is typed where the gains of the left
+    -- are held, and both gain where the right side is not known false
     and_false : {h g : Capabilities} {a b : Expression} → TypesWith settings s env h a (kind.boolean False) g → TypesWith settings s env h (and a b) (kind.boolean False) []
     and_then_false : {h ga gb hb : Capabilities} {a b : Expression} {f : Truth} → TypesWith settings s env h a (kind.boolean f) ga → MayHold f → IsUnion h ga hb → TypesWith settings s env hb b (kind.boolean False) gb → TypesWith settings s env h (and a b) (kind.boolean False) []
     and_then_true : {h ga gb hb g : Capabilities} {a b : Expression} {f : Truth} → TypesWith settings s env h a (kind.boolean f) ga → MayHold f → IsUnion h ga hb → TypesWith settings s env hb b (kind.boolean True) gb → IsUnion ga gb g → TypesWith settings s env h (and a b) (kind.boolean f) g
     and_then_any : {h ga gb hb g : Capabilities} {a b : Expression} {f : Truth} → TypesWith settings s env h a (kind.boolean f) ga → MayHold f → IsUnion h ga hb → TypesWith settings s env hb b (kind.boolean Any) gb → IsUnion ga gb g → TypesWith settings s env h (and a b) (kind.boolean Any) g
-    -- `||`: behind what is known true nothing is typed; behind what is known false the right side decides; else what both
-    -- gain is gained
+    -- `||`: after a left side that is known true nothing is typed; after one that is known false the right side decides; else
+    -- the gains of both sides are gained
     or_true : {h g : Capabilities} {a b : Expression} → TypesWith settings s env h a (kind.boolean True) g → TypesWith settings s env h (or a b) (kind.boolean True) []
     or_false : {h ga gb : Capabilities} {a b : Expression} {f : Truth} → TypesWith settings s env h a (kind.boolean False) ga → TypesWith settings s env h b (kind.boolean f) gb → TypesWith settings s env h (or a b) (kind.boolean f) gb
     or_any_true : {h ga gb : Capabilities} {a b : Expression} → TypesWith settings s env h a (kind.boolean Any) ga → TypesWith settings s env h b (kind.boolean True) gb → TypesWith settings s env h (or a b) (kind.boolean True) []
     or_any_false : {h ga gb : Capabilities} {a b : Expression} → TypesWith settings s env h a (kind.boolean Any) ga → TypesWith settings s env h b (kind.boolean False) gb → TypesWith settings s env h (or a b) (kind.boolean Any) ga
     or_any_any : {h ga gb g : Capabilities} {a b : Expression} → TypesWith settings s env h a (kind.boolean Any) ga → TypesWith settings s env h b (kind.boolean Any) gb → IsCommon ga gb g → TypesWith settings s env h (or a b) (kind.boolean Any) g
-    -- `if`: a condition that is known leaves one branch alone; else the branches join, and what both ways gain is gained
+    -- `if`: where the condition is known, only one branch is typed; else the branches join, and what both branches gain is
+    -- gained
     if_true : {h gc gx hx g : Capabilities} {i x y : Expression} {t : TypeTree} → TypesWith settings s env h i (kind.boolean True) gc → IsUnion h gc hx → TypesWith settings s env hx x t gx → IsUnion gc gx g → TypesWith settings s env h (if_else i x y) t g
     if_false : {h gc gy : Capabilities} {i x y : Expression} {t : TypeTree} → TypesWith settings s env h i (kind.boolean False) gc → TypesWith settings s env h y t gy → TypesWith settings s env h (if_else i x y) t gy
     if_any : {h gc gx gy hx gcx g : Capabilities} {i x y : Expression} {t u v : TypeTree} → TypesWith settings s env h i (kind.boolean Any) gc → IsUnion h gc hx → TypesWith settings s env hx x t gx → TypesWith settings s env h y u gy → Join t u v → IsUnion gc gx gcx → IsCommon gcx gy g → TypesWith settings s env h (if_else i x y) v g
@@ -176,18 +177,19 @@ mutual
     equal_literals : {h ga gb : Capabilities} {v w : Datum} {t u : TypeTree} → TypesWith settings s env h (literal v) t ga → TypesWith settings s env h (literal w) u gb → TypesWith settings s env h (binary binary_operator.Equal (literal v) (literal w)) (kind.boolean (known (same v w))) []
     equal_joined : {h ga gb : Capabilities} {a b : Expression} {t u v : TypeTree} → two_literals a b ≡ false → TypesWith settings s env h a t ga → TypesWith settings s env h b u gb → Join t u v → TypesWith settings s env h (binary binary_operator.Equal a b) (kind.boolean Any) []
     equal_apart : {h ga gb : Capabilities} {a b : Expression} {m n : List ℕ} → two_literals a b ≡ false → TypesWith settings s env h a (kind.entity m) ga → TypesWith settings s env h b (kind.entity n) gb → m ≢ n → TypesWith settings s env h (binary binary_operator.Equal a b) (kind.boolean False) []
-    -- `has`: false of what is not declared, true of what is held or what a record type requires, and else gained
+    -- `has`: false of an attribute that is not declared, true of one that is held or that a record type requires, and else
+    -- gained
     has_none : {h g : Capabilities} {e : Expression} {t : TypeTree} {at : Attributes} {a : List ℕ} → TypesWith settings s env h e t g → attributes_in s t ≡ Some at → attribute_at a at ≡ None → TypesWith settings s env h (unary (operator.Has a) e) (kind.boolean False) []
     has_held : {h g : Capabilities} {e : Expression} {t : TypeTree} {at : Attributes} {a : List ℕ} {d : Attribute} → TypesWith settings s env h e t g → attributes_in s t ≡ Some at → attribute_at a at ≡ Some d → Has (record { on = e; key = a }) h → TypesWith settings s env h (unary (operator.Has a) e) (kind.boolean True) []
     has_required : {h g : Capabilities} {e : Expression} {at : Attributes} {a : List ℕ} {d : Attribute} → TypesWith settings s env h e (kind.record_of at) g → attribute_at a at ≡ Some d → d.required ≡ true → TypesWith settings s env h (unary (operator.Has a) e) (kind.boolean True) []
     has_any : {h g : Capabilities} {e : Expression} {t : TypeTree} {at : Attributes} {a : List ℕ} {d : Attribute} → TypesWith settings s env h e t g → attributes_in s t ≡ Some at → attribute_at a at ≡ Some d → ¬ Has (record { on = e; key = a }) h → (is_record t ≡ false) ⊎ (d.required ≡ false) → TypesWith settings s env h (unary (operator.Has a) e) (kind.boolean Any) (record { on = e; key = a } ∷ [])
     -- `.`: the attribute's type, where it is required or held
     of_get : {h g : Capabilities} {e : Expression} {t : TypeTree} {at : Attributes} {a : List ℕ} {d : Attribute} → TypesWith settings s env h e t g → attributes_in s t ≡ Some at → attribute_at a at ≡ Some d → (d.required ≡ true) ⊎ Has (record { on = e; key = a }) h → TypesWith settings s env h (unary (operator.Get a) e) d.ty []
-    -- `like`: any Boolean, of a text
+    -- `like`: any Boolean, of a string
     of_like : {h g : Capabilities} {e : Expression} {p : List Element} → TypesWith settings s env h e kind.string g → TypesWith settings s env h (unary (operator.Like p) e) (kind.boolean Any) []
     -- `is`: known by the entity's type; the name is that of a declared entity type or of the type of a declared action
     of_is : {h g : Capabilities} {e : Expression} {m n : List ℕ} → TypesWith settings s env h e (kind.entity m) g → IsEntityType s n ⊎ IsActionType s n → TypesWith settings s env h (unary (operator.Is n) e) (kind.boolean (known (bytes_eq m n))) []
-    -- `in`: of a declared action and of uids that are written it is known by the schema's links; else any Boolean where the
+    -- `in`: of a declared action and of uids that are written, the schema's links say what is known; else any Boolean where the
     -- one type is or descends from the other, and known false where not
     in_written : {h ga gb : Capabilities} {u : Uid} {b : Expression} {m n : List ℕ} {v : TypeTree} {us : List Uid} {r : Bool} → TypesWith settings s env h (literal (uid u)) (kind.entity m) ga → TypesWith settings s env h b v gb → Target v n → IsAction s u → written_uids b ≡ Some us → Decides r (IsInOne s u us) → TypesWith settings s env h (binary binary_operator.In (literal (uid u)) b) (kind.boolean (known r)) []
     in_related : {h ga gb : Capabilities} {a b : Expression} {m n : List ℕ} {v : TypeTree} → TypesWith settings s env h a (kind.entity m) ga → TypesWith settings s env h b v gb → Target v n → ¬ AreWritten s a b → IsOrDescends s m n → TypesWith settings s env h (binary binary_operator.In a b) (kind.boolean Any) []
@@ -201,9 +203,9 @@ mutual
     of_set : {h g : Capabilities} {e : Expression} {es : Expressions} {t v : TypeTree} → TypesWith settings s env h e t g → JoinsOnto settings s env h t es v → TypesWith settings s env h (set_with (and_then e es)) (kind.set v) []
     -- a record: each key is required, with its value's type
     of_record : {h : Capabilities} {fs : Entries} {at : Attributes} → AreDistinct (keys_in fs) → AddsOnto settings s env h no_attributes fs at → TypesWith settings s env h (record_with fs) (kind.record_of at) []
-    -- `decimal`: of one string literal that is a decimal's
+    -- `decimal`: of one string literal that is a valid decimal
     of_decimal : {h : Capabilities} {t : List ℕ} {z : ℤ} → decimal_of t ≡ Some z → TypesWith settings s env h (unary operator.Decimal (literal (text t))) kind.decimal []
-    -- with the setting on, also of any text that is not written as a literal
+    -- with the setting on, also of any string that is not written as a literal
     of_any_decimal : {h g : Capabilities} {e : Expression} → IsTrue settings.any_decimal → is_literal e ≡ false → TypesWith settings s env h e kind.string g → TypesWith settings s env h (unary operator.Decimal e) kind.decimal []
     -- comparisons of decimals: any Boolean
     of_decimals : {h ga gb : Capabilities} {a b : Expression} {op : BinaryOperator} → is_decimal_comparison op ≡ true → TypesWith settings s env h a kind.decimal ga → TypesWith settings s env h b kind.decimal gb → TypesWith settings s env h (binary op a b) (kind.boolean Any) []

@@ -1,10 +1,10 @@
-//! Strict typing of the Cedar policy language, as definitions.
+//! Strict typing, as definitions: the rules, which policies are accepted, and what a report is.
 //!
 //! Read the definitions in `specs/` in this order:
 //!
 //! - `Settings`: the choices beyond strict validation that a service may take. Names that end in `With` or
 //!   `_with` take them; those without mean that none is taken.
-//! - `Capabilities`: what is known to be there, as `principal.name` after `principal has name`.
+//! - `Capabilities`: what is known to be there, for example `principal.name` after `principal has name`.
 //! - `Typing`: the rules, as a relation between what is held, an expression, its type and what it gains.
 //! - `Acceptance`: which policies are accepted and which are impossible, with the action of an environment in
 //!   the place of `action`.

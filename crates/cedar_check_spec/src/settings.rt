@@ -6,8 +6,8 @@ ghost use Rattle.cedar_check_spec.specs.Settings.{default_settings};
 /// validation as Cedar documents it.
 #[derive(Clone, Copy, Debug, PartialEq, Eq)]
 pub struct Settings {
-    /// Whether `decimal` may be asked of any text, as of an attribute, and not of a literal alone. A policy
-    /// may then fail at run time with the error `decimal`, where the text is no decimal's.
+    /// Whether `decimal` accepts any string, for example an attribute, and not only a literal. A policy may then fail at run
+    /// time with the error `decimal`, where the string is not a decimal.
     pub any_decimal: bool,
 }
 

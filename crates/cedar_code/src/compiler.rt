@@ -15,7 +15,11 @@ use std::alloc::{AllocError, Global};
 /// How many instructions a code has at most.
 pub const MOST_INSTRUCTIONS: usize = 1_000_000;
 
-/// The code of an expression. 1: memory was refused. 701: it would have over 1,000,000 instructions.
+/// The code of an expression.
+///
+/// # Errors
+///
+/// 1 when out of memory, 701 where the code would have over 1,000,000 instructions.
 pub fn compile(alloc: Global, expression: &Expr) -> Result<Code, CodeFault>
     ensures code { IfOk result (λ c. c.instructions ≡ code_of expression.now) }
     ensures height { IfOk result (λ c. c.height ≡ height_of expression.now) }
@@ -137,7 +141,7 @@ fn entries_height(pairs: &[(SharedText, Expr)]) -> usize
     height
 }
 
-// The code of an expression behind what is there.
+// Appends the code of an expression.
 #[cycle(emit)]
 fn emit(alloc: Global, code: &mut Vec<Instruction>, expression: &Expr) -> Result<(), AllocError>
     ensures { OnOk result (code.new.items ≡ code.old.items ++ code_at (length code.old.items) expression.now) }
@@ -199,7 +203,7 @@ fn emit(alloc: Global, code: &mut Vec<Instruction>, expression: &Expr) -> Result
     }
 }
 
-// The code of the members of a set, one behind the other.
+// Appends the code of the members of a set, one after another.
 #[cycle(emit)]
 fn emit_members(
     alloc: Global,
@@ -214,7 +218,7 @@ fn emit_members(
     Ok(())
 }
 
-// The code of the values of a record, one behind the other.
+// Appends the code of the values of a record, one after another.
 #[cycle(emit)]
 fn emit_entries(
     alloc: Global,

@@ -8,7 +8,7 @@ use thiserror::Error;
 /// Why an expression has no code.
 #[derive(Clone, Copy, Debug, PartialEq, Eq, Error)]
 pub enum CodeFault {
-    /// 1: memory was refused.
+    /// 1: out of memory.
     #[error("out of memory")]
     OutOfMemory,
     /// 701: the code would have over 1,000,000 instructions.

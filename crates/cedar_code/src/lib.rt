@@ -1,4 +1,4 @@
-//! Flat code, its compiler, and the law that joins an execution to evaluation.
+//! Flat code of expressions: the compiler, the steps of an execution, and the law that it ends as the expression evaluates.
 //!
 //! ```rust
 //! use cedar_code::compile;
@@ -8,7 +8,7 @@
 //! assert_eq!(rt; (code.instructions().len(), code.height()), (4, 1));
 //! ```
 //!
-//! The code of an expression and the steps of an execution stand in `specs/`.
+//! The code of an expression and the steps of an execution are in `specs/`.
 #![tactic(auto)]
 
 mod code;

@@ -7,7 +7,7 @@ use cedar_value::{Glance, Value};
 use std::alloc::{AllocError, Global};
 use std::marker::Model;
 
-// A plain value lies in the instruction itself, another in a box: so an instruction is small, and a plain value is at hand.
+// A plain value is in the instruction itself, another value in a box. So an instruction is small, and a plain value is at hand.
 #[derive(Drop)]
 enum Kept {
     Boolean(bool),
@@ -35,7 +35,7 @@ impl Model for Literal {
 }
 
 impl Literal {
-    /// A copy of a value. Of a Boolean, a number or a decimal it takes no memory.
+    /// A copy of a value. A Boolean, a number or a decimal takes no memory.
     pub fn new(alloc: Global, value: &Value) -> Result<Self, AllocError>
         ensures { IfOk result (λ l. l ≡ value.now) }
     {

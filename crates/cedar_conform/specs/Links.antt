@@ -16,7 +16,7 @@ use Rattle.cedar_conform_values.specs.declared.conform_fault.ConformFault.TheVar
 unfoldable pub is_slot_key : List ℕ → Bool
 is_slot_key k = bytes_eq k (codes "?principal") || bytes_eq k (codes "?resource")
 
--- What is given at a key: the uid that stands there, or nothing where nothing stands there (own).
+-- What is given at a key: the uid at the key, or nothing where the object lacks the key (own).
 abbrev pub IsGiven : List ℕ → Data → Option Uid → Type 0
 IsGiven k d None = get k d ≡ None
 IsGiven k d (Some u) = UidAt k d u
@@ -27,15 +27,15 @@ pub record DenotesSlots (d : Data) (s : Slots) : Type 0 where
   pub principal_given : IsGiven (codes "?principal") d s.principal
   pub resource_given : IsGiven (codes "?resource") d s.resource
 
--- An object of exactly `template_id` and `link_id`, each a text, and `args`, which gives uids for the slots (own; Cedar language
--- reference, policy templates).
+-- An object of exactly `template_id` and `link_id`, each a string, and `args`, which gives uids for the slots (own; Cedar
+-- language reference, policy templates).
 pub record DenotesLink (d : Data) (l : Link) : Type 0 where
   pub keys : size_of d ≡ 3
   pub template_at : text_at (codes "template_id") d ≡ Some l.template
   pub id_at : text_at (codes "link_id") d ≡ Some l.id
   pub args_at : MatchOption (get (codes "args") d) ⊥ (λ args. DenotesSlots args l.slots)
 
--- Each item denotes a link, one after the other (own).
+-- Each item denotes a link, one after another (own).
 abbrev pub DenoteLinks : Items → List Link → Type 0
 DenoteLinks no_items [] = Unit {0}
 DenoteLinks no_items (l ∷ ls) = ⊥
@@ -50,6 +50,6 @@ DenotesLinks d ls = MatchOption (as_array d) ⊥ (λ ds. DenoteLinks ds ls)
 abbrev pub BytesDenoteLinks : List ℕ → List Link → Type 0
 BytesDenoteLinks bytes ls = MatchOption (json_of bytes) ⊥ (λ d. DenotesLinks d ls)
 
--- The fault is 501 where the bytes are no JSON, and else 502, where their JSON denotes no links (RFC 8259).
+-- The fault is 501 where the bytes are not JSON, and else 502, where their JSON denotes no links (RFC 8259).
 abbrev pub LinksAreRefused : List ℕ → ConformFault → Type 0
 LinksAreRefused bytes f = MatchOption (json_of bytes) (f ≡ Json) (λ d. (f ≡ Shape) × ((ls : List Link) → ¬ DenotesLinks d ls))

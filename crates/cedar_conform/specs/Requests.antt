@@ -1,4 +1,4 @@
--- Which request a JSON denotes by a schema, and which faults it has.
+-- Which request a JSON denotes for a schema, and which faults it has.
 use Rattle.std.specs.Prelude.{◌≡◌, ◌⊎◌, ◌||◌, ℕ, Bool, true, false, codes, List, [], None, Contains, MatchOption, unwrap_or}
 use Rattle.std.specs.Str.{bytes_eq}
 use Rattle.serde_json.specs.Data.{Data, object, no_members}
@@ -22,25 +22,26 @@ use Rattle.cedar_conform_values.specs.WrittenUids.{UidAt}
 unfoldable pub is_request_key : List ℕ → Bool
 is_request_key k = bytes_eq k (codes "principal") || bytes_eq k (codes "action") || bytes_eq k (codes "resource") || bytes_eq k (codes "context")
 
--- At the three keys stand the uids of the principal, the action and the resource (own; Cedar documentation, entities and
--- context in JSON).
+-- The three keys have the uids of the principal, the action and the resource (own; Cedar documentation, entities and context in
+-- JSON).
 pub record Names (d : Data) (principal action resource : Uid) : Type 0 where
   pub principal_at : UidAt (codes "principal") d principal
   pub action_at : UidAt (codes "action") d action
   pub resource_at : UidAt (codes "resource") d resource
 
--- No uid stands at the key (own).
+-- The key has no uid (own).
 abbrev pub Lacks : List ℕ → Data → Type 0
 Lacks k d = (u : Uid) → ¬ UidAt k d u
 
--- The JSON is no object, or it has another key, or no uid at one of the three (own).
+-- The JSON is not an object, or it has another key, or no uid at one of the three (own).
 abbrev pub IsShapeless : Data → Type 0
 IsShapeless d = (has_only is_request_key d ≡ false) ⊎ (Lacks (codes "principal") d ⊎ (Lacks (codes "action") d ⊎ Lacks (codes "resource") d))
 
 -- ---- the schema
 
--- What the schema has against the uids of the principal, the action and the resource: 503 for a type that is no entity type,
--- 510 for an action that is not declared, 511 for one that does not apply to the two types (Cedar documentation, validation).
+-- What the schema has against the uids of the principal, the action and the resource: 503 for a type that is not an entity
+-- type, 510 for an action that is not declared, 511 for one that does not apply to the two types (Cedar documentation,
+-- validation).
 abbrev pub HasUidsFault : SchemaTree → Uid → Uid → Uid → ConformFault → Type 0
 HasUidsFault s p a r UnknownType = (shape_of s p.ty ≡ None) ⊎ (shape_of s r.ty ≡ None)
 HasUidsFault s p a r NoSuchAction = ¬ IsAction s a
@@ -49,15 +50,15 @@ HasUidsFault s p a r _ = ⊥
 
 -- ---- the context
 
--- What stands at `context`, and the empty object where nothing does (own).
+-- The value at `context`, and the empty object where the key is absent (own).
 abbrev pub context_of : Data → Data
 context_of d = unwrap_or (get (codes "context") d) (object no_members)
 
 -- ---- the whole
 
--- A JSON denotes a request: it is an object of a principal, an action, a resource and perhaps a context, the action applies to
--- the types of the two, and the context is what the JSON says as a value of its context type (Cedar documentation, validation;
--- Cedar documentation, entities and context in JSON).
+-- A JSON denotes a request: it is an object of a principal, an action, a resource and perhaps a context. The action applies to
+-- the types of the two, and the context is what the JSON writes as a value of its context type (Cedar documentation,
+-- validation; Cedar documentation, entities and context in JSON).
 pub record Denotes (s : SchemaTree) (d : Data) (q : Request) : Type 0 where
   pub keys : has_only is_request_key d ≡ true
   pub names : Names d q.principal q.action q.resource
@@ -66,7 +67,7 @@ pub record Denotes (s : SchemaTree) (d : Data) (q : Request) : Type 0 where
   pub fine : (value_read context_type (context_of d)).faults ≡ []
   pub context : record_of (fields_of q.context) ≡ (value_read context_type (context_of d)).value
 
--- A fault of the context, by the context type of the environment (Cedar documentation, validation).
+-- A fault of the context, for the context type of the environment (Cedar documentation, validation).
 pub record HasContextFault (s : SchemaTree) (d : Data) (f : ConformFault) : Type 0 where
   pub principal : Uid
   pub action : Uid
@@ -76,8 +77,8 @@ pub record HasContextFault (s : SchemaTree) (d : Data) (f : ConformFault) : Type
   pub applies : HasEnvironment s.actions action principal.ty resource.ty context_type
   pub broken : Contains (value_read context_type (context_of d)).faults f
 
--- The fault is there: 502 where the shape is broken; what the schema has against the uids that stand there; or a fault of the
--- context (Cedar documentation, validation).
+-- The fault is there: 502 where the shape is broken; what the schema has against the uids; or a fault of the context (Cedar
+-- documentation, validation).
 abbrev pub HasFault : SchemaTree → Data → ConformFault → Type 0
 HasFault s d f =
     ((f ≡ Shape) × IsShapeless d) ⊎ (((p : Uid) × (a : Uid) × (r : Uid) × Names d p a r × HasUidsFault s p a r f) ⊎ HasContextFault s d f)
@@ -86,6 +87,6 @@ HasFault s d f =
 abbrev pub LineDenotes : SchemaTree → List ℕ → Request → Type 0
 LineDenotes s line q = MatchOption (json_of line) ⊥ (λ d. Denotes s d q)
 
--- The bytes have the fault 501 where they are no JSON, else the fault is in their JSON (RFC 8259).
+-- The bytes have the fault 501 where they are not JSON, else the fault is in their JSON (RFC 8259).
 abbrev pub LineHasFault : SchemaTree → List ℕ → ConformFault → Type 0
 LineHasFault s line f = MatchOption (json_of line) (f ≡ Json) (λ d. HasFault s d f)

@@ -1,5 +1,4 @@
-//! Requests and links of the Cedar policy language, read from their JSON according to a schema; passes on what reads entities
-//! and values.
+//! Reads request lines and links from their JSON, and tests whether a request fits a schema.
 //!
 //! ```rust
 //! use cedar_conform::{fits, read_entities, read_request};
@@ -9,8 +8,8 @@
 //! assert!(rt; fits(&schema, &request));
 //! ```
 //!
-//! Lines one after another are read with [`read_request_with`], whose reader of JSON is kept from line to line. Entities are
-//! read by cedar_conform_entities, values and uids by cedar_conform_values.
+//! To read many lines, use [`read_request_with`], whose JSON reader is kept from line to line. Entities are read by
+//! cedar_conform_entities, values and uids by cedar_conform_values.
 #![tactic(auto)]
 
 mod context;

@@ -14,16 +14,18 @@ use cedar_value::{Text, Uid};
 use serde_json::{Map, Value as Json};
 use std::alloc::Global;
 
-/// The links that the bytes denote: a JSON list of objects of `template_id`, `link_id` and `args`, which
-/// gives uids at `?principal` and `?resource` or at neither (Cedar language reference, policy templates;
-/// the form is this project's). Refused with 1 when out of memory, 501 for what is no JSON, and 502 for
-/// JSON that is no such list.
+/// The links that the bytes denote: a JSON list of objects of `template_id`, `link_id` and `args`, which gives uids at
+/// `?principal` and `?resource` or at neither (Cedar language reference, policy templates; the form is this project's).
+///
+/// # Errors
+///
+/// 1 when out of memory, 501 where the bytes are not JSON, and 502 where the JSON is not such a list.
 pub fn read_links(alloc: Global, bytes: &[u8]) -> Result<Vec<Link>, ConformFault>
     ensures denotes { IfOk result (λ links. BytesDenoteLinks bytes.now links.items) }
     ensures only { (links : List LinkTree) → BytesDenoteLinks bytes.now links → MatchResult result (λ found. found.items ≡ links) (λ e. e ≡ OutOfMemory) }
     ensures refused { IfErr result (λ e. e ≢ OutOfMemory → LinksAreRefused bytes.now e) }
 {
-    // A law of uids, which does nothing.
+    // JSON denotes at most one uid.
     one_written_uid();
     match read_json(alloc, bytes)? {
         Some(json) => links_of(alloc, &json),
@@ -87,7 +89,7 @@ fn read_slots(alloc: Global, json: &Json) -> Result<Slots, ConformFault>
     })
 }
 
-// Whether the JSON is an object without other keys than those of slots.
+// Whether the JSON is an object whose keys are those of slots.
 fn has_slot_keys(json: &Json) -> bool
     ensures { result ≡ has_only is_slot_key (view json.now) }
 {
@@ -115,7 +117,7 @@ fn is_slot_key(key: &str) -> bool
     key == "?principal" || key == "?resource"
 }
 
-// The uid that stands at the key, if anything does.
+// The uid at the key, if the object has the key.
 fn given(alloc: Global, json: &Json, key: &str) -> Result<Option<Uid>, ConformFault>
     ensures { ReadsOne result (IsGiven key.now (view json.now)) }
 {

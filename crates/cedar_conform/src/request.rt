@@ -32,10 +32,13 @@ struct RequestUids {
     resource: Uid,
 }
 
-/// The request that the bytes denote by the schema: a JSON object of `principal`, `action`, `resource`
-/// and perhaps `context` (Cedar documentation, entities and context in JSON). Each uid is a text as
-/// `User::"ann"` or an object of `type` and `id`. Refused with 1 when out of memory, and else with 501
-/// to 506 or 509 to 511 only where that fault is in the bytes.
+/// The request that the bytes denote for the schema: a JSON object of `principal`, `action`, `resource` and perhaps `context`
+/// (Cedar documentation, entities and context in JSON). Each uid is a string such as `User::"ann"` or an object of `type` and
+/// `id`.
+///
+/// # Errors
+///
+/// 1 when out of memory, and otherwise 501 to 506 or 509 to 511 only where that fault is in the bytes.
 pub fn read_request(alloc: Global, schema: &Schema, line: &[u8]) -> Result<Request, ConformFault>
     ensures denotes { IfOk result (LineDenotes schema.now line.now) }
     ensures fits { IfOk result (Fits schema.now) }
@@ -45,7 +48,11 @@ pub fn read_request(alloc: Global, schema: &Schema, line: &[u8]) -> Result<Reque
     read_request_with(alloc, schema, line, &mut JsonReader::new(alloc))
 }
 
-/// As `read_request`, by a reader of JSON whose room is kept from line to line.
+/// Like `read_request`, with a JSON reader whose buffers are kept from line to line.
+///
+/// # Errors
+///
+/// Those of [`read_request`].
 pub fn read_request_with(
     alloc: Global,
     schema: &Schema,
@@ -57,7 +64,8 @@ pub fn read_request_with(
     ensures only { (q : RequestTree) → LineDenotes schema.now line.now q → MatchResult result (λ found. found ≡ q) (λ e. e ≡ OutOfMemory) }
     ensures refused { IfErr result (λ e. e ≢ OutOfMemory → LineHasFault schema.now line.now e) }
 {
-    // Laws, which do nothing.
+    // A schema lists its types and actions in order, and the types that an action applies to are declared. A JSON that is read
+    // for a type gives a value of the type, and writes at most one uid.
     schema.well_formedness();
     read_values_belong();
     one_written_uid();
@@ -84,7 +92,7 @@ fn request_of(alloc: Global, schema: &Schema, json: &Json) -> Result<Request, Co
     })
 }
 
-// Whether the JSON is an object without other keys than a request's.
+// Whether the JSON is an object whose keys are those of a request.
 fn has_request_keys(json: &Json) -> bool
     ensures { result ≡ has_only is_request_key (view json.now) }
 {
@@ -157,7 +165,7 @@ fn context_type<'s>(schema: &'s Schema, uids: &RequestUids) -> Result<&'s Type, 
     if !schema.has_action(&uids.action) {
         return Err(ConformFault::NoSuchAction);
     }
-    // A law of schemas, which does nothing.
+    // The context of each environment of a schema is a record type.
     schema.well_formedness();
     match schema.context(&uids.action, &uids.principal.ty, &uids.resource.ty) {
         Some(ty) => Ok(ty),
@@ -165,7 +173,7 @@ fn context_type<'s>(schema: &'s Schema, uids: &RequestUids) -> Result<&'s Type, 
     }
 }
 
-// The context, by its type.
+// The context, read as a value of its type.
 fn read_context(alloc: Global, ty: &Type, json: &Json) -> Result<Record, ConformFault>
     requires { IsTrue (is_record ty.now) }
     ensures { ReadsRecord result (value_read ty.now (context_of (view json.now))) }

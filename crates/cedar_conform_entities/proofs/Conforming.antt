@@ -25,7 +25,7 @@ use Rattle.cedar_value.specs.World.{World, EntityTree, entry_of, parents_of, Bel
 use Rattle.cedar_value.specs.Private.Parents.{IsParent}
 use Rattle.cedar_value.specs.declared.uid.Uid.{Uid}
 
--- ---- two worlds, one after the other
+-- ---- two worlds, one after another
 
 entry_first : (xs ys : World) (u : Uid) (e : EntityTree) → entry_of xs u ≡ Some e → entry_of (xs ++ ys) u ≡ Some e
 entry_first [] ys u e h = cc

@@ -103,7 +103,7 @@ pub uids_end : {X : Type 0} (f : X → Data) (done : List Uid) (rest : List X) (
 uids_end f done [] all e h = subst (AreUids all) (append-nil done) (h.denoted [] no_uids)
 uids_end f done (x ∷ xs) all e h = absurd (no_suc (length xs) e)
 
--- where nothing stands at the key, there are none
+-- where nothing is at the key, there are none
 pub no_parents : (d : Data) (us : List Uid) → None ≡ get (codes "parents") d → us ≡ [] → AreParentsOf d us
 no_parents d us e none = subst (λ (o : Option Data). MatchOption (as_array (unwrap_or o (array no_items))) ⊥ (λ ds. AreUids ds us)) e (subst (AreUids no_items) (sym none) no_uids)
 

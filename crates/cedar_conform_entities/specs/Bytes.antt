@@ -1,4 +1,4 @@
--- What the bytes of a file of entities denote by a schema, and which faults they have.
+-- What the bytes of a file of entities denote for a schema, and which faults they have.
 use Rattle.std.specs.Prelude.{◌≡◌, ◌⊎◌, ℕ, List, Some, None}
 use Rattle.serde_json.specs.Data.{Data}
 use Rattle.cedar_conform_values.specs.declared.conform_fault.ConformFault.{ConformFault}
@@ -13,7 +13,7 @@ use Rattle.cedar_value.specs.World.{World}
 abbrev pub BytesDenote : SchemaTree → List ℕ → World → Type 0
 BytesDenote s bytes w = (d : Data) × (json_of bytes ≡ Some d) × DenotesWorld s d w
 
--- The bytes have the fault: they are no JSON, 501, or one that has it (Cedar documentation, entities and context in JSON;
+-- The bytes have the fault: they are not JSON, 501, or a JSON that has it (Cedar documentation, entities and context in JSON;
 -- RFC 8259).
 abbrev pub BytesHaveFault : SchemaTree → List ℕ → ConformFault → Type 0
 BytesHaveFault s bytes f = ((f ≡ Json) × (json_of bytes ≡ None)) ⊎ ((d : Data) × (json_of bytes ≡ Some d) × HasFault s d f)

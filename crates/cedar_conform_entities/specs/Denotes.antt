@@ -1,4 +1,4 @@
--- Which world a list of entities denotes by a schema.
+-- Which world a list of entities denotes for a schema.
 use Rattle.std.specs.Prelude.{◌≡◌, List, [], ◌∷◌, Some, Contains}
 use Rattle.serde_json.specs.Data.{Data, object, Items, no_items, item, no_members}
 use Rattle.serde_json.specs.Find.{as_array}
@@ -16,9 +16,9 @@ use Rattle.cedar_value.specs.Datum.{record_of, fields_of}
 use Rattle.cedar_value.specs.World.{World, EntityTree}
 use Rattle.cedar_value.specs.declared.uid.Uid.{Uid}
 
--- An entry denotes an entity: it writes its uid and its parents, the type is declared and its last part is not `Action`, the attributes are read without fault
--- by the type's shape, and each parent is of a declared type from which the entity's own descends (Cedar documentation,
--- entities and context in JSON).
+-- An entry denotes an entity. It writes its uid and its parents, the type is declared, and its last part is not `Action`. The
+-- attributes are read without fault for the type's shape. Each parent is of a declared type from which the entity's own
+-- descends (Cedar documentation, entities and context in JSON).
 pub record DenotesEntity (s : SchemaTree) (d : Data) (e : EntityTree) : Type 0 where
   pub written : WritesEntity d e.uid e.parents
   pub shape : TypeTree
@@ -36,7 +36,7 @@ pub record RepeatsAction (s : SchemaTree) (d : Data) (u : Uid) (parents : List U
   pub empty : attributes_in d ≡ object no_members
   pub ancestors : (p : Uid) → Contains parents p → ActionDescends s u p
 
--- Entry by entry: the entities that a list denotes, to which the actions that it repeats add nothing (Cedar documentation,
+-- Entry by entry: the entities that a list denotes. The actions that it repeats add nothing to them (Cedar documentation,
 -- entities and context in JSON).
 pub data DenoteEntities (s : SchemaTree) : Items → World → Type 0 where
   no_entries : DenoteEntities s no_items []

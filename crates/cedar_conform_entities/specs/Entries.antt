@@ -11,17 +11,17 @@ use Rattle.cedar_value.specs.declared.uid.Uid.{Uid}
 unfoldable pub is_entry_key : List ℕ → Bool
 is_entry_key k = bytes_eq k (codes "uid") || bytes_eq k (codes "attrs") || bytes_eq k (codes "parents") || bytes_eq k (codes "tags")
 
--- The attributes that stand there, none where the key is absent (Cedar documentation, entities and context in JSON; own: the
--- key may be absent).
+-- The attributes of an entry, none where the key is absent (Cedar documentation, entities and context in JSON; own: the key may
+-- be absent).
 abbrev pub attributes_in : Data → Data
 attributes_in d = unwrap_or (get (codes "attrs") d) (object no_members)
 
--- The parents that stand there, none where the key is absent (Cedar documentation, entities and context in JSON; own: the
--- key may be absent).
+-- The parents of an entry, none where the key is absent (Cedar documentation, entities and context in JSON; own: the key may be
+-- absent).
 abbrev pub parents_in : Data → Data
 parents_in d = unwrap_or (get (codes "parents") d) (array no_items)
 
--- The tags that stand there, none where the key is absent (Cedar documentation, entities and context in JSON).
+-- The tags of an entry, none where the key is absent (Cedar documentation, entities and context in JSON).
 abbrev pub tags_in : Data → Data
 tags_in d = unwrap_or (get (codes "tags") d) (object no_members)
 

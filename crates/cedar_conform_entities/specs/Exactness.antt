@@ -1,4 +1,4 @@
--- What the bytes of entities denote, they alone denote.
+-- Bytes of entities denote one world or have a fault.
 use Rattle.std.specs.Prelude.{◌≡◌, ℕ, List}
 use Rattle.cedar_conform_values.specs.declared.conform_fault.ConformFault.{ConformFault}
 use Rattle.cedar_conform_entities.specs.Bytes.{BytesDenote, BytesHaveFault}

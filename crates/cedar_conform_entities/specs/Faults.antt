@@ -1,4 +1,4 @@
--- Which faults the JSON of entities has by a schema.
+-- Which faults the JSON of entities has for a schema.
 use Rattle.std.specs.Prelude.{◌≡◌, ℕ, List, Some, None, Contains}
 use Rattle.serde_json.specs.Data.{Data, Items}
 use Rattle.serde_json.specs.Find.{as_array, get_item}
@@ -17,7 +17,7 @@ use Rattle.cedar_value.specs.declared.uid.Uid.{Uid}
 
 -- The faults of one entry. 502: it writes no uid with parents. 503: its type, or that of a parent, is not declared. 507: its
 -- type does not descend from that of a parent. 508: its type's last part is `Action`, and it does not repeat an action. 504,
--- 505, 506, 509: those of the attributes, read by the type's shape (Cedar documentation, entities and context in JSON; own).
+-- 505, 506, 509: those of the attributes, read for the type's shape (Cedar documentation, entities and context in JSON; own).
 pub data HasEntryFault (s : SchemaTree) (d : Data) : ConformFault → Type 0 where
   no_entry : ((u : Uid) (parents : List Uid) → ¬ Writes d u parents) → HasEntryFault s d Shape
   undeclared : {u : Uid} {parents : List Uid} → WritesEntity d u parents → ¬ IsEntityType s u.ty → HasEntryFault s d UnknownType
@@ -26,7 +26,7 @@ pub data HasEntryFault (s : SchemaTree) (d : Data) : ConformFault → Type 0 whe
   no_repetition : {u : Uid} {parents : List Uid} → Writes d u parents → IsActionName u.ty → ¬ RepeatsAction s d u parents → HasEntryFault s d ActionDiffers
   attributes : {u : Uid} {parents : List Uid} {shape : TypeTree} {f : ConformFault} → WritesEntity d u parents → shape_of s u.ty ≡ Some shape → Contains (value_read shape (attributes_in d)).faults f → HasEntryFault s d f
 
--- The faults of a JSON of entities. 502: it is no list. Those of an entry. 401: two entries write one uid. 402: all entries
+-- The faults of a JSON of entities. 502: it is not a list. Those of an entry. 401: two entries write one uid. 402: all entries
 -- denote entities, and a uid is below itself (Cedar documentation, entities and context in JSON).
 pub data HasFault (s : SchemaTree) (d : Data) : ConformFault → Type 0 where
   no_list : as_array d ≡ None → HasFault s d Shape

@@ -1,4 +1,4 @@
--- The world of entities by a schema: the schema's actions, then the entities.
+-- The world of entities for a schema: the schema's actions, then the entities.
 use Rattle.std.specs.Prelude.{◌≡◌, ◌++◌, Some, Contains}
 use Rattle.cedar_value.specs.Datum.{record_of, fields_of}
 use Rattle.cedar_value.specs.World.{World, EntityTree}

@@ -19,13 +19,13 @@ use cedar_schema::Schema;
 use cedar_store::{Entity, Store, StoreFault};
 use std::alloc::Global;
 
-/// The store of the entities that the bytes write, with the schema's actions before them (Cedar
-/// documentation, entities and context in JSON). Takes a copy of the bytes, time by the number of values and of pairs of an
-/// entity and what lies above it, and for each entry look-ups in the schema by search.
+/// The store of the entities that the bytes write, with the schema's actions before them (Cedar documentation, entities and
+/// context in JSON). Takes a copy of the bytes. The time grows with the number of values, and with the pairs of an entity and
+/// what is above it; each entry is looked up in the schema by search.
 ///
 /// # Errors
 ///
-/// 1 where memory was refused, and else 401, 402 or 501 to 509 only where that fault is in the bytes.
+/// 1 when out of memory, and otherwise 401, 402 or 501 to 509 only where that fault is in the bytes.
 pub fn read_entities(alloc: Global, schema: &Schema, bytes: &[u8]) -> Result<Store, ConformFault>
     ensures denotes { IfOk result (BytesDenote schema.now bytes.now) }
     ensures conforms { IfOk result (Conforms schema.now) }
@@ -35,13 +35,13 @@ pub fn read_entities(alloc: Global, schema: &Schema, bytes: &[u8]) -> Result<Sto
     read_entities_owned(alloc, schema, copied)
 }
 
-/// As [`read_entities`], of bytes that it owns: it frees them as they are read, so that the bytes and the entities are
-/// never in memory as a whole at the same time.
+/// Like [`read_entities`], but owns the bytes. It frees them as they are read, so the bytes and the entities are never in
+/// memory as a whole at the same time.
 ///
 /// # Errors
 ///
-/// As those of [`read_entities`]. After an error the bytes are lost: a caller that may want to call again, as when memory
-/// was refused, calls [`read_entities`] or keeps a copy.
+/// Those of [`read_entities`]. After an error the bytes are lost. A caller that may want to call again, for example when out of
+/// memory, calls [`read_entities`] or keeps a copy.
 pub fn read_entities_owned(
     alloc: Global,
     schema: &Schema,
@@ -51,15 +51,15 @@ pub fn read_entities_owned(
     ensures conforms { IfOk result (Conforms schema.now) }
     ensures refused { IfErr result (λ f. f ≢ OutOfMemory → BytesHaveFault schema.now bytes.items f) }
 {
-    // Laws, which do nothing.
+    // The schema is well formed, and a world that bytes denote for it conforms to it.
     schema.well_formedness();
     denoted_worlds_conform();
     let entities = entities_of(alloc, schema, bytes)?;
     build_store(alloc, entities)
 }
 
-// The schema's actions and the entities of the bytes, which are freed as they are read. What the JSON was read with is
-// freed before the store is built.
+// The schema's actions and the entities of the bytes. The bytes are freed as they are read, and the JSON reader before the
+// store is built.
 fn entities_of(alloc: Global, schema: &Schema, bytes: Vec<u8>) -> Result<Vec<Entity>, ConformFault>
     ensures { MatchResult result
         (λ v. AreRead schema.now bytes.items v.items)
@@ -72,7 +72,7 @@ fn entities_of(alloc: Global, schema: &Schema, bytes: Vec<u8>) -> Result<Vec<Ent
     }
 }
 
-// The same of bytes that stand whole while they are read, behind the schema's actions.
+// The same for bytes that stay whole while they are read: the schema's actions, and after them the entities.
 fn read_items(
     alloc: Global,
     schema: &Schema,
@@ -91,7 +91,7 @@ fn read_items(
     }
 }
 
-// What is told of bytes that are no JSON list: 501, or 502 where they are JSON.
+// The fault of bytes that are not a JSON list: 501, or 502 where they are JSON.
 fn no_list_fault(alloc: Global, schema: &Schema, bytes: &[u8]) -> ConformFault
     requires { option_and_then as_array (json_of bytes.now) ≡ None }
     ensures { result ≢ OutOfMemory → BytesHaveFault schema.now bytes.now result }

@@ -1,4 +1,4 @@
-//! The entries of a JSON list, one after another: the tree of each is let go before the next is read.
+//! The entries of a JSON list, one after another: the tree of each is freed before the next is read.
 ghost use Rattle.std.specs.Prelude.{◌≡◌, ◌≢◌, ◌<◌, length, IfOk, MatchOption, MatchResult, OnSome, Some, None, option_map};
 ghost use Rattle.serde_json.specs.Data.{item, no_items};
 ghost use Rattle.serde_json.specs.View.{view};
@@ -14,8 +14,8 @@ use cedar_schema::Schema;
 use serde_json::Value as Json;
 use std::alloc::Global;
 
-/// What the next entry stands for by the schema, and None where the list ended. Refused with a fault of the entry, once the
-/// rest of the text was read and is JSON; and with 501 where it is not.
+/// What the next entry denotes for the schema, and None where the list ended. Refused with a fault of the entry, once the rest
+/// of the text was read and is JSON; and with 501 where it is not.
 pub(crate) fn next_entry(
     alloc: Global,
     schema: &Schema,
@@ -50,8 +50,8 @@ fn next_tree(alloc: Global, items: &mut ItemReader<'_>) -> Result<Option<Json>, 
     }
 }
 
-/// The fault that an entry has, or 501 where the rest of the text is no JSON: a fault in a text is told only where that text is
-/// JSON.
+/// The fault that an entry has, or 501 where the rest of the text is not JSON: a fault in a text is reported only where the
+/// text is JSON.
 pub(crate) fn after_fault(
     alloc: Global,
     items: &mut ItemReader<'_>,

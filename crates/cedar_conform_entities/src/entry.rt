@@ -18,7 +18,7 @@ use cedar_value::{Record, Uid};
 use serde_json::{Map, Value as Json};
 use std::alloc::Global;
 
-/// What an entry stands for.
+/// What an entry denotes.
 #[derive(Drop)]
 pub(crate) enum Entry {
     /// An entity of a declared type.
@@ -27,7 +27,7 @@ pub(crate) enum Entry {
     Action(Uid),
 }
 
-/// What the entry stands for by the schema, or one of its faults: 502 to 509.
+/// What the entry denotes for the schema, or one of its faults: 502 to 509.
 pub(crate) fn read_entry(alloc: Global, schema: &Schema, json: &Json) -> Result<Entry, ConformFault>
     ensures { MatchResult result (IsEntry schema.now (view json.now)) (RefusesEntry schema.now (view json.now)) }
 {
@@ -56,7 +56,7 @@ fn read_entity(
         return Err(ConformFault::UnknownType);
     };
     judge_parents(schema, &written.uid, &written.parents)?;
-    // A law of schemas, which does nothing.
+    // The shape of each entity type of a schema is an ordered record type.
     schema.well_formedness();
     let attrs = read_attributes(alloc, shape, json)?;
     Ok(Entity {
@@ -66,7 +66,7 @@ fn read_entity(
     })
 }
 
-// The attributes that stand at their key, none where it is absent, by the shape of the type.
+// The attributes at their key, read for the shape of the type. None where the key is absent.
 fn read_attributes(alloc: Global, shape: &Type, json: &Json) -> Result<Record, ConformFault>
     requires { IsOrderedRecord shape.now }
     ensures { ReadsRecord result (value_read shape.now (attributes_in (view json.now))) }

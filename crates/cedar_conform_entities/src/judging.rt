@@ -1,4 +1,4 @@
-//! What the schema says of an entry.
+//! Checks of an entry against the schema.
 ghost use Rattle.std.specs.Prelude.{◌≡◌, ◌↔◌, Contains, IsTrue, MatchResult, Some};
 ghost use Rattle.serde_json.specs.View.{view};
 ghost use Rattle.cedar_conform_entities.specs.Denotes.{RepeatsAction};
@@ -52,8 +52,7 @@ fn descends_from_all(schema: &Schema, action: &Uid, ancestors: &[Uid]) -> bool
     true
 }
 
-/// Refuses a parent of a type that is not declared with 503, and one of a type that the entity's own does
-/// not descend from with 507.
+/// Refuses with 503 a parent whose type is not declared, and with 507 one from whose type the entity's own does not descend.
 pub(crate) fn judge_parents(schema: &Schema, uid: &Uid, parents: &[Uid]) -> Result<(), ConformFault>
     ensures { MatchResult result
         (λ _. (p : UidTree) → Contains parents.now p → IsGoodParent schema.now uid.now p)

@@ -8,7 +8,7 @@ ghost use Rattle.cedar_conform_entities.specs.Entries.{attributes_in, is_entry_k
 
 use serde_json::{Map, Value as Json};
 
-/// Whether the JSON is an object with no other keys than an entry's.
+/// Whether the JSON is an object whose keys are those of an entry.
 pub(crate) fn has_entry_keys(json: &Json) -> bool
     ensures { result ≡ has_only is_entry_key (view json.now) }
 {
@@ -36,7 +36,7 @@ fn is_entry_key(key: &str) -> bool
     key == "uid" || key == "attrs" || key == "parents" || key == "tags"
 }
 
-/// Whether the attributes that stand there are an object.
+/// Whether the value at the key of attributes is an object.
 pub(crate) fn has_attributes(json: &Json) -> bool
     ensures { result ≡ is_some (as_object (attributes_in (view json.now))) }
 {
@@ -46,7 +46,7 @@ pub(crate) fn has_attributes(json: &Json) -> bool
     }
 }
 
-/// Whether no attributes stand there, or an object without keys.
+/// Whether there are no attributes: the key is absent, or its value is an object without keys.
 pub(crate) fn has_no_attributes(json: &Json) -> bool
     ensures { IsTrue result ↔ (attributes_in (view json.now) ≡ object no_members) }
 {
@@ -56,7 +56,7 @@ pub(crate) fn has_no_attributes(json: &Json) -> bool
     }
 }
 
-/// Whether no tags stand there, or an object without keys.
+/// Whether there are no tags: the key is absent, or its value is an object without keys.
 pub(crate) fn has_no_tags(json: &Json) -> bool
     ensures { IsTrue result ↔ (tags_in (view json.now) ≡ object no_members) }
 {

@@ -1,4 +1,4 @@
-//! Entities from their JSON, by a schema (Cedar documentation, entities and context in JSON).
+//! Reads entities from their JSON according to a schema, as a store that conforms to it.
 //!
 //! ```rust
 //! use cedar_conform_entities::read_entities;
@@ -9,9 +9,9 @@
 //!
 //! [`read_entities`] is lent the bytes; [`read_entities_owned`] owns them, and frees what it has read.
 //!
-//! A list of entries is read one by one: what an entry writes whatever the schema is, then what the schema
-//! says of it. The schema's actions stand in every store, before the entities. A world that is read
-//! conforms to the schema, which is what the soundness of typing rests on.
+//! A list of entries is read one by one: first what an entry writes, whatever the schema is, then what it means for the schema.
+//! The schema's actions are in every store, before the entities. A world that is read conforms to the schema, which is a
+//! premise of the soundness of typing.
 #![tactic(auto)]
 
 mod actions;

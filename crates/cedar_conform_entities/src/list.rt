@@ -17,9 +17,9 @@ use cedar_value::Uid;
 use std::alloc::Global;
 use std::collections::BTreeSet;
 
-/// The entities of the entries behind the first ones, or a fault of an entry, or 401 where an action is
-/// repeated twice, or 501 where what is to come is no JSON. Each entry is read from its own bytes as far as
-/// the entries are objects, and what is left then item by item.
+/// The first entities, and after them those of the entries. Or a fault of an entry, 401 where an action is repeated twice, or
+/// 501 where the rest is not JSON. Each entry is read from its own bytes as long as the entries are objects, and the rest then
+/// item by item.
 pub(crate) fn read_objects(
     alloc: Global,
     schema: &Schema,
@@ -41,7 +41,7 @@ pub(crate) fn read_objects(
     read_rest(alloc, schema, &mut items, entities, repeated)
 }
 
-/// The same of a list that is read item by item.
+/// The same for a list that is read item by item.
 pub(crate) fn read_list(
     alloc: Global,
     schema: &Schema,
@@ -55,8 +55,8 @@ pub(crate) fn read_list(
     read_rest(alloc, schema, items, first, BTreeSet::new(alloc))
 }
 
-// The entities that have been read with those of the items that are to come, or a fault of these, of which
-// the actions are known that have been repeated.
+// The entities that have been read, and after them those of the items that are to come, or a fault of these items. The set has
+// the actions that have been repeated.
 fn read_rest(
     alloc: Global,
     schema: &Schema,
@@ -77,8 +77,8 @@ fn read_rest(
     Ok(entities)
 }
 
-// Puts an entity behind the others, and an action into the set of those that entries repeat, or answers
-// 401 where it is there.
+// Appends an entity to the others, and puts an action into the set of those that entries repeat. Refused with 401 where that
+// action is in the set.
 fn enter(
     entities: &mut Vec<Entity>,
     repeated: &mut BTreeSet<Uid>,

@@ -10,8 +10,8 @@ use cedar_conform_values::ConformFault;
 use cedar_schema::Schema;
 use std::alloc::Global;
 
-/// What the next entry stands for by the schema, and None, with nothing changed, where no object was read from its own bytes.
-/// Refused with a fault of the entry, once the rest of the text was read and is JSON; and with 501 where it is not.
+/// What the next entry denotes for the schema. None, with nothing changed, where no object was read from its own bytes. Refused
+/// with a fault of the entry, once the rest of the text was read and is JSON; and with 501 where it is not.
 pub(crate) fn next_object_entry(
     alloc: Global,
     schema: &Schema,
@@ -33,7 +33,7 @@ pub(crate) fn next_object_entry(
     }
 }
 
-/// The fault that an entry has, or 501 where the rest of the text is no JSON.
+/// The fault that an entry has, or 501 where the rest of the text is not JSON.
 pub(crate) fn after_object_fault(
     alloc: Global,
     objects: &mut ObjectReader,

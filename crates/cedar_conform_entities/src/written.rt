@@ -19,7 +19,7 @@ pub(crate) struct WrittenEntity {
     pub(crate) parents: Vec<Uid>,
 }
 
-/// What the entry writes, or 502 where it is none.
+/// What the entry writes, or 502 where it is not an entry.
 pub(crate) fn read_written(
     alloc: Global,
     schema: &Schema,
@@ -54,7 +54,7 @@ fn read_uid(alloc: Global, schema: &Schema, json: &Json) -> Result<Uid, ConformF
     }
 }
 
-// The uid, which shares the text of its type with the schema where the type is declared.
+// The uid. Its type shares its text with the schema where the type is declared.
 fn with_shared_type(alloc: Global, schema: &Schema, uid: Uid) -> Result<Uid, AllocError>
     ensures { IfOk result (λ shared. shared ≡ uid) }
 {

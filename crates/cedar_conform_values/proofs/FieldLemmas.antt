@@ -25,7 +25,7 @@ Pair = List ℕ × Datum
 
 -- ---- the names
 
--- a name is declared exactly where an attribute stands at it
+-- a name is declared exactly where an attribute is at it
 declared_here : (b : Bool) (x : Attribute) (o : Option Attribute) (rest : Bool) → is_some o ≡ rest → is_some (if b then Some x else o) ≡ (b || rest)
 declared_here true x o rest h = refl
 declared_here false x o rest h = h

@@ -1,4 +1,4 @@
--- The test of membership, kind by kind: a value of another kind is no member.
+-- The test of membership, kind by kind: a value of another kind is not a member.
 use Rattle.std.proofs.Common.{◌≡◌, ◌==◌, ℕ, suc, ℤ, Bool, Box, Global, false, length, List, [], ◌∷◌, Some, None, refl, sym, ap, ◌∙◌, arith}
 use Rattle.cedar_value.specs.Datum.{Datum}
 use Rattle.cedar_value.specs.ValueKind.{datum_of}
@@ -15,7 +15,7 @@ use Rattle.cedar_conform_values.specs.Private.MemberTest.{none_left, behind, hol
 abbrev Pair : Type 0
 Pair = List ℕ × Datum
 
--- the value is no member
+-- the value is not a member
 abbrev pub IsOther : TypeTree → ValueKind → Type 0
 IsOther t l = is_member t (datum_of l) ≡ false
 

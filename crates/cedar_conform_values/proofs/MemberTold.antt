@@ -96,7 +96,7 @@ same_key l k e = (bytes_eq-Decides l k).0 e
 itself : (k : List ℕ) → bytes_eq k k ≡ true
 itself k = (bytes_eq-Decides k k).1 refl
 
--- nothing stands at the attribute's name
+-- nothing is at the attribute's name
 module _ (l : List ℕ) (r : Bool) (t : TypeTree) (a : Attributes) (low : AllByRecursion (λ x. text_cmp l x ≡ Less) (names_of a)) where
   absent_fits : (ps : List Pair) → value_at l ps ≡ None → r ≡ false → Fit a ps → Fit (attribute l r t a) ps
   absent_fits ps none e fit k = at (bytes_eq l k) refl
@@ -105,7 +105,7 @@ module _ (l : List ℕ) (r : Bool) (t : TypeTree) (a : Attributes) (low : AllByR
       at true same = subst (λ (o : Option Datum). MayStand r (Member t) o) (sym (subst (λ x. value_at x ps ≡ None) (same_key l k same) none)) e
       at false other = fit k
 
-  -- what is asked of the other keys
+  -- what is required of the other keys
   rest_fits : (ps qs : List Pair) → ((k : List ℕ) → bytes_eq l k ≡ false → value_at k ps ≡ value_at k qs) → value_at l qs ≡ None → Fit (attribute l r t a) ps → Fit a qs
   rest_fits ps qs others none fit k = at (bytes_eq l k) refl (fit k)
     where

@@ -14,7 +14,7 @@ pub refused_text : (fault : ParseFault) (u : Uid) → (fault ≡ OutOfMemory →
 refused_text OutOfMemory u other h = other refl
 refused_text _ u other h = h
 
--- what is no text writes a uid as an object
+-- what is not a text writes a uid as an object
 pub writes_object : {E : Type 0} (d : Data) (result : Result (Option Uid) E) → None ≡ as_str d
     → IfOk result (λ found. MatchOption found ((u : Uid) → IsUidObject d u → ⊥) (IsUidObject d))
     → IfOk result (λ found. MatchOption found ((u : Uid) → WritesUid d u → ⊥) (WritesUid d))

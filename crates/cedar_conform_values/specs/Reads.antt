@@ -1,4 +1,4 @@
--- What a call that reads answers.
+-- The result of a call that reads.
 use Rattle.std.specs.Prelude.{◌≡◌, ◌++◌, ℕ, ⊤, List, [], Result, MatchResult}
 use Rattle.cedar_value.specs.Datum.{Datum, record_of, fields_of}
 use Rattle.cedar_conform_values.specs.declared.conform_fault.ConformFault.{ConformFault}
@@ -9,7 +9,7 @@ use Rattle.cedar_conform_values.specs.Values.{Read, FieldsRead}
 abbrev pub Reads : Result Datum ConformFault → Read → Type 0
 Reads result r = MatchResult result (λ v. (r.faults ≡ []) × (v ≡ r.value)) (λ e. Told r.faults e)
 
--- The same of a record, as the list of its pairs (this project).
+-- The same for a record, as the list of its pairs (this project).
 abbrev pub ReadsRecord : Result (List (List ℕ × Datum)) ConformFault → Read → Type 0
 ReadsRecord result r = MatchResult result (λ ps. (r.faults ≡ []) × (record_of (fields_of ps) ≡ r.value)) (λ e. Told r.faults e)
 

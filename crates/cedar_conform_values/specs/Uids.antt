@@ -9,11 +9,11 @@ abbrev pub uid_from : Option (List ℕ) → Option (List ℕ) → Option Uid
 uid_from (Some ty) (Some id) = Some (record { ty = ty; id = id })
 uid_from _ _ = None
 
--- The uid of an object of exactly `type` and `id`, each a text (Cedar documentation, entities and context in JSON).
+-- The uid of an object of exactly `type` and `id`, each a string (Cedar documentation, entities and context in JSON).
 abbrev pub plain_uid : Data → Option Uid
 plain_uid d = if size_of d == 2 then uid_from (text_at (codes "type") d) (text_at (codes "id") d) else None
 
--- The uid of such an object, or of one that stands alone at `__entity`. Whether the type's text is a name is not asked here
--- (Cedar documentation, entities and context in JSON).
+-- The uid of such an object, or of one that is alone at `__entity`. Whether the type's text is a name is not tested here (Cedar
+-- documentation, entities and context in JSON).
 abbrev pub uid_object : Data → Option Uid
 uid_object d = plain_uid (inside (codes "__entity") d)

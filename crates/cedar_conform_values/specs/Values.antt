@@ -1,5 +1,5 @@
--- What a JSON says as a value of a type: the value, and the faults that are there (Cedar documentation, entities and context in
--- JSON).
+-- What a JSON writes as a value of a type: the value, and the faults that are there (Cedar documentation, entities and context
+-- in JSON).
 use Rattle.std.specs.Prelude.{ℕ, not, ◌==◌, ◌&&◌, Bool, true, false, codes, List, [], ◌∷◌, ◌++◌, Option, Some, None, option_map, option_and_then, unwrap_or, if◌then◌else◌}
 use Rattle.std.specs.List.{list_any}
 use Rattle.std.specs.Option.{option_or}
@@ -20,7 +20,7 @@ use Rattle.cedar_conform_values.specs.Faults.{fault_if}
 use Rattle.cedar_conform_values.specs.Objects.{size_of, text_at, inside}
 use Rattle.cedar_conform_values.specs.Uids.{uid_object}
 
--- A value, and the faults; where there is one, the value beside it says nothing (this project).
+-- A value, and the faults. Where there is a fault, the value beside it has no meaning (this project).
 pub record Read : Type 0 where
   pub value : Datum
   pub faults : List ConformFault
@@ -29,11 +29,11 @@ pub record Read : Type 0 where
 abbrev pub fine : Datum → Read
 fine v = record { value = v; faults = [] }
 
--- A fault, with a value beside it that says nothing (this project).
+-- A fault, with a value beside it that has no meaning (this project).
 abbrev pub bad : ConformFault → Read
 bad e = record { value = boolean false; faults = e ∷ [] }
 
--- What has to be there is read, else the fault is this one (this project).
+-- A required part is read, and the fault is this one where it is absent (this project).
 abbrev pub needed : {A : Type 0} → ConformFault → (A → Read) → Option A → Read
 needed e f None = bad e
 needed e f (Some x) = f x
@@ -56,7 +56,7 @@ truth_read f o = needed WrongType (λ b. record { value = boolean b; faults = fa
 abbrev pub long_read : Option Num → Read
 long_read o = needed WrongType (λ n. needed NumberRange (λ z. fine (long z)) (as_i64 n)) o
 
--- A text is a JSON text, else the fault is 504 (Cedar documentation, entities and context in JSON: String).
+-- A string is a JSON string, else the fault is 504 (Cedar documentation, entities and context in JSON: String).
 abbrev pub text_read : Option (List ℕ) → Read
 text_read o = needed WrongType (λ s. fine (text s)) o
 
@@ -65,21 +65,21 @@ text_read o = needed WrongType (λ s. fine (text s)) o
 abbrev pub entity_read : List ℕ → Option Uid → Read
 entity_read n o = needed WrongType (λ (u : Uid). record { value = uid u; faults = fault_if (not (bytes_eq u.ty n)) WrongType }) o
 
--- Whether the text names the function `decimal` (Cedar documentation, entities and context in JSON: Extension).
+-- Whether the string names the function `decimal` (Cedar documentation, entities and context in JSON: Extension).
 abbrev pub is_decimal_call : Option (List ℕ) → Bool
 is_decimal_call o = unwrap_or (option_map (λ s. bytes_eq s (codes "decimal")) o) false
 
--- The text of an object of exactly `fn`, which is `decimal`, and `arg`, a text (Cedar documentation, entities and context in
--- JSON: Extension).
+-- The string of an object of exactly `fn`, which is `decimal`, and `arg`, a string (Cedar documentation, entities and context
+-- in JSON: Extension).
 abbrev pub call_text : Data → Option (List ℕ)
 call_text d = if size_of d == 2 && is_decimal_call (text_at (codes "fn") d) then text_at (codes "arg") d else None
 
--- The text of a decimal, written as its text, as a call, or as one that stands alone at `__extn` (Cedar documentation, entities
+-- The string of a decimal, written as a string, as a call, or as one that is alone at `__extn` (Cedar documentation, entities
 -- and context in JSON: Extension).
 abbrev pub decimal_text : Data → Option (List ℕ)
 decimal_text d = option_or (as_str d) (call_text (inside (codes "__extn") d))
 
--- A decimal is the text of one, else the fault is 504 (Cedar language reference, decimal).
+-- A decimal is a string that writes one, else the fault is 504 (Cedar language reference, decimal).
 abbrev pub decimal_read : Option (List ℕ) → Read
 decimal_read o = needed WrongType (λ z. fine (decimal z)) (option_and_then decimal_of o)
 
@@ -107,8 +107,8 @@ pub record FieldsRead : Type 0 where
   pub pairs : List (List ℕ × Datum)
   pub faults : List ConformFault
 
--- What stands at the key of one attribute: its value, or nothing, with the fault 505 where it is required (Cedar documentation,
--- entities and context in JSON: Record).
+-- What one attribute's key has: its value, or nothing, with the fault 505 where it is required (Cedar documentation, entities
+-- and context in JSON: Record).
 abbrev pub field_read : List ℕ → Bool → Option Read → FieldsRead
 field_read k required None = record { pairs = []; faults = fault_if required MissingAttribute }
 field_read k required (Some r) = record { pairs = (k, r.value) ∷ []; faults = r.faults }
@@ -133,8 +133,8 @@ record_read names r o = needed WrongType (λ ms. record { value = record_of (fie
 
 -- ---- all levels
 
--- The value of the type that a JSON says, and the faults of a JSON that says none: what each type takes is said above, type by
--- type (Cedar documentation, entities and context in JSON).
+-- The value of the type that a JSON writes, and the faults of a JSON that writes none: the definitions above say what each type
+-- takes (Cedar documentation, entities and context in JSON).
 unfoldable mutual
   pub value_read : TypeTree → Data → Read
   value_read (kind.boolean f) d = truth_read f (as_bool d)

@@ -1,4 +1,4 @@
--- The uid that a JSON writes where one has to stand (Cedar documentation, entities and context in JSON).
+-- The uid that a JSON writes where one is required (Cedar documentation, entities and context in JSON).
 use Rattle.std.specs.Prelude.{◌≡◌, ℕ, List, Some, MatchOption}
 use Rattle.serde_json.specs.Data.{Data}
 use Rattle.serde_json.specs.Find.{get, as_str}
@@ -11,12 +11,12 @@ use Rattle.cedar_conform_values.specs.Uids.{uid_object}
 abbrev pub IsUidObject : Data → Uid → Type 0
 IsUidObject d u = (uid_object d ≡ Some u) × IsName u.ty
 
--- The JSON is a text as `Type::"id"`, or such an object (Cedar language reference, entity identifiers; Cedar documentation,
--- entities and context in JSON).
+-- The JSON is a string such as `Type::"id"`, or such an object (Cedar language reference, entity identifiers; Cedar
+-- documentation, entities and context in JSON).
 abbrev pub WritesUid : Data → Uid → Type 0
 WritesUid d u = MatchOption (as_str d) (IsUidObject d u) (λ s. IsUidText s u)
 
--- What stands at the key writes the uid (Cedar documentation, entities and context in JSON).
+-- The value at the key writes the uid (Cedar documentation, entities and context in JSON).
 abbrev pub UidAt : List ℕ → Data → Uid → Type 0
 UidAt k d u = MatchOption (get k d) ⊥ (λ found. WritesUid found u)
 

@@ -4,10 +4,10 @@ use std::alloc::{AllocError, AllocFailed};
 use std::fmt;
 use thiserror::Error;
 
-/// Why a JSON makes no value, no entities, no request or no links by a schema.
+/// Why a JSON gives no value, no entities, no request or no links for a schema.
 #[derive(Drop, Error)]
 pub enum ConformFault {
-    /// 1: memory was refused. It says nothing of the JSON.
+    /// 1: out of memory. It says nothing about the JSON.
     #[error("out of memory")]
     OutOfMemory,
     /// 401: two entities have this uid.
@@ -16,10 +16,10 @@ pub enum ConformFault {
     /// 402: the entity with this uid is below itself.
     #[error("the entity {}::{:?} is below itself", .0.ty.as_str(), .0.id.as_str())]
     Cycle(Uid),
-    /// 501: the bytes are no UTF-8, or no JSON, or nest deeper than 127 (RFC 8259).
+    /// 501: the bytes are not UTF-8, or not JSON, or nest deeper than 127 (RFC 8259).
     #[error("no JSON")]
     Json,
-    /// 502: a key that is not known or that is missing, a value of a wrong kind, or what is no uid.
+    /// 502: a key that is not known or that is missing, a value of a wrong kind, or a JSON that does not write a uid.
     #[error("not of the shape of entities, of a request or of links")]
     Shape,
     /// 503: an entity type that the schema does not declare.
@@ -34,13 +34,13 @@ pub enum ConformFault {
     /// 506: a record with an attribute that is not declared.
     #[error("an attribute that is not declared")]
     ExtraAttribute,
-    /// 507: an entity below one of whose type it may not be a member.
+    /// 507: an entity below one whose type the schema does not allow above it.
     #[error("an ancestor of a type that the entity's type does not descend from")]
     BadAncestor,
     /// 508: an entry of an action that differs from the schema.
     #[error("an action that differs from the schema")]
     ActionDiffers,
-    /// 509: a number that is no whole number of 64 bits.
+    /// 509: a number that is not a whole number of 64 bits.
     #[error("a number out of range")]
     NumberRange,
     /// 510: an action that the schema does not declare.

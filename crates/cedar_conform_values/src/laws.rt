@@ -4,16 +4,15 @@ ghost use Rattle.cedar_conform_values.specs.WrittenUids.{WritesOneUid};
 
 use cedar_parser_tokens::one_uid;
 
-/// A JSON that is read without fault by a type is a value of the type. It is a law of the definitions,
-/// and does nothing.
+/// A JSON that is read without fault for a type is a value of the type. A law: it runs no code.
 pub fn read_values_belong()
     ensures { ReadValuesBelong }
 {}
 
-/// No JSON writes two uids. It is a law of the definitions, and does nothing.
+/// No JSON writes two uids. A law: it runs no code.
 pub fn one_written_uid()
     ensures { WritesOneUid }
 {
-    // A law of texts, which does nothing.
+    // No string writes two uids.
     one_uid();
 }

@@ -1,15 +1,16 @@
-//! Values and uids from the JSON of entities, requests and links.
+//! Reads uids, and values according to their types, from the JSON of entities, requests and links.
 //!
 //! ```rust
-//! use cedar_conform_values::{read_value, written_uid};
+//! use cedar_conform_values::{ConformFault, read_value, written_uid};
 //!
-//! let age = read_value(alloc, &json, &Type::new(TypeKind::Long))?;
-//! let Some(principal) = written_uid(alloc, &json)? else {
+//! // `number` is the JSON `18`, and `text` the JSON `"User::\"ann\""`.
+//! let age = read_value(alloc, number, &Type::new(TypeKind::Long))?;
+//! let Some(principal) = written_uid(alloc, text)? else {
 //!     return Err(ConformFault::Shape);
 //! };
 //! ```
 //!
-//! A value is read by its type, and no JSON is a value by itself: `"1.0"` is a text or a decimal.
+//! A value is read for a type. JSON alone does not say which value it is: `"1.0"` is a string or a decimal.
 #![tactic(auto)]
 
 mod conform_fault;

@@ -12,23 +12,22 @@ use cedar_schema_types::{Attribute, RecordType, Truth, Type, TypeKind};
 use cedar_value::{Record, SharedText, Value, ValueKind};
 use std::cmp::Ordering;
 
-/// Whether the value belongs to the type (cedar-spec, Lean: Cedar.Validation, instances of types). Takes
-/// no memory, and time by the sizes of the two: the keys of a record and the names of its type are
-/// walked side by side.
+/// Whether the value belongs to the type (cedar-spec, Lean: Cedar.Validation, instances of types). Takes no memory. The time
+/// grows with the sizes of the two: the keys of a record and the names of its type are walked side by side.
 pub fn is_member(value: &Value, ty: &Type) -> bool
     ensures { IsTrue result ↔ Member ty.now value.now }
 {
-    // Laws of the two, which do nothing.
+    // The attributes of each record type ascend, and so do the members and keys of the value.
     ty.order();
     value.well_formedness();
     belongs(ty, value)
 }
 
-/// Whether the record belongs to the record type, as `is_member` tells it of values. Takes no memory.
+/// Whether the record belongs to the record type, as `is_member` says of values. Takes no memory.
 pub fn is_record_member(record: &Record, ty: &RecordType) -> bool
     ensures { IsTrue result ↔ Member (record_of ty.now) (record_value (fields_of record.now)) }
 {
-    // Laws of the two, which do nothing.
+    // The attributes of each record type ascend, and so do the keys of the record.
     ty.order();
     record.well_formedness();
     are_fields(ty.attributes(), record.pairs())
@@ -92,7 +91,7 @@ fn are_fields(attributes: &[Attribute], pairs: &[(SharedText, Value)]) -> bool
     left.is_empty()
 }
 
-// The pairs behind what stands at the attribute's name, None where it may not stand there.
+// The pairs after the one at the attribute's name. None where that pair may not be there.
 #[cycle(member)]
 fn behind<'p>(
     attribute: &Attribute,

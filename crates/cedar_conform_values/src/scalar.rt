@@ -1,4 +1,4 @@
-//! Values of the types that have no type inside.
+//! Values of types without parts.
 ghost use Rattle.std.specs.Prelude.{◌≡◌, IfOk, option_map};
 ghost use Rattle.serde_json.specs.Find.{as_bool, as_number, as_str};
 ghost use Rattle.serde_json.specs.View.{view};
@@ -42,7 +42,7 @@ pub(crate) fn read_long(json: &Json) -> Result<Value, ConformFault>
     }
 }
 
-/// A text.
+/// A string.
 pub(crate) fn read_text(alloc: Global, json: &Json) -> Result<Value, ConformFault>
     ensures { Reads result (text_read (as_str (view json.now))) }
 {
@@ -88,7 +88,7 @@ pub(crate) fn read_decimal(json: &Json) -> Result<Value, ConformFault>
     }
 }
 
-// The text of a decimal: itself, or the argument of a call.
+// The string of a decimal: the JSON itself, or the argument of a call.
 fn decimal_text(json: &Json) -> Option<&str>
     ensures { option_map (λ s. s.now) result ≡ decimal_text (view json.now) }
 {

@@ -31,17 +31,19 @@ fn plain_uid(json: &Value) -> Option<UidTexts<'_>>
     Some(UidTexts { ty, id })
 }
 
-/// The texts of the uid that an object writes: of exactly `type` and `id`, or one that stands alone at
-/// `__entity`.
+/// The texts of the uid that an object writes: an object of exactly `type` and `id`, or one that is alone at `__entity`.
 pub(crate) fn uid_object(json: &Value) -> Option<UidTexts<'_>>
     ensures { option_map uid_of result ≡ uid_object (view json.now) }
 {
     plain_uid(inside(json, "__entity"))
 }
 
-/// The uid that a JSON writes: a text as `User::"ann"`, or an object as `uid_of_object` reads it (Cedar
-/// documentation, entities and context in JSON). None for a JSON that writes none. Refused only when
-/// out of memory.
+/// The uid that a JSON writes: a string such as `User::"ann"`, or an object as `uid_of_object` reads it (Cedar documentation,
+/// entities and context in JSON). None for a JSON that writes none.
+///
+/// # Errors
+///
+/// Fails only when out of memory.
 pub fn written_uid(alloc: Global, json: &Value) -> Result<Option<Uid>, AllocError>
     ensures { IfOk result (λ found. MatchOption found ((u : UidTree) → ¬ WritesUid (view json.now) u) (WritesUid (view json.now))) }
 {
@@ -51,7 +53,7 @@ pub fn written_uid(alloc: Global, json: &Value) -> Result<Option<Uid>, AllocErro
     }
 }
 
-// The uid that a text stands for, if it stands for one.
+// The uid that a string denotes, if it denotes one.
 fn uid_of_text(alloc: Global, text: &str) -> Result<Option<Uid>, AllocError>
     ensures { IfOk result (λ found. MatchOption found ((u : UidTree) → ¬ (IsUidText text.now u)) (IsUidText text.now)) }
 {
@@ -64,9 +66,12 @@ fn uid_of_text(alloc: Global, text: &str) -> Result<Option<Uid>, AllocError>
     }
 }
 
-/// The uid that an object of exactly `type` and `id` writes, or one that stands alone at `__entity`; the
-/// type has to be a name (Cedar documentation, entities and context in JSON). None for another JSON.
-/// Refused only when out of memory.
+/// The uid that an object of exactly `type` and `id` writes, or one that is alone at `__entity`; the type has to be a name
+/// (Cedar documentation, entities and context in JSON). None for another JSON.
+///
+/// # Errors
+///
+/// Fails only when out of memory.
 pub fn uid_of_object(alloc: Global, json: &Value) -> Result<Option<Uid>, AllocError>
     ensures { IfOk result (λ found. MatchOption found ((u : UidTree) → ¬ IsUidObject (view json.now) u) (IsUidObject (view json.now))) }
 {

@@ -1,4 +1,4 @@
-//! Values by a type.
+//! Values, read for a type.
 ghost use Rattle.std.specs.Prelude.{◌≡◌, [], MatchResult, option_map};
 ghost use Rattle.serde_json.specs.Find.{as_array, get};
 ghost use Rattle.serde_json.specs.View.{items_view, members_view, view};
@@ -16,8 +16,11 @@ use cedar_value::{Record, SharedText, Value, ValueSet};
 use serde_json::{Map, Value as Json};
 use std::alloc::Global;
 
-/// The value of the type that the JSON says (Cedar documentation, entities and context in JSON). Refused
-/// with 1 when out of memory, and else with 504, 505, 506 or 509 only where that fault is in the JSON.
+/// The value of the type that the JSON denotes (Cedar documentation, entities and context in JSON).
+///
+/// # Errors
+///
+/// 1 when out of memory, and otherwise 504, 505, 506 or 509 only where that fault is in the JSON.
 #[cycle(read)]
 pub fn read_value(alloc: Global, json: &Json, ty: &Type) -> Result<Value, ConformFault>
     ensures reads { Reads result (value_read ty.now (view json.now)) }
@@ -62,7 +65,11 @@ fn read_members(alloc: Global, member: &Type, items: &[Json]) -> Result<Vec<Valu
     Ok(members)
 }
 
-/// The record of the type that the JSON says, by the rules and with the refusals of `read_value`.
+/// The record of the type that the JSON denotes, with the rules of `read_value`.
+///
+/// # Errors
+///
+/// Those of `read_value`.
 #[cycle(read)]
 pub fn read_record(
     alloc: Global,
@@ -112,7 +119,7 @@ fn read_fields(
         (λ v. ((fields_read (attributes_of attributes.now) (view json.now)).faults ≡ []) × (v.items ≡ (fields_read (attributes_of attributes.now) (view json.now)).pairs))
         (λ e. Told (fields_read (attributes_of attributes.now) (view json.now)).faults e) }
 {
-    // Each key is declared, so that there are as many pairs as keys.
+    // Each key is declared, so there are as many pairs as keys.
     let mut pairs = Vec::with_capacity(alloc, size_of(json))?;
     let mut rest = attributes;
     'walk: while let Some((attribute, others)) = rest.split_first() {
@@ -122,7 +129,7 @@ fn read_fields(
     Ok(pairs)
 }
 
-// Adds what stands at the key of an attribute.
+// Adds the value at the key of an attribute.
 #[cycle(read)]
 fn add_field(
     alloc: Global,

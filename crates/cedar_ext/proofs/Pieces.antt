@@ -83,7 +83,7 @@ cut_before xs [] ys rest e h = (xs, sym e)
 cut_before [] (q ∷ qs) ys rest e h = absurd (omega arith)
 cut_before (x ∷ xs) (q ∷ qs) ys rest e h = let tails : xs ++ ys ≡ qs ++ rest = cc in cut_before xs qs ys rest tails (omega arith)
 
--- a star after characters that were passed may stand in the place of the star before them
+-- a star after characters that were passed may be in place of the star before them
 later_star : (ps : List ℕ) (es : List Element) (rest : List ℕ) → IsMatch (Star ∷ (map Character ps ++ Star ∷ es)) (ps ++ rest) → IsMatch (Star ∷ es) rest
 later_star ps es rest (piece, cs, e, p, m) =
     let parts = characters_split ps (Star ∷ es) cs m in

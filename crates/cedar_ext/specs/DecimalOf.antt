@@ -1,10 +1,10 @@
--- The ten-thousandths of a decimal text as a function, by the parts around its first point.
+-- The ten-thousandths of a decimal text as a function, from the parts around its first point.
 use Rattle.std.specs.Prelude.{ℕ, ◌+◌, ◌-◌, ◌*◌, ◌^◌, ℤ, Bool, true, false, ◌&&◌, List, [], ◌∷◌, length, take, drop, Option, Some, None, if◌then◌else◌, nat_le, position}
 use Rattle.std.specs.Bool.{◌==◌}
 use Rattle.cedar_ext.specs.Decimals.{is_number, number_of, signed_units}
 
--- The ten-thousandths that the digits before and behind a point write, where both are numbers, the second of at most
--- four digits, and they fit 64 bits (Cedar language reference, decimal).
+-- The ten-thousandths that the digits before and after a point write, where both are numbers, the second of at most four
+-- digits, and they fit 64 bits (Cedar language reference, decimal).
 abbrev pub units_at : Bool → List ℕ → List ℕ → Option ℤ
 units_at negative whole fraction =
     if is_number whole && is_number fraction && nat_le (length fraction) 4
@@ -21,7 +21,7 @@ units_around negative body (Some point) = units_at negative (take point body) (d
 abbrev pub units_of : Bool → List ℕ → Option ℤ
 units_of negative body = units_around negative body (position (λ b. b == 46) body)
 
--- A decimal text's number of ten-thousandths, none for another text, which evaluation computes with;
+-- The number of ten-thousandths of a decimal text, none for another text. Evaluation computes with it, and
 -- `decimal_of_tells_decimals` ties it to `IsDecimal` (Cedar language reference, decimal).
 abbrev pub decimal_of : List ℕ → Option ℤ
 decimal_of [] = None

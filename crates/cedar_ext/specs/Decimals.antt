@@ -7,7 +7,7 @@ use Rattle.std.specs.Char.{is_ascii_digit}
 abbrev pub is_number : List ℕ → Bool
 is_number ds = nat_lt 0 (length ds) && list_all is_ascii_digit ds
 
--- The number that decimal digits write, behind the digits of the number n (Cedar language reference, decimal).
+-- The number that decimal digits write, when they follow the digits of the number n (Cedar language reference, decimal).
 abbrev pub number_after : ℕ → List ℕ → ℕ
 number_after n [] = n
 number_after n (d ∷ ds) = number_after (n * 10 + (d - 48)) ds

@@ -3,7 +3,8 @@ use Rattle.std.specs.Prelude.{◌≡◌, ℕ, nat_eq, Bool, true, false, ◌&&�
 use Rattle.cedar_ext.specs.declared.pattern.Element.{Element}
 use Rattle.cedar_ext.specs.declared.pattern.Element.TheVariants.{Character, Star}
 
--- The piece of a text that an element may have: a character that one alone, a star any (Cedar language reference, like).
+-- The piece of a text that an element may have: for a character that one alone, for a star any (Cedar language reference,
+-- like).
 abbrev pub IsPiece : Element → List ℕ → Type 0
 IsPiece (Character c) piece = piece ≡ c ∷ []
 IsPiece Star piece = Unit {0}
@@ -19,8 +20,8 @@ abbrev pub on_some_rest : (List ℕ → Bool) → List ℕ → Bool
 on_some_rest test [] = test []
 on_some_rest test (c ∷ cs) = test (c ∷ cs) || on_some_rest test cs
 
--- Whether the characters can be so cut: the test that evaluation computes with; `is_match_tells_cuts` ties it to
--- `IsMatch` (Cedar language reference, like).
+-- Whether the characters can be so cut. Evaluation computes with this test, and `is_match_tells_cuts` ties it to `IsMatch`
+-- (Cedar language reference, like).
 abbrev pub is_match : List Element → List ℕ → Bool
 is_match [] [] = true
 is_match [] (c ∷ cs) = false

@@ -1,4 +1,4 @@
-//! Decimals: numbers with four digits behind the point.
+//! Decimals: numbers with four digits after the point.
 ghost use Rattle.std.specs.Prelude.{◌≡◌, ◌<◌, ◌≤◌, ◌-◌, ◌^◌, ◌==◌, position, length, IfSome, IfNone, ℤ};
 ghost use Rattle.cedar_ext.specs.Decimals.{IsDecimal, signed_units};
 ghost use Rattle.cedar_ext.specs.DecimalOf.{decimal_of, units_of};
@@ -45,7 +45,7 @@ impl Decimal {
     }
 }
 
-// The sign first, where there is one.
+// The decimal of these bytes: first the sign, where there is one.
 fn read_bytes(bytes: &[u8]) -> Option<Decimal>
     ensures { result ≡ decimal_of bytes.now }
 {
@@ -61,7 +61,7 @@ fn read_bytes(bytes: &[u8]) -> Option<Decimal>
     }
 }
 
-// The digits around the first point, a sign set aside.
+// The number of ten-thousandths from the digits around the first point, without the sign.
 fn read_units(negative: bool, body: &[u8]) -> Option<Decimal>
     ensures { result ≡ units_of negative body.now }
 {
@@ -89,7 +89,7 @@ fn first_point(body: &[u8]) -> Option<usize>
     body.iter().position(|b| *b == b'.')
 }
 
-// The power of ten that makes a fraction of this length ten-thousandths.
+// The power of ten that turns a fraction with this many digits into ten-thousandths.
 fn scale(len: usize) -> u64
     requires { len ≤ 4 }
     ensures value { result ≡ 10 ^ (4 - len) }
@@ -104,7 +104,7 @@ fn scale(len: usize) -> u64
     }
 }
 
-// The decimal of so many ten-thousandths, where that is in the range.
+// The decimal of so many ten-thousandths, where it is in the range.
 fn with_sign(negative: bool, units: u64) -> Option<Decimal>
     ensures { result ≡ signed_units negative units }
 {

@@ -9,8 +9,8 @@
 //! assert!(rt; jpg.matches("a.jp"));
 //! ```
 //!
-//! A contract sees a decimal as its number of ten-thousandths, and a pattern as the list of its elements.
-//! Nothing here takes memory but the copy of a pattern.
+//! A contract sees a decimal as its number of ten-thousandths, and a pattern as the list of its elements. Only the copy of a
+//! pattern takes memory.
 #![tactic(auto)]
 
 mod decimal;

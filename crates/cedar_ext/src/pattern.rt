@@ -56,9 +56,8 @@ impl Pattern {
         })
     }
 
-    /// Whether the text can be cut into pieces, one for each element: a character's piece is that
-    /// character, a star's piece any text (Cedar language reference, like). Takes no memory, and steps
-    /// by at most the product of the two lengths.
+    /// Whether the text can be cut into pieces, one for each element: a character's piece is that character, a star's piece any
+    /// text (Cedar language reference, like). Takes no memory, and at most as many steps as the product of the two lengths.
     pub fn matches(&self, text: &str) -> bool
         ensures cut { IsTrue result ↔ IsMatch self.now (chars text.now) }
         ensures gives { result ≡ is_match self.now (chars text.now) }
@@ -76,7 +75,7 @@ impl PartialEq for Pattern {
 
     ghost laws = { partial_equiv_from_equiv pattern_equivalence };
 
-    /// Whether the two have the same elements. Takes no memory.
+    /// Whether the two have the same elements.
     fn eq(&self, other: &Self) -> bool
         ensures gives { result ≡ same_pattern self.now other.now }
         ensures equal { IsTrue result ↔ (self.now ≡ other.now) }
@@ -91,7 +90,7 @@ impl Eq for Pattern {
     ghost laws = { pattern_equivalence };
 }
 
-// Whether the elements match the text: each character up to the first star, and then what follows it.
+// Whether the elements match the text: each character up to the first star, and then the elements after the star.
 fn matches_elements(elements: &[Element], text: &str) -> bool
     ensures { IsTrue result ↔ IsMatch elements.now (chars text.now) }
 {

@@ -1,4 +1,4 @@
-//! The machine that runs flat code.
+//! The machine that runs flat code for a request, over a hierarchy of entities.
 //!
 //! ```rust
 //! use cedar_machine::{Machine, Operands, Progress, Resting, run};
@@ -6,7 +6,8 @@
 //! // All at once, with the end and the count of instructions:
 //! let run = run(alloc, &code, &request, &store)?;
 //! // Only whether a condition is true, over a stack that the next one uses again:
-//! let satisfied = Operands::new(alloc).decide_from(alloc, &code, 0, &request, &store)?;
+//! let mut operands = Operands::new(alloc);
+//! let satisfied = operands.decide_from(alloc, &code, 0, &request, &store)?;
 //! // Or one instruction after another:
 //! let mut machine = Machine::new(alloc, &code, &request, &store)?;
 //! while machine.step()? == Progress::Going {}
@@ -15,8 +16,8 @@
 //! while resting.step(alloc, &code, &request, &store)? == Progress::Going {}
 //! ```
 //!
-//! What contracts see of a machine stands in `specs/`; the steps of an execution stand in `cedar_code`, its operand stack
-//! and the operators on it in `cedar_machine_stack`.
+//! What contracts see of a machine is in `specs/`. The steps of an execution are in `cedar_code`, the operand stack and the
+//! operators on it in `cedar_machine_stack`.
 #![tactic(auto)]
 
 mod deciding;

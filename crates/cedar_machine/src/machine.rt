@@ -67,8 +67,11 @@ impl<'a, H: Hierarchy> Model for Machine<'a, H> {
 }
 
 impl<'a, H: Hierarchy> Machine<'a, H> {
-    /// A machine at the first place, with room for the code's height. 1: memory was refused; a code of height at most 16
-    /// takes none.
+    /// A machine at the first place, with room for the code's height. A code of height at most 16 takes no memory.
+    ///
+    /// # Errors
+    ///
+    /// Fails only when out of memory.
     pub fn new(
         alloc: Global,
         code: &'a Code,
@@ -95,15 +98,19 @@ impl<'a, H: Hierarchy> Machine<'a, H> {
         })
     }
 
-    /// Executes one instruction. A machine that has ended stays as it is. 1: memory was refused; the machine is as it
-    /// was, and nothing is counted. Only an instruction that makes a set or a record takes memory.
+    /// Executes one instruction. A machine that has ended stays as it is. Only an instruction that makes a set or a record
+    /// takes memory.
+    ///
+    /// # Errors
+    ///
+    /// Fails only when out of memory. The machine is then as it was, and nothing is counted.
     pub fn step(&mut self) -> Result<Progress, AllocError>
         ensures moves { OnOk result (Moves self.old self.new) }
         ensures progress { IfOk result (λ p. p ≡ progress_of self.new.configuration) }
         ensures refused { OnErr result (self.new ≡ self.old) }
         ensures succeeds { StepTakesNoMemory self.old → IsOk result }
     {
-        // The law of the code: it runs nothing.
+        // The execution of a compiled code meets no stack fault, and ends as its expression evaluates.
         execution_is_evaluation();
         let State::Going(place) = self.state else {
             return Ok(Progress::Ended);
@@ -133,18 +140,21 @@ impl<'a, H: Hierarchy> Machine<'a, H> {
         self.executed
     }
 
-    /// A machine came to where it is by as many steps as it counts, and they are no more than its code has instructions.
-    /// It is a law of each machine, and the function does nothing.
+    /// The machine reached its place by as many steps as it counts, and they are no more than its code has instructions. A law:
+    /// it runs no code.
     pub fn well_formedness(&self)
         ensures { CameBySteps self.now }
     {
-        // The law of the code: it runs nothing.
+        // The execution of a compiled code takes no more steps than the code has instructions.
         execution_is_evaluation();
         let _state = &self.state;
     }
 
-    /// A copy of the end, or none before it. 1: memory was refused; of a Boolean, a number, a decimal or an error it takes
-    /// none.
+    /// A copy of the end, or None before the end. The copy of a Boolean, a number, a decimal or an error takes no memory.
+    ///
+    /// # Errors
+    ///
+    /// Fails only when out of memory.
     pub fn outcome(&self, alloc: Global) -> Result<Option<Outcome>, AllocError>
         ensures outcome { IfOk result (λ o. o ≡ outcome_reached self.now.configuration) }
         ensures succeeds { EndsPlain self.now.configuration → IsOk result }
@@ -162,9 +172,13 @@ impl<'a, H: Hierarchy> Machine<'a, H> {
     }
 }
 
-/// The whole execution of a code for a request over a hierarchy: how it ends, and how many instructions it executed. 1:
-/// memory was refused. A code of height at most 16 that makes no set and no record, and whose execution ends with a
-/// Boolean, a number, a decimal or an error, takes none.
+/// The whole execution of a code for a request over a hierarchy: how it ends, and how many instructions it executed. A code of
+/// height at most 16 that makes no set and no record, and whose execution ends with a Boolean, a number, a decimal or an error,
+/// takes no memory.
+///
+/// # Errors
+///
+/// Fails only when out of memory.
 pub fn run<H: Hierarchy>(
     alloc: Global,
     code: &Code,

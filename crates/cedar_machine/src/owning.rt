@@ -16,7 +16,7 @@ use cedar_machine_stack::{Operand, Stack, attribute_copy, unary_but_get};
 use cedar_value::{Glance, Hierarchy, Request};
 use std::alloc::{AllocError, Global};
 
-/// One instruction at a place, which copies what the code, the request or an entity would lend. Out of memory leaves the
+/// Executes one instruction at a place, and copies what the code, the request or an entity would lend. Out of memory leaves the
 /// operands as they were.
 pub fn perform_owned<H: Hierarchy>(
     alloc: Global,
@@ -85,7 +85,7 @@ fn apply_owned<H: Hierarchy>(
     }
 }
 
-// An operator on the top that looks no attribute up.
+// An operator on the top operand, other than the look-up of an attribute.
 fn compute<H: Hierarchy>(
     next: usize,
     stack: &mut Stack<'_>,
@@ -107,7 +107,7 @@ fn compute<H: Hierarchy>(
     )
 }
 
-// The attribute of the top, which stands there until a copy is made.
+// The attribute of the top operand, which stays on the stack until a copy is made.
 fn get_owned<H: Hierarchy>(
     alloc: Global,
     next: usize,

@@ -35,7 +35,7 @@ pub fn give<'a>(
     }
 }
 
-/// One instruction at a place. Out of memory leaves the stack as it was; only sets and records take memory.
+/// Executes one instruction at a place. Out of memory leaves the stack as it was. Only sets and records take memory.
 #[inline(always)]
 pub fn perform<'a, H: Hierarchy>(
     alloc: Global,

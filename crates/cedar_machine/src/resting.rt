@@ -1,4 +1,4 @@
-//! The machine that rests.
+//! The machine that borrows nothing between its steps.
 ghost use Rattle.std.specs.Prelude.{◌≡◌, ◌≤◌, IfOk, IsOk, OnOk, OnErr};
 ghost use Rattle.cedar_code.specs.Machine.{start};
 ghost use Rattle.cedar_machine.specs.Progress.{progress_of, outcome_reached, EndsPlain};
@@ -41,8 +41,11 @@ impl Model for Resting {
 }
 
 impl Resting {
-    /// An execution before its first step, with room for the code's height. 1: memory was refused; a code of height at
-    /// most 16 takes none.
+    /// An execution before its first step, with room for the code's height. A code of height at most 16 takes no memory.
+    ///
+    /// # Errors
+    ///
+    /// Fails only when out of memory.
     pub fn new(alloc: Global, code: &Code) -> Result<Self, AllocError>
         ensures configuration { IfOk result (λ m. m.configuration ≡ start) }
         ensures executed { IfOk result (λ m. m.executed ≡ 0) }
@@ -56,9 +59,12 @@ impl Resting {
         })
     }
 
-    /// Executes one instruction of the code, whichever code the steps before were of; where it has none at the place, the
-    /// execution ends with a fault of the stack. An execution that has ended stays as it is. 1: memory was refused;
-    /// nothing is changed and nothing is counted.
+    /// Executes one instruction of the code, whichever code the earlier steps executed. Where the code has no instruction at
+    /// the place, the execution ends with a fault of the stack. An execution that has ended stays as it is.
+    ///
+    /// # Errors
+    ///
+    /// Fails only when out of memory. Nothing is then changed, and nothing is counted.
     pub fn step<H: Hierarchy>(
         &mut self,
         alloc: Global,
@@ -70,7 +76,7 @@ impl Resting {
         ensures progress { IfOk result (λ p. p ≡ progress_of self.new.configuration) }
         ensures refused { OnErr result (self.new ≡ self.old) }
     {
-        // The law of the code: it runs nothing.
+        // Each jump of a compiled code leads to a later place.
         jumps_go_forward();
         let State::Going(place) = self.state else {
             return Ok(Progress::Ended);
@@ -100,8 +106,11 @@ impl Resting {
         self.executed
     }
 
-    /// A copy of the end, or none before it. 1: memory was refused; of a Boolean, a number, a decimal or an error it takes
-    /// none.
+    /// A copy of the end, or None before the end. The copy of a Boolean, a number, a decimal or an error takes no memory.
+    ///
+    /// # Errors
+    ///
+    /// Fails only when out of memory.
     pub fn outcome(&self, alloc: Global) -> Result<Option<Outcome>, AllocError>
         ensures outcome { IfOk result (λ o. o ≡ outcome_reached self.now.configuration) }
         ensures succeeds { EndsPlain self.now.configuration → IsOk result }

@@ -18,7 +18,7 @@ pub enum State {
     Faulted,
 }
 
-/// Where an instruction leads: to a place, which may be behind the last one, or to an end that it makes itself.
+/// Where an instruction leads: to a place, which may be the one after the last, or to an end that it makes itself.
 #[derive(Clone, Copy)]
 pub enum Move {
     To(usize),
@@ -26,7 +26,7 @@ pub enum Move {
     Faulted,
 }
 
-/// Where a machine is that was led there.
+/// The state of a machine after such a move.
 #[inline(always)]
 pub fn settle(code: &[Instruction], moved: Move, stack: &Stack<'_>) -> State
     ensures { configuration_of result stack.now.values ≡ led_to code.now moved stack.now.values }
@@ -38,7 +38,7 @@ pub fn settle(code: &[Instruction], moved: Move, stack: &Stack<'_>) -> State
     }
 }
 
-/// Comes to a place.
+/// The state after a step to a place: at its instruction, or at an end where there is none.
 #[inline(always)]
 pub fn arrive(code: &[Instruction], place: usize, stack: &Stack<'_>) -> State
     ensures { configuration_of result stack.now.values ≡ arrive code.now place stack.now.values }

@@ -1,4 +1,4 @@
--- The top of a stack, whose entries stand in the first places of a list, the top last.
+-- The top of a stack, whose entries are in the first places of a list, the top last.
 use Rattle.std.proofs.Common.{◌≡◌, ℕ, suc, ◌+◌, ◌-◌, ◌<◌, ◌≤◌, List, [], ◌∷◌, ◌++◌, length, sym, ap, ◌∙◌, subst, arith}
 use Rattle.std.specs.Prelude.{take, drop, reverse, slice_index_or, slice_set}
 use Rattle.std.specs.List.{refill}

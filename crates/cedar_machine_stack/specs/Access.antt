@@ -2,7 +2,7 @@
 use Rattle.cedar_ast_expressions.specs.declared.operator.UnaryOperator.{UnaryOperator}
 use Rattle.cedar_ast_expressions.specs.declared.operator.UnaryOperator.TheVariants.{Get}
 
--- The operator looks no attribute up (Cedar language reference, operators, `.`).
+-- The operator is not the look-up of an attribute (Cedar language reference, operators, `.`).
 abbrev pub IsNoAccess : UnaryOperator → Type 0
 IsNoAccess (Get a) = ⊥
 IsNoAccess _ = Unit {0}

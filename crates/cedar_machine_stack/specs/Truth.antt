@@ -1,4 +1,4 @@
--- What a value says where a Boolean is asked for.
+-- What a value is where a Boolean is expected.
 use Rattle.std.specs.Prelude.{Bool, Option, Some, None}
 use Rattle.cedar_value.specs.Datum.{Datum, boolean}
 

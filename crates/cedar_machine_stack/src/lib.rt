@@ -1,4 +1,4 @@
-//! What the machine's stack holds, and the operators of the Cedar policy language on its topmost operands.
+//! The stack of the machine, and the operators on its topmost operands.
 //!
 //! ```rust
 //! use cedar_machine_stack::{Operand, Stack, of_two};
@@ -13,9 +13,9 @@
 //! }
 //! ```
 //!
-//! A contract sees an operand as its value, and a stack as the values of its operands, the top first. What an operator
-//! gives stands in the `specs/` of cedar_ast_expressions. The code that asks for operators stands in cedar_code, and what runs it in
-//! cedar_machine.
+//! A contract sees an operand as its value, and a stack as the values of its operands, the top first. What an operator gives is
+//! defined in the `specs/` of cedar_ast_expressions. The code that calls for operators is in cedar_code, and the machine that
+//! runs it in cedar_machine.
 #![tactic(auto)]
 
 mod operand;

@@ -13,7 +13,7 @@ use cedar_ast_expressions::{BinaryOperator, EvaluationError, UnaryOperator};
 use cedar_ext::{Decimal, Pattern};
 use cedar_value::{Glance, Hierarchy, Name, Uid, Value, ValueSet};
 
-/// An operator's answer for its operand (Cedar language reference, operators).
+/// The answer of an operator for its operand (Cedar language reference, operators).
 pub fn unary<'a, H: Hierarchy>(
     hierarchy: &'a H,
     operator: &UnaryOperator,
@@ -27,7 +27,7 @@ pub fn unary<'a, H: Hierarchy>(
     }
 }
 
-/// The answer of an operator that looks no attribute up (Cedar language reference, operators).
+/// The answer of an operator other than the look-up of an attribute (Cedar language reference, operators).
 pub fn unary_but_get<H: Hierarchy>(
     hierarchy: &H,
     operator: &UnaryOperator,
@@ -132,7 +132,8 @@ fn is_empty(operand: Glance<'_>) -> Result<Operand<'static>, EvaluationError>
     }
 }
 
-/// An operator's answer for two operands (Cedar language reference, operators). Numbers are compared at once.
+/// The answer of an operator for two operands (Cedar language reference, operators). Two numbers are compared directly, without
+/// the general case.
 #[inline(always)]
 pub fn of_two<H: Hierarchy>(
     hierarchy: &H,
@@ -153,7 +154,7 @@ pub fn of_two<H: Hierarchy>(
     binary(hierarchy, operator, left.glance(), right.glance())
 }
 
-/// An operator's answer for its operands (Cedar language reference, operators).
+/// The answer of an operator for its two operands (Cedar language reference, operators).
 pub fn binary<H: Hierarchy>(
     hierarchy: &H,
     operator: BinaryOperator,
@@ -309,7 +310,7 @@ fn within<H: Hierarchy>(
     }
 }
 
-// `in` a set, whose members must all be uids, however early one of them qualifies.
+// `in` a set. All members have to be uids, also those after one that qualifies.
 fn within_set<H: Hierarchy>(
     hierarchy: &H,
     low: &Uid,
@@ -326,7 +327,7 @@ fn within_set<H: Hierarchy>(
     Ok(Operand::boolean(hierarchy.is_below_any(low, highs)))
 }
 
-// Whether it is a uid.
+// Whether the value is a uid, as each member of the set at `in` has to be.
 fn is_uid(value: Glance<'_>) -> bool
     ensures { result ≡ is_uid (datum_seen value.entry) }
 {

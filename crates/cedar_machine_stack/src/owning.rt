@@ -8,7 +8,7 @@ use cedar_ast_expressions::EvaluationError;
 use cedar_value::{Glance, Hierarchy, Value};
 use std::alloc::{AllocError, Global};
 
-/// A copy of the attribute that a value has, or the error that it has none (Cedar language reference, operators, `.`).
+/// A copy of the attribute of a value, or the error that the value does not have it (Cedar language reference, operators, `.`).
 pub fn attribute_copy<H: Hierarchy>(
     alloc: Global,
     value: Glance<'_>,

@@ -10,11 +10,11 @@ use std::default::Default;
 use std::marker::Model;
 use std::mem;
 
-/// How many operands lie in the machine itself.
+/// How many operands are kept in the machine itself.
 pub const INLINE_PLACES: usize = 16;
 
-/// Operands, which contracts see as their values, the top first. They stand in places that are made beforehand; what a place
-/// above them holds counts for nothing, and is dropped when the place is taken.
+/// Operands, which contracts see as their values, the top first. Their places are made beforehand. What a place above the top
+/// holds has no meaning, and is dropped when the place is taken.
 #[derive(Drop)]
 pub struct Stack<'a> {
     places: SmallVec<Operand<'a>, INLINE_PLACES>,
@@ -84,7 +84,7 @@ impl<'a> Stack<'a> {
         Ok(())
     }
 
-    /// Puts an operand on top, for which there is room.
+    /// Puts an operand on top. There is room for it.
     #[inline(always)]
     pub fn push(&mut self, operand: Operand<'a>)
         requires { length self.old.values < self.old.capacity }
@@ -109,7 +109,7 @@ impl<'a> Stack<'a> {
         Some(mem::replace(place, Operand::default()))
     }
 
-    /// The two topmost operands, the top behind the other, if there are two.
+    /// The two topmost operands, the top last, if there are two.
     #[inline(always)]
     pub fn top_two(&self) -> Option<(&Operand<'a>, &Operand<'a>)>
         ensures some { IfSome result (λ p. (rest : List Datum) × (self.now.values ≡ p.1.now ∷ p.0.now ∷ rest)) }
@@ -122,7 +122,7 @@ impl<'a> Stack<'a> {
         Some((&places[self.height - 2], &places[self.height - 1]))
     }
 
-    /// Puts an operand in the place of the two topmost.
+    /// Puts an operand in place of the two topmost.
     #[inline(always)]
     pub fn replace_two(&mut self, operand: Operand<'a>)
         requires { 2 ≤ length self.old.values }
@@ -133,7 +133,7 @@ impl<'a> Stack<'a> {
         self.places.as_mut_slice()[self.height - 1] = operand;
     }
 
-    /// Leaves out so many operands from the top, of which there are that many.
+    /// Drops so many operands from the top. There are that many.
     #[inline(always)]
     pub fn drop_top(&mut self, count: usize)
         requires { count ≤ length self.old.values }
@@ -143,7 +143,7 @@ impl<'a> Stack<'a> {
         self.height -= count;
     }
 
-    /// The topmost operands, of which there are so many, the top last, lent.
+    /// So many topmost operands, lent, the top last. There are that many.
     pub fn top_operands(&self, count: usize) -> &[Operand<'a>]
         requires { count ≤ length self.now.values }
         ensures { result.now ≡ reverse (take count self.now.values) }
@@ -171,7 +171,7 @@ impl<'a> Stack<'a> {
     }
 }
 
-// Makes places until there are so many, for which there is room.
+// Makes places until there are so many. There is room for them.
 fn make_places(places: &mut SmallVec<Operand<'_>, INLINE_PLACES>, count: usize)
     requires { count ≤ places.old.capacity }
     ensures { count ≤ length places.new.items }

@@ -131,7 +131,7 @@ repeated ts us n ps s so c =
     subst (λ m. Contains (ids_from 0 so.are_policies.statements) (id_at m s)) (sym so.all)
     (from_statements so.are_policies.statements (id_at n s) (subst (λ (q : PolicySetTree). Contains (ids_in q) (id_at n s)) so.are_policies.meaning c))
 
--- Where strings stand for texts, so do ids.
+-- Where strings denote texts, so do ids.
 chosen : (d : List ℕ) (b : Bool) (c : Content) (o : Option Content) → IsSome c → unwrap_or o (Some d) ≡ Some (text_of (unwrap_or o (Some d)))
     → unwrap_or (cond b (Some c) o) (Some d) ≡ Some (text_of (unwrap_or (cond b (Some c) o) (Some d)))
 chosen d true (Some k) o h e = refl

@@ -30,7 +30,7 @@ use Rattle.cedar_parser.specs.PolicyText.{ArePolicies}
 pub All-one : (s : StatementTree) → IsWithinLimits s → All IsWithinLimits (s ∷ [])
 All-one s w = All-cons IsWithinLimits s [] w (All-nil IsWithinLimits)
 
--- one more statement behind others
+-- one more statement after others
 pub one_behind : (d : ℕ) (ts us vs : Marks) (ss : List StatementTree) (s : StatementTree) → Statements d ts ss us → Statement d us s vs → Statements d ts (ss ++ s ∷ []) vs
 one_behind d ts us vs [] s end h = next h end
 one_behind d ts us vs (x ∷ ss) s (next i r) h = next i (one_behind d _ us vs ss s r h)
@@ -54,7 +54,7 @@ distinct_then xs y d none =
     free : list_any (bytes_eq y) xs ≡ false
     free = false_from_ne_true _ (λ found. none (Contains-from_any (λ x z. (bytes_eq-Decides x z).0) y xs found))
 
--- ---- what stands in a list
+-- ---- what is in a list
 
 pub in_left : (xs ys : List (List ℕ)) (x : List ℕ) → Contains xs x → Contains (xs ++ ys) x
 in_left [] ys x c = absurd (omega (arith, c.1))
@@ -129,7 +129,7 @@ id_kept false id s = refl
 pub id_of_statement : (n : ℕ) (s : StatementTree) → id_of (statement_of n s) ≡ id_at n s
 id_of_statement n s = id_kept (has_slot s.scope) (id_at n s) s
 
--- ---- statements, entered one after the other
+-- ---- statements, entered one after another
 
 pub entered_more : (set : PolicySetTree) (n : ℕ) (ss : List StatementTree) (s : StatementTree) → entered_from set n (ss ++ s ∷ []) ≡ entered (entered_from set n ss) (statement_of (n + length ss) s)
 entered_more set n [] s = ap (λ m. entered set (statement_of m s)) (let e : n ≡ n + 0 = omega arith in e)
@@ -166,7 +166,7 @@ no_ids y c = omega (arith, c.1)
 pub from_statements : (ss : List StatementTree) (y : List ℕ) → Contains (ids_in (entered_from no_policies 0 ss)) y → Contains (ids_from 0 ss) y
 from_statements ss y c = elim (from_set no_policies 0 ss y c) [ inl h ↦ absurd (no_ids y h) | inr h ↦ h ]
 
--- Each reading of the whole goes on behind the statements that were read.
+-- Each reading of the whole goes on after the statements that were read.
 pub record GoesOn (d : ℕ) (us : Marks) (before all : List StatementTree) : Type 0 where
   pub behind : List StatementTree
   pub reading : Statements d us behind []
@@ -185,7 +185,7 @@ read_none ts set e = record {
   only = λ d ss h. record { behind = ss; reading = h; whole = refl };
 }
 
--- the statement that comes first behind
+-- the statement that comes first after
 pub record ComesNext (d : ℕ) (us : Marks) (ss : List StatementTree) : Type 0 where
   pub first : StatementTree
   pub others : List StatementTree

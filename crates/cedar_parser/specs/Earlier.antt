@@ -1,5 +1,5 @@
--- What a policy text was before `has` could have a path of attributes and before there was the method `isEmpty`. The side
--- conditions on strings, numbers, keys, slots and annotations are those of today, which speak of neither (Cedar language
+-- What a policy text was before `has` could have a path of attributes and before the method `isEmpty` existed. The side
+-- conditions on strings, numbers, keys, slots and annotations are those of today, which concern neither (Cedar language
 -- reference, grammar).
 use Rattle.std.specs.Prelude.{◌≡◌, ℕ, suc, ◌≤◌, List, [], All, codes, IsSome, IsTrue}
 use Rattle.std.specs.Str.{bytes_eq}
@@ -38,24 +38,24 @@ abbrev mutual
   UsesEarlier (call name ms) = IsTrue (bytes_eq name (codes "decimal")) × (count_of ms ≡ 1) × MembersUseEarlier ms
   UsesEarlier _ = Unit {0}
 
-  -- The links of a chain use what there was (own).
+  -- The links of a chain use only earlier forms (own).
   pub LinksUseEarlier : Links → Type 0
   LinksUseEarlier no_links = Unit {0}
   LinksUseEarlier (operand sign a ls) = UsesEarlier a × LinksUseEarlier ls
   LinksUseEarlier (attribute c ls) = LinksUseEarlier ls
   LinksUseEarlier (method name ms ls) = IsSome (earlier_method_of name) × (count_of ms ≡ 1) × MembersUseEarlier ms × LinksUseEarlier ls
 
-  -- Members or arguments use what there was (own).
+  -- Members or arguments use only earlier forms (own).
   pub MembersUseEarlier : Members → Type 0
   MembersUseEarlier no_members = Unit {0}
   MembersUseEarlier (member a ms) = UsesEarlier a × MembersUseEarlier ms
 
-  -- The entries of a record use what there was (own).
+  -- The entries of a record use only earlier forms (own).
   pub FieldsUseEarlier : Fields → Type 0
   FieldsUseEarlier no_fields = Unit {0}
   FieldsUseEarlier (field key a fs) = UsesEarlier a × FieldsUseEarlier fs
 
--- The side condition speaks neither of functions nor of methods (own).
+-- The side condition concerns neither functions nor methods (own).
 abbrev pub IsOfNoCall : SideCondition → Type 0
 IsOfNoCall Names = ⊥
 IsOfNoCall Counts = ⊥
@@ -65,8 +65,8 @@ IsOfNoCall _ = Unit {0}
 abbrev pub earlier_size : StatementTree → Size
 earlier_size s = size_of (condition_of (earlier_policy [] s))
 
--- A statement was within the limits: its conditions used what there was, it kept each side condition of no call, and its
--- condition was neither too high nor too large (own).
+-- A statement was within the limits: its conditions used only earlier forms, it kept each side condition that concerns no
+-- calls, and its condition was neither too high nor too large (own).
 pub record WasWithinLimits (s : StatementTree) : Type 0 where
   pub calls : All (λ c. UsesEarlier c.body) s.conditions
   pub others : (c : SideCondition) → IsOfNoCall c → KeepsStatement c s

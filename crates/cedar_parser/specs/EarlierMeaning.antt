@@ -1,6 +1,6 @@
--- Which policies a statement was before `has` could have a path of attributes and before there was the method `isEmpty`: form by
--- form, without a word of what the forms mean today. Scopes, annotations and ids are those of today (Cedar language reference,
--- grammar; operators; functions).
+-- Which policies a statement was before `has` could have a path of attributes and before the method `isEmpty` existed: form by
+-- form, without reference to what the forms mean today. Scopes, annotations and ids are those of today (Cedar language
+-- reference, grammar; operators; functions).
 use Rattle.std.specs.Prelude.{ℕ, ◌+◌, false, pos, neg_ℤ, List, [], ◌∷◌, Option, Some, None, map, codes, if◌then◌else◌}
 use Rattle.std.specs.Str.{bytes_eq}
 use Rattle.cedar_value.specs.Datum as datum
@@ -25,7 +25,7 @@ use Rattle.cedar_parser_tree.specs.Written.{Written, truth, number, negative, te
 use Rattle.cedar_parser_tree.specs.StatementTree.{StatementTree}
 use Rattle.cedar_parser_limits.specs.StatementMeaning.{to_policy, to_template, has_slot, id_at}
 
--- The operator of each method that there was (Cedar language reference, operators; functions).
+-- The operator of each earlier method (Cedar language reference, operators; functions).
 abbrev pub earlier_method_of : List ℕ → Option BinaryOperator
 earlier_method_of name =
     if bytes_eq name (codes "contains") then Some operator.Contains
@@ -54,20 +54,20 @@ earlier_related relation_sign.Equal a b = e.binary operator.Equal a b
 earlier_related relation_sign.NotEqual a b = e.unary Not (e.binary operator.Equal a b)
 earlier_related relation_sign.In a b = e.binary operator.In a b
 
--- What a call was: `decimal` of its one argument, which was the one function; a call with other arguments was refused (Cedar
--- language reference, functions).
+-- What a call was: `decimal` of its one argument, the only function. A call with other arguments was refused (Cedar language
+-- reference, functions).
 abbrev pub earlier_call : Expressions → Expression
 earlier_call (e.and_then a e.no_more) = e.unary Decimal a
 earlier_call _ = e.literal (datum.boolean false)
 
--- What a method was: its operator on what it was asked of and on its one argument; another method, or one with other arguments,
--- was refused (Cedar language reference, functions).
+-- What a method was: its operator on the operand before it and on its one argument; another method, or one with other
+-- arguments, was refused (Cedar language reference, functions).
 abbrev pub earlier_applied : Option BinaryOperator → Expression → Expressions → Expression
 earlier_applied (Some op) left (e.and_then a e.no_more) = e.binary op left a
 earlier_applied _ left _ = left
 
 abbrev mutual
-  -- The expression that was written: `has` asked for one attribute, and chains grouped to the left (Cedar language reference,
+  -- The expression that was written: `has` tested for one attribute, and chains grouped to the left (Cedar language reference,
   -- grammar; operators).
   pub earlier_expression : Written → Expression
   earlier_expression (truth b) = e.literal (datum.boolean b)
@@ -91,7 +91,7 @@ abbrev mutual
   earlier_expression (record_of fs) = e.record_with (earlier_entries fs)
   earlier_expression (call name ms) = earlier_call (earlier_expressions ms)
 
-  -- What stood to the left, with each link after it, from left to right (Cedar language reference, operators).
+  -- The operand to the left, with each link after it, from left to right (Cedar language reference, operators).
   pub earlier_grouped : Expression → Links → Expression
   earlier_grouped left no_links = left
   earlier_grouped left (operand sign a ls) = earlier_grouped (earlier_linked sign left (earlier_expression a)) ls
@@ -112,13 +112,12 @@ abbrev mutual
 abbrev pub earlier_condition : WrittenCondition → Condition
 earlier_condition c = record { kind = c.kind; body = earlier_expression c.body }
 
--- The policy of this id that a statement was: that of today with the conditions that there were (Cedar language reference,
--- policies).
+-- The policy of this id that a statement was: that of today with the earlier conditions (Cedar language reference, policies).
 abbrev pub earlier_policy : List ℕ → StatementTree → PolicyTree
 earlier_policy id s = record (to_policy id s) { conditions = map earlier_condition s.conditions }
 
--- The template of this id that a statement was: that of today with the conditions that there were (Cedar language reference,
--- policy templates).
+-- The template of this id that a statement was: that of today with the earlier conditions (Cedar language reference, policy
+-- templates).
 abbrev pub earlier_template : List ℕ → StatementTree → TemplateTree
 earlier_template id s = record (to_template id s) { conditions = map earlier_condition s.conditions }
 
@@ -126,7 +125,7 @@ earlier_template id s = record (to_template id s) { conditions = map earlier_con
 abbrev pub earlier_statement : ℕ → StatementTree → Statement
 earlier_statement n s = if has_slot s.scope then statement.Template (earlier_template (id_at n s) s) else statement.Policy (earlier_policy (id_at n s) s)
 
--- The set with the policies and templates that statements were, entered one after the other, the first of which is at this
+-- The set after the policies and templates that statements were are entered, one after another. The first statement is at this
 -- position (own).
 abbrev pub earlier_entered : PolicySetTree → ℕ → List StatementTree → PolicySetTree
 earlier_entered before n [] = before

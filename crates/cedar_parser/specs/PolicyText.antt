@@ -38,8 +38,8 @@ pub record BreaksLimit (ts : Marks) (fault : ParseFault) : Type 0 where
   pub reading : Statements (suc max_open) ts (statements ++ last ∷ []) rest
   pub broken : Breaks last fault
 
--- From ts on there are statements, the last of which has the id of one before it; a statement whose annotation `id` stands for
--- no text has no id (own).
+-- From ts on there are statements, the last of which has the id of one before it. A statement whose annotation `id` denotes no
+-- string has no id (own).
 pub record RepeatsId (ts : Marks) : Type 0 where
   pub statements : List StatementTree
   pub last : StatementTree
@@ -49,7 +49,7 @@ pub record RepeatsId (ts : Marks) : Type 0 where
   pub own : written_id (length statements) last ≡ Some id
   pub repeated : Contains (written_ids_from 0 statements) (Some id)
 
--- The tokens of a policy text have the fault of the refusal; out of memory says nothing of them (own).
+-- The tokens of a policy text have the fault of the refusal. Out of memory says nothing about them (own).
 abbrev pub TokensFault : Marks → ParseFault → Type 0
 TokensFault ts f.OutOfMemory = Unit {0}
 TokensFault ts (f.Text fault) = ⊥
@@ -58,8 +58,8 @@ TokensFault ts (f.TooDeep at) = IsDeep max_open ts
 TokensFault ts (f.DuplicateId at) = RepeatsId ts
 TokensFault ts fault = BreaksLimit ts fault
 
--- A text is refused since it has no tokens, or since its tokens have the fault of the refusal; out of memory says nothing of it
--- (own).
+-- A text is refused since it has no tokens, or since its tokens have the fault of the refusal. Out of memory says nothing about
+-- it (own).
 abbrev pub HasFault : List ℕ → ParseFault → Type 0
 HasFault source f.OutOfMemory = Unit {0}
 HasFault source (f.Text fault) = LacksTokens source fault

@@ -1,2 +1,2 @@
--- What proofs, models and private contracts speak of: nothing here is cited by a contract of a function that another crate calls.
+-- What proofs, models and private contracts use. No contract of a function that another crate calls cites it.
 pub mod Entering

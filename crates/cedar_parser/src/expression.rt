@@ -1,4 +1,4 @@
-//! The expression that is written.
+//! From an expression as it is written to its meaning.
 ghost use Rattle.std.specs.Prelude.{◌≡◌, ◌≤◌, ◌^◌, ◌++◌, ◌∷◌, [], IfOk, OnOk, IsSome, Some, length, pos, neg_ℤ};
 ghost use Rattle.cedar_ast_expressions.specs.Expression.{expressions_of, entries_of, unary, binary, and, record_with};
 ghost use Rattle.cedar_ast_expressions.specs.Keys.{AreDistinct, keys_of};
@@ -22,7 +22,7 @@ use cedar_parser_tree::{ChainSign, Field, Link, RelationSign, Written, WrittenKi
 use cedar_value::{Name, SharedText, Value};
 use std::alloc::{AllocError, Global};
 
-/// The expression that is written.
+/// The expression that is written: the meaning of its form.
 #[cycle(expression)]
 pub fn to_expression(alloc: Global, written: &Written) -> Result<Expr, AllocError>
     requires numbers { Keeps Numbers written.now }

@@ -10,7 +10,7 @@ use cedar_parser_tree::AttributePath;
 use cedar_value::Text;
 use std::alloc::{AllocError, Global};
 
-/// Whether an operand has the attribute, and that the next one, and so on to the end of the path (Cedar language
+/// Whether an operand has the attribute, whether that one has the next, and so on to the end of the path (Cedar language
 /// reference, operators: has).
 pub fn to_has(alloc: Global, operand: Expr, path: &AttributePath) -> Result<Expr, AllocError>
     ensures { IfOk result (λ e. e ≡ asked_of operand (text_of path.now.0) path.now.1) }

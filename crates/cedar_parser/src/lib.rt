@@ -1,12 +1,15 @@
-//! The parser: policies and templates of the Cedar policy language, read from text (Cedar language reference, grammar).
+//! The parser: it reads the policies and templates of a policy text.
 //!
 //! ```
+//! use cedar_parser::parse;
+//!
 //! let set = parse(rt.alloc(), "permit(principal, action, resource) when { context.mfa };")?;
 //! assert_eq!(rt; set.count(), 1);
 //! ```
 //!
-//! The grammar is defined in cedar_parser_statements, the expression that is written and the policy or template that a statement is in
-//! cedar_parser_limits, with side conditions and limits. What a policy text is by all of it is said in `specs/PolicyText.antt`.
+//! The grammar is defined in cedar_parser_statements. The expressions that texts write, the policies and templates that
+//! statements write, side conditions and limits are defined in cedar_parser_limits. What makes a text a policy text is defined
+//! in `specs/PolicyText.antt`.
 #![tactic(auto)]
 
 mod expression;

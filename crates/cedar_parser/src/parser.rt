@@ -26,21 +26,30 @@ use cedar_parser_tree::WrittenStatement;
 use cedar_text::{one_list, one_spelling};
 use std::alloc::{AllocError, Global};
 
-/// The policies and templates of a text, in order (Cedar language reference, grammar). The statement at position N, from
-/// 0, has the value of its annotation `id` as its id, else `policyN`. A statement with a slot is a template.
+/// The policies and templates of a text, in order (Cedar language reference, grammar). The statement at position N, from 0, has
+/// the value of its annotation `id` as its id, else `policyN`. A statement with a slot is a template.
 ///
-/// Refusals: 1; 101 to 104 where the text has no tokens; 103 for the escape `\*` outside a pattern; 104 for a number
-/// above 9223372036854775807, after a minus sign above 9223372036854775808; 201 where the tokens are not statements;
-/// 202 where more than 100 brackets and `if`s are open at one place of a condition, or a condition is higher than 2,000
-/// nodes; 203 for a key that is repeated in a record; 204 where two statements have one id; 205 for an unknown
-/// function or method; 206 for a wrong number of arguments; 207 for a slot elsewhere than in its variable's
-/// scope; 208 for an annotation that is repeated; 209 where a condition has more than 100,000 nodes.
+/// # Errors
+///
+/// - 1: out of memory.
+/// - 101 to 104: the text has no tokens.
+/// - 103: the escape `\*` is outside a pattern.
+/// - 104: a number is above 9223372036854775807, or after a minus sign above 9223372036854775808.
+/// - 201: the tokens are not statements.
+/// - 202: more than 100 brackets and `if`s are open at one place of a condition, or a condition is higher than 2,000 nodes.
+/// - 203: a key is repeated in a record.
+/// - 204: two statements have one id.
+/// - 205: a function or method is unknown.
+/// - 206: a function or method has a wrong number of arguments.
+/// - 207: a slot is elsewhere than in its variable's scope.
+/// - 208: an annotation is repeated.
+/// - 209: a condition has more than 100,000 nodes.
 pub fn parse(alloc: Global, source: &str) -> Result<PolicySet, ParseFault>
-    // What is answered are the policies of the text.
+    // The result is the policies of the text.
     ensures found { IfOk result (IsPolicyText source.now) }
-    // The policies of the text are what is answered, unless memory runs out.
+    // If the text has policies, they are the result, unless memory runs out.
     ensures only { (set : PolicySetTree) → IsPolicyText source.now set → MatchResult result (λ found. found ≡ set) (λ e. e ≡ OutOfMemory) }
-    // Each fault comes only where it is.
+    // Each fault is reported only where the text has it.
     ensures fault { IfErr result (HasFault source.now) }
 {
     let spelled = spelled_tokens(alloc, source)?;
@@ -48,7 +57,7 @@ pub fn parse(alloc: Global, source: &str) -> Result<PolicySet, ParseFault>
     parse_policies(alloc, &mut cursor)
 }
 
-/// The law that no text has two sets of policies (Cedar language reference, grammar).
+/// No text has two sets of policies (Cedar language reference, grammar). A law: it runs no code.
 pub fn one_policy_set()
     ensures { (source : List ℕ) (set other : PolicySetTree) → IsPolicyText source set → IsPolicyText source other → set ≡ other }
 {
@@ -57,14 +66,14 @@ pub fn one_policy_set()
     one_spelling();
 }
 
-/// The law that each text which was read before `has` could have a path of attributes, and before there was the method
-/// `isEmpty`, is read as it was (Cedar language reference, grammar).
+/// A text that could be read before `has` took paths of attributes and before the method `isEmpty` existed is read as it was
+/// then (Cedar language reference, grammar). A law: it runs no code.
 pub fn earlier_texts()
-    // The policies that such a text had, by the grammar and by the meaning that there were, are its policies.
+    // The policies that such a text had under the earlier grammar and meaning are its policies now.
     ensures texts { (source : List ℕ) (set : PolicySetTree) → IsEarlierPolicyText source set → IsPolicyText source set }
-    // `has` with one attribute asks for that one, as it did.
+    // `has` with one attribute tests for that attribute, as it did.
     ensures attributes { (operand : Written) (first : Content) → to_expression (has operand first []) ≡ unary (Has (text_of first)) (to_expression operand) }
-    // Each method that there was is the operator that it was.
+    // Each earlier method is still the same operator.
     ensures methods { (name : List ℕ) (op : BinaryOperator) → earlier_method_of name ≡ Some op → method_of name ≡ Some (Binary op) }
 {}
 

@@ -1,4 +1,4 @@
-//! The policy or template that a statement is.
+//! From a statement as it is written to a policy or a template.
 ghost use Rattle.std.specs.Prelude.{◌≡◌, ◌++◌, ◌∷◌, [], false, IfOk, OnOk, map, option_map};
 ghost use Rattle.cedar_parser_limits.specs.declared.side_condition.SideCondition.TheVariants.{Strings, Numbers, Keys, Names, Counts, Slots};
 ghost use Rattle.cedar_parser_tokens.specs.Content.{text_of};
@@ -20,7 +20,7 @@ use cedar_value::{Text, Uid};
 use itoa::Buffer;
 use std::alloc::{AllocError, Global};
 
-/// The policy or template of this id that a statement is.
+/// The policy or template of this id that the statement writes.
 pub fn to_statement(
     alloc: Global,
     id: Text,
@@ -249,7 +249,7 @@ fn to_conditions(alloc: Global, written: &[WrittenCondition]) -> Result<Vec<Cond
     Ok(found)
 }
 
-/// The id of the statement at a position: the value of its annotation `id`, else `policyN` (own: ids of policies).
+/// The id of the statement at a position: the value of its annotation `id`, or else `policyN` (own: ids of policies).
 pub fn id_of(
     alloc: Global,
     position: usize,

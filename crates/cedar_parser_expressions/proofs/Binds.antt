@@ -1,4 +1,4 @@
--- How tightly a token binds to what stands before it, and which tokens begin a phrase.
+-- How tightly a token binds to what comes before it, and which tokens begin a phrase.
 use Rattle.std.proofs.Common.{◌≡◌, refl, ap, ◌∙◌, ℕ, zero, suc, ◌<◌, ◌≤◌, false, List, [], ◌∷◌, Option, Some, None, ◌⊎◌, inl, inr, arith}
 use Rattle.cedar_text.specs.declared.token_kind.TokenKind.{TokenKind}
 use Rattle.cedar_text.specs.declared.token_kind.TokenKind.TheVariants as k
@@ -9,7 +9,7 @@ use Rattle.cedar_parser_tokens.specs.Marks.{Mark, Marks}
 use Rattle.cedar_parser_tree.specs.Written.{Written}
 use Rattle.cedar_parser_expressions.specs.Grammar as g
 use Rattle.cedar_parser_tokens.specs.Names.{Rule, Takes, Text, Key, Path, Entity}
-use Rattle.cedar_parser_expressions.specs.Grammar.{Opens, Series, Entry, Primary, Suffixes, Member, Signed, Unary, Operands, Chain, or_sign, and_sign, sum_sign, product_sign, relation_sign_of, Products, Sums, Relation, Ands, Ors, Expression, Nested}
+use Rattle.cedar_parser_expressions.specs.Grammar.{Opens, Series, Entry, Primary, Suffixes, Member, Signed, Unary, Operands, Chain, or_sign, and_sign, add_sign, mult_sign, relation_sign_of, Mult, Add, Relation, And, Or, Expression, Nested}
 use Rattle.cedar_parser_tokens.specs.Reading.{same_kind, sees, kind_at, sign_at}
 
 abbrev pub bind : TokenKind → ℕ
@@ -82,23 +82,23 @@ relation_below k.NotEqual sign h = omega arith
 relation_below k.In sign h = omega arith
 relation_below _ sign h = absurd cc
 
-pub sum_above : Above 4 sum_sign
+pub sum_above : Above 4 add_sign
 sum_above k.Plus h = absurd (omega arith)
 sum_above k.Minus h = absurd (omega arith)
 sum_above _ h = refl
 
-pub sum_below : Below 5 sum_sign
-sum_below k.Plus sign h = omega arith
-sum_below k.Minus sign h = omega arith
-sum_below _ sign h = absurd cc
+pub add_below : Below 5 add_sign
+add_below k.Plus sign h = omega arith
+add_below k.Minus sign h = omega arith
+add_below _ sign h = absurd cc
 
-pub product_above : Above 5 product_sign
+pub product_above : Above 5 mult_sign
 product_above k.Star h = absurd (omega arith)
 product_above _ h = refl
 
-pub product_below : Below 6 product_sign
-product_below k.Star sign h = omega arith
-product_below _ sign h = absurd cc
+pub mult_below : Below 6 mult_sign
+mult_below k.Star sign h = omega arith
+mult_below _ sign h = absurd cc
 
 pub no_has : (q : TokenKind) → bind q < 3 → same_kind q k.Has ≡ false
 no_has k.Has h = absurd (omega arith)
@@ -244,8 +244,8 @@ module _ (d : ℕ) (Inner : Rule Written) where
   unary_starts ts a us (g.nots p) = elim (signed_starts _ _ _ _ _ _ p) [ inl e ↦ (omega arith, omega arith) | inr e ↦ (omega arith, omega arith) ]
   unary_starts ts a us (g.minuses p) = elim (signed_starts _ _ _ _ _ _ p) [ inl e ↦ (omega arith, omega arith) | inr e ↦ (omega arith, omega arith) ]
 
-  sums_start : Begins 1 3 (Sums d Inner)
-  sums_start = chain_starts 1 3 sum_sign (Products d Inner) (chain_starts 1 3 product_sign (Unary d Inner) unary_starts)
+  sums_start : Begins 1 3 (Add d Inner)
+  sums_start = chain_starts 1 3 add_sign (Mult d Inner) (chain_starts 1 3 mult_sign (Unary d Inner) unary_starts)
 
   relation_starts : Begins 1 3 (Relation d Inner)
   relation_starts ts a us (g.alone s) = sums_start _ _ _ s
@@ -255,8 +255,8 @@ module _ (d : ℕ) (Inner : Rule Written) where
   relation_starts ts a us (g.is s t c) = sums_start _ _ _ s
   relation_starts ts a us (g.is_in s t c i q) = sums_start _ _ _ s
 
-  pub ors_start : Begins 1 3 (Ors d Inner)
-  ors_start = chain_starts 1 3 or_sign (Ands d Inner) (chain_starts 1 3 and_sign (Relation d Inner) relation_starts)
+  pub ors_start : Begins 1 3 (Or d Inner)
+  ors_start = chain_starts 1 3 or_sign (And d Inner) (chain_starts 1 3 and_sign (Relation d Inner) relation_starts)
 
   expression_starts : Begins 1 4 (Expression d Inner)
   expression_starts ts a us (g.or o) = let b = ors_start _ _ _ o in (b.0, omega arith)

@@ -18,7 +18,7 @@ use Rattle.cedar_parser_tree.specs.Written.{Written, members_of}
 use Rattle.cedar_parser_tree.specs.WrittenKind.{fields_of}
 use Rattle.cedar_parser_expressions.specs.Grammar as g
 use Rattle.cedar_parser_tokens.specs.Names.{Rule, Takes, Text, Path, Entity}
-use Rattle.cedar_parser_expressions.specs.Grammar.{Opens, Series, Arguments, Entry, Further, Asked, variable_of, slot_of, Primary, Suffixes, Member, Signed, Unary, Operands, chained, Chain, or_sign, and_sign, sum_sign, product_sign, relation_sign_of, Products, Sums, Relation, Ands, Ors, Expression, Nested}
+use Rattle.cedar_parser_expressions.specs.Grammar.{Opens, Series, Arguments, Entry, Further, Attributes, variable_of, slot_of, Primary, Suffixes, Member, Signed, Unary, Operands, chained, Chain, or_sign, and_sign, add_sign, mult_sign, relation_sign_of, Mult, Add, Relation, And, Or, Expression, Nested}
 use Rattle.cedar_parser_expressions.specs.Reading as r
 use Rattle.cedar_parser_tokens.specs.Reading.{TooDeep, Outcome, Parser, and_then, same_kind, sees, expect, sign_at, on_some, next}
 use Rattle.cedar_parser_expressions.specs.Reading.{links_from, chain, nested}
@@ -46,7 +46,7 @@ neither_true : (x y : Bool) → x ≡ false → y ≡ false → (x || y) ≡ fal
 neither_true true y e f = absurd cc
 neither_true false y e f = f
 
--- a path with more behind it than a lone word has
+-- a path with more after it than a lone word has
 path_begins : {ts us : Marks} {p : List ℕ} → Path ts p us → (sees k.DoubleColon us ≡ true) ⊎ (sees k.LeftParen us ≡ true) → r.begins_path ts ≡ true
 path_begins {ts = ts} (g.word h) (inl e) = left_true (sees k.DoubleColon (next ts)) (sees k.LeftParen (next ts)) (ap (sees k.DoubleColon) (next_is h) ∙ e)
 path_begins {ts = ts} (g.word h) (inr e) = right_true (sees k.DoubleColon (next ts)) (sees k.LeftParen (next ts)) (ap (sees k.LeftParen) (next_is h) ∙ e)
@@ -90,7 +90,7 @@ module _ {A : Type 0} (P : Type 0) (Item : Rule A) (item : Parser A) (high : ℕ
       (series_on ts xs us s (omega arith) xs us (λ turns _. series_stops turns xs us (sees_other k.Comma c comma)))
       (expect_then (λ q ys. Ok (xs, ys)) c given))
 
--- ---- what stands behind `has`
+-- ---- what follows `has`
 
 -- What the turns from us on answer, the whole answers.
 further_on : (ts : Marks) (names : List (List ℕ)) (us : Marks) → Further ts names us → (found : List (List ℕ)) (vs : Marks)
@@ -122,8 +122,8 @@ further_yes {ts = ts} {us = us} {names = names} f e = further_on ts names us f n
 text_there : {ts us : Marks} {c : Content} → Text ts c us → sees k.String ts ≡ true
 text_there (g.string h) = sees_yes h
 
--- Where no point stands behind them, the attributes are read.
-attributes_yes : {ts us : Marks} {path : Content × List (List ℕ)} → Asked ts path us → sees k.Dot us ≡ false → r.attributes ts ≡ Ok (path, us)
+-- Where no point follows them, the attributes are read.
+attributes_yes : {ts us : Marks} {path : Content × List (List ℕ)} → Attributes ts path us → sees k.Dot us ≡ false → r.attributes ts ≡ Ok (path, us)
 unfolding r.attributes
 attributes_yes {ts = ts} (g.quoted t) e =
     ap (λ q. cond q (and_then (r.text ts) (λ c us. Ok ((c, []), us))) (and_then (expect k.Identifier ts) (λ t us. and_then (r.further us) (λ names vs. Ok ((Some t.text, names), vs))))) (text_there t)
@@ -246,7 +246,7 @@ module _ (P : Type 0) (d' d : ℕ) (less : d < d' → P) (Inner : Rule Written) 
   primary_complete ts a us (g.set o list c) lt = primary_at o.takes (set_of o list c)
   primary_complete ts a us (g.record_of o list c) lt = primary_at o.takes (record_with o list c)
 
-  -- ---- what stands behind
+  -- ---- what follows
 
   dot_there : {t : Mark} {ts us : Marks} → Takes k.Dot t ts us → r.has_suffix ts ≡ true
   dot_there {ts = ts} h = left_true (sees k.Dot ts) (sees k.LeftBracket ts) (sees_yes h)
@@ -336,72 +336,72 @@ module _ (P : Type 0) (d' d : ℕ) (less : d < d' → P) (Inner : Rule Written) 
       if_false _ _ (sees_no k.Minus ts (λ q e. b.not_minus q (omega arith))) (nots_complete 4 ts a us (g.bare p) lt)
   unary_complete ts a us (g.minuses (g.signed t p)) lt = if_true _ _ (sees_yes t) (minuses_complete 4 ts a us (g.signed t p) lt)
 
-  products_complete : Complete P (Products d' Inner) 5 (r.products d inner)
-  unfolding r.products
-  products_complete = chain_complete P product_sign (r.unary d inner) (Unary d' Inner) 6 b.product_below (m.unary_moves d' Inner advances) unary_complete 5 b.product_above (omega arith)
+  mult_complete : Complete P (Mult d' Inner) 5 (r.mult d inner)
+  unfolding r.mult
+  mult_complete = chain_complete P mult_sign (r.unary d inner) (Unary d' Inner) 6 b.mult_below (m.unary_moves d' Inner advances) unary_complete 5 b.product_above (omega arith)
 
-  sums_complete : Complete P (Sums d' Inner) 4 (r.sums d inner)
-  unfolding r.sums
-  sums_complete = chain_complete P sum_sign (r.products d inner) (Products d' Inner) 5 b.sum_below (m.products_move d' Inner advances) products_complete 4 b.sum_above (omega arith)
+  add_complete : Complete P (Add d' Inner) 4 (r.add d inner)
+  unfolding r.add
+  add_complete = chain_complete P add_sign (r.mult d inner) (Mult d' Inner) 5 b.add_below (m.mult_move d' Inner advances) mult_complete 4 b.sum_above (omega arith)
 
   related_alone : (a : Written) (us : Marks) → bind_at us < 3 → Answers P (r.related d inner a us) a us
   unfolding r.related
   related_alone a us lt =
-      answers_by (ap (λ (o : Option RelationSign). on_some o (Ok (a, us)) (λ sign. and_then (r.sums d inner (next us)) (λ right ys. Ok (w.relation sign a right, ys)))) (no_sign 3 relation_sign_of b.relation_above us lt)) given
+      answers_by (ap (λ (o : Option RelationSign). on_some o (Ok (a, us)) (λ sign. and_then (r.add d inner (next us)) (λ right ys. Ok (w.relation sign a right, ys)))) (no_sign 3 relation_sign_of b.relation_above us lt)) given
 
-  related_pair : (a c : Written) (t : Mark) (xs us : Marks) (sign : RelationSign) → relation_sign_of t.kind ≡ Some sign → Sums d' Inner xs c us → bind_at us < 3
+  related_pair : (a c : Written) (t : Mark) (xs us : Marks) (sign : RelationSign) → relation_sign_of t.kind ≡ Some sign → Add d' Inner xs c us → bind_at us < 3
       → Answers P (r.related d inner a (t ∷ xs)) (w.relation sign a c) us
   unfolding r.related r.kind_at next
   related_pair a c t xs us sign e i lt =
-      answers_by (ap (λ (o : Option RelationSign). on_some o (Ok (a, t ∷ xs)) (λ sign. and_then (r.sums d inner xs) (λ right ys. Ok (w.relation sign a right, ys)))) e)
-      (answers_then (r.sums d inner xs) c us _ (w.relation sign a c) us (sums_complete xs c us i (omega arith)) given)
+      answers_by (ap (λ (o : Option RelationSign). on_some o (Ok (a, t ∷ xs)) (λ sign. and_then (r.add d inner xs) (λ right ys. Ok (w.relation sign a right, ys)))) e)
+      (answers_then (r.add d inner xs) c us _ (w.relation sign a c) us (add_complete xs c us i (omega arith)) given)
 
   typed_there : {vs ws : Marks} {ty : List ℕ} (a : Written) → Path vs ty ws → bind_at ws < 3 → Answers P (r.typed d inner a vs) (w.is a ty) ws
   unfolding r.typed r.of_type
   typed_there {ws = ws} a p lt =
       known_then _ (path_yes p (no_path_on ws (sees_nothing 7 k.DoubleColon b.no_colon ws (omega arith)))) (if_false _ _ (sees_nothing 3 k.In b.no_in ws lt) given)
 
-  typed_in_there : {vs ws xs us : Marks} {ty : List ℕ} {t : Mark} (a c : Written) → Path vs ty ws → Takes k.In t ws xs → Sums d' Inner xs c us → bind_at us < 3
+  typed_in_there : {vs ws xs us : Marks} {ty : List ℕ} {t : Mark} (a c : Written) → Path vs ty ws → Takes k.In t ws xs → Add d' Inner xs c us → bind_at us < 3
       → Answers P (r.typed d inner a vs) (w.is_in a ty c) us
   unfolding r.typed r.of_type
   typed_in_there {ws = ws} {xs = xs} {us = us} {ty = ty} a c p t i lt =
       known_then _ (path_yes p (no_path_on ws (sees_other k.DoubleColon t refl))) (if_true _ _ (sees_yes t)
-      (at_next (λ zs. and_then (r.sums d inner zs) (λ right ys. Ok (w.is_in a ty right, ys))) t (answers_then (r.sums d inner xs) c us _ (w.is_in a ty c) us (sums_complete xs c us i (omega arith)) given)))
+      (at_next (λ zs. and_then (r.add d inner zs) (λ right ys. Ok (w.is_in a ty right, ys))) t (answers_then (r.add d inner xs) c us _ (w.is_in a ty c) us (add_complete xs c us i (omega arith)) given)))
 
   relation_complete : Complete P (Relation d' Inner) 3 (r.relation d inner)
   unfolding r.relation r.relation_from r.asked r.matched r.pattern sees
   relation_complete ts a us (g.alone q) lt =
-      answers_then (r.sums d inner ts) a us _ a us (sums_complete ts a us q (omega arith))
+      answers_then (r.add d inner ts) a us _ a us (add_complete ts a us q (omega arith))
       (if_false _ _ (sees_nothing 3 k.Has b.no_has us lt) (if_false _ _ (sees_nothing 3 k.Like b.no_like us lt) (if_false _ _ (sees_nothing 3 k.Is b.no_is us lt) (related_alone a us lt))))
   relation_complete ts _ us (g.pair {us = xs} {a = a} {b = c} {t = t} {sign = sign} q e i) lt =
-      answers_then (r.sums d inner ts) a (t ∷ xs) _ (w.relation sign a c) us (sums_complete ts a (t ∷ xs) q (b.relation_below t.kind sign e))
+      answers_then (r.add d inner ts) a (t ∷ xs) _ (w.relation sign a c) us (add_complete ts a (t ∷ xs) q (b.relation_below t.kind sign e))
       (if_false _ _ (b.sign_no_has t.kind sign e) (if_false _ _ (b.sign_no_like t.kind sign e) (if_false _ _ (b.sign_no_is t.kind sign e) (related_pair a c t xs us sign e i lt))))
   relation_complete ts _ us (g.has {us = xs} {a = a} {path = path} q t i) lt =
-      answers_then (r.sums d inner ts) a xs _ (w.has a path.0 path.1) us (sums_complete ts a xs q (let e = takes_bind t in omega arith))
+      answers_then (r.add d inner ts) a xs _ (w.has a path.0 path.1) us (add_complete ts a xs q (let e = takes_bind t in omega arith))
       (if_true _ _ (sees_yes t) (at_next (r.asked a) t (known_then _ (attributes_yes i (sees_nothing 6 k.Dot b.no_dot us (omega arith))) given)))
   relation_complete ts _ us (g.like {us = xs} {vs = ys} {a = a} {s = s} q t i) lt =
-      answers_then (r.sums d inner ts) a xs _ (w.like a (pattern_of s.letters)) us (sums_complete ts a xs q (let e = takes_bind t in omega arith))
+      answers_then (r.add d inner ts) a xs _ (w.like a (pattern_of s.letters)) us (add_complete ts a xs q (let e = takes_bind t in omega arith))
       (if_false _ _ (sees_other k.Has t refl) (if_true _ _ (sees_yes t) (at_next (r.matched a) t (answers_flat (expect k.String ys) _ _ (expect_then _ i given)))))
   relation_complete ts _ us (g.is {us = xs} {a = a} {ty = ty} q t p) lt =
-      answers_then (r.sums d inner ts) a xs _ (w.is a ty) us (sums_complete ts a xs q (let e = takes_bind t in omega arith))
+      answers_then (r.add d inner ts) a xs _ (w.is a ty) us (add_complete ts a xs q (let e = takes_bind t in omega arith))
       (if_false _ _ (sees_other k.Has t refl) (if_false _ _ (sees_other k.Like t refl) (if_true _ _ (sees_yes t) (at_next (r.typed d inner a) t (typed_there a p lt)))))
   relation_complete ts _ us (g.is_in {us = xs} {a = a} {b = c} {ty = ty} q t p s i) lt =
-      answers_then (r.sums d inner ts) a xs _ (w.is_in a ty c) us (sums_complete ts a xs q (let e = takes_bind t in omega arith))
+      answers_then (r.add d inner ts) a xs _ (w.is_in a ty c) us (add_complete ts a xs q (let e = takes_bind t in omega arith))
       (if_false _ _ (sees_other k.Has t refl) (if_false _ _ (sees_other k.Like t refl) (if_true _ _ (sees_yes t) (at_next (r.typed d inner a) t (typed_in_there a c p s i lt)))))
 
-  ands_complete : Complete P (Ands d' Inner) 2 (r.ands d inner)
-  unfolding r.ands
-  ands_complete = chain_complete P and_sign (r.relation d inner) (Relation d' Inner) 3 b.and_below (m.relation_moves d' Inner advances) relation_complete 2 b.and_above (omega arith)
+  and_complete : Complete P (And d' Inner) 2 (r.and d inner)
+  unfolding r.and
+  and_complete = chain_complete P and_sign (r.relation d inner) (Relation d' Inner) 3 b.and_below (m.relation_moves d' Inner advances) relation_complete 2 b.and_above (omega arith)
 
-  ors_complete : Complete P (Ors d' Inner) 1 (r.ors d inner)
-  unfolding r.ors
-  ors_complete = chain_complete P or_sign (r.ands d inner) (Ands d' Inner) 2 b.or_below (m.ands_move d' Inner advances) ands_complete 1 b.or_above (omega arith)
+  or_complete : Complete P (Or d' Inner) 1 (r.or d inner)
+  unfolding r.or
+  or_complete = chain_complete P or_sign (r.and d inner) (And d' Inner) 2 b.or_below (m.and_move d' Inner advances) and_complete 1 b.or_above (omega arith)
 
   pub expression_complete : Complete P (Expression d' Inner) 1 (r.expression d inner)
   unfolding r.expression r.choice r.branches r.before_else r.behind_else
   expression_complete ts a us (g.or o) lt =
       let s = b.ors_start d' Inner ts a us o in
-      if_false _ _ (sees_no k.If ts (λ q e. b.not_if q (omega arith))) (ors_complete ts a us o lt)
+      if_false _ _ (sees_no k.If ts (λ q e. b.not_if q (omega arith))) (or_complete ts a us o lt)
   expression_complete ts _ us (g.choice {c0 = c0} {c1 = c1} {a0 = a0} {a1 = a1} {b0 = b0} {c = c} {a = x} {b = y} i p t q s o) lt =
       let bound_t = takes_bind t in
       let bound_s = takes_bind s in

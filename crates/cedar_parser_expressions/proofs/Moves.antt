@@ -9,7 +9,7 @@ use Rattle.cedar_parser_tree.specs.Written.{Written}
 use Rattle.cedar_parser_expressions.specs.Nesting.{opens, closes, opened, closed, IsDeep}
 use Rattle.cedar_parser_expressions.specs.Grammar as g
 use Rattle.cedar_parser_tokens.specs.Names.{Rule, Takes, Text, Key, Path, Entity}
-use Rattle.cedar_parser_expressions.specs.Grammar.{Opens, Series, Arguments, Entry, Further, Asked, Primary, Suffixes, Member, Signed, Unary, Operands, Chain, or_sign, and_sign, sum_sign, product_sign, relation_sign_of, Products, Sums, Relation, Ands, Ors, Expression, Nested}
+use Rattle.cedar_parser_expressions.specs.Grammar.{Opens, Series, Arguments, Entry, Further, Attributes, Primary, Suffixes, Member, Signed, Unary, Operands, Chain, or_sign, and_sign, add_sign, mult_sign, relation_sign_of, Mult, Add, Relation, And, Or, Expression, Nested}
 
 -- From ts to us there are tokens, which open and close so that closes + gain ≤ opens + loss.
 pub record Moves (ts us : Marks) (gain loss : ℕ) : Type 0 where
@@ -101,14 +101,14 @@ pub and_never : NeverCloses and_sign
 and_never k.AndAnd sign h = refl
 and_never _ sign h = absurd cc
 
-pub sum_never : NeverCloses sum_sign
-sum_never k.Plus sign h = refl
-sum_never k.Minus sign h = refl
-sum_never _ sign h = absurd cc
+pub add_never : NeverCloses add_sign
+add_never k.Plus sign h = refl
+add_never k.Minus sign h = refl
+add_never _ sign h = absurd cc
 
-pub product_never : NeverCloses product_sign
-product_never k.Star sign h = refl
-product_never _ sign h = absurd cc
+pub mult_never : NeverCloses mult_sign
+mult_never k.Star sign h = refl
+mult_never _ sign h = absurd cc
 
 pub relation_never : NeverCloses relation_sign_of
 relation_never k.Less sign h = refl
@@ -136,13 +136,13 @@ path_moves ts a us (g.longer p c t) = level_then (path_moves _ _ _ p) (level_the
 pub entity_moves : Advances Entity
 entity_moves ts a us (g.entity p c t) = level_then (path_moves _ _ _ p) (level_then (takes_moves c) (text_moves _ _ _ t))
 
--- ---- what stands behind `has`
+-- ---- what follows `has`
 
 further_then : {ts us vs : Marks} {names : List (List ℕ)} → Level ts us → Further us names vs → Level ts vs
 further_then p g.none = p
 further_then p (g.more f c t) = level_then (further_then p f) (level_then (takes_moves c) (takes_moves t))
 
-pub asked_moves : Advances Asked
+pub asked_moves : Advances Attributes
 asked_moves ts a us (g.quoted t) = text_moves _ _ _ t
 asked_moves ts a us (g.words t f) = further_then (takes_moves t) f
 
@@ -152,7 +152,7 @@ pub series_moves : {A : Type 0} (Item : Rule A) → Advances Item → Advances (
 series_moves Item item ts a us (g.one i) = item _ _ _ i
 series_moves Item item ts a us (g.next s c i) = level_then (series_moves Item item _ _ _ s) (level_then (takes_moves c) (item _ _ _ i))
 
--- with what stands before it, and what stands behind
+-- with what comes before it, and what follows
 pub arguments_between : {A : Type 0} (Item : Rule A) → Advances Item → {ts us vs ws : Marks} {xs : List A} (G L : ℕ) {g1 l1 g2 l2 : ℕ}
     → Moves ts us g1 l1 → Arguments Item us xs vs → Moves vs ws g2 l2 → G + (l1 + l2) ≤ (g1 + g2) + L → Moves ts ws G L
 arguments_between Item item G L o g.none c h = moves_then G L o c h
@@ -213,30 +213,30 @@ module _ (d : ℕ) (Inner : Rule Written) (inner : Advances Inner) where
   unary_moves ts a us (g.nots p) = signed_moves _ _ refl _ _ _ _ p
   unary_moves ts a us (g.minuses p) = signed_moves _ _ refl _ _ _ _ p
 
-  pub products_move : Advances (Products d Inner)
-  products_move = chain_moves product_sign (Unary d Inner) product_never unary_moves
+  pub mult_move : Advances (Mult d Inner)
+  mult_move = chain_moves mult_sign (Unary d Inner) mult_never unary_moves
 
-  pub sums_move : Advances (Sums d Inner)
-  sums_move = chain_moves sum_sign (Products d Inner) sum_never products_move
+  pub add_move : Advances (Add d Inner)
+  add_move = chain_moves add_sign (Mult d Inner) add_never mult_move
 
   pub relation_moves : Advances (Relation d Inner)
-  relation_moves ts a us (g.alone q) = sums_move _ _ _ q
+  relation_moves ts a us (g.alone q) = add_move _ _ _ q
   relation_moves ts a us (g.pair {us = vs} {t = t} {sign = sign} q e r) =
-      level_then (sums_move _ _ _ q) (level_then (sign_moves relation_sign_of relation_never t vs sign e) (sums_move _ _ _ r))
-  relation_moves ts a us (g.has q t c) = level_then (sums_move _ _ _ q) (level_then (takes_moves t) (asked_moves _ _ _ c))
-  relation_moves ts a us (g.like q t s) = level_then (sums_move _ _ _ q) (level_then (takes_moves t) (takes_moves s))
-  relation_moves ts a us (g.is q t p) = level_then (sums_move _ _ _ q) (level_then (takes_moves t) (path_moves _ _ _ p))
+      level_then (add_move _ _ _ q) (level_then (sign_moves relation_sign_of relation_never t vs sign e) (add_move _ _ _ r))
+  relation_moves ts a us (g.has q t c) = level_then (add_move _ _ _ q) (level_then (takes_moves t) (asked_moves _ _ _ c))
+  relation_moves ts a us (g.like q t s) = level_then (add_move _ _ _ q) (level_then (takes_moves t) (takes_moves s))
+  relation_moves ts a us (g.is q t p) = level_then (add_move _ _ _ q) (level_then (takes_moves t) (path_moves _ _ _ p))
   relation_moves ts a us (g.is_in q t p s r) =
-      level_then (sums_move _ _ _ q) (level_then (takes_moves t) (level_then (path_moves _ _ _ p) (level_then (takes_moves s) (sums_move _ _ _ r))))
+      level_then (add_move _ _ _ q) (level_then (takes_moves t) (level_then (path_moves _ _ _ p) (level_then (takes_moves s) (add_move _ _ _ r))))
 
-  pub ands_move : Advances (Ands d Inner)
-  ands_move = chain_moves and_sign (Relation d Inner) and_never relation_moves
+  pub and_move : Advances (And d Inner)
+  and_move = chain_moves and_sign (Relation d Inner) and_never relation_moves
 
-  pub ors_move : Advances (Ors d Inner)
-  ors_move = chain_moves or_sign (Ands d Inner) or_never ands_move
+  pub or_move : Advances (Or d Inner)
+  or_move = chain_moves or_sign (And d Inner) or_never and_move
 
   pub expression_moves : Advances (Expression d Inner)
-  expression_moves ts a us (g.or o) = ors_move _ _ _ o
+  expression_moves ts a us (g.or o) = or_move _ _ _ o
   expression_moves ts a us (g.choice i c t x s y) =
       moves_then 0 0 (takes_moves i.takes) (level_then (inner _ _ _ c) (level_then (takes_moves t) (level_then (inner _ _ _ x) (level_then (takes_moves s) (inner _ _ _ y))))) (omega arith)
 

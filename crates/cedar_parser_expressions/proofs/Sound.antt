@@ -14,7 +14,7 @@ use Rattle.cedar_parser_tree.specs.Written.{Written}
 use Rattle.cedar_parser_expressions.specs.Nesting.{opens, closes}
 use Rattle.cedar_parser_expressions.specs.Grammar as g
 use Rattle.cedar_parser_tokens.specs.Names.{Rule, Takes, Text, Key, Path, Entity}
-use Rattle.cedar_parser_expressions.specs.Grammar.{Opens, Series, Arguments, Entry, Further, Asked, variable_of, slot_of, Primary, Suffixes, Member, Signed, Unary, Operands, chained, Chain, or_sign, and_sign, sum_sign, product_sign, relation_sign_of, Products, Sums, Relation, Ands, Ors, Expression, Nested}
+use Rattle.cedar_parser_expressions.specs.Grammar.{Opens, Series, Arguments, Entry, Further, Attributes, variable_of, slot_of, Primary, Suffixes, Member, Signed, Unary, Operands, chained, Chain, or_sign, and_sign, add_sign, mult_sign, relation_sign_of, Mult, Add, Relation, And, Or, Expression, Nested}
 use Rattle.cedar_parser_expressions.specs.Reading as r
 use Rattle.cedar_parser_tokens.specs.Reading.{TooDeep, Outcome, Parser, and_then, sees, expect, sign_at, next}
 use Rattle.cedar_parser_expressions.specs.Reading.{links_from, chain, nested}
@@ -115,7 +115,7 @@ module _ (signs : TokenKind → Option ChainSign) (item : Parser Written) (Item 
       (λ a us i. meets_then (λ found vs. Operands signs Item ts a found vs) (λ b vs. Chains ts b vs) (IsOver d ts) (links_from signs item (length us) [] us) _
       (links_from_read (length us) a [] ts us (g.first i)) (λ found vs o. g.operands o))
 
--- ---- what stands behind `has`, which opens nothing
+-- ---- what follows `has`, which opens nothing
 
 further_from_reads : (D : Type 0) (n : ℕ) (names : List (List ℕ)) (ts us : Marks) → Further ts names us → Meets (λ more vs. Further ts more vs) D (r.further_from n names us)
 unfolding r.further_from
@@ -127,13 +127,13 @@ further_from_reads D (suc n) names ts us f =
     (λ t vs i. further_from_reads D n (names ++ t.text ∷ []) ts vs (g.more f p.1 i)))
     (λ e. f)
 
-attributes_read : (D : Type 0) (ts : Marks) → Meets (λ path us. Asked ts path us) D (r.attributes ts)
+attributes_read : (D : Type 0) (ts : Marks) → Meets (λ path us. Attributes ts path us) D (r.attributes ts)
 unfolding r.attributes r.further
 attributes_read D ts =
-    if_meets (λ path us. Asked ts path us) D (sees k.String ts) _ _
-    (λ e. meets_then (λ c us. Text ts c us) (λ path us. Asked ts path us) D (r.text ts) _ (text_reads D ts) (λ c us h. g.quoted h))
-    (λ e. meets_then (λ t us. Takes k.Identifier t ts us) (λ path us. Asked ts path us) D (expect k.Identifier ts) _ (expect_takes k.Identifier D ts)
-    (λ t us h. meets_then (λ names vs. Further us names vs) (λ path vs. Asked ts path vs) D (r.further us) _ (further_from_reads D (length us) [] us us g.none) (λ names vs f. g.words h f)))
+    if_meets (λ path us. Attributes ts path us) D (sees k.String ts) _ _
+    (λ e. meets_then (λ c us. Text ts c us) (λ path us. Attributes ts path us) D (r.text ts) _ (text_reads D ts) (λ c us h. g.quoted h))
+    (λ e. meets_then (λ t us. Takes k.Identifier t ts us) (λ path us. Attributes ts path us) D (expect k.Identifier ts) _ (expect_takes k.Identifier D ts)
+    (λ t us h. meets_then (λ names vs. Further us names vs) (λ path vs. Attributes ts path vs) D (r.further us) _ (further_from_reads D (length us) [] us us g.none) (λ names vs f. g.words h f)))
 
 -- ---- expressions
 
@@ -250,7 +250,7 @@ module _ (d : ℕ) (Inner : Rule Written) (inner : Parser Written) (advances : A
   primary_reads [] = tt
   primary_reads (t ∷ us) = primary_by_reads t.kind t us refl
 
-  -- ---- what stands behind
+  -- ---- what follows
 
   dotted_reads : (a : Written) (ls : List Link) (ts us : Marks) (p : Mark) → Suffixes d Inner ts a ls us → Takes k.Dot p us (next us)
       → Meets (λ l vs. Suffixes d Inner ts a (ls ++ l ∷ []) vs) (IsOver (suc d) ts) (r.dotted d inner (next us))
@@ -329,42 +329,42 @@ module _ (d : ℕ) (Inner : Rule Written) (inner : Parser Written) (advances : A
       (λ h. meets_as (λ a us. Signed d Inner k.Minus w.minus 4 ts a us) (λ a us. Unary d Inner ts a us) (IsOver (suc d) ts) (IsOver (suc d) ts) (r.minuses d inner 4 ts) (minuses_read 4 ts) (λ a us p. g.minuses p) (λ o. o))
       (λ h. meets_as (λ a us. Signed d Inner k.Not w.not 4 ts a us) (λ a us. Unary d Inner ts a us) (IsOver (suc d) ts) (IsOver (suc d) ts) (r.nots d inner 4 ts) (nots_read 4 ts) (λ a us p. g.nots p) (λ o. o))
 
-  products_read : Reads (suc d) (Products d Inner) (r.products d inner)
-  unfolding r.products
-  products_read = chain_reads product_sign (r.unary d inner) (Unary d Inner) (suc d) m.product_never (m.unary_moves d Inner advances) unary_reads
+  mult_read : Reads (suc d) (Mult d Inner) (r.mult d inner)
+  unfolding r.mult
+  mult_read = chain_reads mult_sign (r.unary d inner) (Unary d Inner) (suc d) m.mult_never (m.unary_moves d Inner advances) unary_reads
 
-  pub sums_read : Reads (suc d) (Sums d Inner) (r.sums d inner)
-  unfolding r.sums
-  sums_read = chain_reads sum_sign (r.products d inner) (Products d Inner) (suc d) m.sum_never (m.products_move d Inner advances) products_read
+  pub add_read : Reads (suc d) (Add d Inner) (r.add d inner)
+  unfolding r.add
+  add_read = chain_reads add_sign (r.mult d inner) (Mult d Inner) (suc d) m.add_never (m.mult_move d Inner advances) mult_read
 
-  typed_reads : (a : Written) (ts us vs : Marks) (t : Mark) → Sums d Inner ts a us → Takes k.Is t us vs → Meets (λ b xs. Relation d Inner ts b xs) (IsOver (suc d) ts) (r.typed d inner a vs)
+  typed_reads : (a : Written) (ts us vs : Marks) (t : Mark) → Add d Inner ts a us → Takes k.Is t us vs → Meets (λ b xs. Relation d Inner ts b xs) (IsOver (suc d) ts) (r.typed d inner a vs)
   unfolding r.typed r.of_type
   typed_reads a ts us vs t q ht =
       let R : Written → Marks → Type 0 = λ b xs. Relation d Inner ts b xs in
       meets_then (λ p ws. Path vs p ws) R (IsOver (suc d) ts) (r.path vs) _ (path_reads _ vs)
       (λ p ws hp. if_meets R (IsOver (suc d) ts) (sees k.In ws) _ _
       (λ e. let s = sees_takes k.In ws e in
-      after_step (λ b xs. Sums d Inner (next ws) b xs) R (suc d) (suc d) ts (next ws) 0 0
-      (level_then (m.sums_move d Inner advances _ _ _ q) (level_then (takes_moves ht) (level_then (m.path_moves _ _ _ hp) (takes_moves s.1)))) (omega arith)
-      (r.sums d inner (next ws)) _ (sums_read (next ws)) (λ b xs h. g.is_in q ht hp s.1 h))
+      after_step (λ b xs. Add d Inner (next ws) b xs) R (suc d) (suc d) ts (next ws) 0 0
+      (level_then (m.add_move d Inner advances _ _ _ q) (level_then (takes_moves ht) (level_then (m.path_moves _ _ _ hp) (takes_moves s.1)))) (omega arith)
+      (r.add d inner (next ws)) _ (add_read (next ws)) (λ b xs h. g.is_in q ht hp s.1 h))
       (λ e. g.is q ht hp))
 
-  related_reads : (a : Written) (ts us : Marks) → Sums d Inner ts a us → Meets (λ b vs. Relation d Inner ts b vs) (IsOver (suc d) ts) (r.related d inner a us)
+  related_reads : (a : Written) (ts us : Marks) → Add d Inner ts a us → Meets (λ b vs. Relation d Inner ts b vs) (IsOver (suc d) ts) (r.related d inner a us)
   unfolding r.related
   related_reads a ts us q =
       some_meets (λ b vs. Relation d Inner ts b vs) (IsOver (suc d) ts) (sign_at relation_sign_of us) (Ok (a, us)) _ (g.alone q)
       (λ sign o. let s = sign_there relation_sign_of sign us o in
-      let q' = subst (λ (xs : Marks). Sums d Inner ts a xs) s.1 q in
-      after_step (λ b vs. Sums d Inner (next us) b vs) (λ b vs. Relation d Inner ts b vs) (suc d) (suc d) ts (next us) 0 0
-      (level_then (m.sums_move d Inner advances _ _ _ q') (sign_moves relation_sign_of m.relation_never s.0 (next us) sign s.2)) (omega arith)
-      (r.sums d inner (next us)) _ (sums_read (next us)) (λ b vs h. g.pair q' s.2 h))
+      let q' = subst (λ (xs : Marks). Add d Inner ts a xs) s.1 q in
+      after_step (λ b vs. Add d Inner (next us) b vs) (λ b vs. Relation d Inner ts b vs) (suc d) (suc d) ts (next us) 0 0
+      (level_then (m.add_move d Inner advances _ _ _ q') (sign_moves relation_sign_of m.relation_never s.0 (next us) sign s.2)) (omega arith)
+      (r.add d inner (next us)) _ (add_read (next us)) (λ b vs h. g.pair q' s.2 h))
 
-  relation_from_reads : (a : Written) (ts us : Marks) → Sums d Inner ts a us → Meets (λ b vs. Relation d Inner ts b vs) (IsOver (suc d) ts) (r.relation_from d inner a us)
+  relation_from_reads : (a : Written) (ts us : Marks) → Add d Inner ts a us → Meets (λ b vs. Relation d Inner ts b vs) (IsOver (suc d) ts) (r.relation_from d inner a us)
   unfolding r.relation_from r.asked r.matched r.pattern
   relation_from_reads a ts us q =
       let R : Written → Marks → Type 0 = λ b vs. Relation d Inner ts b vs in
       if_meets R (IsOver (suc d) ts) (sees k.Has us) _ _
-      (λ e. let t = sees_takes k.Has us e in meets_then (λ p vs. Asked (next us) p vs) R (IsOver (suc d) ts) (r.attributes (next us)) _ (attributes_read _ (next us)) (λ p vs h. g.has q t.1 h))
+      (λ e. let t = sees_takes k.Has us e in meets_then (λ p vs. Attributes (next us) p vs) R (IsOver (suc d) ts) (r.attributes (next us)) _ (attributes_read _ (next us)) (λ p vs h. g.has q t.1 h))
       (λ e1. if_meets R (IsOver (suc d) ts) (sees k.Like us) _ _
       (λ e. let t = sees_takes k.Like us e in
       meets_flat R (IsOver (suc d) ts) (expect k.String (next us)) _ _
@@ -375,15 +375,15 @@ module _ (d : ℕ) (Inner : Rule Written) (inner : Parser Written) (advances : A
 
   relation_reads : Reads (suc d) (Relation d Inner) (r.relation d inner)
   unfolding r.relation
-  relation_reads ts = meets_then (λ a us. Sums d Inner ts a us) (λ b vs. Relation d Inner ts b vs) (IsOver (suc d) ts) (r.sums d inner ts) _ (sums_read ts) (λ a us q. relation_from_reads a ts us q)
+  relation_reads ts = meets_then (λ a us. Add d Inner ts a us) (λ b vs. Relation d Inner ts b vs) (IsOver (suc d) ts) (r.add d inner ts) _ (add_read ts) (λ a us q. relation_from_reads a ts us q)
 
-  ands_read : Reads (suc d) (Ands d Inner) (r.ands d inner)
-  unfolding r.ands
-  ands_read = chain_reads and_sign (r.relation d inner) (Relation d Inner) (suc d) m.and_never (m.relation_moves d Inner advances) relation_reads
+  and_read : Reads (suc d) (And d Inner) (r.and d inner)
+  unfolding r.and
+  and_read = chain_reads and_sign (r.relation d inner) (Relation d Inner) (suc d) m.and_never (m.relation_moves d Inner advances) relation_reads
 
-  ors_read : Reads (suc d) (Ors d Inner) (r.ors d inner)
-  unfolding r.ors
-  ors_read = chain_reads or_sign (r.ands d inner) (Ands d Inner) (suc d) m.or_never (m.ands_move d Inner advances) ands_read
+  or_read : Reads (suc d) (Or d Inner) (r.or d inner)
+  unfolding r.or
+  or_read = chain_reads or_sign (r.and d inner) (And d Inner) (suc d) m.or_never (m.and_move d Inner advances) and_read
 
   choice_reads : (ts : Marks) (t : Mark) → Takes k.If t ts (next ts) → Meets (λ a vs. Expression d Inner ts a vs) (IsOver (suc d) ts) (r.choice d inner ts)
   unfolding r.choice r.branches r.before_else r.behind_else
@@ -408,7 +408,7 @@ module _ (d : ℕ) (Inner : Rule Written) (inner : Parser Written) (advances : A
   expression_reads ts =
       if_meets (λ a us. Expression d Inner ts a us) (IsOver (suc d) ts) (sees k.If ts) _ _
       (λ e. let t = sees_takes k.If ts e in choice_reads ts t.0 t.1)
-      (λ e. meets_as (λ a us. Ors d Inner ts a us) (λ a us. Expression d Inner ts a us) (IsOver (suc d) ts) (IsOver (suc d) ts) (r.ors d inner ts) (ors_read ts) (λ a us o. g.or o) (λ o. o))
+      (λ e. meets_as (λ a us. Or d Inner ts a us) (λ a us. Expression d Inner ts a us) (IsOver (suc d) ts) (IsOver (suc d) ts) (r.or d inner ts) (or_read ts) (λ a us o. g.or o) (λ o. o))
 
 pub nested_reads : (d : ℕ) → Reads d (Nested d) (nested d)
 unfolding nested

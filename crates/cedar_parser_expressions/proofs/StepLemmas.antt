@@ -1,4 +1,4 @@
--- Steps in a row that stand inside one step, as steps beside it.
+-- Steps in a row that are inside one step, as steps beside it.
 use Rattle.std.proofs.Common.{Ok, Err}
 use Rattle.cedar_parser_tokens.specs.Marks.{Marks}
 use Rattle.cedar_parser_tokens.specs.Reading.{Syntax, TooDeep, Outcome, and_then}

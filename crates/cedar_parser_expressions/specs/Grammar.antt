@@ -5,10 +5,10 @@
 --     Expr     = "if" Expr "then" Expr "else" Expr | Or
 --     Or       = And { "||" And }
 --     And      = Relation { "&&" Relation }
---     Relation = Sum [ ("<" | "<=" | ">" | ">=" | "==" | "!=" | "in") Sum | "has" Asked | "like" STR | "is" Path [ "in" Sum ] ]
---     Asked    = STR | IDENT { "." IDENT }
---     Sum      = Product { ("+" | "-") Product }
---     Product  = Unary { "*" Unary }
+--     Relation = Add [ ("<" | "<=" | ">" | ">=" | "==" | "!=" | "in") Add | "has" Attributes | "like" STR | "is" Path [ "in" Add ] ]
+--     Attributes = STR | IDENT { "." IDENT }
+--     Add      = Mult { ("+" | "-") Mult }
+--     Mult     = Unary { "*" Unary }
 --     Unary    = up to four "!" Member | up to four "-" Member
 --     Member   = Primary { "." IDENT | "[" STR "]" | "." IDENT "(" Args ")" }
 --     Primary  = "true" | "false" | NUMBER | STR | Entity | "principal" | "action" | "resource" | "context" | SLOT
@@ -59,18 +59,18 @@ pub data Arguments {A : Type 0} (Item : Rule A) : Marks → List A → Marks →
 pub data Entry (Inner : Rule Written) : Marks → Field → Marks → Type 0 where
   entry : {ts us vs ws : Marks} {c : Content} {a : Written} {t : Mark} → Key ts c us → Takes k.Colon t us vs → Inner vs a ws → Entry Inner ts (record { key = c; value = a }) ws
 
--- ---- what stands behind `has`
+-- ---- what follows `has`
 
 -- The attributes that follow the first one after `has`: { "." IDENT } (Cedar language reference, operators: has).
 pub data Further : Marks → List (List ℕ) → Marks → Type 0 where
   none : {ts : Marks} → Further ts [] ts
   more : {ts us vs ws : Marks} {names : List (List ℕ)} {p t : Mark} → Further ts names us → Takes k.Dot p us vs → Takes k.Identifier t vs ws → Further ts (names ++ t.text ∷ []) ws
 
--- What `has` asks for, as the first attribute and the further ones: STR | IDENT { "." IDENT } (Cedar language reference,
+-- What follows `has`, as the first attribute and the further ones: STR | IDENT { "." IDENT } (Cedar language reference,
 -- operators: has).
-pub data Asked : Marks → Content × List (List ℕ) → Marks → Type 0 where
-  quoted : {ts us : Marks} {c : Content} → Text ts c us → Asked ts (c, []) us
-  words : {ts us vs : Marks} {t : Mark} {names : List (List ℕ)} → Takes k.Identifier t ts us → Further us names vs → Asked ts (Some t.text, names) vs
+pub data Attributes : Marks → Content × List (List ℕ) → Marks → Type 0 where
+  quoted : {ts us : Marks} {c : Content} → Text ts c us → Attributes ts (c, []) us
+  words : {ts us vs : Marks} {t : Mark} {names : List (List ℕ)} → Takes k.Identifier t ts us → Further us names vs → Attributes ts (Some t.text, names) vs
 
 -- ---- expressions
 
@@ -85,8 +85,7 @@ variable_of name =
 abbrev pub slot_of : List ℕ → Option Variable
 slot_of name = if bytes_eq name (codes "?principal") then Some v.Principal else (if bytes_eq name (codes "?resource") then Some v.Resource else None)
 
--- A primary, where d more brackets may open and Inner is what may stand inside them (Cedar language reference, grammar:
--- Primary).
+-- A primary, where d more brackets may open and Inner is what may be inside them (Cedar language reference, grammar: Primary).
 pub data Primary (d : ℕ) (Inner : Rule Written) : Marks → Written → Marks → Type 0 where
   yes : {ts us : Marks} {t : Mark} → Takes k.True t ts us → Primary d Inner ts (w.truth true) us
   no : {ts us : Marks} {t : Mark} → Takes k.False t ts us → Primary d Inner ts (w.truth false) us
@@ -155,15 +154,15 @@ and_sign k.AndAnd = Some chain_sign.And
 and_sign _ = None
 
 -- The signs between the operands of a sum: `+` and `-` (Cedar language reference, grammar: Add).
-abbrev pub sum_sign : TokenKind → Option ChainSign
-sum_sign k.Plus = Some chain_sign.Plus
-sum_sign k.Minus = Some chain_sign.Minus
-sum_sign _ = None
+abbrev pub add_sign : TokenKind → Option ChainSign
+add_sign k.Plus = Some chain_sign.Plus
+add_sign k.Minus = Some chain_sign.Minus
+add_sign _ = None
 
 -- The sign between the operands of a product: `*` (Cedar language reference, grammar: Mult).
-abbrev pub product_sign : TokenKind → Option ChainSign
-product_sign k.Star = Some chain_sign.Times
-product_sign _ = None
+abbrev pub mult_sign : TokenKind → Option ChainSign
+mult_sign k.Star = Some chain_sign.Times
+mult_sign _ = None
 
 -- The signs between the two operands of a relation (Cedar language reference, grammar: RELOP).
 abbrev pub relation_sign_of : TokenKind → Option RelationSign
@@ -177,37 +176,37 @@ relation_sign_of k.In = Some relation_sign.In
 relation_sign_of _ = None
 
 -- A product: Unary { "*" Unary } (Cedar language reference, grammar: Mult).
-abbrev pub Products : ℕ → Rule Written → Rule Written
-Products d Inner = Chain product_sign (Unary d Inner)
+abbrev pub Mult : ℕ → Rule Written → Rule Written
+Mult d Inner = Chain mult_sign (Unary d Inner)
 
--- A sum: Product { ("+" | "-") Product } (Cedar language reference, grammar: Add).
-abbrev pub Sums : ℕ → Rule Written → Rule Written
-Sums d Inner = Chain sum_sign (Products d Inner)
+-- A sum: Mult { ("+" | "-") Mult } (Cedar language reference, grammar: Add).
+abbrev pub Add : ℕ → Rule Written → Rule Written
+Add d Inner = Chain add_sign (Mult d Inner)
 
 -- A sum alone, two sums with a sign between them, or a sum with what `has`, `like` or `is` say of it (Cedar language reference,
 -- grammar: Relation).
 pub data Relation (d : ℕ) (Inner : Rule Written) : Marks → Written → Marks → Type 0 where
-  alone : {ts us : Marks} {a : Written} → Sums d Inner ts a us → Relation d Inner ts a us
-  pair : {ts us vs : Marks} {a b : Written} {t : Mark} {sign : RelationSign} → Sums d Inner ts a (t ∷ us) → relation_sign_of t.kind ≡ Some sign → Sums d Inner us b vs
+  alone : {ts us : Marks} {a : Written} → Add d Inner ts a us → Relation d Inner ts a us
+  pair : {ts us vs : Marks} {a b : Written} {t : Mark} {sign : RelationSign} → Add d Inner ts a (t ∷ us) → relation_sign_of t.kind ≡ Some sign → Add d Inner us b vs
       → Relation d Inner ts (w.relation sign a b) vs
-  has : {ts us vs ws : Marks} {a : Written} {path : Content × List (List ℕ)} {t : Mark} → Sums d Inner ts a us → Takes k.Has t us vs → Asked vs path ws → Relation d Inner ts (w.has a path.0 path.1) ws
-  like : {ts us vs ws : Marks} {a : Written} {t s : Mark} → Sums d Inner ts a us → Takes k.Like t us vs → Takes k.String s vs ws → Relation d Inner ts (w.like a (pattern_of s.letters)) ws
-  is : {ts us vs ws : Marks} {a : Written} {ty : List ℕ} {t : Mark} → Sums d Inner ts a us → Takes k.Is t us vs → Path vs ty ws → Relation d Inner ts (w.is a ty) ws
-  is_in : {ts us vs ws xs ys : Marks} {a b : Written} {ty : List ℕ} {t s : Mark} → Sums d Inner ts a us → Takes k.Is t us vs → Path vs ty ws → Takes k.In s ws xs → Sums d Inner xs b ys
+  has : {ts us vs ws : Marks} {a : Written} {path : Content × List (List ℕ)} {t : Mark} → Add d Inner ts a us → Takes k.Has t us vs → Attributes vs path ws → Relation d Inner ts (w.has a path.0 path.1) ws
+  like : {ts us vs ws : Marks} {a : Written} {t s : Mark} → Add d Inner ts a us → Takes k.Like t us vs → Takes k.String s vs ws → Relation d Inner ts (w.like a (pattern_of s.letters)) ws
+  is : {ts us vs ws : Marks} {a : Written} {ty : List ℕ} {t : Mark} → Add d Inner ts a us → Takes k.Is t us vs → Path vs ty ws → Relation d Inner ts (w.is a ty) ws
+  is_in : {ts us vs ws xs ys : Marks} {a b : Written} {ty : List ℕ} {t s : Mark} → Add d Inner ts a us → Takes k.Is t us vs → Path vs ty ws → Takes k.In s ws xs → Add d Inner xs b ys
       → Relation d Inner ts (w.is_in a ty b) ys
 
 -- Relations with `&&` between them: Relation { "&&" Relation } (Cedar language reference, grammar: And).
-abbrev pub Ands : ℕ → Rule Written → Rule Written
-Ands d Inner = Chain and_sign (Relation d Inner)
+abbrev pub And : ℕ → Rule Written → Rule Written
+And d Inner = Chain and_sign (Relation d Inner)
 
 -- Ands with `||` between them: And { "||" And } (Cedar language reference, grammar: Or).
-abbrev pub Ors : ℕ → Rule Written → Rule Written
-Ors d Inner = Chain or_sign (Ands d Inner)
+abbrev pub Or : ℕ → Rule Written → Rule Written
+Or d Inner = Chain or_sign (And d Inner)
 
 -- An Or, or `if`, `then` and `else` with an expression each, inside which one more is open (Cedar language reference, grammar:
 -- Expr).
 pub data Expression (d : ℕ) (Inner : Rule Written) : Marks → Written → Marks → Type 0 where
-  or : {ts us : Marks} {a : Written} → Ors d Inner ts a us → Expression d Inner ts a us
+  or : {ts us : Marks} {a : Written} → Or d Inner ts a us → Expression d Inner ts a us
   choice : {ts c0 c1 a0 a1 b0 us : Marks} {i t e : Mark} {c a b : Written} → Opens d k.If i ts c0 → Inner c0 c c1 → Takes k.Then t c1 a0 → Inner a0 a a1 → Takes k.Else e a1 b0 → Inner b0 b us
       → Expression d Inner ts (w.choice c a b) us
 

@@ -1,5 +1,5 @@
--- Reading expressions from left to right, looking at two tokens, as the functions of this crate do. What an expression is is
--- said by the grammar in `specs/Grammar.antt`, and what a reading gives is proved to be that (own).
+-- Reading expressions from left to right, looking at two tokens, as the functions of this crate do. The grammar in
+-- `specs/Grammar.antt` says what an expression is, and what a reading gives is proved to be that (own).
 use Rattle.std.specs.Prelude.{ℕ, zero, suc, true, false, Bool, ◌||◌, ◌==◌, if◌then◌else◌, List, [], ◌∷◌, ◌++◌, length, Option, Some, None, Ok, Err}
 use Rattle.cedar_text.specs.declared.token_kind.TokenKind.{TokenKind}
 use Rattle.cedar_text.specs.declared.token_kind.TokenKind.TheVariants as k
@@ -18,7 +18,7 @@ use Rattle.cedar_parser_tokens.specs.Content.{Content}
 use Rattle.cedar_parser_tree.specs.Written as w
 use Rattle.cedar_parser_tree.specs.Written.{Written, members_of}
 use Rattle.cedar_parser_tree.specs.WrittenKind.{fields_of}
-use Rattle.cedar_parser_expressions.specs.Grammar.{variable_of, slot_of, chained, or_sign, and_sign, sum_sign, product_sign, relation_sign_of}
+use Rattle.cedar_parser_expressions.specs.Grammar.{variable_of, slot_of, chained, or_sign, and_sign, add_sign, mult_sign, relation_sign_of}
 
 -- A reading goes past a token that opens where d more may, and is refused where none may (own).
 unfoldable pub open_one : ℕ → Parser (Unit {0})
@@ -46,8 +46,8 @@ module _ {A : Type 0} (item : Parser A) where
 abbrev pub signs_of : ChainLevel → TokenKind → Option ChainSign
 signs_of level.Or = or_sign
 signs_of level.And = and_sign
-signs_of level.Sum = sum_sign
-signs_of level.Product = product_sign
+signs_of level.Add = add_sign
+signs_of level.Mult = mult_sign
 
 -- The first operand, and the links that were read after it (own).
 abbrev pub behind : Written → Outcome (List Link) → Outcome Written
@@ -108,13 +108,13 @@ further_from (suc n) names ts = if sees k.Dot ts then and_then (expect k.Identif
 unfoldable pub further : Parser (List (List ℕ))
 further ts = further_from (length ts) [] ts
 
--- What `has` asks for is read (Cedar language reference, operators: has).
+-- The attributes after `has` are read (Cedar language reference, operators: has).
 unfoldable pub attributes : Parser (Content × List (List ℕ))
 attributes ts =
     if sees k.String ts then and_then (text ts) (λ c us. Ok ((c, []), us))
     else and_then (expect k.Identifier ts) (λ t us. and_then (further us) (λ names vs. Ok ((Some t.text, names), vs)))
 
--- What follows `has` is read, with what it is asked of to its left (Cedar language reference, grammar: Relation).
+-- What follows `has` is read, with the operand to its left (Cedar language reference, grammar: Relation).
 unfoldable pub asked : Written → Parser Written
 asked left ts = and_then (attributes ts) (λ path us. Ok (w.has left path.0 path.1, us))
 
@@ -122,7 +122,7 @@ asked left ts = and_then (attributes ts) (λ path us. Ok (w.has left path.0 path
 unfoldable pub pattern : Parser (List Element)
 pattern ts = and_then (expect k.String ts) (λ t us. Ok (pattern_of t.letters, us))
 
--- What follows `like` is read, with what it is asked of to its left (Cedar language reference, grammar: Relation).
+-- What follows `like` is read, with the operand to its left (Cedar language reference, grammar: Relation).
 unfoldable pub matched : Written → Parser Written
 matched left ts = and_then (pattern ts) (λ p us. Ok (w.like left p, us))
 
@@ -130,7 +130,7 @@ matched left ts = and_then (pattern ts) (λ p us. Ok (w.like left p, us))
 unfoldable pub indexed : ℕ → Parser Link
 indexed d ts = and_then (open_one d ts) (λ o us. and_then (text us) (λ c vs. and_then (expect k.RightBracket vs) (λ r ws. Ok (Attribute c, ws))))
 
--- d more brackets may open, and inner reads what stands inside them
+-- d more brackets may open, and inner reads what is inside them
 module _ (d : ℕ) (inner : Parser Written) where
   -- An expression in brackets is read (Cedar language reference, grammar: Primary).
   unfoldable pub group : Parser Written
@@ -218,25 +218,25 @@ module _ (d : ℕ) (inner : Parser Written) where
   unary ts = if sees k.Minus ts then minuses 4 ts else nots 4 ts
 
   -- A product is read (Cedar language reference, grammar: Mult).
-  unfoldable pub products : Parser Written
-  products = chain product_sign unary
+  unfoldable pub mult : Parser Written
+  mult = chain mult_sign unary
 
   -- A sum is read (Cedar language reference, grammar: Add).
-  unfoldable pub sums : Parser Written
-  sums = chain sum_sign products
+  unfoldable pub add : Parser Written
+  add = chain add_sign mult
 
   -- What follows `is` and a type is read: `in` and a sum, or nothing (Cedar language reference, grammar: Relation).
   unfoldable pub of_type : Written → List ℕ → Parser Written
-  of_type left ty ts = if sees k.In ts then and_then (sums (next ts)) (λ right us. Ok (w.is_in left ty right, us)) else Ok (w.is left ty, ts)
+  of_type left ty ts = if sees k.In ts then and_then (add (next ts)) (λ right us. Ok (w.is_in left ty right, us)) else Ok (w.is left ty, ts)
 
-  -- What follows `is` is read, with what it is asked of to its left (Cedar language reference, grammar: Relation).
+  -- What follows `is` is read, with the operand to its left (Cedar language reference, grammar: Relation).
   unfoldable pub typed : Written → Parser Written
   typed left ts = and_then (path ts) (λ ty us. of_type left ty us)
 
   -- The sign of a relation and the sum after it are read, or nothing (Cedar language reference, grammar: Relation).
   unfoldable pub related : Written → Parser Written
   related left ts =
-      on_some (sign_at relation_sign_of ts) (Ok (left, ts)) (λ sign. and_then (sums (next ts)) (λ right us. Ok (w.relation sign left right, us)))
+      on_some (sign_at relation_sign_of ts) (Ok (left, ts)) (λ sign. and_then (add (next ts)) (λ right us. Ok (w.relation sign left right, us)))
 
   -- What follows the first sum of a relation is read (Cedar language reference, grammar: Relation).
   unfoldable pub relation_from : Written → Parser Written
@@ -247,22 +247,22 @@ module _ (d : ℕ) (inner : Parser Written) where
 
   -- A relation is read (Cedar language reference, grammar: Relation).
   unfoldable pub relation : Parser Written
-  relation ts = and_then (sums ts) (λ left us. relation_from left us)
+  relation ts = and_then (add ts) (λ left us. relation_from left us)
 
   -- Relations with `&&` between them are read (Cedar language reference, grammar: And).
-  unfoldable pub ands : Parser Written
-  ands = chain and_sign relation
+  unfoldable pub and : Parser Written
+  and = chain and_sign relation
 
   -- Ands with `||` between them are read (Cedar language reference, grammar: Or).
-  unfoldable pub ors : Parser Written
-  ors = chain or_sign ands
+  unfoldable pub or : Parser Written
+  or = chain or_sign and
 
   -- An operand of a level of chains is read (Cedar language reference, grammar: Or, And, Add, Mult).
   abbrev pub operand_of : ChainLevel → Parser Written
-  operand_of level.Or = ands
+  operand_of level.Or = and
   operand_of level.And = relation
-  operand_of level.Sum = products
-  operand_of level.Product = unary
+  operand_of level.Add = mult
+  operand_of level.Mult = unary
 
   -- The signs and operands that follow the first one of a level of chains are read (Cedar language reference, grammar: Or, And,
   -- Add, Mult).
@@ -291,7 +291,7 @@ module _ (d : ℕ) (inner : Parser Written) where
 
   -- An expression is read where d more brackets may open (Cedar language reference, grammar: Expr).
   unfoldable pub expression : Parser Written
-  expression ts = if sees k.If ts then choice ts else ors ts
+  expression ts = if sees k.If ts then choice ts else or ts
 
 -- An expression is read with less than so many brackets and `if`s open at one place (Cedar language reference, grammar: Expr;
 -- own in the limit).

@@ -10,6 +10,10 @@ use cedar_value::Text;
 use std::alloc::{AllocError, Global};
 
 /// Parses the path of attributes after `has` (Cedar language reference, operators: has).
+///
+/// # Errors
+///
+/// 1 when out of memory, 201 where the tokens do not begin with one.
 #[tactic(auto, unfolding(crate::specs::Reading::attributes))]
 pub fn parse_attribute_path(
     alloc: Global,

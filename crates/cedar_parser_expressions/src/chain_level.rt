@@ -8,7 +8,7 @@ pub enum ChainLevel {
     /// Operands of `&&`.
     And,
     /// Operands of `+` and `-`.
-    Sum,
+    Add,
     /// Operands of `*`.
-    Product,
+    Mult,
 }

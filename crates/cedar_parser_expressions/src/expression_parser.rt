@@ -1,5 +1,5 @@
-//! The parser of expressions, level by level. What parses an expression in brackets is a parameter, so that each level is proved
-//! by itself.
+//! The parser of expressions, level by level. The parser of an expression in brackets is a parameter, so that each level is
+//! proved by itself.
 ghost use Rattle.std.specs.Prelude.{◌≡◌};
 ghost use Rattle.cedar_parser_expressions.specs.Reading as spec;
 ghost use Rattle.cedar_parser_tokens.specs.Contract.{Reads, ReadsItems};
@@ -93,18 +93,18 @@ impl<F: Fn(Global, &mut Cursor<'_>, u8) -> Result<Written, ParseFault>> Expressi
         Ok(found)
     }
 
-    #[tactic(auto, unfolding(crate::specs::Reading::ors))]
+    #[tactic(auto, unfolding(crate::specs::Reading::or))]
     fn parse_or(&self, tokens: &mut Cursor<'_>) -> Result<Written, ParseFault>
         requires { Nests self.now.depth (F.pre self.now.inner) (F.post self.now.inner) }
-        ensures { Reads (spec.ors self.now.depth (spec.nested self.now.depth) tokens.old) result tokens.new }
+        ensures { Reads (spec.or self.now.depth (spec.nested self.now.depth) tokens.old) result tokens.new }
     {
         self.parse_chain(tokens, ChainLevel::Or, ExpressionParser::parse_and)
     }
 
-    #[tactic(auto, unfolding(crate::specs::Reading::ands))]
+    #[tactic(auto, unfolding(crate::specs::Reading::and))]
     fn parse_and(&self, tokens: &mut Cursor<'_>) -> Result<Written, ParseFault>
         requires { Nests self.now.depth (F.pre self.now.inner) (F.post self.now.inner) }
-        ensures { Reads (spec.ands self.now.depth (spec.nested self.now.depth) tokens.old) result tokens.new }
+        ensures { Reads (spec.and self.now.depth (spec.nested self.now.depth) tokens.old) result tokens.new }
     {
         self.parse_chain(tokens, ChainLevel::And, ExpressionParser::parse_relation)
     }
@@ -206,20 +206,20 @@ impl<F: Fn(Global, &mut Cursor<'_>, u8) -> Result<Written, ParseFault>> Expressi
         }
     }
 
-    #[tactic(auto, unfolding(crate::specs::Reading::sums))]
+    #[tactic(auto, unfolding(crate::specs::Reading::add))]
     fn parse_add(&self, tokens: &mut Cursor<'_>) -> Result<Written, ParseFault>
         requires { Nests self.now.depth (F.pre self.now.inner) (F.post self.now.inner) }
-        ensures { Reads (spec.sums self.now.depth (spec.nested self.now.depth) tokens.old) result tokens.new }
+        ensures { Reads (spec.add self.now.depth (spec.nested self.now.depth) tokens.old) result tokens.new }
     {
-        self.parse_chain(tokens, ChainLevel::Sum, ExpressionParser::parse_mult)
+        self.parse_chain(tokens, ChainLevel::Add, ExpressionParser::parse_mult)
     }
 
-    #[tactic(auto, unfolding(crate::specs::Reading::products))]
+    #[tactic(auto, unfolding(crate::specs::Reading::mult))]
     fn parse_mult(&self, tokens: &mut Cursor<'_>) -> Result<Written, ParseFault>
         requires { Nests self.now.depth (F.pre self.now.inner) (F.post self.now.inner) }
-        ensures { Reads (spec.products self.now.depth (spec.nested self.now.depth) tokens.old) result tokens.new }
+        ensures { Reads (spec.mult self.now.depth (spec.nested self.now.depth) tokens.old) result tokens.new }
     {
-        self.parse_chain(tokens, ChainLevel::Product, ExpressionParser::parse_unary)
+        self.parse_chain(tokens, ChainLevel::Mult, ExpressionParser::parse_unary)
     }
 
     #[tactic(auto, unfolding(crate::specs::Reading::unary))]
@@ -691,6 +691,10 @@ fn parse_slot(tokens: &mut Cursor<'_>) -> Result<Written, ParseFault>
 }
 
 /// Parses an expression with fewer than `depth` brackets and `if`s open at one place.
+///
+/// # Errors
+///
+/// 1 when out of memory, 201 where the tokens do not begin with an expression, 202 where it nests too deep.
 pub fn parse_expression(
     alloc: Global,
     tokens: &mut Cursor<'_>,

@@ -1,6 +1,8 @@
-//! The grammar of expressions of the Cedar policy language, and their reading from tokens (Cedar language reference, grammar).
+//! The grammar of expressions, and the reading of expressions from tokens.
 //!
 //! ```
+//! use cedar_parser_expressions::parse_expression;
+//!
 //! let source = "1 + 2";
 //! let tokens = spelled_tokens(rt.alloc(), source)?;
 //! let mut cursor = tokens.cursor(source.len());
@@ -8,8 +10,8 @@
 //! assert!(rt; matches!(written.kind(), WrittenKind::Chain(_, _)));
 //! ```
 //!
-//! The grammar is defined in `specs/Grammar.antt`, level by level, and what a reading gives in `specs/Reading.antt`. The tree as
-//! written is that of cedar_parser_tree; statements are read in cedar_parser_statements.
+//! The grammar is defined in `specs/Grammar.antt`, level by level, and the results of reading in `specs/Reading.antt`. The tree
+//! of an expression as it is written is in cedar_parser_tree, and the reader of statements in cedar_parser_statements.
 #![tactic(auto)]
 
 mod attribute_path;

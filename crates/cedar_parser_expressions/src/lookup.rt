@@ -15,9 +15,9 @@ pub fn chain_sign(level: ChainLevel, kind: Option<TokenKind>) -> Option<ChainSig
     match (level, kind?) {
         (ChainLevel::Or, TokenKind::OrOr) => Some(ChainSign::Or),
         (ChainLevel::And, TokenKind::AndAnd) => Some(ChainSign::And),
-        (ChainLevel::Sum, TokenKind::Plus) => Some(ChainSign::Plus),
-        (ChainLevel::Sum, TokenKind::Minus) => Some(ChainSign::Minus),
-        (ChainLevel::Product, TokenKind::Star) => Some(ChainSign::Times),
+        (ChainLevel::Add, TokenKind::Plus) => Some(ChainSign::Plus),
+        (ChainLevel::Add, TokenKind::Minus) => Some(ChainSign::Minus),
+        (ChainLevel::Mult, TokenKind::Star) => Some(ChainSign::Times),
         _ => None,
     }
 }

@@ -88,7 +88,7 @@ links_join c (Operand s a) ls p q = (p, q)
 links_join c (Attribute k) ls p q = (p, q)
 links_join c (Method n ms) ls p q = (p, q)
 
--- what the parts from a place on keep, and the part there with those behind
+-- what the parts from a place on keep, and the part there with those after
 pub links_here : (c : SideCondition) (ls : List Link) (i : ℕ) (x : Link) → i < length ls → x ≡ get_or ls i x → KeepLinks c (links_of (drop i ls)) → KeepLink c x × KeepLinks c (links_of (drop (i + 1) ls))
 links_here c ls i x lt e h = links_split c x (drop (i + 1) ls) (subst (λ (ys : List Link). KeepLinks c (links_of ys)) (from_place ls i x lt e) h)
 
@@ -123,7 +123,7 @@ step_grouped a (Operand s b) ls = refl
 step_grouped a (Attribute c) ls = refl
 step_grouped a (Method n ms) ls = refl
 
--- links behind an expression, one after the other
+-- links after an expression, one after another
 pub grouped-fold : (a : Expression) (ls : List Link) → grouped a (links_of ls) ≡ fold behind a ls
 grouped-fold a [] = refl
 grouped-fold a (l ∷ ls) = step_grouped a l ls ∙ grouped-fold (behind a l) ls
@@ -134,7 +134,7 @@ fold-one : {A B : Type 0} (f : A → B → A) (a : A) (xs : List B) (x : B) → 
 fold-one f a [] x = refl
 fold-one f a (y ∷ xs) x = fold-one f (f a y) xs x
 
--- one more link behind an expression
+-- one more link after an expression
 pub behind_next : (a : Expression) (ls : List Link) (i : ℕ) (x : Link) → i < length ls → x ≡ get_or ls i x → fold behind a (take (i + 1) ls) ≡ behind (fold behind a (take i ls)) x
 behind_next a ls i x lt e = ap (fold behind a) (take_next ls i x lt e) ∙ fold-one behind a (take i ls) x
 
@@ -151,7 +151,7 @@ keys_one : (key : Content) (a : Written) (fs : Fields) → IsSome key → keys_i
 keys_one (Some k) a fs h = refl
 keys_one None a fs h = absurd cc
 
--- Where each key stands for a text, the keys are these texts.
+-- Where each key denotes a text, the keys are these texts.
 pub keys_map : (fs : List Field) → KeepFields Strings (fields_of fs) → keys_in (fields_of fs) ≡ map (λ (f : Field). text_of f.key) fs
 keys_map [] h = refl
 keys_map (f ∷ fs) h = keys_one f.key f.value (fields_of fs) h.0.0 ∙ ap (λ ks. text_of f.key ∷ ks) (keys_map fs h.1)
@@ -172,7 +172,7 @@ distinct_with : (key : Content) (a : Written) (fs : Fields) → All (λ k. text_
 distinct_with None a fs p h = h
 distinct_with (Some k) a fs p h = AllPairs-cons (λ x y. x ≢ y) k (keys_in fs) p h
 
--- Where no two texts are the same, what stands for none counted as the empty one, no key stands twice.
+-- Where no two texts are the same, what denotes none counted as the empty one, no key is repeated.
 pub distinct_keys : (fs : List Field) → AreDistinct (map (λ (f : Field). text_of f.key) fs) → AreDistinct (keys_in (fields_of fs))
 distinct_keys [] h = h
 distinct_keys (f ∷ fs) h =

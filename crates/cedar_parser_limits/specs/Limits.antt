@@ -14,7 +14,7 @@ use Rattle.cedar_parser_limits.specs.Meaning.{function_of, method_of}
 
 -- ---- side conditions
 
--- A string outside a pattern stands for a text, so it has no `\*` (Cedar language reference, operators: like).
+-- A string outside a pattern denotes a string value, so it has no `\*` (Cedar language reference, operators: like).
 abbrev pub Stands : SideCondition → Content → Type 0
 Stands Strings c = IsSome c
 Stands _ c = Unit {0}
@@ -39,7 +39,7 @@ abbrev pub count_of : Members → ℕ
 count_of no_members = 0
 count_of (member a ms) = suc (count_of ms)
 
--- How many arguments a method takes: `isEmpty` none, each other one (Cedar language reference, functions).
+-- How many arguments a method takes: `isEmpty` none, all others one (Cedar language reference, functions).
 abbrev pub arity_of : Method → ℕ
 arity_of IsEmpty = 0
 arity_of (Binary op) = 1
@@ -58,7 +58,7 @@ abbrev pub HasArity : SideCondition → Option ℕ → Members → Type 0
 HasArity Counts (Some n) ms = count_of ms ≡ n
 HasArity _ arity ms = Unit {0}
 
--- The keys of a record that stand for texts, in order (Cedar language reference, data types: Record).
+-- The keys of a record that denote strings, in order (Cedar language reference, data types: Record).
 abbrev pub keys_in : Fields → List (List ℕ)
 keys_in no_fields = []
 keys_in (field None a fs) = keys_in fs
@@ -116,7 +116,7 @@ abbrev mutual
 
 -- ---- sizes
 
--- The size of no tree (own).
+-- The size of an empty list of trees (own).
 abbrev pub nothing : Size
 nothing = record { nodes = 0; height = 0 }
 
@@ -137,7 +137,7 @@ abbrev pub above_both : Size → Size → Size
 above_both a b = record { nodes = suc (a.nodes + b.nodes); height = suc (max a.height b.height) }
 
 abbrev mutual
-  -- The size of an expression: how many nodes its tree has, and how many are on its longest way down (own).
+  -- The size of an expression: how many nodes its tree has, and how many are on its longest path down (own).
   pub size_of : Expression → Size
   size_of (e.literal d) = leaf
   size_of (e.variable x) = leaf

@@ -51,32 +51,32 @@ method_of name =
     else (if bytes_eq name (codes "greaterThanOrEqual") then Some (m.Binary operator.DecimalGreaterEqual)
     else (if bytes_eq name (codes "isEmpty") then Some m.IsEmpty else None)))))))
 
--- The call of a function of one argument; a call without a function of the name or with other arguments is refused, and this is
--- not its meaning (Cedar language reference, functions).
+-- The call of a function of one argument. A call of an unknown function or with other arguments is refused, and this is not its
+-- meaning (Cedar language reference, functions).
 abbrev pub called : Option UnaryOperator → Expressions → Expression
 called (Some op) (e.and_then a e.no_more) = e.unary op a
 called _ _ = e.literal (datum.boolean false)
 
--- A method of one argument or of none; a method that there is not or that has other arguments is refused, and this is not its
--- meaning (Cedar language reference, functions).
+-- A method of one argument or of none. An unknown method, or one with other arguments, is refused, and this is not its meaning
+-- (Cedar language reference, functions).
 abbrev pub applied : Option Method → Expression → Expressions → Expression
 applied (Some (m.Binary op)) left (e.and_then a e.no_more) = e.binary op left a
 applied (Some m.IsEmpty) left e.no_more = e.unary IsEmpty left
 applied _ left _ = left
 
--- What was asked so far and then, for each further attribute, whether the place so far has it; the next place is that attribute
+-- The tests so far and then, for each further attribute, whether the place so far has it; the next place is that attribute
 -- (Cedar language reference, operators: has).
 abbrev pub asked_from : (asked place : Expression) → List (List ℕ) → Expression
 asked_from asked place [] = asked
 asked_from asked place (a ∷ more) = asked_from (e.and asked (e.unary (Has a) place)) (e.unary (Get a) place) more
 
--- What `has` asks: `x has a.b.c` is `(x has a && x.a has b) && x.a.b has c` (Cedar language reference, operators: has).
+-- What `has` tests: `x has a.b.c` is `(x has a && x.a has b) && x.a.b has c` (Cedar language reference, operators: has).
 abbrev pub asked_of : Expression → (first : List ℕ) → (more : List (List ℕ)) → Expression
 asked_of x a more = asked_from (e.unary (Has a) x) (e.unary (Get a) x) more
 
 abbrev mutual
-  -- The expression that is written: brackets are gone, chains group to the left, `x is T in e` asks both of x; a slot is
-  -- refused, so its meaning says nothing (Cedar language reference, operators).
+  -- The expression that is written: brackets are gone, chains group to the left, `x is T in e` tests both of x. A slot is
+  -- refused, so its meaning does not matter (Cedar language reference, operators).
   pub to_expression : Written → Expression
   to_expression (truth b) = e.literal (datum.boolean b)
   to_expression (number n) = e.literal (datum.long (pos n))

@@ -73,7 +73,8 @@ pub record KeepsStatement (c : SideCondition) (s : StatementTree) : Type 0 where
   pub resource : KeepsEntityScope c Resource s.scope.resource
   pub conditions : KeepConditions c s.conditions
 
--- The size of the condition of the policy that a statement is: of its scope and all of its conditions as one expression (own).
+-- The size of the condition of the policy that a statement writes: of its scope and all of its conditions as one expression
+-- (own).
 unfoldable pub condition_size : StatementTree → Size
 condition_size s = size_of (condition_of (to_policy [] s))
 
@@ -83,7 +84,7 @@ pub record IsWithinLimits (s : StatementTree) : Type 0 where
   pub low : (condition_size s).height ≤ max_height
   pub small : (condition_size s).nodes ≤ max_nodes
 
--- A refused statement breaks the side condition or the limit of its refusal; out of memory says nothing of it (own).
+-- A refused statement breaks the side condition or the limit of its refusal. Out of memory says nothing about it (own).
 abbrev pub Breaks : StatementTree → ParseFault → Type 0
 Breaks s f.OutOfMemory = Unit {0}
 Breaks s (f.EscapedStar at) = KeepsStatement Strings s → ⊥

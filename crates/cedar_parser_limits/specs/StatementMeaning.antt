@@ -121,8 +121,8 @@ abbrev pub id_in : List WrittenAnnotation → Option Content
 id_in [] = None
 id_in (a ∷ xs) = if bytes_eq a.name (codes "id") then Some a.value else id_in xs
 
--- The id of the statement at a position from 0 as it is written: the value of its annotation `id`, else `policyN`; there is
--- none where the annotation stands for no text (own).
+-- The id of the statement at a position from 0 as it is written: the value of its annotation `id`, else `policyN`. There is
+-- none where the annotation denotes no string (own).
 abbrev pub written_id : ℕ → StatementTree → Content
 written_id n s = unwrap_or (id_in s.annotations) (Some (codes "policy" ++ decimal n))
 
@@ -139,8 +139,8 @@ id_at n s = text_of (written_id n s)
 abbrev pub statement_of : ℕ → StatementTree → Statement
 statement_of n s = to_statement (id_at n s) s
 
--- The set with the policies and templates of statements entered one after the other, the first of which is at this position
--- (own).
+-- The set after the policies and templates of statements are entered, one after another. The first statement is at this
+-- position (own).
 abbrev pub entered_from : PolicySetTree → ℕ → List StatementTree → PolicySetTree
 entered_from set n [] = set
 entered_from set n (s ∷ ss) = entered_from (entered set (statement_of n s)) (n + 1) ss

@@ -16,8 +16,8 @@ use cedar_parser_tree::{Field, Link, Written, WrittenKind};
 use cedar_value::Name;
 use std::alloc::{AllocError, Global};
 
-/// Where an expression breaks a side condition, in bytes from 0, if it does. A string that denotes no text counts as an
-/// empty key: that a key is repeated is true only where each string denotes a text.
+/// The place where an expression breaks a side condition, in bytes from 0, if it does. A string that denotes no text counts as
+/// an empty key. So the answer that a key is repeated is right only where each string denotes a text.
 #[cycle(breach)]
 pub fn expression_breach(
     alloc: Global,
@@ -178,7 +178,7 @@ fn field_breach(
     expression_breach(alloc, condition, &field.value)
 }
 
-/// Where a string breaks the side condition.
+/// The place where a string breaks the side condition.
 pub fn content_breach(condition: SideCondition, content: &Content) -> Option<usize>
     ensures { MatchOption result (Stands condition content.now) (λ at. Stands condition content.now → ⊥) }
 {

@@ -1,4 +1,4 @@
-//! The size of the condition that a statement is written for.
+//! The size of the condition that a statement writes.
 ghost use Rattle.std.specs.Prelude.{◌≡◌, map};
 ghost use Rattle.cedar_ast.specs.Condition.{entity_scope_of, action_scope_of, asked_by, conditions_of, entity_literal};
 ghost use Rattle.cedar_ast_expressions.specs.Expression.{expressions_of};
@@ -18,7 +18,7 @@ use cedar_parser_tree::{
     WrittenActionScope, WrittenCondition, WrittenEntityScope, WrittenStatement,
 };
 
-/// The size of the condition of the policy that a statement is, a slot counted as a literal.
+/// The size of the condition of the policy that a statement writes. A slot counts as a literal.
 #[tactic(auto, unfolding(crate::specs::StatementLimits::condition_size))]
 pub fn condition_size(statement: &WrittenStatement) -> Size
     ensures { result ≡ capped (condition_size statement.now) }

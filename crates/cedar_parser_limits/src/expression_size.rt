@@ -1,4 +1,4 @@
-//! Sizes of the trees that expressions are written for.
+//! Sizes of the trees that expressions write.
 ghost use Rattle.std.specs.Prelude.{◌≡◌, Some};
 ghost use Rattle.cedar_ast_expressions.specs.Expression.{Expression};
 ghost use Rattle.cedar_parser_tree.specs.Written.{chain, members_of};
@@ -15,7 +15,7 @@ use crate::functions::{Method, is_function, method_of};
 use crate::size::{Size, leaf, nothing};
 use cedar_parser_tree::{Field, Link, RelationSign, Written, WrittenKind};
 
-/// The size of the tree that an expression is written for.
+/// The size of the tree that an expression writes.
 #[cycle(expression_size)]
 pub fn expression_size(written: &Written) -> Size
     ensures { result ≡ capped (size_of (to_expression written.now)) }

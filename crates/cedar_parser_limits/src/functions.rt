@@ -1,14 +1,14 @@
-//! Functions and methods by their names.
+//! Functions and methods, found by their names.
 ghost use Rattle.std.specs.Prelude.{◌≡◌, is_some};
 ghost use Rattle.cedar_parser_limits.specs.Meaning.{function_of, method_of};
 ghost use Rattle.cedar_parser_limits.specs.Limits.{function_arity, method_arity};
 
 use cedar_ast_expressions::{BinaryOperator, UnaryOperator};
 
-/// What a method asks of the operand before it (Cedar language reference, functions).
+/// What a method requires of the operand before it (Cedar language reference, functions).
 #[derive(Clone, Copy)]
 pub enum Method {
-    /// Whether the set has no members; without arguments.
+    /// `isEmpty`: whether the set has no members. It takes no arguments.
     IsEmpty,
     /// An operator whose right operand is the one argument.
     Binary(BinaryOperator),

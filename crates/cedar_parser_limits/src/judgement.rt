@@ -1,4 +1,4 @@
-//! What a statement must keep beside the grammar.
+//! Checks of a statement beyond the grammar.
 ghost use Rattle.std.specs.Prelude.{◌≡◌, ◌≤◌, IfOk, IfErr, MatchOption, OnOk, map};
 ghost use Rattle.cedar_parser_limits.specs.StatementLimits.{KeepsReference, KeepsEntityScope, KeepUids, KeepsActionScope, HasDistinctNames, KeepAnnotations, KeepConditions, KeepsStatement, condition_size, IsWithinLimits, Breaks};
 ghost use Rattle.cedar_parser_limits.specs.Limits.{max_height, max_nodes};
@@ -24,10 +24,21 @@ const MAX_HEIGHT: usize = 2_000;
 /// How many nodes the condition of a statement may have.
 const MAX_NODES: usize = 100_000;
 
-/// Refuses a statement that breaks a side condition or a limit: 103 for the escape `\*` outside a pattern, 104 for a
-/// number above 9223372036854775807, 203 for a key that is repeated in a record, 205 for an unknown function or method,
-/// 206 for a wrong number of arguments, 207 for a slot elsewhere than in its variable's scope, 208 for an
-/// annotation that is repeated, 202 for a condition that is too high, 209 for one that is too large, in this order.
+/// Refuses a statement that breaks a side condition or a limit.
+///
+/// # Errors
+///
+/// 1 when out of memory. The others are checked in this order:
+///
+/// - 103: the escape `\*` is outside a pattern.
+/// - 104: a number is above 9223372036854775807, or after a minus sign above 9223372036854775808.
+/// - 203: a key is repeated in a record.
+/// - 205: a function or method is unknown.
+/// - 206: a function or method has a wrong number of arguments.
+/// - 207: a slot is elsewhere than in its variable's scope.
+/// - 208: an annotation is repeated.
+/// - 202: the condition is too high.
+/// - 209: the condition is too large.
 pub fn judge(alloc: Global, statement: &WrittenStatement) -> Result<(), ParseFault>
     ensures kept { OnOk result (IsWithinLimits statement.now) }
     ensures broken { IfErr result (Breaks statement.now) }
@@ -101,7 +112,7 @@ fn judge_side_condition(
     }
 }
 
-// Where a statement breaks a side condition, if it does.
+// The place where a statement breaks a side condition, if it does.
 fn statement_breach(
     alloc: Global,
     condition: SideCondition,

@@ -1,7 +1,8 @@
-//! What a statement of the Cedar policy language must keep beside the grammar: side conditions, and the limits of its condition
-//! (Cedar language reference, grammar).
+//! What a statement must keep beside the grammar: side conditions, and the limits of its condition.
 //!
 //! ```
+//! use cedar_parser_limits::judge;
+//!
 //! let source = "permit(principal, action, resource) when { principal.isEmpty(1) };";
 //! let tokens = spelled_tokens(rt.alloc(), source)?;
 //! let mut cursor = tokens.cursor(source.len());
@@ -9,9 +10,9 @@
 //! assert!(rt; matches!(judge(rt.alloc(), &written), Err(ParseFault::Arity(_))));
 //! ```
 //!
-//! The expression that is written is defined in `specs/Meaning.antt`, the policy or template that a statement is in
-//! `specs/StatementMeaning.antt`, side conditions and limits in `specs/Limits.antt` and `specs/StatementLimits.antt`. Statements
-//! are read in cedar_parser_statements, and made into policies in cedar_parser.
+//! The expression that a text writes is defined in `specs/Meaning.antt`, the policy or template that a statement writes in
+//! `specs/StatementMeaning.antt`, side conditions and limits in `specs/Limits.antt` and `specs/StatementLimits.antt`.
+//! Statements are read in cedar_parser_statements, and made into policies in cedar_parser.
 #![tactic(auto)]
 
 mod attribute_path_size;

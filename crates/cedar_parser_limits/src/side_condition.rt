@@ -1,4 +1,4 @@
-//! What a statement must keep beside the grammar.
+//! The side conditions of the grammar.
 
 /// A side condition of the grammar (Cedar language reference, grammar).
 #[derive(Clone, Copy, Debug, PartialEq, Eq)]

@@ -3,16 +3,16 @@ ghost use Rattle.std.specs.Prelude.{◌≡◌};
 ghost use Rattle.cedar_parser_limits.specs.Limits.{nothing, leaf, above, above_both, both};
 ghost use Rattle.cedar_parser_limits.specs.Private.Capped.{capped};
 
-/// How many nodes a tree has, and how many are on its longest way down. Both stop at the greatest `usize`.
+/// How many nodes a tree has, and how many are on its longest path down. Both stop at the greatest `usize`.
 #[derive(Clone, Copy, Debug)]
 pub struct Size {
     /// The nodes.
     pub nodes: usize,
-    /// The nodes on the longest way down.
+    /// The nodes on the longest path down.
     pub height: usize,
 }
 
-/// The size of no tree.
+/// The size of an empty list of trees.
 pub fn nothing() -> Size
     ensures { result ≡ nothing }
 {

@@ -15,7 +15,7 @@ use Rattle.cedar_parser_tree.specs.Written.{Written, truth, number, negative, te
 use Rattle.cedar_parser_tree.specs.WrittenKind.{links_of, fields_of}
 use Rattle.cedar_parser_tree.specs.StatementTree.{StatementTree}
 use Rattle.cedar_parser_expressions.specs.Grammar as g
-use Rattle.cedar_parser_expressions.specs.Grammar.{Series, Arguments, Entry, Primary, Suffixes, Member, Signed, Unary, Operands, Chain, chained, or_sign, and_sign, sum_sign, product_sign, Products, Sums}
+use Rattle.cedar_parser_expressions.specs.Grammar.{Series, Arguments, Entry, Primary, Suffixes, Member, Signed, Unary, Operands, Chain, chained, or_sign, and_sign, add_sign, mult_sign, Mult, Add}
 use Rattle.cedar_parser_statements.specs.Earlier as o
 use Rattle.cedar_parser_statements.specs.Earlier.{EarlierRelation, EarlierOrs, EarlierExpression, EarlierNested, EarlierBlock, EarlierConditions, EarlierStatement, EarlierStatements}
 
@@ -162,8 +162,8 @@ module _ (d : ℕ) (R : Rule Written) (f : Free R) where
   unary_free ts a us (g.nots p) = signed_free k.Not w.not (λ b h. h) 4 _ _ _ p
   unary_free ts a us (g.minuses p) = signed_free k.Minus minus minus_free 4 _ _ _ p
 
-  sums_free : Free (Sums d R)
-  sums_free = chain_free sum_sign (Products d R) (chain_free product_sign (Unary d R) unary_free)
+  sums_free : Free (Add d R)
+  sums_free = chain_free add_sign (Mult d R) (chain_free mult_sign (Unary d R) unary_free)
 
   relation_free : Free (EarlierRelation d R)
   relation_free ts a us (o.alone h) = sums_free _ _ _ h

@@ -10,7 +10,7 @@ use Rattle.cedar_parser_tree.specs.declared.written_statement.WrittenCondition.{
 use Rattle.cedar_parser_tree.specs.Written.{Written}
 use Rattle.cedar_parser_tree.specs.StatementTree.{StatementTree}
 use Rattle.cedar_parser_expressions.specs.Grammar as g
-use Rattle.cedar_parser_expressions.specs.Grammar.{Series, Arguments, Entry, Primary, Suffixes, Member, Signed, Unary, Operands, Chain, or_sign, and_sign, sum_sign, product_sign, Products, Sums, Relation, Ors, Expression, Nested}
+use Rattle.cedar_parser_expressions.specs.Grammar.{Series, Arguments, Entry, Primary, Suffixes, Member, Signed, Unary, Operands, Chain, or_sign, and_sign, add_sign, mult_sign, Mult, Add, Relation, Or, Expression, Nested}
 use Rattle.cedar_parser_statements.specs.Statements as s
 use Rattle.cedar_parser_statements.specs.Statements.{Block, Conditions, Statement, Statements}
 use Rattle.cedar_parser_statements.specs.Earlier as o
@@ -74,8 +74,8 @@ module _ (d : ℕ) (R S : Rule Written) (f : Within R S) where
   unary_within ts a us (g.nots p) = g.nots (signed_within _ _ _ _ _ _ p)
   unary_within ts a us (g.minuses p) = g.minuses (signed_within _ _ _ _ _ _ p)
 
-  sums_within : Within (Sums d R) (Sums d S)
-  sums_within = chain_within sum_sign (Products d R) (Products d S) (chain_within product_sign (Unary d R) (Unary d S) unary_within)
+  sums_within : Within (Add d R) (Add d S)
+  sums_within = chain_within add_sign (Mult d R) (Mult d S) (chain_within mult_sign (Unary d R) (Unary d S) unary_within)
 
   relation_within : Within (EarlierRelation d R) (Relation d S)
   relation_within ts a us (o.alone h) = g.alone (sums_within _ _ _ h)
@@ -86,7 +86,7 @@ module _ (d : ℕ) (R S : Rule Written) (f : Within R S) where
   relation_within ts a us (o.is h t p) = g.is (sums_within _ _ _ h) t p
   relation_within ts a us (o.is_in h t p q i) = g.is_in (sums_within _ _ _ h) t p q (sums_within _ _ _ i)
 
-  ors_within : Within (EarlierOrs d R) (Ors d S)
+  ors_within : Within (EarlierOrs d R) (Or d S)
   ors_within = chain_within or_sign (Chain and_sign (EarlierRelation d R)) (Chain and_sign (Relation d S)) (chain_within and_sign (EarlierRelation d R) (Relation d S) relation_within)
 
   expression_within : Within (EarlierExpression d R) (Expression d S)

@@ -37,7 +37,7 @@ pub annotation_moves : Advances Annotation
 annotation_moves ts a us (s.annotation p e h l c r) =
     level_then (takes_moves p) (level_then (any_word_moves e h) (moves_then 0 0 (takes_moves l) (moves_then 0 1 (text_moves _ _ _ c) (takes_moves r) (omega arith)) (omega arith)))
 
--- Annotations may be none, so they move together with what stands behind them.
+-- Annotations may be none, so they move together with what follows them.
 pub annotations_then : {ts us vs : Marks} {xs : List WrittenAnnotation} {g l : ℕ} → Annotations ts xs us → Moves us vs g l → Moves ts vs g l
 annotations_then s.none m = m
 annotations_then {g = g} {l = l} (s.more a b) m = annotations_then a (moves_then g l (annotation_moves _ _ _ b) m (omega arith))
@@ -72,7 +72,7 @@ scopes_move ts a us (s.scope l p c q d r e) =
 pub block_moves : (d : ℕ) → Advances (Block d)
 block_moves d ts a us (s.block l i r) = moves_then 0 0 (takes_moves l) (moves_then 0 1 (nested_moves d _ _ _ i) (takes_moves r) (omega arith)) (omega arith)
 
--- Conditions may be none, so they move together with what stands behind them.
+-- Conditions may be none, so they move together with what follows them.
 pub conditions_then : (d : ℕ) {ts us vs : Marks} {cs : List WrittenCondition} {g l : ℕ} → Conditions d ts cs us → Moves us vs g l → Moves ts vs g l
 conditions_then d s.none m = m
 conditions_then d {g = g} {l = l} (s.more c t k b) m = conditions_then d c (moves_then g l (takes_moves t) (moves_then g l (block_moves d _ _ _ b) m (omega arith)) (omega arith))

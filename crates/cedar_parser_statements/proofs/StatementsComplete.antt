@@ -103,7 +103,7 @@ referred_yes {ts = ts} (g.entity e) = known_if_false _ _ (entity_no_slot e) (kno
 referred_yes {ts = ts} {us = us} (g.slot {t = t} h e) =
     known_if_true _ _ (sees_yes h) (known_step (λ t us. r.slot_read t (slot_of t.text) us) (expect_yes h) (ap (λ (o : Option Variable). r.slot_read t o us) e))
 
--- what may stand behind a scope: no `==`, `in`, `is` or `::`
+-- what may be after a scope: no `==`, `in`, `is` or `::`
 pub record Ends (us : Marks) : Type 0 where
   pub no_equal : sees k.Equal us ≡ false
   pub no_in : sees k.In us ≡ false

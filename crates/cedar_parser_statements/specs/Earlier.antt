@@ -1,6 +1,6 @@
 -- The grammar as it was before `has` could have a path of attributes, from the level on that this changes.
 --
---     Relation = Sum [ ("<" | "<=" | ">" | ">=" | "==" | "!=" | "in") Sum | "has" Key | "like" STR | "is" Path [ "in" Sum ] ]
+--     Relation = Add [ ("<" | "<=" | ">" | ">=" | "==" | "!=" | "in") Add | "has" Key | "like" STR | "is" Path [ "in" Add ] ]
 --
 -- (Cedar language reference, grammar)
 use Rattle.std.specs.Prelude.{◌≡◌, ℕ, zero, suc, List, [], ◌∷◌, ◌++◌, Some}
@@ -16,20 +16,20 @@ use Rattle.cedar_parser_tree.specs.declared.sign.RelationSign.{RelationSign}
 use Rattle.cedar_parser_tree.specs.declared.written_statement.WrittenAnnotation.{WrittenAnnotation}
 use Rattle.cedar_parser_tree.specs.declared.written_statement.WrittenCondition.{WrittenCondition}
 use Rattle.cedar_parser_tree.specs.declared.written_statement.WrittenScope.{WrittenScope}
-use Rattle.cedar_parser_expressions.specs.Grammar.{Opens, Chain, or_sign, and_sign, relation_sign_of, Sums}
+use Rattle.cedar_parser_expressions.specs.Grammar.{Opens, Chain, or_sign, and_sign, relation_sign_of, Add}
 use Rattle.cedar_parser_tree.specs.StatementTree.{StatementTree}
 use Rattle.cedar_parser_statements.specs.Statements.{Annotations, Scopes, effect_of, condition_kind_of}
 
 -- A relation as it was: after `has` comes one key (Cedar language reference, grammar: Relation).
 pub data EarlierRelation (d : ℕ) (Inner : Rule Written) : Marks → Written → Marks → Type 0 where
-  alone : {ts us : Marks} {a : Written} → Sums d Inner ts a us → EarlierRelation d Inner ts a us
-  pair : {ts us vs : Marks} {a b : Written} {t : Mark} {sign : RelationSign} → Sums d Inner ts a (t ∷ us) → relation_sign_of t.kind ≡ Some sign → Sums d Inner us b vs
+  alone : {ts us : Marks} {a : Written} → Add d Inner ts a us → EarlierRelation d Inner ts a us
+  pair : {ts us vs : Marks} {a b : Written} {t : Mark} {sign : RelationSign} → Add d Inner ts a (t ∷ us) → relation_sign_of t.kind ≡ Some sign → Add d Inner us b vs
       → EarlierRelation d Inner ts (w.relation sign a b) vs
-  has : {ts us vs ws : Marks} {a : Written} {c : Content} {t : Mark} → Sums d Inner ts a us → Takes k.Has t us vs → Key vs c ws → EarlierRelation d Inner ts (w.has a c []) ws
-  like : {ts us vs ws : Marks} {a : Written} {t s : Mark} → Sums d Inner ts a us → Takes k.Like t us vs → Takes k.String s vs ws
+  has : {ts us vs ws : Marks} {a : Written} {c : Content} {t : Mark} → Add d Inner ts a us → Takes k.Has t us vs → Key vs c ws → EarlierRelation d Inner ts (w.has a c []) ws
+  like : {ts us vs ws : Marks} {a : Written} {t s : Mark} → Add d Inner ts a us → Takes k.Like t us vs → Takes k.String s vs ws
       → EarlierRelation d Inner ts (w.like a (pattern_of s.letters)) ws
-  is : {ts us vs ws : Marks} {a : Written} {ty : List ℕ} {t : Mark} → Sums d Inner ts a us → Takes k.Is t us vs → Path vs ty ws → EarlierRelation d Inner ts (w.is a ty) ws
-  is_in : {ts us vs ws xs ys : Marks} {a b : Written} {ty : List ℕ} {t s : Mark} → Sums d Inner ts a us → Takes k.Is t us vs → Path vs ty ws → Takes k.In s ws xs → Sums d Inner xs b ys
+  is : {ts us vs ws : Marks} {a : Written} {ty : List ℕ} {t : Mark} → Add d Inner ts a us → Takes k.Is t us vs → Path vs ty ws → EarlierRelation d Inner ts (w.is a ty) ws
+  is_in : {ts us vs ws xs ys : Marks} {a b : Written} {ty : List ℕ} {t s : Mark} → Add d Inner ts a us → Takes k.Is t us vs → Path vs ty ws → Takes k.In s ws xs → Add d Inner xs b ys
       → EarlierRelation d Inner ts (w.is_in a ty b) ys
 
 -- Chains as they were, of relations as they were: Or = And { "||" And }, And = Relation { "&&" Relation } (Cedar language

@@ -1,5 +1,5 @@
--- Reading statements from left to right, as the functions of this crate do. What a statement is is said by the grammar in
--- `specs/Statements.antt`, and what a reading gives is proved to be that (own).
+-- Reading statements from left to right, as the functions of this crate do. The grammar in `specs/Statements.antt` says what a
+-- statement is, and what a reading gives is proved to be that (own).
 use Rattle.std.specs.Prelude.{ℕ, zero, suc, List, [], ◌∷◌, ◌++◌, length, Option, Some, None, Ok, Err, option_and_then, codes, if◌then◌else◌}
 use Rattle.std.specs.Str.{bytes_eq}
 use Rattle.cedar_ast_expressions.specs.declared.variable.Variable.{Variable}

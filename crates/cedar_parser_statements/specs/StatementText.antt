@@ -22,8 +22,8 @@ HasStatement s us (Ok found) left = (found ≡ s) × (left ≡ us)
 HasStatement s us (Err f.OutOfMemory) left = Unit {0}
 HasStatement s us (Err _) left = ⊥
 
--- The tokens are refused since they begin with no statement, or since more brackets open than may; out of memory says nothing
--- of them (own).
+-- The tokens are refused since they do not begin with a statement, or since more brackets open than may. Out of memory says
+-- nothing about them (own).
 abbrev pub HasStatementFault : Marks → ParseFault → Type 0
 HasStatementFault ts f.OutOfMemory = Unit {0}
 HasStatementFault ts (f.Syntax at) = (d : ℕ) (s : StatementTree) (us : Marks) → Statement d ts s us → ⊥

@@ -1,6 +1,8 @@
-//! The grammar of Cedar policies: statements as they are written, read from tokens (Cedar language reference, grammar).
+//! The grammar of statements, and the reading of statements from tokens.
 //!
 //! ```
+//! use cedar_parser_statements::parse_statement;
+//!
 //! let source = "permit(principal, action, resource);";
 //! let tokens = spelled_tokens(rt.alloc(), source)?;
 //! let mut cursor = tokens.cursor(source.len());

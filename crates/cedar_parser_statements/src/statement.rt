@@ -20,19 +20,21 @@ const MAX_OPEN: u8 = 100;
 
 /// Parses a statement, with which the tokens that are left begin (Cedar language reference, grammar: policies).
 ///
-/// Refusals: 1; 201 where they do not begin with a statement; 202 where more than 100 brackets and `if`s are open at one place
-/// of a condition.
+/// # Errors
+///
+/// 1 when out of memory; 201 where the tokens do not begin with a statement; 202 where more than 100 brackets and `if`s are
+/// open at one place of a condition.
 pub fn parse_statement(
     alloc: Global,
     tokens: &mut Cursor<'_>,
 ) -> Result<WrittenStatement, ParseFault>
-    // What is answered is a statement that the tokens begin with, and it is taken.
+    // The result is a statement that the tokens begin with, and its tokens are taken.
     ensures found { IfOk result (λ s. IsStatement tokens.old s tokens.new) }
-    // A statement that they begin with is what is answered, unless memory runs out.
+    // If the tokens begin with a statement, it is the result, unless memory runs out.
     ensures only { (s : StatementTree) (us : Marks) → IsStatement tokens.old s us → HasStatement s us result tokens.new }
-    // Each fault comes only where it is.
+    // Each fault is reported only where the tokens have it.
     ensures fault { IfErr result (HasStatementFault tokens.old) }
-    // It is what the reading from left to right gives.
+    // The result is what reading from left to right gives.
     ensures reads { Reads (spec.statement 101 tokens.old) result tokens.new }
 {
     parse_statement_parts(alloc, tokens)

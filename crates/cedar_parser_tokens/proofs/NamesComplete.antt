@@ -16,7 +16,7 @@ use Rattle.cedar_parser_tokens.proofs.Outcomes.{Answers, answers_by}
 
 -- ---- tokens
 
--- another token stands there
+-- another token is there
 pub sees_other : {kind : TokenKind} {t : Mark} {ts us : Marks} (wanted : TokenKind) → Takes kind t ts us → same_kind kind wanted ≡ false → sees wanted ts ≡ false
 unfolding sees
 sees_other wanted h e = ap (sees wanted) h.whole ∙ ap (λ q. same_kind q wanted) h.is ∙ e

@@ -1,4 +1,4 @@
--- A string with neither a quote nor a backslash stands for its own bytes.
+-- A string with neither a quote nor a backslash denotes its own bytes.
 use Rattle.std.proofs.Common.{◌≡◌, refl, sym, ap, subst, ◌∙◌, ℕ, ◌<◌, Bool, true, cond, not, eqb, List, [], ◌∷◌, ◌++◌, Some, None, inl, inr, arith}
 use Rattle.std.specs.Prelude.{encode_utf8}
 use Rattle.std.specs.Char.{IsScalar}
@@ -25,7 +25,7 @@ pub plain_string : (bs : List ℕ) → list_all is_plain_byte bs ≡ true → Is
 plain_string [] h = s.empty
 plain_string (b ∷ bs) h = let p = and_parts (is_plain_byte b) (list_all is_plain_byte bs) h in s.plain (not_quote b p.0) (not_backslash b p.0) (plain_string bs p.1)
 
--- The letters of a text stand for it.
+-- The letters of a text denote it.
 pub record Letters (bs : List ℕ) : Type 0 where
   pub letters : List Letter
   pub written : AreWritten bs letters

@@ -61,7 +61,7 @@ lexeme_at kind at text = record { kind = kind; start = at; text = text; number =
 abbrev quoted : List ℕ → List ℕ
 quoted id = 34 ∷ id ++ 34 ∷ []
 
--- what stands behind the path
+-- what follows the path
 abbrev ending : List ℕ → List ℕ
 ending id = codes "::" ++ quoted id
 
@@ -76,7 +76,7 @@ word_cut at word rest ts h stops c = cut.token (identifier_before word rest h st
 
 -- ---- reading
 
--- From a word of the path on, at this byte: the tokens that are left, and the uid that they are behind what was read before.
+-- From a word of the path on, at this byte: the tokens that are left, and the uid that they are after what was read before.
 record Rest (id : List ℕ) (ls : List Letter) (at : ℕ) (word : List ℕ) (others : List (List ℕ)) : Type 0 where
   lexemes : Lexemes
   marks : Marks

@@ -54,7 +54,7 @@ pub length_marks : (ts : List Token) (ls : List (List Letter)) → length ts ≡
 length_marks [] ls = refl
 length_marks (t ∷ ts) ls = ap suc (length_marks ts _)
 
--- behind the last there is none
+-- after the last there is none
 pub none_behind : (kind : TokenKind) (ts : List Token) (ls : List (List Letter)) → length ts < 2 → false ≡ sees kind (next (marks_with (lexemes ts) ls))
 unfolding sees next
 none_behind kind [] ls lt = refl
@@ -63,7 +63,7 @@ none_behind kind (t ∷ u ∷ ts) ls lt = absurd (omega arith)
 
 -- ---- from one turn to the next
 
--- the element at a place, whatever stands for none
+-- the element at a place, whatever denotes none
 same_at_other : (ts : List Token) (i : ℕ) (d e : Token) → i < length ts → get_or ts i d ≡ get_or ts i e
 same_at_other [] i d e lt = absurd (omega arith)
 same_at_other (y ∷ ts) zero d e lt = refl

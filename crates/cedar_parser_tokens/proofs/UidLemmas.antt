@@ -31,7 +31,7 @@ uid_pair {u = u} {v = v} {us = us} {vs = vs} e = let p : ◌≡◌ {A = WrittenU
 pub uid_only : (ts : Marks) (found uid : WrittenUid) (us : Marks) → Entity ts uid [] → r.entity ts ≡ Ok (found, us) → found ≡ uid
 uid_only ts found uid us h e = (uid_pair (sym e ∙ entity_yes h)).0
 
--- Where tokens are left the whole is no uid.
+-- Where tokens are left the whole is not a uid.
 pub uid_longer : (ts us : Marks) (found : WrittenUid) → 0 < length us → r.entity ts ≡ Ok (found, us) → (uid : WrittenUid) → Entity ts uid [] → ⊥
 uid_longer ts us found some e uid h = let p = ap length (uid_pair (sym e ∙ entity_yes h)).1 in omega arith
 
@@ -104,11 +104,11 @@ uid_fault source ms t (f.SlotMisplaced at) e = absurd e
 uid_fault source ms t (f.DuplicateAnnotation at) e = absurd e
 uid_fault source ms t (f.TooLarge at) e = absurd e
 
--- a string with `\*` stands for no text
+-- a string with `\*` denotes no text
 pub uid_star : (c : Option (List ℕ)) → is_some c ≡ false → IsSome c → ⊥
 uid_star c e h = absurd cc
 
--- ---- a text without tokens is no uid's
+-- ---- a text without tokens is not a uid's
 
 pub unread_uid : (uid : Uid) (ms : Marks) (x : ParseFault) → HasMarks ms (Err x) → AnswersUid uid (Err x)
 unread_uid uid ms f.OutOfMemory h = tt

@@ -7,7 +7,7 @@ use Rattle.cedar_parser_tokens.specs.declared.spelled.Spelled.{Spelled}
 use Rattle.cedar_parser_tokens.specs.declared.parse_fault.ParseFault.TheVariants as f
 use Rattle.cedar_parser_tokens.specs.Reading.{Refusal, Syntax, TooDeep, Outcome}
 
--- A refusal is that of the reading, wherever it is reported; out of memory says nothing of the tokens (own).
+-- A refusal is that of the reading, wherever it is reported. Out of memory says nothing about the tokens (own).
 abbrev pub Refuses : {A : Type 0} → Result A Refusal → ParseFault → Type 0
 Refuses o f.OutOfMemory = Unit {0}
 Refuses o (f.Syntax at) = o ≡ Err Syntax

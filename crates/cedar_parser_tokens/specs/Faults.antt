@@ -31,12 +31,12 @@ number_of fault = (reported fault).0
 abbrev pub offset_of : ParseFault → Option ℕ
 offset_of fault = (reported fault).1
 
--- The refusal of a text that has no tokens, which is the lexer's own; out of memory is the one refusal of that name (own).
+-- The refusal of a text that has no tokens, which is the lexer's own. Out of memory is the refusal of the same name (own).
 abbrev pub of_text : TextFault → ParseFault
 of_text t.OutOfMemory = f.OutOfMemory
 of_text fault = f.Text fault
 
--- The text has no tokens since it has this fault; out of memory says nothing of a text and is never such a fault (own).
+-- The text has no tokens since it has this fault. Out of memory says nothing about a text and is never such a fault (own).
 abbrev pub LacksTokens : List ℕ → TextFault → Type 0
 LacksTokens source t.OutOfMemory = ⊥
 LacksTokens source fault = lexer.HasFault source fault

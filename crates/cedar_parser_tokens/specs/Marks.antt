@@ -57,20 +57,20 @@ abbrev pub start_of : Marks → ℕ
 start_of [] = 0
 start_of (t ∷ ts) = t.start
 
--- ---- what letters stand for
+-- ---- what letters denote
 
--- The text that a string with these letters stands for: one with the escape `\*` stands for none (Cedar language reference,
--- grammar: STR).
+-- The text that a string with these letters denotes. With the escape `\*` it denotes none (Cedar language reference, grammar:
+-- STR).
 abbrev pub content_of : List Letter → Content
 content_of ls = plain_text_of ls
 
--- The element of a pattern that a letter stands for: a bare `*` is a star, and each other letter is its character (Cedar
--- language reference, operators: like).
+-- The element of a pattern that a letter denotes: a bare `*` is a star, and each other letter is its character (Cedar language
+-- reference, operators: like).
 abbrev pub element_of : Letter → Element
 element_of (letter.Character c) = element.Character c
 element_of letter.Star = element.Star
 element_of letter.EscapedStar = element.Character 42
 
--- The pattern that a string with these letters stands for (Cedar language reference, operators: like).
+-- The pattern that a string with these letters denotes (Cedar language reference, operators: like).
 abbrev pub pattern_of : List Letter → List Element
 pattern_of ls = map element_of ls

@@ -39,11 +39,11 @@ is_word_kind _ = false
 
 -- ---- texts, paths, uids
 
--- A string is read as the text that it stands for: STR (Cedar language reference, grammar: STR).
+-- A string is read as the text that it denotes: STR (Cedar language reference, grammar: STR).
 pub data Text : Marks → Content → Marks → Type 0 where
   string : {ts us : Marks} {t : Mark} → Takes k.String t ts us → Text ts (content_of t.letters) us
 
--- A key is read as the text that it stands for: IDENT | STR (Cedar language reference, grammar: RecInits).
+-- A key is read as the text that it denotes: IDENT | STR (Cedar language reference, grammar: RecInits).
 pub data Key : Marks → Content → Marks → Type 0 where
   word : {ts us : Marks} {t : Mark} → Takes k.Identifier t ts us → Key ts (Some t.text) us
   string : {ts us : Marks} {c : Content} → Text ts c us → Key ts c us
@@ -57,6 +57,6 @@ pub data Path : Marks → List ℕ → Marks → Type 0 where
 pub data Entity : Marks → WrittenUid → Marks → Type 0 where
   entity : {ts us vs ws : Marks} {p : List ℕ} {s : Content} {c : Mark} → Path ts p us → Takes k.DoubleColon c us vs → Text vs s ws → Entity ts (record { ty = p; id = s }) ws
 
--- The uid that is written, with the empty id where its string stands for no text (Cedar language reference, grammar: Entity).
+-- The uid that is written, with the empty id where its string denotes no text (Cedar language reference, grammar: Entity).
 abbrev pub to_uid : WrittenUid → Uid
 to_uid u = record { ty = u.ty; id = text_of u.id }

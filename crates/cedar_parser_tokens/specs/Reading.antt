@@ -1,5 +1,5 @@
--- Reading names from left to right, looking at two tokens, as the functions of this crate do. What a name is is said by the
--- grammar in `specs/Names.antt`, and what a reader gives is proved to be that (own).
+-- Reading names from left to right, looking at two tokens, as the functions of this crate do. The grammar in `specs/Names.antt`
+-- says what a name is, and what a reader gives is proved to be that (own).
 use Rattle.std.specs.Prelude.{ℕ, zero, suc, false, Bool, ◌&&◌, if◌then◌else◌, List, [], ◌∷◌, ◌++◌, length, Option, Some, None, Result, Ok, Err, option_and_then, codes}
 use denote.Enum.Bare.{sameb}
 use Rattle.cedar_text.specs.contracts.token_kind.TokenKind.{the_type}
@@ -10,7 +10,7 @@ use Rattle.cedar_parser_tokens.specs.Content.{Content}
 use Rattle.cedar_parser_tokens.specs.Marks.{Mark, Marks, content_of}
 use Rattle.cedar_parser_tokens.specs.Names.{is_word_kind}
 
--- Why a reading stops: a token that no text of the grammar goes on with, or a bracket or `if` that nests too deep (own).
+-- Why a reading stops: the grammar does not allow the next token, or a bracket or `if` nests too deep (own).
 pub data Refusal : Type 0 where
   Syntax : Refusal
   TooDeep : Refusal
@@ -75,11 +75,11 @@ any_word (t ∷ ts) = if is_word_kind t.kind then Ok (t, ts) else Err Syntax
 
 -- ---- texts, paths, uids
 
--- A string is read as the text that it stands for (Cedar language reference, grammar: STR).
+-- A string is read as the text that it denotes (Cedar language reference, grammar: STR).
 unfoldable pub text : Parser Content
 text ts = and_then (expect k.String ts) (λ t us. Ok (content_of t.letters, us))
 
--- A key is read as the text that it stands for (Cedar language reference, grammar: RecInits).
+-- A key is read as the text that it denotes (Cedar language reference, grammar: RecInits).
 unfoldable pub key : Parser Content
 key ts = if sees k.String ts then text ts else and_then (expect k.Identifier ts) (λ t us. Ok (Some t.text, us))
 

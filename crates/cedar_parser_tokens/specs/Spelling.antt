@@ -11,7 +11,7 @@ HasMarks ms (Ok found) = found ≡ ms
 HasMarks ms (Err f.OutOfMemory) = Unit {0}
 HasMarks ms (Err _) = ⊥
 
--- A text is refused since it has no tokens, and the refusal is that of its fault; out of memory says nothing of it (own).
+-- A text is refused since it has no tokens, and the refusal is that of its fault. Out of memory says nothing about it (own).
 abbrev pub HasMarksFault : List ℕ → ParseFault → Type 0
 HasMarksFault source f.OutOfMemory = Unit {0}
 HasMarksFault source (f.Text fault) = LacksTokens source fault

@@ -17,8 +17,8 @@ pub record IsUidText (source : List ℕ) (uid : Uid) : Type 0 where
   pub ty : uid.ty ≡ written.ty
   pub id : Some uid.id ≡ written.id
 
--- A text is refused since it has no tokens, since its tokens are not a uid, or since they are one with `\*` in its id; out of
--- memory says nothing of it (own).
+-- A text is refused since it has no tokens, since its tokens are not a uid, or since they are one with `\*` in its id. Out of
+-- memory says nothing about it (own).
 abbrev pub HasUidFault : List ℕ → ParseFault → Type 0
 HasUidFault source f.OutOfMemory = Unit {0}
 HasUidFault source (f.Text fault) = LacksTokens source fault

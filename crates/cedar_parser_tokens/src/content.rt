@@ -5,12 +5,12 @@ use cedar_value::{Name, Text, Uid};
 use std::alloc::{AllocError, Global};
 use std::marker::Model;
 
-/// The text that a string or a word denotes, which contracts see as an option of it: a string with the escape `\*`
-/// denotes none (Cedar language reference, grammar: `STR`).
+/// The text that a string or a word denotes, which contracts see as an `Option`: a string with the escape `\*` denotes none
+/// (Cedar language reference, grammar: `STR`).
 #[derive(Drop)]
 pub struct Content {
     text: Option<Text>,
-    /// Where it is written, or the first `\*` in it, in bytes from 0.
+    /// The place of the string, or of the first `\*` in it, in bytes from 0.
     place: usize,
 }
 
@@ -25,7 +25,7 @@ impl Model for Content {
 impl Content {
     ghost use Rattle.cedar_parser_tokens.specs.Content.{text_of};
 
-    /// This text, if there is one, which is written at the place.
+    /// This text, if there is one, with its place.
     pub fn new(text: Option<Text>, place: usize) -> Content
         ensures { result ≡ text }
     {
@@ -49,7 +49,7 @@ impl Content {
         }
     }
 
-    /// Where it is written, or the first `\*` in it, in bytes from 0.
+    /// The place of the string, or of the first `\*` in it, in bytes from 0.
     pub fn place(&self) -> usize {
         self.place
     }
@@ -83,7 +83,7 @@ impl Content {
 #[derive(Drop)]
 pub struct Word {
     text: Text,
-    /// Where it is written, in bytes from 0.
+    /// The place of the word, in bytes from 0.
     place: usize,
 }
 
@@ -96,7 +96,7 @@ impl Model for Word {
 }
 
 impl Word {
-    /// This word, which is written at the place.
+    /// This word, with its place.
     pub fn read(alloc: Global, text: &str, place: usize) -> Result<Word, AllocError>
         ensures { IfOk result (λ w. w ≡ text.now) }
     {
@@ -113,7 +113,7 @@ impl Word {
         self.text.as_str()
     }
 
-    /// Where it is written, in bytes from 0.
+    /// The place of the word, in bytes from 0.
     pub fn place(&self) -> usize {
         self.place
     }

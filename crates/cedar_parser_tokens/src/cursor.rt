@@ -21,7 +21,7 @@ pub struct Cursor<'t> {
     strings: &'t [Vec<Letter>],
     /// Where the token that was taken last begins, in bytes from 0.
     taken: usize,
-    /// Where a token begins up to which some reading goes on although none was taken, in bytes from 0.
+    /// The greatest place, in bytes from 0, that a reading reached without taking a token.
     reached: usize,
     /// Where the text ends, in bytes from 0.
     end: usize,
@@ -115,7 +115,7 @@ impl<'t> Cursor<'t> {
         }
     }
 
-    /// Takes the next token, which must be of this kind; any other is a fault of the syntax.
+    /// Takes the next token, which must be of this kind. Any other is a syntax error.
     #[tactic(auto, unfolding(crate::specs::Reading::expect))]
     pub fn expect(&mut self, kind: TokenKind) -> Result<Spelled<'t>, ParseFault>
         ensures { TakesToken (spec.expect kind self.old) result self.new }
@@ -132,7 +132,7 @@ impl<'t> Cursor<'t> {
         }
     }
 
-    /// Takes the next token, which must be a word, reserved or not; any other is a fault of the syntax.
+    /// Takes the next token, which must be a word, reserved or not. Any other is a syntax error.
     #[tactic(auto, unfolding(crate::specs::Reading::any_word))]
     pub fn expect_any_word(&mut self) -> Result<Spelled<'t>, ParseFault>
         ensures { TakesToken (any_word self.old) result self.new }
@@ -149,7 +149,7 @@ impl<'t> Cursor<'t> {
         }
     }
 
-    /// Where the next token begins, 0 where there is none.
+    /// The place at which the next token begins, 0 where there is none.
     pub fn start(&self) -> usize
         ensures { result ≡ start_of self.now }
     {
@@ -172,7 +172,7 @@ impl<'t> Cursor<'t> {
         }
     }
 
-    /// Where a fault of the syntax is: the start of the first token at which no reading goes on, or the end of the text.
+    /// The place of a syntax error: the start of the first token at which no reading goes on, or the end of the text.
     pub fn offset(&self) -> usize {
         let next = match self.rest {
             [] => self.end,

@@ -1,12 +1,14 @@
-//! Names, strings and uids of the Cedar policy language, read from tokens (Cedar language reference, grammar).
+//! Names, strings and uids of the Cedar policy language, read from tokens.
 //!
 //! ```
+//! use cedar_parser_tokens::read_uid;
+//!
 //! let uid = read_uid(rt.alloc(), "Photos::Album::\"trip\"")?;
 //! assert_eq!(rt; uid.ty.as_str(), "Photos::Album");
 //! ```
 //!
-//! Tokens are defined in `specs/Marks.antt`, the grammar of names in `specs/Names.antt`, what the text of a uid is in
-//! `specs/UidText.antt`, and what the functions that read from tokens give in `specs/Reading.antt`.
+//! Tokens are defined in `specs/Marks.antt`, the grammar of names in `specs/Names.antt`, the text of a uid in
+//! `specs/UidText.antt`, and the results of the functions that read from tokens in `specs/Reading.antt`.
 #![tactic(auto)]
 
 mod content;

@@ -14,6 +14,10 @@ use cedar_value::{Name, Text};
 use std::alloc::{AllocError, Global};
 
 /// Parses a string (Cedar language reference, grammar: `STR`).
+///
+/// # Errors
+///
+/// 1 when out of memory, 201 where the next token is not a string.
 #[tactic(auto, unfolding(crate::specs::Reading::text))]
 pub fn parse_string(alloc: Global, tokens: &mut Cursor<'_>) -> Result<Content, ParseFault>
     ensures { Reads (spec.text tokens.old) result tokens.new }
@@ -23,6 +27,10 @@ pub fn parse_string(alloc: Global, tokens: &mut Cursor<'_>) -> Result<Content, P
 }
 
 /// Parses the key of a record, a word or a string (Cedar language reference, grammar: `RecInits`).
+///
+/// # Errors
+///
+/// 1 when out of memory, 201 where the next token is neither.
 #[tactic(auto, unfolding(crate::specs::Reading::key))]
 pub fn parse_key(alloc: Global, tokens: &mut Cursor<'_>) -> Result<Content, ParseFault>
     ensures { Reads (spec.key tokens.old) result tokens.new }
@@ -36,6 +44,10 @@ pub fn parse_key(alloc: Global, tokens: &mut Cursor<'_>) -> Result<Content, Pars
 }
 
 /// Parses the name of an entity type (Cedar language reference, grammar: `Path`).
+///
+/// # Errors
+///
+/// 1 when out of memory, 201 where the tokens do not begin with a name.
 #[tactic(auto, unfolding(crate::specs::Reading::path))]
 pub fn parse_path(alloc: Global, tokens: &mut Cursor<'_>) -> Result<Name, ParseFault>
     ensures { Reads (spec.path tokens.old) result tokens.new }
@@ -70,6 +82,10 @@ fn push_identifier(path: &mut String, word: &str) -> Result<(), AllocError>
 }
 
 /// Parses a uid (Cedar language reference, grammar: `Entity`).
+///
+/// # Errors
+///
+/// 1 when out of memory, 201 where the tokens do not begin with a uid.
 #[tactic(auto, unfolding(crate::specs::Reading::entity))]
 pub fn parse_entity(alloc: Global, tokens: &mut Cursor<'_>) -> Result<WrittenUid, ParseFault>
     ensures { Reads (spec.entity tokens.old) result tokens.new }
@@ -79,6 +95,10 @@ pub fn parse_entity(alloc: Global, tokens: &mut Cursor<'_>) -> Result<WrittenUid
 }
 
 /// Parses the rest of a uid whose type has been read.
+///
+/// # Errors
+///
+/// 1 when out of memory, 201 where the rest does not follow.
 #[tactic(auto, unfolding(crate::specs::Reading::uid_of))]
 pub fn parse_entity_of_type(
     alloc: Global,
@@ -92,11 +112,11 @@ pub fn parse_entity_of_type(
     Ok(WrittenUid { ty, id })
 }
 
-/// The law that the identifiers of names, as of those in schemas, are the tokens that are identifiers (Cedar language
-/// reference, grammar: `IDENT`).
+/// The identifiers of names, also of those in schemas, are exactly the tokens that are identifiers (Cedar language reference,
+/// grammar: `IDENT`). A law: it runs no code.
 pub fn one_identifier()
-    // An identifier is a token by itself.
+    // An identifier is one token.
     ensures token { (word : List ℕ) → is_identifier word ≡ true → IsToken Identifier 0 word [] }
-    // What a token that is an identifier is written as is one.
+    // The text of a token that is an identifier is an identifier of names.
     ensures name { (n : ℕ) (word rest : List ℕ) → IsToken Identifier n word rest → is_identifier word ≡ true }
 {}

@@ -6,7 +6,7 @@ use thiserror::Error;
 /// Why a text is not read, with the place of the fault in bytes from 0.
 #[derive(Clone, Copy, Debug, PartialEq, Eq, Error)]
 pub enum ParseFault {
-    /// 1: memory ran out; it says nothing of the text.
+    /// 1: out of memory. It says nothing about the text.
     #[error("out of memory")]
     OutOfMemory,
     /// 101 to 104: the text has no tokens.
@@ -18,28 +18,28 @@ pub enum ParseFault {
     /// 103: the escape `\*` is there, outside a pattern.
     #[error("the escape at {0} is outside a pattern")]
     EscapedStar(usize),
-    /// 201: no text of the grammar goes on with what is there.
+    /// 201: the grammar does not allow the text that is there.
     #[error("the text at {0} is unexpected")]
     Syntax(usize),
-    /// 202: with the bracket or `if` there more than 100 are open in a condition.
+    /// 202: with the bracket or `if` that is there, more than 100 are open in a condition.
     #[error("the bracket or `if` at {0} nests too deep")]
     TooDeep(usize),
     /// 202: the condition of the statement that begins there is higher than 2,000 nodes.
     #[error("the condition of the statement at {0} is too high")]
     TooHigh(usize),
-    /// 203: the key that is written there is in its record already.
+    /// 203: the key that is written there is already in its record.
     #[error("the key at {0} is in its record already")]
     DuplicateKey(usize),
     /// 204: a statement before the one that begins there has the same id.
     #[error("a statement before the one at {0} has its id")]
     DuplicateId(usize),
-    /// 205: there is no function or method of the name there.
+    /// 205: no function or method has the name that is there.
     #[error("there is no function or method of the name at {0}")]
     UnknownFunction(usize),
-    /// 206: the function or method there takes another number of arguments: `isEmpty` none, each other one argument.
+    /// 206: the function or method there takes another number of arguments: `isEmpty` none, all others one.
     #[error("the function or method at {0} takes another number of arguments")]
     Arity(usize),
-    /// 207: the slot there is where none may be.
+    /// 207: there is a slot where none may be.
     #[error("the slot at {0} is where none may be")]
     SlotMisplaced(usize),
     /// 208: an annotation before the one that begins there has its name.
@@ -75,7 +75,7 @@ impl ParseFault {
         }
     }
 
-    /// Where the fault is, in bytes from 0; out of memory is nowhere.
+    /// The place of the fault, in bytes from 0. Out of memory has no place.
     pub fn offset(self) -> Option<usize>
         ensures { result ≡ offset_of self }
     {

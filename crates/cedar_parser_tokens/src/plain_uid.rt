@@ -7,8 +7,8 @@ ghost use Rattle.cedar_parser_tokens.specs.Private.PlainUid.{IsPlainText, is_pla
 use cedar_value::{Name, Text, Uid};
 use std::alloc::{AllocError, Global};
 
-/// The uid of a text in the plain form, as `Photos::User::"ann"`: a path without white space, `::`, and a string with
-/// neither a quote nor a backslash between its quotes. None for another text, of which it says nothing.
+/// The uid of a text in the plain form, for example `Photos::User::"ann"`: a path without white space, `::`, and a string with
+/// neither a quote nor a backslash between its quotes. None for another text; that text may still write a uid.
 pub(crate) fn plain_uid(alloc: Global, source: &str) -> Result<Option<Uid>, AllocError>
     ensures { IfOk result (λ found. IfSome found (IsUidText source.now)) }
 {

@@ -13,7 +13,7 @@ use std::alloc::{AllocError, Global};
 pub struct Spelled<'t> {
     /// The token.
     pub token: &'t Token<'t>,
-    /// The letters of a string, none of another token.
+    /// The letters of a string. Empty for another token.
     pub letters: &'t [Letter],
 }
 
@@ -71,7 +71,7 @@ impl<'t> Spelled<'t> {
     }
 }
 
-// What a letter is in a pattern.
+// The element of a pattern that a letter writes.
 fn element(letter: Letter) -> Element
     ensures { result ≡ element_of letter }
 {

@@ -43,13 +43,15 @@ impl<'t> SpelledTokens<'t> {
 /// The tokens of a text, each string with the letters that it writes (Cedar language reference, grammar). A token takes 32
 /// bytes of memory, a letter of a string 8.
 ///
-/// Refusals: 1; 101 to 104 where the text has no tokens.
+/// # Errors
+///
+/// 1 when out of memory, and 101 to 104 where the text has no tokens.
 pub fn spelled_tokens(alloc: Global, source: &str) -> Result<SpelledTokens<'_>, ParseFault>
-    // What is answered are the tokens of the text.
+    // The result is the tokens of the text.
     ensures found { IfOk result (IsMarked source.now) }
-    // The tokens of the text are what is answered, unless memory runs out.
+    // If the text has tokens, they are the result, unless memory runs out.
     ensures only { (ms : Marks) → IsMarked source.now ms → HasMarks ms result }
-    // Each fault comes only where it is.
+    // Each fault is reported only where the text has it.
     ensures fault { IfErr result (HasMarksFault source.now) }
 {
     // A string has one list of letters.

@@ -12,16 +12,19 @@ use cedar_text::{letters_or_none, one_list, one_spelling, tokens_or_none};
 use cedar_value::Uid;
 use std::alloc::Global;
 
-/// The uid of a text, as `User::"ann"` (Cedar language reference, entity identifiers). It may contain white space and
-/// comments.
+/// The uid of a text, for example `User::"ann"` (Cedar language reference, entity identifiers). The text may contain white
+/// space and comments.
 ///
-/// Refusals: 1; 101 to 104 where the text has no tokens; 103 for the escape `\*` in the id; 201 where the tokens are not a uid.
+/// # Errors
+///
+/// 1 when out of memory; 101 to 104 where the text has no tokens; 103 for the escape `\*` in the id; 201 where the tokens are
+/// not a uid.
 pub fn read_uid(alloc: Global, source: &str) -> Result<Uid, ParseFault>
-    // What is answered is the uid of the text.
+    // The result is the uid of the text.
     ensures found { IfOk result (IsUidText source.now) }
-    // The uid of the text is what is answered, unless memory runs out.
+    // If the text is that of a uid, the uid is the result, unless memory runs out.
     ensures only { (uid : Uids) → IsUidText source.now uid → AnswersUid uid result }
-    // Each fault comes only where it is.
+    // Each fault is reported only where the text has it.
     ensures fault { IfErr result (HasUidFault source.now) }
 {
     // No text is that of two uids.
@@ -52,18 +55,18 @@ fn has_text(content: &Content) -> bool
     }
 }
 
-/// The law that it is decided whether a text is that of a uid, and of which.
+/// A text is that of a uid or of none, and the definitions decide which. A law: it runs no code.
 pub fn uid_or_none()
     ensures { (source : List ℕ) → ((uid : Uids) × IsUidText source uid) ⊎ ((uid : Uids) → IsUidText source uid → ⊥) }
 {
-    // It is decided whether a text has tokens and a string letters, and which.
+    // A text has tokens or none, and a string has letters or none.
     one_list();
     one_spelling();
     tokens_or_none();
     letters_or_none();
 }
 
-/// The law that no text is that of two uids (Cedar language reference, entity identifiers).
+/// No text is that of two uids (Cedar language reference, entity identifiers). A law: it runs no code.
 pub fn one_uid()
     ensures { (source : List ℕ) (uid other : Uids) → IsUidText source uid → IsUidText source other → uid ≡ other }
 {

@@ -22,12 +22,12 @@ mutual
     not : Written → Written
     negated : Written → Written
     relation : RelationSign → Written → Written → Written
-    -- `has`: the first attribute, and those that stand behind it with points between them
+    -- `has`: the first attribute, and those that follow it with points between them
     has : Written → (first : Content) → (more : List (List ℕ)) → Written
     like : Written → List Element → Written
     is : Written → (ty : List ℕ) → Written
     is_in : Written → (ty : List ℕ) → Written → Written
-    -- a first operand, and then what stands behind it
+    -- a first operand, and then what follows it
     chain : Written → Links → Written
     choice : (condition if_true if_false : Written) → Written
     set : Members → Written
@@ -52,19 +52,19 @@ mutual
     no_fields : Fields
     field : (key : Content) → Written → Fields → Fields
 
--- The members that a list of expressions stands for (own).
+-- The members that a list of expressions denotes (own).
 abbrev pub members_of : List Written → Members
 members_of [] = no_members
 members_of (a ∷ xs) = member a (members_of xs)
 
--- A minus sign before an expression: with a number it is one literal, and each other expression it negates (Cedar language
+-- A minus sign before an expression: before a number it makes one literal, and it negates each other expression (Cedar language
 -- reference, grammar: Unary).
 abbrev pub minus : Written → Written
 minus (number n) = negative n
 minus a = negated a
 
 abbrev mutual
-  -- How many parts an expression as written has, by which recursion over it ends (own).
+  -- How many parts an expression as written has. Recursion over it ends because this number falls (own).
   pub parts : Written → ℕ
   parts (truth b) = 1
   parts (number n) = 1

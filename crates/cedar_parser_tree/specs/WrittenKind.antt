@@ -1,4 +1,4 @@
--- The tree that a form of the code stands for (own).
+-- The tree that a form of the code denotes (own).
 use Rattle.std.specs.Prelude.{List, [], ◌∷◌}
 use Rattle.cedar_parser_tree.specs.Written as w
 use Rattle.cedar_parser_tree.specs.Written.{Written, Links, no_links, Fields, no_fields, field, members_of}
@@ -8,19 +8,19 @@ use Rattle.cedar_parser_tree.specs.declared.written.Field.{Field}
 use Rattle.cedar_parser_tree.specs.declared.written.WrittenKind.{WrittenKind}
 use Rattle.cedar_parser_tree.specs.declared.written.WrittenKind.TheVariants.{Truth, Number, Negative, Text, Entity, Variable, Slot, Group, Not, Negated, Relation, Has, Like, Is, IsIn, Chain, If, Set, Record, Call}
 
--- The links of a chain that a list of the code stands for (own).
+-- The links of a chain that a list of the code denotes (own).
 abbrev pub links_of : List Link → Links
 links_of [] = no_links
 links_of (Operand sign a ∷ ls) = w.operand sign a (links_of ls)
 links_of (Attribute c ∷ ls) = w.attribute c (links_of ls)
 links_of (Method name ms ∷ ls) = w.method name (members_of ms) (links_of ls)
 
--- The entries of a record that a list of the code stands for (own).
+-- The entries of a record that a list of the code denotes (own).
 abbrev pub fields_of : List Field → Fields
 fields_of [] = no_fields
 fields_of (f ∷ fs) = field f.key f.value (fields_of fs)
 
--- The expression as it is written that a form of the code stands for, its parts being trees (own).
+-- The expression as it is written that a form of the code denotes, its parts being trees (own).
 abbrev pub written_of : WrittenKind → Written
 written_of (Truth b) = w.truth b
 written_of (Number start n) = w.number n

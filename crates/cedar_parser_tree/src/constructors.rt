@@ -49,7 +49,7 @@ pub fn not(alloc: Global, operand: Written) -> Result<Written, AllocError>
     Ok(Written::new(WrittenKind::Not(operand)))
 }
 
-/// `-` before an operand; with a number directly after it, it is one literal.
+/// `-` before an operand. With a number directly after it, it is one literal.
 pub fn minus(alloc: Global, operand: Written) -> Result<Written, AllocError>
     ensures { IfOk result (λ w. w ≡ tree.minus operand) }
 {

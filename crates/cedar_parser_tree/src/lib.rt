@@ -1,13 +1,15 @@
-//! Statements and expressions of the Cedar policy language as they are written (Cedar language reference, grammar).
+//! The tree of statements and expressions as they are written.
 //!
 //! ```
+//! use cedar_parser_tree::{Written, WrittenKind, not};
+//!
 //! let flag = Written::new(WrittenKind::Truth(true));
 //! let denied = not(rt.alloc(), flag)?;
 //! assert!(rt; matches!(denied.kind(), WrittenKind::Not(_)));
 //! ```
 //!
 //! The tree as written is defined in `specs/Written.antt` and `specs/StatementTree.antt`, the grammar in
-//! cedar_parser_expressions and cedar_parser_statements, and the conditions beside the grammar in cedar_parser_limits.
+//! cedar_parser_expressions and cedar_parser_statements, and the conditions beyond the grammar in cedar_parser_limits.
 #![tactic(auto)]
 
 mod attribute_path;

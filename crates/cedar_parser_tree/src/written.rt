@@ -11,7 +11,7 @@ use cedar_parser_tokens::{Content, Word, WrittenUid};
 use cedar_value::Name;
 use std::marker::Model;
 
-/// The form of an expression as it is written. Chains are lists, so that no text makes a tree deeper than its brackets nest.
+/// The form of an expression as it is written. Chains are lists, so a tree is never deeper than the brackets of its text nest.
 #[cycle(written)]
 #[derive(Drop)]
 pub enum WrittenKind {

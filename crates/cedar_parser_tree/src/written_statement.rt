@@ -37,7 +37,7 @@ pub enum Reference {
     Slot(usize, Variable),
 }
 
-/// What a scope asks of the principal or the resource, as it is written.
+/// What a scope requires of the principal or the resource, as it is written.
 #[derive(Drop)]
 pub enum WrittenEntityScope {
     /// Nothing.
@@ -83,7 +83,7 @@ impl WrittenUids {
     }
 }
 
-/// What a scope asks of the action, as it is written.
+/// What a scope requires of the action, as it is written.
 #[derive(Drop)]
 pub enum WrittenActionScope {
     /// Nothing.
@@ -99,11 +99,11 @@ pub enum WrittenActionScope {
 /// A scope as it is written.
 #[derive(Drop)]
 pub struct WrittenScope {
-    /// What is asked of the principal.
+    /// What the principal has to be.
     pub principal: WrittenEntityScope,
-    /// What is asked of the action.
+    /// What the action has to be.
     pub action: WrittenActionScope,
-    /// What is asked of the resource.
+    /// What the resource has to be.
     pub resource: WrittenEntityScope,
 }
 
@@ -114,7 +114,7 @@ pub struct WrittenStatement {
     pub start: usize,
     /// Its annotations, in order.
     pub annotations: Vec<WrittenAnnotation>,
-    /// Its first word.
+    /// Its effect, which is its first word after the annotations.
     pub effect: Effect,
     /// The scope between the round brackets.
     pub scope: WrittenScope,

@@ -68,7 +68,7 @@ module _ (names : ℕ → List SchemaFault) (e : SchemaFault) where
       | inr y ↦ Contains-append_right (form_faults names f) (rows_faults names rs) e (named_rows rs p y h)
     ]
 
--- ---- so many names can be followed one after the other
+-- ---- so many names can be followed one after another
 
 abbrev Follows : (ℕ → List ℕ) → ℕ → ℕ → Type 0
 Follows links zero u = Unit {0}

@@ -15,7 +15,7 @@ use Rattle.cedar_schema_spec.specs.SchemaTree.{SchemaTree, ActionTree, environme
 use Rattle.cedar_schema_spec.specs.Private.Environments.{with_principals, with_resources}
 use Rattle.cedar_schema_spec.specs.WellFormed.{environment_cmp, AreEnvironmentsInOrder, AreListsDeclared, AreDeclaredTypes, IsListedInOrder}
 
--- ---- lists one after the other
+-- ---- lists one after another
 
 below_append : {A : Type 0} (P : A → Type 0) (xs ys : List A) → AllByRecursion P xs → AllByRecursion P ys → AllByRecursion P (xs ++ ys)
 below_append P [] ys h g = g

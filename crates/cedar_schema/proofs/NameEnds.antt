@@ -37,7 +37,7 @@ colon_in (x ∷ xs) ys = or_later (nat_eq 58 x) _ (colon_in xs ys)
 tails : (a b : ℕ) (xs ys : List ℕ) → a ∷ xs ≡ b ∷ ys → xs ≡ ys
 tails a b xs ys h = cc
 
--- behind their last colons two equal texts are equal
+-- after their last colons two equal texts are equal
 same_ends : (xs ys k l : List ℕ) → has_colon k ≡ false → has_colon l ≡ false → xs ++ 58 ∷ k ≡ ys ++ 58 ∷ l → k ≡ l
 same_ends [] [] k l p q h = tails 58 58 k l h
 same_ends [] (y ∷ ys) k l p q h =

@@ -1,4 +1,4 @@
--- What a name in a namespace stands for is one of the names that are declared.
+-- What a name in a namespace denotes is one of the names that are declared.
 use Rattle.std.proofs.Common.{◌≡◌, ℕ, suc, bytes_eq, Bool, true, false, cond, nat_eq, List, [], ◌∷◌, Option, Some, None, option_map, IfSome, Contains, refl, subst}
 use Rattle.std.proofs.lemmas.Slice.Eq.{bytes_eq-Decides}
 use Rattle.std.specs.List.{list_any}

@@ -90,7 +90,7 @@ module _ {K V : Type 0} (R : K → K → Ordering) (exact : (a b : K) → R a b 
     onto_kept (x ∷ xs) done q w others h =
         onto_kept xs (add done x) q w (λ y m. others y (there x xs y m)) (entry_kept (key x) (value x) done q w (others x (here x xs)) h)
 
-    -- what each element says is there, where no key stands twice
+    -- what each element says is there, where no key is repeated
     pub onto_new : (xs : List A) (done : List (K × V)) → AllPairs (λ a b. a ≢ b) (map key xs) → (x : A) → Contains xs x → Contains (each_onto add done xs) (key x, value x)
     unfolding each_onto
     onto_new [] done apart x h = absurd (nowhere x h)

@@ -1,4 +1,4 @@
--- What the JSON of entity types and actions says (Cedar documentation, JSON schema format).
+-- What the JSON of entity types and actions writes (Cedar documentation, JSON schema format).
 use Rattle.std.specs.Prelude.{ℕ, nat_eq, codes, List, [], ◌∷◌, ◌++◌, Option, Some, None, is_some, if◌then◌else◌}
 use Rattle.std.specs.List.{list_any}
 use Rattle.serde_json.specs.Data.{Data}
@@ -49,8 +49,8 @@ listed_uid uids u = if list_any (is_at (uid_cmp u)) uids then Some u else None
 abbrev pub with_type : List ℕ → List ℕ → Uid
 with_type id ty = record { ty = ty; id = id }
 
--- The declared action that a type and an id stand for: a type with `::` stands for itself, another for that in its own
--- namespace, or else in the empty one (Cedar documentation, JSON schema format: memberOf).
+-- The declared action that a type and an id denote: a type with `::` denotes itself, another the one in its own namespace, or
+-- else in the empty one (Cedar documentation, JSON schema format: memberOf).
 unfoldable pub typed_uid : List Uid → List ℕ → List ℕ → List ℕ → Option Uid
 typed_uid uids namespace ty id =
     if list_any (nat_eq 58) ty then listed_uid uids (with_type id ty) else or_else (listed_uid uids (with_type id (qualified namespace ty))) (listed_uid uids (with_type id ty))
@@ -60,7 +60,7 @@ abbrev pub found_uid : List SchemaFault → Option Uid → ListRead Uid
 found_uid faults None = record { items = []; faults = faults ++ UnknownType ∷ [] }
 found_uid faults (Some u) = record { items = u ∷ []; faults = faults }
 
--- The member of an id and a type; a type that is no string is 302 (Cedar documentation, JSON schema format: memberOf).
+-- The member of an id and a type; a type that is not a string is 302 (Cedar documentation, JSON schema format: memberOf).
 abbrev pub by_type : List Uid → List ℕ → List ℕ → Option (List ℕ) → ListRead Uid
 by_type uids namespace id None = record { items = []; faults = Shape ∷ [] }
 by_type uids namespace id (Some ty) = found_uid (text_faults ty) (typed_uid uids namespace ty id)
@@ -75,14 +75,14 @@ abbrev pub by_member : List Uid → List ℕ → Data → Option (List ℕ) → 
 by_member uids namespace d None = record { items = []; faults = Shape ∷ [] }
 by_member uids namespace d (Some id) = by_id uids namespace id (get (codes "type") d)
 
--- What a member of `memberOf` says (Cedar documentation, JSON schema format: memberOf).
+-- The uid that a member of `memberOf` writes (Cedar documentation, JSON schema format: memberOf).
 unfoldable pub member_read : List Uid → List ℕ → Data → ListRead Uid
 member_read uids namespace d = record {
   items = (by_member uids namespace d (text_at (codes "id") d)).items;
   faults = part_faults Member d ++ (by_member uids namespace d (text_at (codes "id") d)).faults;
 }
 
--- What an `appliesTo` says: the types of principals and of resources, the type of the context, and the faults that are there
+-- What an `appliesTo` writes: the types of principals and of resources, the type of the context, and the faults that are there
 -- (Cedar documentation, JSON schema format: appliesTo).
 pub record Applies : Type 0 where
   pub principals : List (List ℕ)
@@ -94,7 +94,8 @@ pub record Applies : Type 0 where
 abbrev pub unspecified : Data → List SchemaFault
 unspecified d = fault_if (is_some (as_object d)) Unspecified
 
--- What an `appliesTo` says; without one an action applies to nothing (Cedar documentation, JSON schema format: appliesTo; own).
+-- What an `appliesTo` writes. Without one an action applies to nothing (Cedar documentation, JSON schema format: appliesTo;
+-- own).
 unfoldable pub applies_read : Scope → Table → Option Data → Applies
 applies_read sc t None = record { principals = []; resources = []; context = record_of no_attributes; faults = [] }
 applies_read sc t (Some d) = record {

@@ -26,7 +26,8 @@ IsThere faults tree e = Contains faults e ⊎ ((e ≡ ActionCycle) × ((u : Uid)
 abbrev pub Denotes : Data → SchemaTree → Type 0
 Denotes d s = MatchOption (as_object d) ⊥ (λ root. IsFine (written_faults root) (schema_of root) s)
 
--- A JSON is refused with a fault that is there; what is no object with 302 (Cedar documentation, JSON schema format; own).
+-- A JSON is refused with a fault that is there, and with 302 where it is not an object (Cedar documentation, JSON schema
+-- format; own).
 abbrev pub IsRefusedWith : Data → SchemaFault → Type 0
 IsRefusedWith d e = MatchOption (as_object d) (e ≡ Shape) (λ root. IsThere (written_faults root) (schema_of root) e)
 
@@ -34,6 +35,6 @@ IsRefusedWith d e = MatchOption (as_object d) (e ≡ Shape) (λ root. IsThere (w
 abbrev pub BytesDenote : List ℕ → SchemaTree → Type 0
 BytesDenote bytes s = MatchOption (json_of bytes) ⊥ (λ d. Denotes d s)
 
--- A refusal other than out of memory names a fault that is there: 301 where the bytes are no JSON (own).
+-- A refusal other than out of memory names a fault that is there: 301 where the bytes are not JSON (own).
 abbrev pub BytesAreRefusedWith : List ℕ → SchemaFault → Type 0
 BytesAreRefusedWith bytes e = MatchOption (json_of bytes) (e ≡ Json) (λ d. IsRefusedWith d e)

@@ -1,8 +1,8 @@
--- What is said one by one of a list.
+-- What holds of a list element by element.
 use Rattle.std.specs.Prelude.{List, [], ◌∷◌, ◌++◌}
 use Rattle.cedar_schema_json.specs.declared.schema_fault.SchemaFault.{SchemaFault}
 
--- The faults of each element, one after the other (own).
+-- The faults of each element, one after another (own).
 unfoldable pub each_faults : {A : Type 0} → (A → List SchemaFault) → List A → List SchemaFault
 each_faults f [] = []
 each_faults f (x ∷ xs) = f x ++ each_faults f xs

@@ -49,7 +49,7 @@ expansion_faults t f = (typed t f).faults
 
 -- ---- entity types, by their names in ascending order
 
--- The entity types with that of one entry more, at its name (Cedar documentation, JSON schema format: entityTypes).
+-- The entity types with that of one more entry, at its name (Cedar documentation, JSON schema format: entityTypes).
 abbrev pub add_entity : Setting → List (List ℕ × EntityTypeTree) → EntryTree → List (List ℕ × EntityTypeTree)
 add_entity s done e = insert_entry text_cmp done (qualified e.namespace e.key) (entity_type_of (scope_in s e) s.table e)
 
@@ -64,7 +64,7 @@ abbrev pub uids_onto : List Uid → List EntryTree → List Uid
 uids_onto done [] = done
 uids_onto done (e ∷ es) = uids_onto (insert_key uid_cmp done (uid_of e)) es
 
--- The actions with that of one entry more, at its uid (Cedar documentation, JSON schema format: actions).
+-- The actions with that of one more entry, at its uid (Cedar documentation, JSON schema format: actions).
 abbrev pub add_action : Setting → List (Uid × ActionTree) → EntryTree → List (Uid × ActionTree)
 add_action s done e = insert_entry uid_cmp done (uid_of e) (action_of (scope_in s e) s.table s.uids e)
 
@@ -84,7 +84,7 @@ pub record Sections : Type 0 where
 abbrev pub sections_of : Members → Sections
 sections_of root = record { commons = entries (codes "commonTypes") root; entities = entries (codes "entityTypes") root; actions = entries (codes "actions") root }
 
--- What the entries declare by name (Cedar documentation, JSON schema format: namespaces).
+-- The names that the entries declare (Cedar documentation, JSON schema format: namespaces).
 abbrev pub setting_of : Sections → Setting
 setting_of x = record {
   entities = whole_names x.entities;
@@ -110,6 +110,6 @@ sections_faults x = each_faults (common_faults (whole_names x.entities) (whole_n
 abbrev pub schema_of : Members → SchemaTree
 schema_of root = schema_in (setting_of (sections_of root)) (sections_of root).entities (sections_of root).actions
 
--- The faults of the object, but for cycles of actions (Cedar documentation, JSON schema format).
+-- The faults of the object, without cycles of actions (Cedar documentation, JSON schema format).
 unfoldable pub written_faults : Members → List SchemaFault
 written_faults root = root_faults root ++ sections_faults (sections_of root)

@@ -9,15 +9,15 @@ use Rattle.cedar_schema.specs.Declaring.{uid_of, entity_type_of, action_of}
 use Rattle.cedar_schema_spec.specs.SchemaTree.{EntityTypeTree, ActionTree}
 use Rattle.cedar_schema.specs.Schemas.{sections_of, setting_of, scope_in, schema_of, uids_onto}
 
--- Some entry of a section `entityTypes` has this whole name, and says this of the entity type (Cedar documentation, JSON
--- schema format: entityTypes).
+-- Some entry of a section `entityTypes` has this full name, and writes this entity type (Cedar documentation, JSON schema
+-- format: entityTypes).
 pub record IsWrittenType (root : Members) (n : List ℕ) (t : EntityTypeTree) : Type 0 where
   pub entry : EntryTree
   pub written : Contains (entries (codes "entityTypes") root) entry
   pub name : n ≡ qualified entry.namespace entry.key
   pub content : t ≡ entity_type_of (scope_in (setting_of (sections_of root)) entry) (setting_of (sections_of root)).table entry
 
--- Some entry of a section `actions` has this uid, and says this of the action (Cedar documentation, JSON schema format: actions).
+-- Some entry of a section `actions` has this uid, and writes this action (Cedar documentation, JSON schema format: actions).
 pub record IsWrittenAction (root : Members) (u : Uid) (a : ActionTree) : Type 0 where
   pub entry : EntryTree
   pub written : Contains (entries (codes "actions") root) entry

@@ -2,8 +2,8 @@
 ghost use Rattle.cedar_schema.specs.Cycles.{CyclesAreFound};
 ghost use Rattle.cedar_schema.specs.Written.{ActionsAreWritten, NamesAreKept, TypesAreWritten, UidsAreKept};
 
-/// The schema of an object of namespaces has the entity types and the actions that its entries write, and
-/// no others; lists that are put in order have what they had.
+/// The schema of an object of namespaces has the entity types and the actions that its entries write, and no others. Lists that
+/// are put in order keep their elements. A law: it runs no code.
 pub fn schemas_are_written()
     ensures types { TypesAreWritten }
     ensures actions { ActionsAreWritten }
@@ -11,7 +11,7 @@ pub fn schemas_are_written()
     ensures uids { UidsAreKept }
 {}
 
-/// Expanding common types gives 304 exactly where one of them leads to itself.
+/// Expanding common types gives 304 exactly where one of them leads to itself. A law: it runs no code.
 pub fn cycles_are_found()
     ensures { CyclesAreFound }
 {}

@@ -1,4 +1,4 @@
-//! Schemas of the Cedar policy language, read from their JSON.
+//! Reads a schema from its JSON: entity types, actions, environments, and what descends from what.
 //!
 //! ```rust
 //! use cedar_schema::Schema;

@@ -67,8 +67,11 @@ impl Model for Schema {
 }
 
 impl Schema {
-    /// The schema that the bytes write (Cedar documentation, JSON schema format). Refused with 1 when
-    /// out of memory, and else with 301 to 309 only where that fault is in the bytes.
+    /// The schema that the bytes write (Cedar documentation, JSON schema format).
+    ///
+    /// # Errors
+    ///
+    /// 1 when out of memory, and otherwise 301 to 309 only where that fault is in the bytes.
     pub fn read(alloc: Global, bytes: &[u8]) -> Result<Self, SchemaFault>
         ensures denotes { IfOk result (BytesDenote bytes.now) }
         ensures refused { IfErr result (λ e. e ≢ OutOfMemory → BytesAreRefusedWith bytes.now e) }
@@ -104,13 +107,11 @@ impl Schema {
         })
     }
 
-    /// What every schema keeps, on which the soundness of typing rests: its entity types and actions
-    /// are listed in ascending order, and so are the environments, each once; no action's type is an
-    /// entity type; the types that an entity type is a direct member of, those in shapes and contexts,
-    /// those that an action applies to and the members of actions are declared; what lies above an action is declared and
-    /// never the action itself; and shapes and contexts are types of records in which the keys of each
-    /// record ascend (cedar-spec, Lean: Cedar.Validation, well-formed schemas). It is a law of schemas,
-    /// and does nothing.
+    /// What every schema keeps (cedar-spec, Lean: Cedar.Validation, well-formed schemas). The soundness of typing rests on it.
+    /// Its entity types, its actions and its environments are listed in ascending order, each once. No action's type is an
+    /// entity type. Declared are: the types that an entity type is a direct member of, those in shapes and contexts, those that
+    /// an action applies to, and the members of actions. What is above an action is declared and never the action itself.
+    /// Shapes and contexts are types of records, in which the keys of each record ascend. A law: it runs no code.
     pub fn well_formedness(&self)
         ensures in_order { IsListedInOrder self.now }
         ensures environments { AreEnvironmentsInOrder self.now }
@@ -127,8 +128,8 @@ impl Schema {
         let _kept = &self.entities;
     }
 
-    /// The environments, ascending by the action's uid, then by the type of the principal, then by
-    /// that of the resource, each once. Takes no memory.
+    /// The environments, each once, in ascending order: first of the action's uid, then of the principal's type, then of the
+    /// resource's type. Takes no memory.
     pub fn environments(&self) -> &[Environment]
         ensures { result.now ≡ environments_of self.now.actions }
     {
@@ -142,8 +143,8 @@ impl Schema {
         self.actions.iter()
     }
 
-    /// The shape of the attributes of an entity type, a record type. None exactly where there is no
-    /// such entity type. Takes no memory.
+    /// The shape of the attributes of an entity type, which is a record type. None exactly where there is no such entity type.
+    /// Takes no memory.
     pub fn attributes(&self, name: &Name) -> Option<&Type>
         ensures { option_copied result ≡ shape_of self.now name.now }
     {
@@ -165,38 +166,37 @@ impl Schema {
         }
     }
 
-    /// The declared action of this uid. Takes no memory, and comparisons by the logarithm of the number of
-    /// actions.
+    /// The declared action of this uid. Takes no memory, and as many comparisons as the logarithm of the number of actions.
     pub fn action(&self, uid: &Uid) -> Option<&Action>
         ensures { option_copied result ≡ action_at self.now uid.now }
     {
         self.actions.get(uid)
     }
 
-    /// Whether the action is declared. Takes no memory, and comparisons as `action` does.
+    /// Whether the action is declared. Takes no memory, and as many comparisons as `action`.
     pub fn has_action(&self, uid: &Uid) -> bool
         ensures { IsTrue result ↔ IsAction self.now uid.now }
     {
         self.actions.contains_key(uid)
     }
 
-    /// Whether some declared action is of this type. Takes no memory, and comparisons by the logarithm of
-    /// the number of types.
+    /// Whether some declared action is of this type. Takes no memory, and as many comparisons as the logarithm of the number of
+    /// types.
     pub fn has_action_type(&self, name: &Name) -> bool
         ensures { IsTrue result ↔ IsActionType self.now name.now }
     {
         self.action_types.contains(name)
     }
 
-    /// The type of the context in the environment of an action with a type of principals and a type of
-    /// resources. None exactly where there is no such environment. Takes no memory, and comparisons by
-    /// the logarithm of the number of actions and of the types that the action applies to.
+    /// The type of the context in the environment of an action with a type of principals and a type of resources. None exactly
+    /// where there is no such environment. Takes no memory, and as many comparisons as the logarithms of the numbers of actions
+    /// and of the types that the action applies to.
     pub fn context(&self, action: &Uid, principal: &Name, resource: &Name) -> Option<&Type>
         ensures { MatchOption result
             (HasNoEnvironment self.now.actions action.now principal.now resource.now)
             (λ context. HasEnvironment self.now.actions action.now principal.now resource.now context.now) }
     {
-        // A law of schemas, which does nothing.
+        // The uids of the actions ascend, each once.
         self.well_formedness();
         let Some(found) = self.action(action) else {
             return None;
@@ -208,17 +208,16 @@ impl Schema {
         }
     }
 
-    // Whether the one entity type descends from the other by links of `memberOfTypes`.
+    // Whether the one entity type descends from the other through links of `memberOfTypes`.
     fn entity_type_descends(&self, low: &Name, high: &Name) -> bool
         ensures { IsTrue result ↔ EntityTypeDescends self.now low.now high.now }
     {
         self.types_above.descends(low, high)
     }
 
-    /// Whether the one type descends from the other: an entity type by one or more links of
-    /// `memberOfTypes`, an action's type where some action of it descends from some action of the
-    /// other. Takes no memory, and for types of actions time by the number of actions that others are
-    /// members of.
+    /// Whether the one type descends from the other: an entity type through one or more links of `memberOfTypes`, an action's
+    /// type where some action of it descends from some action of the other. Takes no memory. For types of actions the time
+    /// grows with the number of actions that others are members of.
     pub fn type_descends(&self, low: &Name, high: &Name) -> bool
         ensures { IsTrue result ↔ TypeDescends self.now low.now high.now }
     {
@@ -232,8 +231,8 @@ impl Schema {
         some_descends(&self.type_rows, &self.actions_above.numbers, low, high)
     }
 
-    /// Whether the one action descends from the other by one or more links of `memberOf`. Takes no
-    /// memory, and comparisons by the logarithm of the number of actions.
+    /// Whether the one action descends from the other through one or more links of `memberOf`. Takes no memory, and as many
+    /// comparisons as the logarithm of the number of actions.
     pub fn action_descends(&self, low: &Uid, high: &Uid) -> bool
         ensures { IsTrue result ↔ ActionDescends self.now low.now high.now }
     {

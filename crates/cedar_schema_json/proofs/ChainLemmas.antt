@@ -1,4 +1,4 @@
--- What a common type says is what the form behind its names says.
+-- What a common type says is what the form after its names says.
 use Rattle.std.proofs.Common.{◌≡◌, ℕ, zero, suc, ◌+◌, ◌≤◌, ◌⊎◌, inl, inr, List, [], ◌∷◌, ◌++◌, length, Some, None, option_map, option_and_then, unwrap_or, refl, sym, ap, ◌∙◌, subst, arith, Contains, lit<, rules}
 use Rattle.std.specs.List.{slice_get}
 use Rattle.cedar_schema_json.specs.declared.form.Form.{the_lemmas}

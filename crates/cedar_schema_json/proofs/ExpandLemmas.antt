@@ -107,7 +107,7 @@ pub made_all : (names : ℕ → Option TypeTree) (faults : ℕ → List SchemaFa
 made_all names faults a all done e types fine =
     (fine ∙ ap (λ (xs : List FormField). rows_faults faults (fields_view xs)) e, ap (λ (xs : List FormField). rows_type names (Some done) (fields_view xs)) (sym e) ∙ types)
 
--- one name less, or more, is less, whatever the form behind it
+-- one name less, or more, is less, whatever the form after it
 pub name_less : (m n most_of h : ℕ) → m < n → h ≤ most_of → m * (most_of + 1) + h < n * (most_of + 1)
 name_less m zero most_of h e le = absurd (omega arith)
 name_less m (suc n) most_of h e le =

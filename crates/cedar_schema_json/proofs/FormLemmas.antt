@@ -93,7 +93,7 @@ pub rows_read-object : (sc : Scope) (ms : Members) → rows_read sc (object ms) 
 unfolding rows_read
 rows_read-object sc ms = refl
 
--- what stands at a key nests less deep
+-- what is at a key nests less deep
 member_less : (o : Ordering) (e d : Data) (rest : Option Data) (n : ℕ) → (rest ≡ Some d → depth d ≤ n) → match_ordering o rest (Some e) rest ≡ Some d → depth d ≤ max (depth e) n
 member_less Less e d rest n h q = let p = h q in omega arith
 member_less Equal e d rest n h q = let same : e ≡ d = cc in subst (λ x. depth d ≤ max (depth x) n) (sym same) (omega arith)

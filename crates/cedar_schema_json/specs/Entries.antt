@@ -12,7 +12,7 @@ use Rattle.cedar_schema_json.specs.declared.form.kind.Kind.{Kind}
 use Rattle.cedar_schema_json.specs.Naming.{text_faults, qualified, fault_if}
 use Rattle.cedar_schema_json.specs.Reading.{key_faults, kind_named}
 
--- An entry: a key of a section, what is at the key, and the namespace that the section is of (Cedar documentation, JSON
+-- An entry: a key of a section, the value at the key, and the namespace that the section is of (Cedar documentation, JSON
 -- schema format: namespaces).
 pub record EntryTree : Type 0 where
   pub namespace : List ℕ
@@ -23,7 +23,7 @@ pub record EntryTree : Type 0 where
 abbrev pub section : List ℕ → Data → Members
 section k d = unwrap_or (option_and_then as_object (get k d)) no_members
 
--- What stands at a key, where null counts as absent (own).
+-- The value at a key, where null counts as absent (own).
 abbrev pub unless_null : Option Data → Option Data
 unless_null (Some null) = None
 unless_null o = o
@@ -38,7 +38,7 @@ unfoldable pub entries : List ℕ → Members → List EntryTree
 entries k no_members = []
 entries k (member namespace space rest) = entries_in namespace (section k space) ++ entries k rest
 
--- The whole names of what the entries declare (Cedar documentation, JSON schema format: namespaces).
+-- The full names of what the entries declare (Cedar documentation, JSON schema format: namespaces).
 abbrev pub whole_names : List EntryTree → List (List ℕ)
 whole_names = map (λ e. qualified e.namespace e.key)
 
@@ -52,8 +52,8 @@ belongs Action k = bytes_eq k (codes "memberOf") || bytes_eq k (codes "appliesTo
 belongs AppliesTo k = bytes_eq k (codes "principalTypes") || bytes_eq k (codes "resourceTypes") || bytes_eq k (codes "context")
 belongs Member k = bytes_eq k (codes "id") || bytes_eq k (codes "type")
 
--- The faults of an object of a schema: it has to be an object, else 302, of these keys alone (Cedar documentation, JSON schema
--- format).
+-- The faults of an object of a schema: it has to be an object, else 302, and have these keys alone (Cedar documentation, JSON
+-- schema format).
 abbrev pub part_faults : Part → Data → List SchemaFault
 part_faults part d = unwrap_or (option_map (key_faults (belongs part)) (as_object d)) (Shape ∷ [])
 
@@ -66,12 +66,12 @@ object_faults (Some d) = fault_if (not (is_some (as_object d))) Shape
 unfoldable pub namespace_faults : List ℕ → List SchemaFault
 namespace_faults namespace = if length namespace == 0 then [] else text_faults namespace
 
--- The faults of one namespace, but for those of its entries (Cedar documentation, JSON schema format: namespaces).
+-- The faults of one namespace, without those of its entries (Cedar documentation, JSON schema format: namespaces).
 unfoldable pub space_faults : List ℕ → Data → List SchemaFault
 space_faults namespace space =
     namespace_faults namespace ++ (part_faults Namespace space ++ (object_faults (get (codes "entityTypes") space) ++ (object_faults (get (codes "actions") space) ++ object_faults (get (codes "commonTypes") space))))
 
--- The faults of all namespaces, but for those of their entries (Cedar documentation, JSON schema format: namespaces).
+-- The faults of all namespaces, without those of their entries (Cedar documentation, JSON schema format: namespaces).
 abbrev pub root_faults : Members → List SchemaFault
 root_faults no_members = []
 root_faults (member namespace space rest) = space_faults namespace space ++ root_faults rest
@@ -84,11 +84,11 @@ key_text_faults k = text_faults k ++ fault_if (list_any (nat_eq 58) k) Shape
 unfoldable pub entity_key_faults : List ℕ → List SchemaFault
 entity_key_faults k = key_text_faults k ++ fault_if (bytes_eq k (codes "Action")) ReservedName
 
--- Whether the kind is that of a common type, so that the name is of no built-in type (own).
+-- Whether the kind is that of a common type, so that the name is not that of a built-in type (own).
 abbrev pub is_common : Kind → Bool
 is_common Common = true
 is_common _ = false
 
--- A common type may not be called as a built-in type: 306 (Cedar documentation, JSON schema format: commonTypes; own).
+-- A common type may not have the name of a built-in type: 306 (Cedar documentation, JSON schema format: commonTypes; own).
 unfoldable pub common_key_faults : List ℕ → List SchemaFault
 common_key_faults k = key_text_faults k ++ fault_if (not (is_common (kind_named k))) ReservedName

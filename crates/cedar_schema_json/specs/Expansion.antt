@@ -8,19 +8,19 @@ use Rattle.cedar_schema_types.specs.Types.{TypeTree, boolean, long, string, enti
 use Rattle.cedar_schema_types.specs.Ordered.{with_attribute}
 use Rattle.cedar_schema_json.specs.Forms.{FormTree, no_form, boolean_form, long_form, string_form, decimal_form, entity_form, set_form, record_form, common_form, FormRows, no_form_rows, form_row}
 
--- The common types by their places, as they are written (Cedar documentation, JSON schema format: common types).
+-- The common types, under their places, as they are written (Cedar documentation, JSON schema format: common types).
 abbrev pub Table : Type 0
 Table = List FormTree
 
--- The size of a type: how many nodes it has, and how many are on its longest way down (own).
+-- The size of a type: how many nodes it has, and how many are on its longest path down (own).
 pub record Size : Type 0 where
   pub nodes : ℕ
   pub height : ℕ
 
 -- ---- of one form, where `names` says what a common type has
 
--- The size of a form: each type is one node, and an attribute counts nothing beside its type; a set or a record is one higher
--- than what it holds (own).
+-- The size of a form: each type is one node, and an attribute adds only its type. A set or a record is one higher than what it
+-- holds (own).
 abbrev mutual
   pub form_size : (ℕ → Size) → FormTree → Size
   form_size names (set_form f) = record { nodes = suc (form_size names f).nodes; height = suc (form_size names f).height }
@@ -33,12 +33,12 @@ abbrev mutual
   rows_size names no_form_rows = record { nodes = 0; height = 0 }
   rows_size names (form_row k r f rs) = record { nodes = (form_size names f).nodes + (rows_size names rs).nodes; height = max (form_size names f).height (rows_size names rs).height }
 
--- An attribute more, where both its type and the attributes before it are there (own).
+-- One more attribute, where both its type and the attributes before it are there (own).
 abbrev pub with_row : List ℕ → Bool → Option TypeTree → Option Attributes → Option Attributes
 with_row k r (Some t) (Some before) = Some (with_attribute k r t before)
 with_row k r _ _ = None
 
--- The type of a form, none where a part of it is no type; a record has its attributes in order (Cedar documentation, JSON
+-- The type of a form, none where a part of it is not a type. A record has its attributes in order (Cedar documentation, JSON
 -- schema format: attribute types).
 abbrev mutual
   pub form_type : (ℕ → Option TypeTree) → FormTree → Option TypeTree
@@ -74,7 +74,7 @@ abbrev mutual
 
 -- ---- of a common type, where at most n names are followed in a chain
 
--- The size of a common type; what is not there has the size of what is no type (own).
+-- The size of a common type. A common type that is not there has the size of a form that is not a type (own).
 unfoldable pub common_size : Table → ℕ → ℕ → Size
 common_size t zero k = record { nodes = 1; height = 1 }
 common_size t (suc n) k = form_size (common_size t n) (unwrap_or (slice_get t k) no_form)
@@ -85,7 +85,7 @@ unfoldable pub common_type : Table → ℕ → ℕ → Option TypeTree
 common_type t zero k = None
 common_type t (suc n) k = option_and_then (form_type (common_type t n)) (slice_get t k)
 
--- The faults of a common type: without a form it is not declared, 303, and one name more than may be followed is a cycle, 304
+-- The faults of a common type: without a form it is not declared, 303, and one more name than may be followed is a cycle, 304
 -- (Cedar documentation, JSON schema format: common types; own).
 unfoldable pub cycle_faults : Table → ℕ → ℕ → List SchemaFault
 cycle_faults t zero k = CommonCycle ∷ []
@@ -95,7 +95,7 @@ cycle_faults t (suc n) k = unwrap_or (option_map (form_faults (cycle_faults t n)
 abbrev pub size : Table → ℕ → FormTree → Size
 size t n = form_size (common_size t n)
 
--- What expanding gives: a type, unless a part is none, and the faults that are there (own).
+-- What expanding gives: a type, unless a part has none, and the faults that are there (own).
 pub record Expanded : Type 0 where
   pub ty : Option TypeTree
   pub faults : List SchemaFault
@@ -104,6 +104,6 @@ pub record Expanded : Type 0 where
 abbrev pub limit_faults : Table → FormTree → List SchemaFault
 limit_faults t f = if nat_le (size t (length t) f).nodes 10000 && nat_le (size t (length t) f).height 100 then [] else TooLarge ∷ []
 
--- What a form says as a type: at most as many names in a chain as there are common types (own).
+-- What a form gives as a type, with at most as many names in a chain as there are common types (own).
 unfoldable pub typed : Table → FormTree → Expanded
 typed t f = record { ty = form_type (common_type t (length t)) f; faults = limit_faults t f ++ form_faults (cycle_faults t (length t)) f }

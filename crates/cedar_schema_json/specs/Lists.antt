@@ -9,28 +9,29 @@ use Rattle.cedar_schema_json.specs.declared.schema_fault.SchemaFault.TheVariants
 use Rattle.cedar_schema_json.specs.Naming.{resolved, name_faults}
 use Rattle.cedar_schema_json.specs.Reading.{Scope}
 
--- What a list says, item by item, and the faults that are there (own).
+-- The items that a list writes, and the faults that are there (own).
 pub record ListRead (A : Type 0) : Type 0 where
   pub items : List A
   pub faults : List SchemaFault
 
--- What the items of a list say, one after the other (own).
+-- What the items of a list write, one after another (own).
 unfoldable pub each_read : {A : Type 0} → (Data → ListRead A) → Items → ListRead A
 each_read f no_items = record { items = []; faults = [] }
 each_read f (item d ds) = record { items = (f d).items ++ (each_read f ds).items; faults = (f d).faults ++ (each_read f ds).faults }
 
--- The list at a key: `missing` is the fault of one that is not there, and what is no list is 302 (Cedar documentation, JSON
--- schema format; own).
+-- The list at a key: `missing` is the fault of a list that is not there, and a value that is not a list is 302 (Cedar
+-- documentation, JSON schema format; own).
 abbrev pub list_at : {A : Type 0} → (Data → ListRead A) → List SchemaFault → Option Data → ListRead A
 list_at f missing None = record { items = []; faults = missing }
 list_at f missing (Some d) = unwrap_or (option_map (each_read f) (as_array d)) (record { items = []; faults = Shape ∷ [] })
 
--- The declared name that a text stands for; what is no text is 302, an undeclared name 303 (Cedar documentation, JSON schema format: namespaces).
+-- The declared name that a string denotes. A value that is not a string is 302, an undeclared name 303 (Cedar documentation,
+-- JSON schema format: namespaces).
 abbrev pub some_name : List (List ℕ) → List ℕ → Option (List ℕ) → ListRead (List ℕ)
 some_name declared namespace None = record { items = []; faults = Shape ∷ [] }
 some_name declared namespace (Some s) = record { items = unwrap_or (option_map (λ n. n.0 ∷ []) (resolved declared namespace s)) []; faults = name_faults declared namespace s }
 
--- The declared name that an item of a list stands for (Cedar documentation, JSON schema format: namespaces).
+-- The declared name that an item of a list denotes (Cedar documentation, JSON schema format: namespaces).
 abbrev pub name_read : List (List ℕ) → List ℕ → Data → ListRead (List ℕ)
 name_read declared namespace d = some_name declared namespace (as_str d)
 

@@ -1,4 +1,4 @@
--- Names in a schema: what a name in a namespace stands for (Cedar documentation, JSON schema format: namespaces).
+-- Names in a schema: what a name in a namespace denotes (Cedar documentation, JSON schema format: namespaces).
 use Rattle.std.specs.Prelude.{ℕ, suc, ◌==◌, not, length, nat_eq, Bool, true, false, bytes_eq, codes, List, [], ◌∷◌, ◌++◌, Option, Some, None, option_map, is_some, if◌then◌else◌}
 use Rattle.std.specs.List.{list_any}
 use Rattle.cedar_value.specs.Names.{words_from, is_name}
@@ -9,7 +9,7 @@ use Rattle.cedar_schema_json.specs.declared.schema_fault.SchemaFault.TheVariants
 unfoldable pub is_reserved : List ℕ → Bool
 is_reserved s = list_any (λ word. bytes_eq word (codes "__cedar")) (words_from [] s)
 
--- A name in a namespace, as a whole (Cedar language reference, namespaces).
+-- The full name of a name in a namespace (Cedar language reference, namespaces).
 unfoldable pub qualified : List ℕ → List ℕ → List ℕ
 qualified namespace name = if length namespace == 0 then name else namespace ++ codes "::" ++ name
 
@@ -35,7 +35,7 @@ abbrev pub or_else : {A : Type 0} → Option A → Option A → Option A
 or_else (Some x) o = Some x
 or_else None o = o
 
--- What a name stands for: one with `::` for itself, another for that in its own namespace, or else in the empty one (Cedar
+-- What a name denotes: one with `::` denotes itself, another the name in its own namespace, or else in the empty one (Cedar
 -- documentation, JSON schema format: namespaces; own).
 unfoldable pub resolved : List (List ℕ) → List ℕ → List ℕ → Option Declared
 resolved names namespace name =
@@ -46,12 +46,11 @@ abbrev pub fault_if : Bool → SchemaFault → List SchemaFault
 fault_if true e = e ∷ []
 fault_if false e = []
 
--- The faults of a text that has to be a name: 302 where it is none, 306 where it has a reserved word (Cedar documentation,
+-- The faults of a text that has to be a name: 302 where it is not one, 306 where it has a reserved word (Cedar documentation,
 -- JSON schema format: reserved names).
 unfoldable pub text_faults : List ℕ → List SchemaFault
 text_faults s = fault_if (is_reserved s) ReservedName ++ fault_if (not (is_name s)) Shape
 
--- The faults of a name that has to be declared besides: 303 where it is not (Cedar documentation, JSON schema format:
--- namespaces).
+-- The faults of a name that also has to be declared: 303 where it is not (Cedar documentation, JSON schema format: namespaces).
 unfoldable pub name_faults : List (List ℕ) → List ℕ → List ℕ → List SchemaFault
 name_faults names namespace s = text_faults s ++ fault_if (not (is_some (resolved names namespace s))) UnknownType

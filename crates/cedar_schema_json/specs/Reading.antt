@@ -1,4 +1,5 @@
--- What the JSON of a type says: its form, and the faults that are there (Cedar documentation, JSON schema format: attribute types).
+-- What the JSON of a type writes: its form, and the faults that are there (Cedar documentation, JSON schema format: attribute
+-- types).
 use Rattle.std.specs.Prelude.{unwrap_or, ◌||◌, ◌&&◌, ℕ, Bool, true, false, bytes_eq, codes, List, [], ◌∷◌, ◌++◌, Option, Some, None, option_map, option_and_then, if◌then◌else◌}
 use Rattle.std.specs.Ordering.{nat_cmp, match_ordering}
 use Rattle.std.specs.Cmp.Lexicographic.{slice_cmp}
@@ -11,13 +12,13 @@ use Rattle.cedar_schema_json.specs.declared.form.kind.Kind.TheVariants.{Boolean,
 use Rattle.cedar_schema_json.specs.Naming.{Declared, resolved, text_faults, name_faults}
 use Rattle.cedar_schema_json.specs.Forms.{FormTree, no_form, boolean_form, long_form, string_form, decimal_form, entity_form, set_form, record_form, common_form, FormRows, no_form_rows, form_row}
 
--- What the JSON of a type says: its form, and the faults that are there (Cedar documentation, JSON schema format: attribute
+-- What the JSON of a type writes: its form, and the faults that are there (Cedar documentation, JSON schema format: attribute
 -- types).
 pub record Read : Type 0 where
   pub form : FormTree
   pub faults : List SchemaFault
 
--- What the JSON of attributes says: their rows, and the faults that are there (Cedar documentation, JSON schema format:
+-- What the JSON of attributes writes: their rows, and the faults that are there (Cedar documentation, JSON schema format:
 -- Record).
 pub record RowsRead : Type 0 where
   pub rows : FormRows
@@ -60,7 +61,7 @@ allowed Entity k = bytes_eq k (codes "type") || bytes_eq k (codes "name")
 allowed Extension k = bytes_eq k (codes "type") || bytes_eq k (codes "name")
 allowed _ k = bytes_eq k (codes "type")
 
--- Which keys a type or an attribute of a kind may have: an attribute may have one key more, `required` (Cedar documentation,
+-- Which keys a type or an attribute of a kind may have: an attribute may have one more key, `required` (Cedar documentation,
 -- JSON schema format: Record).
 abbrev pub may_have : Kind → Bool → List ℕ → Bool
 may_have kind attribute k = allowed kind k || (attribute && bytes_eq k (codes "required"))
@@ -70,7 +71,7 @@ abbrev pub key_faults : (List ℕ → Bool) → Members → List SchemaFault
 key_faults may no_members = []
 key_faults may (member k d ms) = (if may k then [] else Shape ∷ []) ++ key_faults may ms
 
--- What a name says: the form that it stands for, none of one that is not declared (Cedar documentation, JSON schema format:
+-- What a name gives: the form that it denotes, or none where it is not declared (Cedar documentation, JSON schema format:
 -- namespaces).
 abbrev pub form_named : (Declared → FormTree) → List (List ℕ) → List ℕ → List ℕ → Read
 form_named make names namespace s = record { form = unwrap_or (option_map make (resolved names namespace s)) no_form; faults = name_faults names namespace s }
@@ -79,7 +80,7 @@ form_named make names namespace s = record { form = unwrap_or (option_map make (
 abbrev pub text_at : List ℕ → Data → Option (List ℕ)
 text_at k d = option_and_then as_str (get k d)
 
--- What is read of a part that has to be there: without it there is a fault, 302 (Cedar documentation, JSON schema format).
+-- What is read of a part that is required: without it there is a fault, 302 (Cedar documentation, JSON schema format).
 abbrev pub needed : {A : Type 0} → (A → Read) → Option A → Read
 needed f o = unwrap_or (option_map f o) (bad Shape)
 
@@ -99,7 +100,7 @@ common_read sc s = form_named (λ n. common_form n.1) sc.commons sc.namespace s
 abbrev pub set_of : Read → Read
 set_of r = record { form = set_form r.form; faults = r.faults }
 
--- `additionalAttributes` may be false alone: true is 307, all else 302 (Cedar documentation, JSON schema format: Record).
+-- `additionalAttributes` may only be false: true is 307, another value 302 (Cedar documentation, JSON schema format: Record).
 abbrev pub closed_faults : Option Data → List SchemaFault
 closed_faults None = []
 closed_faults (Some (boolean false)) = []
@@ -114,7 +115,7 @@ record_of r = record { form = record_form r.rows; faults = r.faults }
 abbrev pub no_rows_read : RowsRead
 no_rows_read = record { rows = no_form_rows; faults = [] }
 
--- What the JSON of a type of a kind says, with what its element and its attributes say; no attributes are the empty object
+-- What the JSON of a type of a kind writes, from what its element and its attributes write; no attributes are the empty object
 -- (Cedar documentation, JSON schema format: attribute types; own).
 abbrev pub of_kind : Scope → Data → List ℕ → Kind → Option Read → Option RowsRead → Read
 of_kind sc d s Boolean el rs = fine boolean_form
@@ -130,13 +131,13 @@ of_kind sc d s Common el rs = common_read sc s
 abbrev pub unknown_keys : (List ℕ → Bool) → Data → List SchemaFault
 unknown_keys may d = unwrap_or (option_map (key_faults may) (as_object d)) []
 
--- What an object says as a type: one without a string at `type` is 302 (Cedar documentation, JSON schema format: attribute
+-- What an object writes as a type. One without a string at `type` is 302 (Cedar documentation, JSON schema format: attribute
 -- types).
 abbrev pub of_type : Scope → Bool → Data → Option Read → Option RowsRead → Option (List ℕ) → Read
 of_type sc attribute d el rs None = bad Shape
 of_type sc attribute d el rs (Some s) = with_faults (unknown_keys (may_have (kind_named s) attribute) d) (of_kind sc d s (kind_named s) el rs)
 
--- Whether the attribute is required: it is where nothing else is written (Cedar documentation, JSON schema format: Record).
+-- Whether the attribute is required, which is the default (Cedar documentation, JSON schema format: Record).
 abbrev pub is_required : Option Data → Bool
 is_required (Some (boolean false)) = false
 is_required _ = true
@@ -158,24 +159,24 @@ unfoldable mutual
   type_read sc a (object ms) = of_type sc a (object ms) (read_at sc (codes "element") ms) (rows_at sc (codes "attributes") ms) (text_at (codes "type") (object ms))
   type_read sc a _ = bad Shape
 
-  -- What is at a key of an object, read as a type: of a key that is there twice the first counts (Cedar documentation, JSON
-  -- schema format: Set).
+  -- The value at a key of an object, read as a type. Where the key is there twice, the first value counts (Cedar documentation,
+  -- JSON schema format: Set).
   pub read_at : Scope → List ℕ → Members → Option Read
   read_at sc k no_members = None
   read_at sc k (member l d ms) = match_ordering (slice_cmp nat_cmp k l) (read_at sc k ms) (Some (type_read sc false d)) (read_at sc k ms)
 
-  -- What is at a key of an object, read as attributes: of a key that is there twice the first counts (Cedar documentation,
-  -- JSON schema format: Record).
+  -- The value at a key of an object, read as attributes. Where the key is there twice, the first value counts (Cedar
+  -- documentation, JSON schema format: Record).
   pub rows_at : Scope → List ℕ → Members → Option RowsRead
   rows_at sc k no_members = None
   rows_at sc k (member l d ms) = match_ordering (slice_cmp nat_cmp k l) (rows_at sc k ms) (Some (rows_read sc d)) (rows_at sc k ms)
 
-  -- What a JSON says as the attributes of a record: it has to be an object (Cedar documentation, JSON schema format: Record).
+  -- What a JSON writes as the attributes of a record: it has to be an object (Cedar documentation, JSON schema format: Record).
   pub rows_read : Scope → Data → RowsRead
   rows_read sc (object ms) = all_rows sc ms
   rows_read sc _ = record { rows = no_form_rows; faults = Shape ∷ [] }
 
-  -- What the members of an object say as attributes, one after the other (Cedar documentation, JSON schema format: Record).
+  -- What the members of an object write as attributes, one after another (Cedar documentation, JSON schema format: Record).
   pub all_rows : Scope → Members → RowsRead
   all_rows sc no_members = no_rows_read
   all_rows sc (member k d ms) = row_then k (get (codes "required") d) (type_read sc true d) (all_rows sc ms)

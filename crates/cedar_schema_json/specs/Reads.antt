@@ -1,4 +1,4 @@
--- What a call that reads a type answers.
+-- The result of a call that reads a type.
 use Rattle.std.specs.Prelude.{◌≡◌, [], Result, MatchResult}
 use Rattle.cedar_schema_json.specs.declared.schema_fault.SchemaFault.{SchemaFault}
 use Rattle.cedar_schema_json.specs.declared.form.Form.{Form}

@@ -1,4 +1,4 @@
--- What calls that read lists answer.
+-- The results of calls that read lists.
 use Rattle.std.specs.Prelude.{◌≡◌, [], ◌∷◌, Vec, Result, MatchResult}
 use Rattle.std.specs.Global.{Global}
 use Rattle.cedar_schema_json.specs.declared.schema_fault.SchemaFault.{SchemaFault}

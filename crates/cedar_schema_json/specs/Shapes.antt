@@ -8,7 +8,7 @@ use Rattle.cedar_schema_json.specs.Naming.{fault_if}
 use Rattle.cedar_schema_json.specs.Reading.{Scope, type_read}
 use Rattle.cedar_schema_json.specs.Expansion.{Table, Expanded, typed}
 
--- The type that is there; without one there is a fault, and what is given in its place counts for nothing (own).
+-- The type that is there. Without one there is a fault, and the type given in its place has no meaning (own).
 abbrev pub record_or_empty : Option TypeTree → TypeTree
 record_or_empty o = unwrap_or o (record_of no_attributes)
 

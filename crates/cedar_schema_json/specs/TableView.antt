@@ -1,4 +1,4 @@
--- The table that a list of forms is, and what expanding answers.
+-- The table that a list of forms is, and the result of expanding.
 use Rattle.std.specs.Prelude.{◌≡◌, List, [], map, Some, Result, MatchResult}
 use Rattle.cedar_schema_json.specs.declared.form.Form.{Form}
 use Rattle.cedar_schema_json.specs.declared.schema_fault.SchemaFault.{SchemaFault}
@@ -7,7 +7,7 @@ use Rattle.cedar_schema_json.specs.Faults.{Told}
 use Rattle.cedar_schema_json.specs.FormView.{form_of}
 use Rattle.cedar_schema_json.specs.Expansion.{Table, Expanded}
 
--- The table that a list of forms is: each common type by its place (own).
+-- The table that a list of forms is: each common type at its place (own).
 abbrev pub table_of : List Form → Table
 table_of = map form_of
 

@@ -1,4 +1,4 @@
-//! Types as a schema's JSON writes them: a common type stands by its place.
+//! Types as a schema's JSON writes them: a common type is given as its place.
 pub(crate) mod chains;
 pub(crate) mod expansion;
 pub(crate) mod kind;
@@ -17,7 +17,7 @@ pub enum Form {
     Boolean,
     /// A whole number.
     Long,
-    /// A text.
+    /// A string.
     Text,
     /// A decimal.
     Decimal,
@@ -27,7 +27,7 @@ pub enum Form {
     Set(Box<Form>),
     /// A record of these attributes.
     Record(Vec<FormField>),
-    /// A common type, by its place.
+    /// A common type, given as its place.
     Common(usize),
 }
 

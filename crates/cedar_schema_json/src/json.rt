@@ -1,4 +1,4 @@
-//! What a schema's JSON is made of: objects of known keys, names in namespaces, flat lists of entries.
+//! The parts of a schema's JSON: objects of known keys, names in namespaces, flat lists of entries.
 
 pub(crate) mod entry;
 pub(crate) mod name_table;

@@ -1,5 +1,4 @@
-//! The JSON of a schema of the Cedar policy language: what it is made of, and its types as they are written, before a common
-//! type is expanded.
+//! Reads the parts of a schema's JSON: namespaces, names, entries, and types with their common types expanded.
 //!
 //! ```rust
 //! use cedar_schema_json::{NameTable, Scope, check_spaces, entries_of, names_of, read_type};
@@ -19,7 +18,7 @@
 //! }
 //! ```
 //!
-//! What the entries of entity types and actions declare, and the schema of a JSON, stand in cedar_schema.
+//! What the entries of entity types and actions declare, and the schema of a JSON, are in cedar_schema.
 #![tactic(auto)]
 
 mod form;

@@ -2,17 +2,17 @@
 use std::alloc::{AllocError, AllocFailed};
 use thiserror::Error;
 
-/// Why bytes make no schema.
+/// Why bytes write no schema.
 #[derive(Clone, Copy, PartialEq, Eq, Debug, Error)]
 pub enum SchemaFault {
-    /// 1: memory was refused. It says nothing of the schema.
+    /// 1: out of memory. It says nothing about the schema.
     #[error("out of memory")]
     OutOfMemory,
-    /// 301: the bytes are no UTF-8, or no JSON, or nest deeper than 127 (RFC 8259).
+    /// 301: the bytes are not UTF-8, or not JSON, or nest deeper than 127 (RFC 8259).
     #[error("no JSON")]
     Json,
-    /// 302: a key that is not known, a value of a wrong kind, a key that is no identifier where one
-    /// has to be, or a name that is no path of identifiers.
+    /// 302: a key that is not known, a value of a wrong kind, a key that is not an identifier where one has to be, or a name
+    /// that is not a path of identifiers.
     #[error("not of the shape of a schema")]
     Shape,
     /// 303: a type, or an action of `memberOf`, that is not declared.

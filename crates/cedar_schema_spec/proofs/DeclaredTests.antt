@@ -73,7 +73,7 @@ action_descents_decided s u v = leads-Decides same_uid same_uid-Decides (parents
 entity_types_decided : (s : SchemaTree) (m n : List ℕ) → Decides (entity_type_below s m n) (EntityTypeDescends s m n)
 entity_types_decided s m n = leads-Decides bytes_eq bytes_eq-Decides (parents_of_type s.entities) (keys_of s.entities) (types_listed s.entities) m n
 
--- a link's two ends stand in the list of actions and in that of their parents
+-- a link's two ends are in the list of actions and in that of their parents
 listed_step : (b : Bool) (u p : Uid) (a : Uid × ActionTree) (as' : List (Uid × ActionTree)) → is_eq (uid_cmp u a.0) ≡ b → Contains (unwrap_or (option_map (λ x. x.parents) (cond b (Some a.1) (lookup (is_at (uid_cmp u)) as'))) []) p
     → (Contains (parents_of_action as' u) p → Contains (keys_of as') u × Contains (all_parents as') p) → Contains (keys_of (a ∷ as')) u × Contains (all_parents (a ∷ as')) p
 listed_step true u p a as' e l rest = (subst (λ k. Contains (a.0 ∷ keys_of as') k) (sym ((uid_tie u a.0).0 e)) (here a.0 (keys_of as')), left_of a.1.parents (all_parents as') p l)

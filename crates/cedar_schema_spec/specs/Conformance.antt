@@ -28,7 +28,7 @@ pub record Conforms (s : SchemaTree) (w : World) : Type 0 where
   pub present : (u : Uid) → IsAction s u → has_entity w u ≡ true
   pub actions : (u v : Uid) → IsAction s u → Below w u v ↔ ActionDescends s u v
 
--- A request is one of an environment: it has its action and its types, and the context belongs to its context type (Cedar
+-- A request belongs to an environment: it has its action and its types, and the context belongs to its context type (Cedar
 -- documentation, validation).
 pub record FitsIn (s : SchemaTree) (env : Environment) (q : Request) : Type 0 where
   pub listed : Contains (environments_of s.actions) env
@@ -37,7 +37,7 @@ pub record FitsIn (s : SchemaTree) (env : Environment) (q : Request) : Type 0 wh
   pub resource : q.resource.ty ≡ env.resource
   pub context : Member env.context (record_of (fields_of q.context))
 
--- A request fits where it is one of some environment of the schema (Cedar documentation, validation; cedar-spec, Lean:
+-- A request fits where it belongs to some environment of the schema (Cedar documentation, validation; cedar-spec, Lean:
 -- Cedar.Validation, RequestMatchesEnvironment).
 abbrev pub Fits : SchemaTree → Request → Type 0
 Fits s q = (env : Environment) × FitsIn s env q

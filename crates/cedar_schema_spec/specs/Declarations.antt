@@ -1,4 +1,4 @@
--- What a schema declares, with tests of it and of its descents that compute.
+-- What a schema declares, with tests of declarations and descents that can be computed.
 use Rattle.std.specs.Prelude.{◌≡◌, ◌↔◌, ℕ, Bool, ◌&&◌, ◌||◌, List, [], ◌∷◌, ◌++◌, length, map, Contains, IsSome, is_some}
 use Rattle.std.specs.Bool.{Decides}
 use Rattle.std.specs.List.{list_any}
@@ -76,19 +76,19 @@ action_entities s = map action_entity s.actions
 
 -- ---- laws
 
--- The test of declared actions decides them (own).
+-- The test for declared actions is true exactly where the action is declared (own).
 abbrev pub ActionsAreDecided : Type 0
 ActionsAreDecided = (s : SchemaTree) (u : Uid) → Decides (is_action s u) (IsAction s u)
 
--- The test of the types of declared actions decides them (own).
+-- The test for types of declared actions is true exactly where it is the type of a declared action (own).
 abbrev pub ActionTypesAreDecided : Type 0
 ActionTypesAreDecided = (s : SchemaTree) (n : List ℕ) → Decides (is_action_type s n) (IsActionType s n)
 
--- The test of what an action descends from decides it (own).
+-- The test for descents of actions is true exactly where the relation holds (own).
 abbrev pub ActionDescentsAreDecided : Type 0
 ActionDescentsAreDecided = (s : SchemaTree) (u v : Uid) → Decides (action_below s u v) (ActionDescends s u v)
 
--- The test of what a type descends from decides it (own).
+-- The test for descents of types is true exactly where the relation holds (own).
 abbrev pub TypeDescentsAreDecided : Type 0
 TypeDescentsAreDecided = (s : SchemaTree) (m n : List ℕ) → Decides (type_below s m n) (TypeDescends s m n)
 

@@ -1,4 +1,4 @@
--- A schema, as what it declares (cedar-spec, Lean: Cedar.Validation.Schema).
+-- A schema, as its declarations (cedar-spec, Lean: Cedar.Validation.Schema).
 use Rattle.std.specs.Prelude.{Contains, ℕ, List, [], map, flat_map, Option, option_map, unwrap_or}
 use Rattle.std.specs.Map.{lookup}
 use Rattle.std.specs.BTreeMap.{is_at}
@@ -21,7 +21,7 @@ pub record ActionTree : Type 0 where
   pub resources : List (List ℕ)
   pub context : TypeTree
 
--- A schema: the entity types by their names and the actions by their uids (cedar-spec, Lean: Cedar.Validation.Schema).
+-- A schema: the entity types with their names and the actions with their uids (cedar-spec, Lean: Cedar.Validation.Schema).
 pub record SchemaTree : Type 0 where
   pub entities : List (List ℕ × EntityTypeTree)
   pub actions : List (Uid × ActionTree)

@@ -16,8 +16,7 @@ use Rattle.cedar_schema_spec.specs.Descents.{ActionDescends}
 abbrev pub IsListedInOrder : SchemaTree → Type 0
 IsListedInOrder s = IsStrictlySortedBy text_cmp (keys_of s.entities) × IsStrictlySortedBy uid_cmp (keys_of s.actions)
 
--- The order of two environments: by the uids of the actions, then by the types of the principals, then by those of the
--- resources (own).
+-- The order of two environments: first the uids of the actions, then the principals' types, then the resources' types (own).
 abbrev pub environment_cmp : Environment → Environment → Ordering
 environment_cmp x y = ordering_then (uid_cmp x.action y.action) (ordering_then (text_cmp x.principal y.principal) (text_cmp x.resource y.resource))
 
@@ -37,8 +36,8 @@ AreTypesApart s = All (λ u. ¬ Contains (keys_of s.entities) u.ty) (keys_of s.a
 abbrev pub AreMembersDeclared : SchemaTree → Type 0
 AreMembersDeclared s = All (λ a. All (Contains (keys_of s.actions)) a.parents) (values_of s.actions)
 
--- What lies above an action is declared, and so is the action; none is above itself (Cedar documentation, JSON schema
--- format: memberOf).
+-- What is above an action is declared, and so is the action; none is above itself (Cedar documentation, JSON schema format:
+-- memberOf).
 abbrev pub IsHierarchy : SchemaTree → Type 0
 IsHierarchy s =
     ((u v : Uid) → ActionDescends s u v → Contains (keys_of s.actions) u × Contains (keys_of s.actions) v) × ((u : Uid) → ¬ ActionDescends s u u)
@@ -56,12 +55,12 @@ AreShapesOrdered s = All (λ e. IsOrderedRecord e.shape) (values_of s.entities)
 abbrev pub AreContextsOrdered : SchemaTree → Type 0
 AreContextsOrdered s = All (λ e. IsOrderedRecord e.context) (environments_of s.actions)
 
--- The types of principals and of resources that an action applies to ascend strictly, so that each stands once, and each is
--- a declared entity type (Cedar documentation, JSON schema format: appliesTo).
+-- The types of principals and of resources that an action applies to ascend strictly, so that none is repeated, and each is a
+-- declared entity type (Cedar documentation, JSON schema format: appliesTo).
 abbrev pub AreDeclaredTypes : SchemaTree → List (List ℕ) → Type 0
 AreDeclaredTypes s names = IsStrictlySortedBy text_cmp names × All (Contains (keys_of s.entities)) names
 
--- Both lists of each action are such (Cedar documentation, JSON schema format: appliesTo).
+-- Both lists of types of each action are in order and declared (Cedar documentation, JSON schema format: appliesTo).
 abbrev pub AreListsDeclared : SchemaTree → Type 0
 AreListsDeclared s = All (λ a. AreDeclaredTypes s a.principals × AreDeclaredTypes s a.resources) (values_of s.actions)
 
@@ -91,7 +90,7 @@ abbrev mutual
 abbrev pub AreTypesDeclared : SchemaTree → Type 0
 AreTypesDeclared s = All (λ e. NamesOnly (keys_of s.entities) e.shape) (values_of s.entities) × All (λ a. NamesOnly (keys_of s.entities) a.context) (values_of s.actions)
 
--- What every schema keeps, but for what chains of links tell (cedar-spec, Lean: Cedar.Validation, well-formed schemas).
+-- What every schema keeps, except what concerns chains of links (cedar-spec, Lean: Cedar.Validation, well-formed schemas).
 pub record IsWellFormed (s : SchemaTree) : Type 0 where
   pub in_order : IsListedInOrder s
   pub apart : AreTypesApart s

@@ -3,8 +3,8 @@
 use cedar_schema_types::Type;
 use cedar_value::{Name, Uid};
 
-/// What a request may be of: an action with a type of principals, a type of resources and the type of
-/// its context (Cedar documentation, JSON schema format: appliesTo).
+/// What a request may be about: an action with a type of principals, a type of resources and the type of its context (Cedar
+/// documentation, JSON schema format: appliesTo).
 #[derive(Drop)]
 pub struct Environment {
     /// The action.

@@ -1,6 +1,6 @@
-//! What a schema of the Cedar policy language is, and what conforms to it.
+//! What a schema is, and which entities and requests conform to it, as definitions.
 //!
-//! The crate holds definitions and laws of them alone. Read `specs/` in this order:
+//! The crate has definitions, and laws about them, and no other code. Read `specs/` in this order:
 //!
 //! - `SchemaTree`: a schema, as the entity types and the actions that it declares, and its environments.
 //! - `Descents`: what an entity type or an action descends from.

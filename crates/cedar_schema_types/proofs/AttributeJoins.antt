@@ -93,7 +93,7 @@ ended j a b u v p q e =
 pub here_and_on : (a : List Attribute) (i : ℕ) (x : Attribute) → i < length a → x ≡ get_or a i x → drop i a ≡ x ∷ drop (i + 1) a
 here_and_on a i x h e = drop-cons a i x h ∙ ap₂ (λ (y : Attribute) (n : ℕ). y ∷ drop n a) (sym e) (sym (add-one i))
 
--- what stands in a list nests less deep than all of it
+-- what is in a list nests less deep than all of it
 pub weight_here : (a : List Attribute) (i : ℕ) (x : Attribute) → i < length a → x ≡ get_or a i x → weight x.ty + 2 ≤ attributes_weight (attributes_of a)
 weight_here [] i x h e = absurd (omega arith)
 weight_here (y ∷ a) zero x h e = let same : weight x.ty ≡ weight y.ty = ap (λ (z : Attribute). weight z.ty) e in omega arith

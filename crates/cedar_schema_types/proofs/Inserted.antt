@@ -22,7 +22,7 @@ use Rattle.cedar_schema_types.proofs.Names.{name_of}
 flipped : (k l : List ℕ) (o : Ordering) → text_cmp l k ≡ o → text_cmp k l ≡ ordering_reverse o
 flipped k l o e = nat_list_cmp_total.antisymm k l ∙ ap ordering_reverse e
 
--- in the place of one of its name
+-- in place of one of its name
 pub set_there : (as' : List Attribute) (a : Attribute) (i : ℕ) → AreNamesAscending as' → i < length as' → ((d : Attribute) → text_cmp (get_or as' i d).name a.name ≡ Equal)
     → with_attribute a.name a.required a.ty (attributes_of as') ≡ attributes_of (set as' i a)
 set_there [] a i up lt same = absurd (omega arith)

@@ -12,7 +12,7 @@ use Rattle.cedar_schema_types.specs.declared.attribute.Attribute.{Attribute}
 abbrev pub name_of : Attribute → List ℕ
 name_of a = a.name
 
--- the attribute of a name that stands at place i
+-- the attribute of a name that is at place i
 pub attribute_at-place : (as' : List Attribute) (k : List ℕ) (i : ℕ) (a : Attribute) → AreNamesAscending as' → i < length as' → a ≡ get_or as' i a → text_cmp a.name k ≡ Equal → attribute_at k (attributes_of as') ≡ Some a
 attribute_at-place = look-place name_of (λ a. a) (λ k as'. attribute_at k (attributes_of as')) (λ k. refl) (λ k a as'. refl)
 

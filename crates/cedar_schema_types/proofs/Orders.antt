@@ -8,7 +8,7 @@ use Rattle.cedar_schema_types.specs.TypeKind.{attributes_of}
 use Rattle.cedar_schema_types.specs.Ordered.{Ascends, AllAscend, AreNamesAscending}
 use Rattle.cedar_schema_types.specs.declared.attribute.Attribute.{Attribute}
 
--- the names of a list, and of the attributes that it stands for
+-- the names of a list, and of the attributes that it denotes
 pub names_of-attributes_of : (as' : List Attribute) → names_of (attributes_of as') ≡ map (λ a. a.name) as'
 names_of-attributes_of [] = refl
 names_of-attributes_of (a ∷ as') = ap (λ (ks : List (List ℕ)). a.name ∷ ks) (names_of-attributes_of as')

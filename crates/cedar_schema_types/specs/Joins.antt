@@ -1,4 +1,4 @@
--- The join of two types as a relation of three, rule by rule, and what is said of it.
+-- The join of two types as a relation of three, rule by rule, and its laws.
 use Rattle.std.specs.Prelude.{◌≡◌, ◌↔◌, ℕ, Bool, List, Option, Some, None}
 use Rattle.std.specs.List.Sorted.{IsStrictlySortedBy}
 use Rattle.cedar_value.specs.Datum.{Datum}
@@ -45,6 +45,7 @@ abbrev pub JoinIsByName : Type 0
 JoinIsByName = (a b d : Attributes) → IsStrictlySortedBy text_cmp (names_of a) → IsStrictlySortedBy text_cmp (names_of b) → IsStrictlySortedBy text_cmp (names_of d)
     → Join (record_of a) (record_of b) (record_of d) ↔ ((k : List ℕ) → JoinsAt (attribute_at k a) (attribute_at k b) (attribute_at k d))
 
--- What belongs to one of two types belongs to what they join to (cedar-spec, Lean: Cedar.Thm.Validation, subtyping of a join).
+-- A value that belongs to one of two types belongs to what they join to (cedar-spec, Lean: Cedar.Thm.Validation, subtyping of a
+-- join).
 abbrev pub MembersStay : Type 0
 MembersStay = (t u v : TypeTree) (x : Datum) → Join t u v → (Member t x → Member v x) × (Member u x → Member v x)

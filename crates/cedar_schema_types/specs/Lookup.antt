@@ -9,7 +9,7 @@ abbrev pub attribute_at : List ℕ → Attributes → Option Attribute
 attribute_at k no_attributes = None
 attribute_at k (attribute l r t rest) = if bytes_eq l k then Some (record { name = l; ty = t; required = r }) else attribute_at k rest
 
--- The attribute that a type declares at a name: none where it is no record type (Cedar documentation, strict validation:
+-- The attribute that a type declares at a name: none where it is not a record type (Cedar documentation, strict validation:
 -- attribute access).
 abbrev pub attribute_of : List ℕ → TypeTree → Option Attribute
 attribute_of k (record_of a) = attribute_at k a

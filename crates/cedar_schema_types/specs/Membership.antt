@@ -14,7 +14,7 @@ abbrev pub known : Bool → Truth
 known true = True
 known false = False
 
--- Known true has true alone, known false has false alone, and any has both (cedar-spec, Lean: Cedar.Validation,
+-- Known true is true alone, known false is false alone, and any is both (cedar-spec, Lean: Cedar.Validation,
 -- InstanceOfBoolType).
 abbrev pub HasTruth : Truth → Bool → Type 0
 HasTruth True b = b ≡ true
@@ -31,7 +31,7 @@ abbrev pub IsLong : Datum → Type 0
 IsLong (long n) = Unit {0}
 IsLong _ = ⊥
 
--- The value is a text (cedar-spec, Lean: Cedar.Validation, instances of types).
+-- The value is a string (cedar-spec, Lean: Cedar.Validation, instances of types).
 abbrev pub IsText : Datum → Type 0
 IsText (text s) = Unit {0}
 IsText _ = ⊥
@@ -58,13 +58,13 @@ abbrev pub IsRecord : (List ℕ → Option Datum → Type 0) → Datum → Type 
 IsRecord P (record_of fs) = (k : List ℕ) → P k (value_at k (pairs_of fs))
 IsRecord P _ = ⊥
 
--- What may stand at an attribute: a value with P, or nothing where it is not required (Cedar documentation, JSON schema format:
+-- What may be at an attribute: a value with P, or nothing where it is not required (Cedar documentation, JSON schema format:
 -- required).
 abbrev pub MayStand : Bool → (Datum → Type 0) → Option Datum → Type 0
 MayStand required P (Some v) = P v
 MayStand required P None = required ≡ false
 
--- Nothing stands there (own).
+-- There is no value (own).
 abbrev pub IsAbsent : Option Datum → Type 0
 IsAbsent None = Unit {0}
 IsAbsent (Some v) = ⊥
@@ -74,9 +74,8 @@ abbrev pub Choose : Bool → Type 0 → Type 0 → Type 0
 Choose true A B = A
 Choose false A B = B
 
--- The value belongs to the type: a Boolean by what is known of it, a uid to its entity type, a set where all members belong
--- to the type of members, a record where at each key stands what may stand there (cedar-spec, Lean: Cedar.Validation,
--- instances of types).
+-- The value belongs to the type: a Boolean to what is known of it, a uid to its entity type, a set where all members belong to
+-- the type of members, a record where each key has what it may have (cedar-spec, Lean: Cedar.Validation, instances of types).
 abbrev mutual
   pub Member : TypeTree → Datum → Type 0
   Member (kind.boolean f) v = IsBoolean (HasTruth f) v
@@ -87,7 +86,7 @@ abbrev mutual
   Member (kind.record_of a) v = IsRecord (At a) v
   Member kind.decimal v = IsDecimal v
 
-  -- what may stand at a key: each required key, each declared key in its type, and no other key (cedar-spec, Lean:
+  -- what a key may have: each required key, each declared key in its type, and no other key (cedar-spec, Lean:
   -- Cedar.Validation, instances of types)
   pub At : Attributes → List ℕ → Option Datum → Type 0
   At no_attributes k o = IsAbsent o

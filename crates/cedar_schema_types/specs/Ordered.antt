@@ -7,8 +7,8 @@ use Rattle.cedar_schema_types.specs.Types.{TypeTree, boolean, long, string, enti
 use Rattle.cedar_schema_types.specs.TypeKind.{attributes_of}
 use Rattle.cedar_schema_types.specs.declared.attribute.Attribute.{Attribute}
 
--- The attributes of each record in the type, at every depth, ascend strictly by the bytes of their names, so that each
--- name stands once and no two trees are one type (own; cedar-spec, Lean: Cedar.Validation, well-formed types).
+-- The attributes of each record in the type, at every depth, ascend strictly by the bytes of their names, so that no name is
+-- repeated and no two trees are one type (own; cedar-spec, Lean: Cedar.Validation, well-formed types).
 unfoldable mutual
   pub Ascends : TypeTree → Type 0
   Ascends (boolean b) = Unit {0}
@@ -24,7 +24,7 @@ unfoldable mutual
   AllAscend no_attributes = Unit {0}
   AllAscend (attribute k r t rest) = Ascends t × AllAscend rest
 
--- The attributes with one more at its place; one of its name that was there before gives way (own).
+-- The attributes with one more at its place. It replaces one of the same name (own).
 abbrev pub with_attribute : List ℕ → Bool → TypeTree → Attributes → Attributes
 with_attribute k r t no_attributes = attribute k r t no_attributes
 with_attribute k r t (attribute l q u rest) = match_ordering (text_cmp k l) (attribute k r t (attribute l q u rest)) (attribute k r t rest) (attribute l q u (with_attribute k r t rest))
@@ -33,7 +33,7 @@ with_attribute k r t (attribute l q u rest) = match_ordering (text_cmp k l) (att
 abbrev pub AreNamesAscending : List Attribute → Type 0
 AreNamesAscending as' = IsStrictlySortedBy text_cmp (map (λ a. a.name) as')
 
--- No name is there twice (own).
+-- No name is repeated (own).
 abbrev pub AreNamesDistinct : List Attribute → Type 0
 AreNamesDistinct as' = AllPairs (λ k l. k ≢ l) (map (λ a. a.name) as')
 

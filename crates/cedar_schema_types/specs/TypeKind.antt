@@ -1,4 +1,4 @@
--- The type that a kind stands for.
+-- The type that a kind denotes.
 use Rattle.std.specs.Prelude.{List, [], ◌∷◌}
 use Rattle.cedar_schema_types.specs.Types.{TypeTree, boolean, long, string, entity, set, record_of, decimal, Attributes, no_attributes, attribute}
 use Rattle.cedar_schema_types.specs.declared.attribute.Attribute.{Attribute}

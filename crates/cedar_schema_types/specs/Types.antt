@@ -2,8 +2,8 @@
 use Rattle.std.specs.Prelude.{ℕ, Bool, true, false, List, [], ◌∷◌}
 use Rattle.cedar_schema_types.specs.declared.truth.Truth.{Truth}
 
--- A type: Booleans and what is known of them, whole numbers, texts, the entities of a type by its name, sets of a type,
--- records by their attributes, decimals (Cedar documentation, JSON schema format: attribute types).
+-- A type: Booleans and what is known of them, whole numbers, strings, the entities of a type given by its name, sets of a type,
+-- records given by their attributes, decimals (Cedar documentation, JSON schema format: attribute types).
 mutual
   pub data TypeTree : Type 0 where
     boolean : Truth → TypeTree
@@ -14,7 +14,7 @@ mutual
     record_of : Attributes → TypeTree
     decimal : TypeTree
 
-  -- The attributes of a record, one after the other: of each its name, whether it is required, and its type (Cedar
+  -- The attributes of a record, one after another: for each its name, whether it is required, and its type (Cedar
   -- documentation, JSON schema format: Record).
   pub data Attributes : Type 0 where
     no_attributes : Attributes

@@ -8,7 +8,7 @@ use cedar_value::SharedText;
 pub struct Attribute {
     /// Its name, the key at which a record has it.
     pub name: SharedText,
-    /// The type of what stands at the key.
+    /// The type of the value at the key.
     pub ty: Type,
     /// Whether each record of the type has the key.
     pub required: bool,

@@ -16,10 +16,9 @@ fn join_truths(left: Truth, right: Truth) -> Truth
     if left == right { left } else { Truth::Any }
 }
 
-/// The type that two types join to, and None where they do not: Booleans of unlike forms join to any
-/// Boolean, sets by their members, records of the same keys and the same requiredness key by key,
-/// and else equal types alone (Cedar documentation, strict validation;
-/// cedar-spec, Lean: Cedar.Validation, least upper bounds).
+/// The type that two types join to. None where they do not join. Booleans of unlike forms join to any Boolean, sets by their
+/// members, and records of the same keys and the same requiredness key by key. Other types join only where they are equal
+/// (Cedar documentation, strict validation; cedar-spec, Lean: Cedar.Validation, least upper bounds).
 #[cycle(join)]
 pub fn join(alloc: Global, left: &Type, right: &Type) -> Result<Option<Type>, AllocError>
     ensures { IfOk result (λ joined. joined ≡ join left.now right.now) }
@@ -54,7 +53,7 @@ pub fn join(alloc: Global, left: &Type, right: &Type) -> Result<Option<Type>, Al
     }
 }
 
-// What two attributes join to.
+// The join of two attributes.
 #[cycle(join)]
 fn join_attribute(
     alloc: Global,
@@ -79,7 +78,7 @@ fn join_attribute(
     }
 }
 
-// What two lists of attributes join to, one by one.
+// The join of two lists of attributes, one by one.
 #[cycle(join)]
 fn join_attributes(
     alloc: Global,

@@ -9,8 +9,8 @@ use crate::attribute::Attribute;
 use std::alloc::{AllocError, Global};
 use std::marker::Model;
 
-/// The attributes of a record type, which contracts see as `Attributes`. They ascend by the bytes of
-/// their names, each of which stands once.
+/// The attributes of a record type, which contracts see as `Attributes`. They ascend by the bytes of their names, and no name
+/// is repeated.
 #[cycle(types)]
 #[derive(Drop)]
 pub struct RecordType {
@@ -53,8 +53,8 @@ impl RecordType {
         }
     }
 
-    /// The record type of these attributes, in whatever order they come. None where a name stands twice
-    /// (Cedar documentation, JSON schema format: Record).
+    /// The record type of these attributes, in whatever order they come. None where a name is repeated (Cedar documentation,
+    /// JSON schema format: Record).
     pub fn from_attributes(mut attributes: Vec<Attribute>) -> Result<Option<Self>, AllocError>
         ensures distinct { IfOk result (λ o. IsSome o ↔ AreNamesDistinct attributes.items) }
         ensures attributes { IfOk result (λ o. IfSome o (IsRecordOf attributes.items)) }
@@ -76,8 +76,7 @@ impl RecordType {
         RecordType { attributes }
     }
 
-    /// The attribute of a name. Takes no memory, and comparisons by the logarithm of the number of
-    /// attributes.
+    /// The attribute of a name. Takes no memory, and as many comparisons as the logarithm of the number of attributes.
     pub fn attribute(&self, name: &str) -> Option<&Attribute>
         ensures { option_copied result ≡ attribute_at name.now self.now }
     {
@@ -90,21 +89,23 @@ impl RecordType {
         }
     }
 
-    /// What every record type keeps: its attributes ascend, at every depth. It is a law of record types,
-    /// and does nothing.
+    /// What every record type keeps: its attributes ascend, at every depth. A law: it runs no code.
     pub fn order(&self)
         ensures { Ascends (record_of self.now) }
     {
         let _kept = &self.attributes;
     }
 
-    /// Adds the attribute, in the place of one of its name where there is one. Refused when out of memory
-    /// alone, and then nothing is changed.
+    /// Adds the attribute. It replaces one of the same name, where there is one.
+    ///
+    /// # Errors
+    ///
+    /// Fails only when out of memory, and nothing is changed then.
     pub fn insert(&mut self, attribute: Attribute) -> Result<(), AllocError>
         ensures added { OnOk result (self.new ≡ with_attribute attribute.name attribute.required attribute.ty self.old) }
         ensures refused { OnErr result (self.new ≡ self.old) }
     {
-        // A law of the attribute's type, which does nothing.
+        // The attributes in the attribute's type ascend.
         attribute.ty.order();
         put(&mut self.attributes, attribute)
     }
@@ -141,7 +142,7 @@ fn put(attributes: &mut Vec<Attribute>, attribute: Attribute) -> Result<(), Allo
     Ok(())
 }
 
-// Whether each name is below the next.
+// Whether the names ascend strictly.
 fn names_ascend(attributes: &[Attribute]) -> bool
     ensures { IsTrue result ↔ AreNamesAscending attributes.now }
 {
@@ -160,7 +161,7 @@ fn names_ascend(attributes: &[Attribute]) -> bool
     true
 }
 
-// The law of each attribute's type.
+// The attributes in each attribute's type ascend. A law, whose loop only serves its proof.
 fn order_all(attributes: &[Attribute])
     ensures { AllAscend (attributes_of attributes.now) }
 {

@@ -19,9 +19,9 @@ pub enum TypeKind {
     Boolean(Truth),
     /// Whole numbers of 64 bits.
     Long,
-    /// Texts.
+    /// Strings.
     String,
-    /// The entities of a type, or an action's.
+    /// The entities of a type, or the actions of a type.
     Entity(Name),
     /// Sets whose members are of a type.
     Set(Box<Type>),
@@ -67,7 +67,7 @@ impl Type {
     pub fn new(kind: TypeKind) -> Self
         ensures { result ≡ type_of kind }
     {
-        // A law of what is inside, which does nothing.
+        // The attributes of the types inside ascend.
         order_inside(&kind);
         Type { kind }
     }
@@ -79,8 +79,8 @@ impl Type {
         &self.kind
     }
 
-    /// The attribute that the type declares at a name, None for a type that is no record (Cedar
-    /// documentation, strict validation). Takes no memory.
+    /// The attribute that the type declares at a name. None for a type that is not a record (Cedar documentation, strict
+    /// validation). Takes no memory.
     pub fn attribute(&self, name: &str) -> Option<&Attribute>
         ensures { option_copied result ≡ attribute_of name.now self.now }
     {
@@ -107,8 +107,7 @@ impl Type {
         Ok(Type { kind })
     }
 
-    /// What every type keeps: the attributes of each record in it ascend, at every depth. It is a law of
-    /// types, and does nothing.
+    /// What every type keeps: the attributes of each record in it ascend, at every depth. A law: it runs no code.
     pub fn order(&self)
         ensures { Ascends self.now }
     {
@@ -116,7 +115,7 @@ impl Type {
     }
 }
 
-// The law of the types inside.
+// The attributes of the types inside ascend. A law: it runs no code.
 #[tactic(auto, unfolding(crate::specs::Ordered::Ascends))]
 fn order_inside(kind: &TypeKind)
     ensures { Ascends (type_of kind.now) }

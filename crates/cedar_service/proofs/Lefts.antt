@@ -29,7 +29,7 @@ got [] k low = absurd (omega arith)
 got (p ∷ ps) zero low = (p, refl)
 got (p ∷ ps) (suc k) low = got ps k (omega arith)
 
--- the policy under way, and those behind it
+-- the policy under way, and those after it
 pub left_some : (ps : List PolicyTree) (ks : List ℕ) (done k : ℕ) → All (λ k. k < length ps) ks → done < length ks → k ≡ get_or ks done k
     → (p : PolicyTree) × (slice_get ps k ≡ Some p) × (policies_at ps (drop done ks) ≡ p ∷ policies_at ps (drop (done + 1) ks))
 left_some ps ks done k within low is =

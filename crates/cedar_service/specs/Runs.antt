@@ -1,4 +1,4 @@
--- The run that a service lends of a job.
+-- The run of a job that a service lends.
 use Rattle.std.specs.Prelude.{◌≡◌, true, false, List, [], ◌∷◌, Option, Some, None}
 use Rattle.cedar_ast.specs.PolicyTree.{PolicyTree}
 use Rattle.cedar_code.specs.Machine.{start, Steps}
@@ -11,13 +11,13 @@ abbrev pub HasMadeSteps : JobTree → List PolicyTree → RestingView → Type 0
 HasMadeSteps job [] r = ⊥
 HasMadeSteps job (p ∷ rest) r = Steps (policy_code p) job.request job.version.world r.executed start r.configuration
 
--- The run under way of a job: none where the job is finished, and else one that is where the job says, by the steps that it
--- counts of the first policy that is left (own).
+-- The current run of a job: none where the job is finished. Otherwise it is where the job says, after the steps that it counts
+-- of the first policy that is left (own).
 abbrev pub IsRunOf : JobTree → Option RestingView → Type 0
 IsRunOf job None = is_finished job ≡ true
 IsRunOf job (Some r) = (is_finished job ≡ false) × (r.configuration ≡ job.configuration) × HasMadeSteps job job.left r
 
--- That of the job at a number: none where there is no job (own).
+-- The run of the job at a number: none where there is no job (own).
 abbrev pub IsRunAt : Option JobTree → Option RestingView → Type 0
 IsRunAt None o = o ≡ None
 IsRunAt (Some job) o = IsRunOf job o

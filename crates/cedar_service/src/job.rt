@@ -23,8 +23,8 @@ use std::alloc::{AllocError, Global};
 use std::marker::Model;
 use std::rc::Rc;
 
-/// A request that is being answered by one version: the positions of the policies that it runs, how many of them it ran,
-/// what they gave, and the run under way. Contracts see it as a `JobTree`.
+/// A request that is being answered by one version: the positions of the policies that it runs, how many of them it ran, what
+/// they gave, and the current run. Contracts see it as a `JobTree`.
 #[derive(Drop)]
 pub(crate) struct Job {
     version: Rc<Ready>,
@@ -60,7 +60,7 @@ impl Model for Job {
     ghost invariant = { λ j. IsKept j.version.value j.request j.positions.items j.done j.results j.run };
 }
 
-// The run of the policy at a place among the positions, before its first step, if there is one.
+// The run of the policy at a place among the positions, before its first step, if there is such a policy.
 fn begin(
     alloc: Global,
     version: &Ready,
@@ -79,7 +79,7 @@ fn begin(
     }
 }
 
-// What an end says of a policy: whether its condition is true, or its error.
+// What an end means for a policy: whether its condition is true, or its error.
 fn verdict(outcome: &Outcome) -> Result<bool, EvaluationError>
     ensures { result ≡ verdict_of outcome.now }
 {
@@ -93,7 +93,7 @@ fn verdict(outcome: &Outcome) -> Result<bool, EvaluationError>
     }
 }
 
-// What the end of a run says of its policy, where it has ended.
+// What the end of a run means for its policy, where the run has ended.
 fn ended(alloc: Global, run: &Resting) -> Result<Option<Result<bool, EvaluationError>>, AllocError>
     ensures { IfOk result (λ v. v ≡ verdict_at run.now.configuration) }
 {
@@ -103,7 +103,7 @@ fn ended(alloc: Global, run: &Resting) -> Result<Option<Result<bool, EvaluationE
     }
 }
 
-// The next run takes the place of one that has ended.
+// Replaces a run that has ended by the next one.
 fn put_run(run: &mut Option<Resting>, next: Option<Resting>)
     ensures { run.new ≡ next }
 {
@@ -119,7 +119,6 @@ fn copied(alloc: Global, positions: &[usize]) -> Result<Vec<usize>, AllocError>
 
 impl Job {
     /// A job of a version for a request that fits its schema, before its first step. It runs the version's candidates.
-    /// 1: memory was refused.
     pub(crate) fn new(
         alloc: Global,
         version: Rc<Ready>,
@@ -148,15 +147,15 @@ impl Job {
         self.run.is_none()
     }
 
-    /// The run under way, lent; none where the job is finished.
+    /// The current run, lent. None where the job is finished.
     pub(crate) fn running(&self) -> Option<&Resting>
         ensures { IsRunOf self.now (option_copied result) }
     {
         self.run.as_ref()
     }
 
-    /// One instruction, or the end of a run and the beginning of the next; true where the job is now finished. A finished
-    /// job stays as it is, and takes no memory. 1: memory was refused, and nothing is changed.
+    /// One instruction, or the end of a run and the beginning of the next; true where the job is now finished. A finished job
+    /// stays as it is, and takes no memory. Refused when out of memory, and nothing is then changed.
     pub(crate) fn step(&mut self, alloc: Global) -> Result<bool, AllocError>
         ensures ok { IfOk result (λ finished. StepsTo self.old self.old.left finished self.new) }
         ensures refused { OnErr result (self.new ≡ self.old) }
@@ -169,7 +168,7 @@ impl Job {
             run.step(alloc, code, &self.request, self.version.store())?;
             return Ok(false);
         };
-        // Laws, which run nothing.
+        // A run ends as its policy's condition evaluates, and its error is one that the version's settings leave.
         runs_end_as_evaluated();
         self.version.soundness();
         let next = begin(alloc, &self.version, &self.positions, self.done + 1)?;

@@ -1,6 +1,8 @@
-//! Requests in flight: many requests are answered beside each other, step by step, while new policies are published.
+//! Requests in flight: it answers many requests side by side, step by step, while new policies are published.
 //!
 //! ```
+//! use cedar_service::Service;
+//!
 //! let mut service = Service::new(alloc, ready)?;
 //! let job = service.open(line)?;
 //! // Other jobs may be opened, stepped and taken here, and other versions published: this job keeps its own.
@@ -9,7 +11,7 @@
 //! assert_eq!(rt; response.decision, Decision::Allow);
 //! ```
 //!
-//! A host calls it between its own waits: no thread, no lock and no socket stands here. Each call is one event of
+//! A host calls it between its own waits. The crate has no threads, locks or sockets. Each call is one event of
 //! cedar_service_law, whose law says what all of them promise together.
 #![tactic(auto)]
 

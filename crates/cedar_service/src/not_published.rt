@@ -2,11 +2,11 @@
 use crate::service_fault::ServiceFault;
 use cedar_auth::Ready;
 
-/// A version that was handed in, handed back, and why it did not become the current one.
+/// A version that is handed back, and why it did not become the current one.
 #[derive(Drop)]
 pub struct NotPublished {
-    /// Why.
+    /// Why it did not become the current version.
     pub fault: ServiceFault,
-    /// The version that was handed in.
+    /// The version that the call was given.
     pub ready: Ready,
 }

@@ -1,4 +1,4 @@
-//! What is answered to a job's request.
+//! The response to a job's request.
 use cedar_ast::Decision;
 use cedar_ast_expressions::EvaluationError;
 use cedar_value::Text;
@@ -9,7 +9,7 @@ use std::marker::Model;
 pub struct Erring {
     /// The policy's id.
     pub policy: Text,
-    /// Why its condition has no value.
+    /// The error of its condition.
     pub error: EvaluationError,
 }
 
@@ -26,7 +26,7 @@ impl Model for Erring {
 /// a `ResponseTree` (Cedar language reference, authorization).
 #[derive(Drop)]
 pub struct Response {
-    /// What is decided.
+    /// The decision.
     pub decision: Decision,
     /// The satisfied permits where the request is allowed, else the satisfied forbids.
     pub determining: Vec<Text>,

@@ -1,4 +1,4 @@
-//! What is gathered while the policies of a job run.
+//! The results that are gathered while the policies of a job run.
 ghost use Rattle.std.specs.Prelude.{◌≡◌, OnOk, OnErr};
 ghost use Rattle.cedar_service_law.specs.Results.{no_results, allowed_by, decided_by};
 ghost use Rattle.cedar_service.specs.Private.Verdicts.{with_verdict};
@@ -38,8 +38,8 @@ impl Results {
         }
     }
 
-    /// Enters a policy that was run: whether its condition is true, or its error. 1: memory was refused, and nothing is
-    /// entered.
+    /// Enters a policy that was run: whether its condition is true, or its error. Refused when out of memory, and nothing is
+    /// then entered.
     pub(crate) fn enter(
         &mut self,
         alloc: Global,

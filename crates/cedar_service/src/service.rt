@@ -21,9 +21,9 @@ use std::rc::Rc;
 /// The number of a job: 0, 1, 2 and on, in the order in which they are opened. No number is used again.
 pub type JobId = u64;
 
-/// A current version, which new jobs are answered by, and the jobs that are open, each with the version that was current
-/// when it was opened. A version that no job holds and that is no longer current is gone. Contracts see it as a
-/// `ServiceState`, and each call as one of its events (own).
+/// The current version, which answers new jobs, and the open jobs, each with the version that was current when it was opened. A
+/// version that is no longer current is dropped when no job holds it. Contracts see the service as a `ServiceState`, and each
+/// call as one of its events (own).
 #[derive(Drop)]
 pub struct Service {
     alloc: Global,
@@ -47,14 +47,14 @@ impl Model for Service {
     ghost view = { λ s. record { number = s.number; current = s.current.value; next_job = s.next_job; jobs = s.jobs.entries } };
 }
 
-// Another version takes the place of one.
+// Replaces a version by another one.
 fn put_version(place: &mut Rc<Ready>, version: Rc<Ready>)
     ensures { place.new.value ≡ version.value }
 {
     *place = version;
 }
 
-// Puts something at a number. 1: memory was refused, and nothing is put.
+// Puts a value at a number. Refused when out of memory, and nothing is then put.
 fn put<T: Drop>(table: &mut HashMap<JobId, T>, id: JobId, value: T) -> Result<(), AllocError>
     ensures ok { OnOk result (Updates nat_eq table.old table.new id (Some value)) }
     ensures refused { OnErr result (table.new.entries ≡ table.old.entries) }
@@ -64,8 +64,11 @@ fn put<T: Drop>(table: &mut HashMap<JobId, T>, id: JobId, value: T) -> Result<()
 }
 
 impl Service {
-    /// A service whose current version has number 0, without jobs. It keeps the allocator for its later calls. 1: memory
-    /// was refused, and the version is handed back.
+    /// A service whose current version has number 0, without jobs. It keeps the allocator for its later calls.
+    ///
+    /// # Errors
+    ///
+    /// Fails only when out of memory. The version is handed back.
     pub fn new(alloc: Global, ready: Ready) -> Result<Service, NotPublished>
         ensures first { IfOk result (λ s. s ≡ first_state ready) }
         ensures refused { IfErr result (λ e. number_of e.fault ≡ 1) }
@@ -86,8 +89,11 @@ impl Service {
         }
     }
 
-    /// Makes a version the current one, and gives its number, one more than the last's. Open jobs keep theirs. 1, and 803
-    /// where no number is left: the version is handed back, and nothing is changed.
+    /// Makes a version the current one, and returns its number, one more than the last one's. Open jobs keep their versions.
+    ///
+    /// # Errors
+    ///
+    /// 1 when out of memory, and 803 where no number is left. The version is handed back, and nothing is changed.
     pub fn publish(&mut self, ready: Ready) -> Result<u64, NotPublished>
         ensures ok { IfOk result (λ n. Happens self.old (publish ready) (published n) self.new) }
         ensures refused { IfErr result (λ e. Happens self.old (publish ready) (refused (number_of e.fault)) self.new) }
@@ -112,9 +118,13 @@ impl Service {
         }
     }
 
-    /// Opens a job for a request line, read by the current version's schema, and gives its number. A job with no policy to
-    /// run is finished at once. 1, 803 where no number is left, and else 501 to 506 or 509 to 511 only where the line has
-    /// that fault: nothing is changed.
+    /// Opens a job for a request line, which is read with the current version's schema, and returns its number. A job with no
+    /// policy to run is finished at once.
+    ///
+    /// # Errors
+    ///
+    /// 1 when out of memory, 803 where no number is left, and otherwise 501 to 506 or 509 to 511 only where the line has that
+    /// fault. Nothing is changed then.
     pub fn open(&mut self, line: &[u8]) -> Result<JobId, ServiceFault>
         ensures ok { IfOk result (λ j. Happens self.old (open_job line.now) (opened j) self.new) }
         ensures refused { IfErr result (λ fault. Happens self.old (open_job line.now) (refused (number_of fault)) self.new) }
@@ -134,9 +144,12 @@ impl Service {
         Ok(id)
     }
 
-    /// One step of a job: one instruction of the policy under way, or, where that has ended, its result is entered and the
-    /// next begins. True where the job is now finished; a finished job stays as it is, and takes no memory. 1, and 801
-    /// where there is no such job: nothing is changed, and the step can be tried again.
+    /// One step of a job: one instruction of the current policy, or, where that policy has ended, its result is entered and the
+    /// next one begins. True where the job is now finished. A finished job stays as it is, and takes no memory.
+    ///
+    /// # Errors
+    ///
+    /// 1 when out of memory, and 801 where there is no such job. Nothing is changed then, and the step can be tried again.
     pub fn step(&mut self, id: JobId) -> Result<bool, ServiceFault>
         ensures ok { IfOk result (λ finished. Happens self.old (step id) (stepped finished) self.new) }
         ensures refused { IfErr result (λ fault. Happens self.old (step id) (refused (number_of fault)) self.new) }
@@ -159,9 +172,13 @@ impl Service {
         Ok(finished)
     }
 
-    /// The response to a finished job's request, by the version that was current at its opening; the job is gone then. The
-    /// errors that it names are overflow and missing entity alone, or a decimal error where that version's settings have
-    /// `any_decimal` on. Takes no memory. 801 where there is no such job, 802 where it is not finished: nothing is changed.
+    /// The response to a finished job's request in the version that was current when the job was opened. The job is then gone.
+    /// The only errors that the response names are overflow and missing entity, and also a decimal error where that version's
+    /// settings have `any_decimal` on. Takes no memory.
+    ///
+    /// # Errors
+    ///
+    /// 801 where there is no such job, 802 where it is not finished. Nothing is changed then.
     pub fn take(&mut self, id: JobId) -> Result<Response, ServiceFault>
         ensures ok { IfOk result (λ response. Happens self.old (take_answer id) (taken response) self.new) }
         ensures errors { IfOk result (NamesAllowed (job_at self.old.jobs id)) }
@@ -181,7 +198,7 @@ impl Service {
         Ok(job.into_response())
     }
 
-    /// The run under way of a job, lent; none where there is no such job or it is finished. Takes no memory.
+    /// The current run of a job, lent. None where there is no such job or it is finished. Takes no memory.
     pub fn running(&self, id: JobId) -> Option<&Resting>
         ensures { IsRunAt (job_at self.now.jobs id) (option_copied result) }
     {

@@ -7,10 +7,10 @@ use thiserror::Error;
 /// Why a call of a service is refused. Nothing is changed then.
 #[derive(Drop, Error)]
 pub enum ServiceFault {
-    /// 1: memory was refused.
+    /// 1: out of memory.
     #[error("out of memory")]
     OutOfMemory,
-    /// 501 to 506 and 509 to 511: the request line has this fault by the current version's schema.
+    /// 501 to 506 and 509 to 511: the request line has this fault for the current version's schema.
     #[error("{0}")]
     Line(ConformFault),
     /// 801: the number was given to no job, or its job was taken.

@@ -8,7 +8,7 @@ use Rattle.cedar_service_law.specs.Jobs.{most_steps}
 use Rattle.cedar_service_law.specs.Service.{ServiceState, Reply, publish, open_job, step, take_answer, published, opened, stepped, taken, refused, greatest, first_state, IsFaultOfLine}
 use Rattle.cedar_service_law.specs.Histories.{History, Leads, Stands, opens, publications, current_after, Opening, opening_of, was_taken, steps_of, was_finished}
 
--- The response answers the request of the job that was opened so, by every policy of the version that was current there
+-- The response answers the request of the job that was opened so, with every policy of the version that was current there
 -- (Cedar language reference, authorization; own: versions).
 abbrev pub Answers : Option Opening → ResponseTree → Type 0
 Answers None r = ⊥
@@ -28,7 +28,7 @@ AreEnough (Some o) steps = most_steps o.version.policies.policies ≤ steps
 abbrev pub IsGone : ReadyTree → History → ℕ → Type 0
 IsGone v before j = (opening_of v before j ≡ None) ⊎ (was_taken before j ≡ true)
 
--- What was told as finished and is still there (own).
+-- A job that was reported as finished and is still there (own).
 pub record StandsFinished (before : History) (j : ℕ) : Type 0 where
   pub told : was_finished before j ≡ true
   pub there : was_taken before j ≡ false
@@ -40,7 +40,7 @@ pub record IsFair (v : ReadyTree) (h : History) : Type 0 where
   pub versions_numbered : (before : History) (w : ReadyTree) (n : ℕ) → Stands h before (publish w) (published n) → n ≡ publications before + 1
   pub jobs_end : (before : History) (line : List ℕ) → Stands h before (open_job line) (refused 803) → opens before ≡ greatest
   pub versions_end : (before : History) (w : ReadyTree) → Stands h before (publish w) (refused 803) → publications before ≡ greatest
-  -- a line is read by the version that is current there: it denotes a request, or it has the fault that is answered
+  -- a line is read with the version that is current there: it denotes a request, or it has the fault that is answered
   pub lines_denote : (before : History) (line : List ℕ) (j : ℕ) → Stands h before (open_job line) (opened j) → (q : Request) × LineDenotes (current_after v before).schema line q
   pub faults_are_there : (before : History) (line : List ℕ) (n : ℕ) → n ≢ 1 → n ≢ 803 → Stands h before (open_job line) (refused n) → IsFaultOfLine (current_after v before).schema line n
   -- the answer taken is that of the job's request in the version that was current at its opening
@@ -48,10 +48,10 @@ pub record IsFair (v : ReadyTree) (h : History) : Type 0 where
   -- 801 is answered exactly where the number was given to no job or its job was taken
   pub no_such_job_to_step : (before : History) (j : ℕ) (reply : Reply) → Stands h before (step j) reply → (reply ≡ refused 801) ↔ IsGone v before j
   pub no_such_job_to_take : (before : History) (j : ℕ) (reply : Reply) → Stands h before (take_answer j) reply → (reply ≡ refused 801) ↔ IsGone v before j
-  -- enough steps finish a job: before them alone it may be told that it isn't finished
+  -- enough steps finish a job: only before them may the reply be that it isn't finished
   pub not_finished : (before : History) (j : ℕ) → Stands h before (take_answer j) (refused 802) → AreFew (opening_of v before j) (steps_of before j)
   pub steps_finish : (before : History) (j : ℕ) (finished : Bool) → Stands h before (step j) (stepped finished) → AreEnough (opening_of v before j) (steps_of before j + 1) → finished ≡ true
-  -- a job that was told to be finished stays so until it is taken
+  -- a job that was reported as finished stays so until it is taken
   pub finished_is_taken : (before : History) (j : ℕ) (reply : Reply) → Stands h before (take_answer j) reply → StandsFinished before j → (r : ResponseTree) × (reply ≡ taken r)
   pub finished_stays : (before : History) (j : ℕ) (reply : Reply) → Stands h before (step j) reply → StandsFinished before j → reply ≡ stepped true
 

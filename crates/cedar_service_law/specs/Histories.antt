@@ -1,4 +1,4 @@
--- Histories: what a service was asked and what it answered, from its first state on.
+-- Histories: the events of a service and its replies, from its first state on.
 use Rattle.std.specs.Prelude.{◌≡◌, ℕ, ◌==◌, Bool, true, false, ◌&&◌, if◌then◌else◌, List, [], ◌∷◌, ◌++◌, Option, Some, None, count_by}
 use Rattle.std.specs.List.{list_any}
 use Rattle.std.specs.Option.{option_or}
@@ -18,7 +18,7 @@ abbrev pub Leads : ServiceState → History → ServiceState → Type 0
 Leads old [] new = new ≡ old
 Leads old (m ∷ h) new = (mid : ServiceState) × Happens old m.0 m.1 mid × Leads mid h new
 
--- In the history this event was answered so, behind what was before it (own).
+-- In the history this event was answered so, after what was before it (own).
 abbrev pub Stands : History → History → Event → Reply → Type 0
 Stands h before event reply = (after : History) × (h ≡ before ++ (event, reply) ∷ after)
 
@@ -87,11 +87,11 @@ steps_job j _ = false
 abbrev pub steps_of : History → ℕ → ℕ
 steps_of h j = count_by (steps_job j) h
 
--- Whether a moment is a step of a job that told that it is finished (own).
+-- Whether a moment is a step of a job that reported that it is finished (own).
 abbrev pub ends_job : ℕ → Moment → Bool
 ends_job j (step i, stepped finished) = finished && i == j
 ends_job j _ = false
 
--- Whether a step of a job told that it is finished (own).
+-- Whether a step of a job reported that it is finished (own).
 abbrev pub was_finished : History → ℕ → Bool
 was_finished h j = list_any (ends_job j) h

@@ -12,8 +12,8 @@ use Rattle.cedar_auth_spec.specs.Codes.{policy_code}
 use Rattle.cedar_auth_spec.specs.Ready.{ReadyTree}
 use Rattle.cedar_service_law.specs.Results.{Results, no_results, entered}
 
--- A job: the version that answers it, its request, the policies that it has still to run, of which the first is under way,
--- the results of those that it ran, and the configuration of the run under way (own).
+-- A job: the version that answers it, its request, the policies that it has still to run, the first of which is running, the
+-- results of those that it ran, and the configuration of the current run (own).
 pub record JobTree : Type 0 where
   pub version : ReadyTree
   pub request : Request
@@ -23,7 +23,7 @@ pub record JobTree : Type 0 where
 
 -- ---- what a job runs
 
--- Whether an evaluation tells for the response: it is true, or it errs (Cedar language reference, authorization).
+-- Whether an evaluation matters to the response: it is true, or it errs (Cedar language reference, authorization).
 abbrev pub tells : Answer Datum → Bool
 tells (Ok v) = is_true (Ok v)
 tells (Err e) = true
@@ -61,7 +61,7 @@ are_none (p ∷ ps) = false
 abbrev pub is_finished : JobTree → Bool
 is_finished job = are_none job.left
 
--- One step of an unfinished job, by its configuration, the policy under way and those behind it: one step of the run, or,
+-- One step of an unfinished job, given its configuration, the policy that runs and those after it: one step of the run, or,
 -- where that has ended, its result is entered and the next run begins (own).
 abbrev pub Advances : JobTree → Configuration → PolicyTree → List PolicyTree → JobTree → Type 0
 Advances old (going place stack) p rest new =
@@ -71,7 +71,7 @@ Advances old (ended outcome) p rest new =
 
 -- ---- many jobs
 
--- A finite map from numbers to jobs: of a number that stands twice, the first job counts (own).
+-- A finite map from numbers to jobs. Where a number is repeated, its first job counts (own).
 abbrev pub Jobs : Type 0
 Jobs = List (ℕ × JobTree)
 

@@ -22,14 +22,14 @@ abbrev pub satisfied : Results → List ℕ → Effect → Results
 satisfied r id Permit = record r { permits = r.permits ++ id ∷ [] }
 satisfied r id Forbid = record r { forbids = r.forbids ++ id ∷ [] }
 
--- The run of one more policy, of this id and effect, ended so: a true value satisfies it, an error is kept beside its id,
--- and all else tells nothing (Cedar language reference, authorization).
+-- The run of one more policy, of this id and effect, ended so: a true value satisfies it, an error is kept beside its id, and
+-- nothing else changes the results (Cedar language reference, authorization).
 abbrev pub entered : Results → List ℕ → Effect → Outcome → Results
 entered r id effect (Value v) = if is_true (Ok v) then satisfied r id effect else r
 entered r id effect (Error e) = record r { erring = r.erring ++ (record { id = id; error = e }) ∷ [] }
 entered r id effect StackFault = r
 
--- Allowed is what no forbid forbids and some permit permits (Cedar language reference, authorization).
+-- Whether the request is allowed: some permit is satisfied and no forbid is (Cedar language reference, authorization).
 abbrev pub allowed_by : Results → Bool
 allowed_by r = length r.forbids == 0 && not (length r.permits == 0)
 

@@ -11,7 +11,7 @@ use Rattle.cedar_auth_spec.specs.Ready.{ReadyTree}
 use Rattle.cedar_service_law.specs.Results.{decided_by}
 use Rattle.cedar_service_law.specs.Jobs.{JobTree, Jobs, job_at, ChangesAt, IsFresh, Advances, is_finished}
 
--- ---- what a service is, and what it is asked and answers
+-- ---- what a service is, its events and replies
 
 -- A service: the number of the current version, that version, the number of the next job, and the jobs (own).
 pub record ServiceState : Type 0 where
@@ -24,16 +24,15 @@ pub record ServiceState : Type 0 where
 abbrev pub first_state : ReadyTree → ServiceState
 first_state v = record { number = 0; current = v; next_job = 0; jobs = [] }
 
--- What may be asked of a service: to make a version the current one, to open a job for a request line, to step a job, to
--- take its answer (own).
+-- What a service can do: make a version the current one, open a job for a request line, step a job, take its answer (own).
 pub data Event : Type 0 where
   publish : ReadyTree → Event
   open_job : (line : List ℕ) → Event
   step : (job : ℕ) → Event
   take_answer : (job : ℕ) → Event
 
--- What is answered: the new version's number, the new job's number, whether the job is finished, the response, or the
--- number of a refusal (own).
+-- A reply: the new version's number, the new job's number, whether the job is finished, the response, or the number of a
+-- refusal (own).
 pub data Reply : Type 0 where
   published : (number : ℕ) → Reply
   opened : (job : ℕ) → Reply
@@ -41,20 +40,20 @@ pub data Reply : Type 0 where
   taken : ResponseTree → Reply
   refused : (number : ℕ) → Reply
 
--- So many jobs can be opened, and so many versions published (own).
+-- How many jobs can be opened, and how many versions published (own).
 abbrev pub greatest : ℕ
 greatest = 18446744073709551615
 
 -- ---- events that are answered
 
--- The version becomes the current one, with the next number; jobs keep theirs (own).
+-- The version becomes the current one, with the next number; jobs keep their versions (own).
 pub record Publishes (old : ServiceState) (v : ReadyTree) (number : ℕ) (new : ServiceState) : Type 0 where
   pub numbers_left : old.number < greatest
   pub number_is : number ≡ old.number + 1
   pub state : new ≡ record old { number = number; current = v }
 
--- The line denotes a request by the current version's schema, and a job of that version for it, with the next number, is
--- there to be stepped (own).
+-- The line denotes a request for the current version's schema, and a job of that version for it, with the next number, is there
+-- to be stepped (own).
 pub record Opens (old : ServiceState) (line : List ℕ) (j : ℕ) (new : ServiceState) : Type 0 where
   pub numbers_left : old.next_job < greatest
   pub number_is : j ≡ old.next_job
@@ -66,14 +65,14 @@ pub record Opens (old : ServiceState) (line : List ℕ) (j : ℕ) (new : Service
   pub current : new.current ≡ old.current
   pub next_job : new.next_job ≡ old.next_job + 1
 
--- Nothing is changed but what stands at this number in the map of jobs (own).
+-- Nothing changes but the job at this number in the map of jobs (own).
 pub record ChangesJob (old : ServiceState) (j : ℕ) (job : Option JobTree) (new : ServiceState) : Type 0 where
   pub changes : ChangesAt old.jobs j job new.jobs
   pub number : new.number ≡ old.number
   pub current : new.current ≡ old.current
   pub next_job : new.next_job ≡ old.next_job
 
--- A step of a job with these policies left: a finished job stays as it is; another one advances, and it is told whether
+-- A step of a job with these policies left: a finished job stays as it is; another one advances, and the reply says whether
 -- none is left then (own).
 abbrev pub StepsLeft : ServiceState → ℕ → JobTree → List PolicyTree → Bool → ServiceState → Type 0
 StepsLeft old j job [] finished new = (finished ≡ true) × (new ≡ old)
@@ -97,7 +96,7 @@ TakesJob old j (Some job) response new = TakesLeft old j job job.left response n
 
 -- ---- events that are refused
 
--- By the schema, the line has a fault of this number; out of memory is not a fault of a line (own).
+-- For the schema, the line has a fault of this number. Out of memory is not a fault of a line (own).
 abbrev pub IsFaultOfLine : SchemaTree → List ℕ → ℕ → Type 0
 IsFaultOfLine s line number = (fault : ConformFault) × (fault ≢ OutOfMemory) × LineHasFault s line fault × (number ≡ number_of fault)
 
@@ -105,7 +104,7 @@ IsFaultOfLine s line number = (fault : ConformFault) × (fault ≢ OutOfMemory) 
 abbrev pub RefusesPublish : ServiceState → ℕ → Type 0
 RefusesPublish s number = (number ≡ 1) ⊎ ((number ≡ 803) × (s.number ≡ greatest))
 
--- A job is not opened: 1 when out of memory, 803 where no number is left, or a fault that the line has by the current
+-- A job is not opened: 1 when out of memory, 803 where no number is left, or a fault that the line has for the current
 -- version's schema (own).
 abbrev pub RefusesOpen : ServiceState → List ℕ → ℕ → Type 0
 RefusesOpen s line number =

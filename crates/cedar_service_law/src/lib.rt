@@ -1,8 +1,7 @@
-//! Histories of a service of policies: versions are published, and requests are opened, stepped and taken as jobs, one
-//! event after another.
+//! The events of a service (publish, open, step, take), and the law that every history of them is fair.
 //!
-//! No thread, no lock and no socket: what stands here are definitions, and one law over every list of events,
-//! [`histories_are_fair`]. Read `specs/Fair.antt` first; what one event is stands in `specs/Service.antt`.
+//! The crate has no threads, locks or sockets: it has definitions, and one law over every list of events,
+//! [`histories_are_fair`]. Read `specs/Fair.antt` first. What one event is, is defined in `specs/Service.antt`.
 #![tactic(auto)]
 
 mod law;

@@ -26,7 +26,7 @@ by_bool : (b : Bool) → (b ≡ true → ⊥) → b ≡ false
 by_bool true h = absurd (h refl)
 by_bool false h = refl
 
--- of keys that are distinct, each stands first where it stands
+-- of keys that are distinct, each comes first where it stands
 pub position_here : (keys : List Uid) (i : ℕ) (u : Uid) → IsDistinct same_uid keys → slice_get keys i ≡ Some u → position (same_uid u) keys ≡ Some i
 position_here keys i u distinct read =
     let within = slice_get_within keys i u read in

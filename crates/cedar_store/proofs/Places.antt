@@ -124,7 +124,7 @@ pub has_entity-placed : (w : World) (u : Uid) (o : Option ℕ) → IsPlace (uids
 has_entity-placed w u None placed = ap is_some (entry_of-unplaced w u placed)
 has_entity-placed w u (Some k) placed = stands w u k ((placed k).0 refl) ∙ ap is_some (entry_of-placed w u k placed)
 
--- what has a parent stands in the world
+-- what has a parent is in the world
 listed_step : (e : EntityTree) (w : World) (u p : Uid) (b : Bool) → same_uid e.uid u ≡ b → (IsParent w u p → (k : ℕ) × (slice_get (uids_of w) k ≡ Some u))
     → Contains (unwrap_or (option_map (λ x. x.parents) (cond b (Some e) (entry_of w u))) []) p → (k : ℕ) × (slice_get (uids_of (e ∷ w)) k ≡ Some u)
 listed_step e w u p true same rest m = (0, ap Some ((same_uid-Decides e.uid u).0 same))

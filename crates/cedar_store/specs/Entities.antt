@@ -12,7 +12,7 @@ uids_of w = map (λ e. e.uid) w
 abbrev pub StandsTwice : World → Uid → Type 0
 StandsTwice w u = (i : ℕ) × (j : ℕ) × (i < j) × (slice_get (uids_of w) i ≡ Some u) × (slice_get (uids_of w) j ≡ Some u)
 
--- Each uid stands once (Cedar language reference, entities).
+-- No uid is repeated (Cedar language reference, entities).
 abbrev pub AreUidsDistinct : World → Type 0
 AreUidsDistinct w = (u : Uid) → ¬ StandsTwice w u
 

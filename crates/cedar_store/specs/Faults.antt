@@ -1,11 +1,11 @@
--- What a refusal says of the entities.
+-- What a refusal says about the entities.
 use Rattle.std.specs.Prelude.{ℕ}
 use Rattle.cedar_value.specs.World.{World, Below}
 use Rattle.cedar_store.specs.Entities.{StandsTwice}
 use Rattle.cedar_store.specs.declared.store_fault.StoreFault.{StoreFault}
 use Rattle.cedar_store.specs.declared.store_fault.StoreFault.TheVariants.{OutOfMemory, DuplicateEntity, Cycle}
 
--- The fault is there: the uid of a duplicate stands twice, that of a cycle is below itself (this project).
+-- The fault is there: the uid of a duplicate is repeated, that of a cycle is below itself (this project).
 abbrev pub IsThere : World → StoreFault → Type 0
 IsThere w OutOfMemory = Unit {0}
 IsThere w (DuplicateEntity u) = StandsTwice w u

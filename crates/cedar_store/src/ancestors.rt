@@ -8,8 +8,8 @@ use base_search::Row;
 use cedar_value::Uid;
 use std::alloc::AllocError;
 
-/// Appends each uid whose number's bit the row has, in the order of the numbers. It takes memory only
-/// where the list has to grow, and leaves the list as it was where that is refused.
+/// Appends each uid whose number's bit the row has, in the order of the numbers. It takes memory only where the list has to
+/// grow. When out of memory, the list is as it was.
 pub(crate) fn push_members<'s>(
     numbers: &'s Numbers,
     row: &Row,

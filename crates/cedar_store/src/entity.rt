@@ -2,8 +2,8 @@
 use cedar_value::{Record, Uid};
 use std::marker::Model;
 
-/// An entity with its attributes and direct parents (Cedar language reference, entities).
-/// A parent may stand there more than once, and need not be an entity of any list.
+/// An entity with its attributes and direct parents (Cedar language reference, entities). A parent may be repeated, and need
+/// not be an entity of any list.
 #[derive(Drop)]
 pub struct Entity {
     /// The entity's uid.

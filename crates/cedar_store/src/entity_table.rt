@@ -39,7 +39,7 @@ impl Model for EntityTable {
 }
 
 impl EntityTable {
-    /// The table of these entities, or 401 where a uid stands twice.
+    /// The table of these entities, or 401 where a uid is repeated.
     pub(crate) fn new(alloc: Global, entities: Vec<Entity>) -> Result<Self, StoreFault>
         ensures world { IfOk result (λ t. t ≡ entities.items) }
         ensures distinct { OnOk result (AreUidsDistinct entities.items) }
@@ -88,7 +88,7 @@ impl Links<Uid> for EntityTable {
 
     ghost sources = { uids_of };
 
-    // The direct parents of an entity, none of what the table lacks.
+    // The direct parents of an entity. Empty for an entity that the table lacks.
     fn links(&self, uid: &Uid) -> &[Uid] {
         match self.get(uid) {
             Some(entity) => &entity.parents,
@@ -99,7 +99,7 @@ impl Links<Uid> for EntityTable {
     ghost listed = { parents-listed };
 }
 
-// The place of each entity, by its uid.
+// The place of each entity, under its uid.
 fn places_of(
     alloc: Global,
     entities: &[Entity],

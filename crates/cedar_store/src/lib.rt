@@ -1,4 +1,4 @@
-//! Entities of the Cedar policy language, and what lies above them.
+//! Entities, and what is above each of them.
 //!
 //! ```rust
 //! use cedar_store::{Entity, Hierarchy, Store};
@@ -9,9 +9,8 @@
 //! assert!(rt; store.is_below(&alice, &friends));
 //! ```
 //!
-//! A contract sees a hierarchy as a world: the list of its entities with their attributes and direct
-//! parents. [`Store`] keeps what an entity is below as a row of bits, [`PlainStore`] as a set of uids;
-//! the same is said of both.
+//! A contract sees a hierarchy as a world: the list of its entities with their attributes and direct parents. [`Store`] keeps
+//! what an entity is below as a row of bits, [`PlainStore`] as a set of uids. Both have the same contract.
 #![tactic(auto)]
 
 mod ancestors;

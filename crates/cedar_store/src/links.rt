@@ -24,7 +24,7 @@ pub(crate) fn links_of(alloc: Global, table: &EntityTable) -> Result<(Numbers, G
     Ok((numbers, Graph { lists, places }))
 }
 
-// The place of the entity that each number stands for, where the table has it.
+// For each number, the place in the table of the entity with that number, where the table has it.
 fn places_of(
     alloc: Global,
     table: &EntityTable,

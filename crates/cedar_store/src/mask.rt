@@ -1,4 +1,4 @@
-//! The numbers of the members of a set, as a mask.
+//! Masks: the numbers of the members of a set, as bits.
 ghost use Rattle.std.specs.Prelude.{◌≡◌, ◌+◌, ◌%◌, ◌<◌, ◌≤◌, ℕ, IfSome, false, nat_eq, true};
 ghost use Rattle.std.specs.List.{list_any};
 ghost use Rattle.base_bits.specs.Bits.{has_bit};
@@ -9,12 +9,12 @@ use crate::numbers::Numbers;
 use base_bits::{any_common, set_bit};
 use cedar_value::{Value, ValueKind, ValueSet};
 
-// How many words a mask has, and how many numbers.
+// How many words a mask has, and how many bits.
 const WORDS: usize = 16;
 
 const NUMBERS: usize = 1024;
 
-/// The mask of the members whose numbers are among the 1,024 from the first on. Takes no memory.
+/// The mask of the members whose numbers are among the 1,024 from the first on.
 pub(crate) fn mask_of(numbers: &Numbers, values: &ValueSet, first: usize) -> [u64; WORDS]
     ensures { (m : ℕ) → m < NUMBERS → has_bit result m ≡ list_any (is_numbered numbers.now.keys (first + m)) values.now }
 {
@@ -27,7 +27,7 @@ pub(crate) fn mask_of(numbers: &Numbers, values: &ValueSet, first: usize) -> [u6
     mask
 }
 
-// How far a value's number lies from the first of a mask, where the mask has it.
+// The distance of a value's number from the first number of a mask, where the mask has it.
 fn offset_of(numbers: &Numbers, value: &Value, first: usize) -> Option<usize>
     ensures within { IfSome result (λ k. k < NUMBERS) }
     ensures told { (m : ℕ) → m < NUMBERS → is_numbered numbers.now.keys (first + m) value.now ≡ number_told m result }
@@ -53,8 +53,7 @@ fn offset_in(number: usize, first: usize) -> Option<usize>
     if offset < NUMBERS { Some(offset) } else { None }
 }
 
-/// Whether the row has the bit of some member's number, by a mask of 1,024 numbers at a time. Takes
-/// no memory.
+/// Whether the row has the bit of some member's number. The numbers are compared with masks of 1,024 numbers at a time.
 pub(crate) fn meets(numbers: &Numbers, row: &[u64], values: &ValueSet) -> bool
     ensures { result ≡ list_any (has_datum (in_row numbers.now.keys row.now)) values.now }
 {

@@ -1,4 +1,4 @@
-//! The numbers of the uids that something lies below.
+//! The numbers of the uids that have something below them.
 ghost use Rattle.std.specs.Prelude.{◌≡◌, ◌<◌, Some, length, IfOk, OnOk};
 ghost use Rattle.base_search.specs.Numbered.{AreNumbersOf};
 ghost use Rattle.cedar_store.specs.Private.Kept.{KeepsNumbers, in_row, number_in};

@@ -1,4 +1,4 @@
-//! What lies above each entity, as sets of uids.
+//! What is above each entity, as sets of uids.
 ghost use Rattle.std.specs.Prelude.{IfOk, IfErr, OnOk};
 ghost use Rattle.std.specs.List.{AllZip};
 ghost use Rattle.cedar_store.specs.Entities.{IsAcyclic};

@@ -17,9 +17,9 @@ use std::alloc::Global;
 use std::collections::BTreeSet;
 use std::marker::Model;
 
-/// Entities with a set of uids for what lies above each of them, which contracts see as their world: the
-/// list of the entities, in the order in which they were handed in. It answers as `Store` does, which takes
-/// less memory, and is there to be compared with it.
+/// Entities with a set of uids for what is above each of them, which contracts see as their world: the list of the entities, in
+/// the order in which they were handed in. It answers as `Store` does, which takes less memory, and is there to be compared
+/// with it.
 #[derive(Drop)]
 pub struct PlainStore {
     table: EntityTable,
@@ -43,12 +43,15 @@ impl Model for PlainStore {
 }
 
 impl PlainStore {
-    /// The store of these entities (Cedar language reference, entities and hierarchy). Refused with
-    /// 401 where a uid stands twice, with 402 where an entity is below itself, and with 1 for want of
-    /// memory. A refusal leaves nothing made.
+    /// The store of these entities (Cedar language reference, entities and hierarchy).
     ///
-    /// Time and memory go by the number of pairs of an entity and what it is below, so that a long
-    /// row of entities, each in the next, costs the square of its length.
+    /// Time and memory grow with the number of pairs of an entity and what it is below. A long row of entities, each in the
+    /// next, costs the square of its length.
+    ///
+    /// # Errors
+    ///
+    /// 401 where a uid is repeated, 402 where an entity is below itself, and 1 when out of memory. After an error nothing is
+    /// kept.
     pub fn build(alloc: Global, entities: Vec<Entity>) -> Result<Self, StoreFault>
         ensures world { IfOk result (λ s. s ≡ entities.items) }
         ensures distinct { OnOk result (AreUidsDistinct entities.items) }
@@ -60,7 +63,7 @@ impl PlainStore {
         Ok(PlainStore { table, ancestors })
     }
 
-    // What an entity is below. None where it is below nothing since the store lacks it.
+    // What an entity is below. None where the store lacks the entity, which is then below nothing.
     fn ancestors(&self, low: &Uid) -> Option<&BTreeSet<Uid>>
         ensures { MatchOption result ((v : Uid) → ¬ Below self.now low.now v)
             (λ s. AreAncestors self.now low.now (contains uid_cmp s.now)) }

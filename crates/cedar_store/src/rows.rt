@@ -1,4 +1,4 @@
-//! What lies above each entity, as rows of bits.
+//! What is above each entity, as rows of bits.
 ghost use Rattle.std.specs.Prelude.{IfErr, IfNone, IfOk, IfSome, OnOk};
 ghost use Rattle.cedar_store.specs.Entities.{uids_of, AreUidsDistinct, IsAcyclic};
 ghost use Rattle.cedar_store.specs.Faults.{IsThere};

@@ -17,11 +17,11 @@ use cedar_value::{Hierarchy, Record, Uid, ValueSet};
 use std::alloc::{AllocError, Global};
 use std::marker::Model;
 
-/// Entities with what lies above each of them, which contracts see as their world: the list of the
-/// entities, in the order in which they were handed in.
+/// Entities with what is above each of them, which contracts see as their world: the list of the entities, in the order in
+/// which they were handed in.
 ///
-/// Each uid that something lies below has a number, by the order in which they are first named as a
-/// parent, and each entity a row of bits with the numbers of all that it is below.
+/// Each uid that has something below it has a number, in the order in which the uids are first named as parents. Each entity
+/// has a row of bits with the numbers of all that it is below.
 #[derive(Drop)]
 pub struct Store {
     table: EntityTable,
@@ -45,14 +45,17 @@ impl Model for Store {
 }
 
 impl Store {
-    /// The store of these entities (Cedar language reference, entities and hierarchy). Refused with
-    /// 401 where a uid stands twice, with 402 where an entity is below itself, and with 1 for want of
-    /// memory. A refusal leaves nothing made.
+    /// The store of these entities (Cedar language reference, entities and hierarchy).
     ///
-    /// Time goes by the number of links times the words of a row, whatever the order of the entities,
-    /// and memory by the words of all rows. A row has a bit for each parent up to the last of those that
-    /// the entity is below, in the order in which they are first named: entities in 1,000 groups take 125
-    /// bytes each at most, but a chain of entities, each in the next, an eighth of the square of its length.
+    /// Time is the number of links times the words of a row, whatever the order of the entities, and memory is the words of all
+    /// rows. A row has a bit for each parent up to the last of those that the entity is below, in the order in which they are
+    /// first named. Entities in 1,000 groups take 125 bytes each at most, but a chain of entities, each in the next, takes an
+    /// eighth of the square of its length.
+    ///
+    /// # Errors
+    ///
+    /// 401 where a uid is repeated, 402 where an entity is below itself, and 1 when out of memory. After an error nothing is
+    /// kept.
     pub fn build(alloc: Global, entities: Vec<Entity>) -> Result<Self, StoreFault>
         ensures world { IfOk result (λ s. s ≡ entities.items) }
         ensures distinct { OnOk result (AreUidsDistinct entities.items) }
@@ -69,10 +72,14 @@ impl Store {
         })
     }
 
-    /// Appends each uid that `low` is below, once (Cedar language reference, hierarchy). What the store lacks is below
-    /// nothing. Refused where memory runs out, which it takes only where the list has to grow; the list is then as it was.
+    /// Appends each uid that `low` is below, once (Cedar language reference, hierarchy). An entity that is not in the store is
+    /// below nothing.
     ///
-    /// Time goes by the words of the row of `low` and by the number of uids that are appended.
+    /// Time grows with the words of the row of `low` and the number of uids that are appended.
+    ///
+    /// # Errors
+    ///
+    /// Fails only when out of memory, where the list has to grow. The list is then as it was.
     pub fn ancestors<'s>(&'s self, low: &Uid, found: &mut Vec<&'s Uid>) -> Result<(), AllocError>
         ensures adds { OnOk result (AddsAncestors self.now low.now found.old.items found.new.items) }
         ensures refused { OnErr result (found.new.items ≡ found.old.items) }

@@ -9,7 +9,7 @@ use thiserror::Error;
 /// Why a list of entities makes no store.
 #[derive(Drop, Error)]
 pub enum StoreFault {
-    /// 1: memory was refused. It says nothing of the entities.
+    /// 1: out of memory. It says nothing about the entities.
     #[error("out of memory")]
     OutOfMemory,
     /// 401: two entities of the list have this uid.

@@ -9,13 +9,12 @@ const KEY: u64 = 0x0FFF_FFFF_FFFF_FFFF;
 
 /// A hasher with two keys, which takes four bytes at a time.
 ///
-/// Bytes that are written make words of four, and a last word that tells how many it has. The state is the
-/// value at the first key of the polynomial that has the words as its coefficients, after a 1, up to a
-/// multiple of the prime 2^61 - 1 (polynomial hashing, as by Carter and Wegman). Two lists of up to n words
-/// that differ are polynomials that differ, so that at most n of the 2^60 keys give them one state: whoever
-/// does not know the key can pick no two uids that are likely to collide. The second key spreads the state
-/// over the bits that a table looks at. That much is argued here and proved nowhere: what is proved holds
-/// whatever the hash.
+/// Bytes that are written make words of four, and a last word that gives their number. The state is the value at the first key
+/// of the polynomial that has the words as its coefficients, after a 1, up to a multiple of the prime 2^61 - 1 (polynomial
+/// hashing, as by Carter and Wegman). Two lists of up to n words that differ are polynomials that differ. So at most n of the
+/// 2^60 keys give them one state. A person who does not know the key cannot pick two uids that are likely to collide. The
+/// second key spreads the state over the bits that a table looks at. All this is argued here, not proved. What is proved holds
+/// for each hash.
 #[derive(Clone, Copy)]
 pub struct UidHasher {
     state: u64,
@@ -24,7 +23,7 @@ pub struct UidHasher {
 }
 
 impl UidHasher {
-    /// A hasher that nothing was written to, by the low 60 bits of two keys.
+    /// A hasher that nothing was written to. It uses the low 60 bits of two keys.
     pub(crate) fn new(key: u64, spread: u64) -> Self {
         UidHasher {
             state: 1,

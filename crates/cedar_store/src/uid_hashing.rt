@@ -4,17 +4,16 @@ use crate::uid_hasher::UidHasher;
 use cedar_value::Uid;
 use std::hash::{BuildHasher, DefaultHasher, Hash, Hasher};
 
-/// Makes the hashers of tables of uids. Their keys are a SipHash digest of all uids of the table, so that
-/// whoever picks uids that are to collide would have to know the digest of a list that has them all before
-/// he has picked them. The order of a table goes by its insertions alone, and the same list has the same
-/// digest, so that no answer and no order depends on it.
+/// Makes the hashers of tables of uids. Their keys are a SipHash digest of all uids of the table. To pick uids that collide, a
+/// person would have to know the digest of a list that has them all before picking them. The order of a table depends on its
+/// insertions alone, and the same list has the same digest, so no answer and no order depends on it.
 #[derive(Clone, Copy)]
 pub struct UidHashing {
     begun: UidHasher,
 }
 
 impl UidHashing {
-    /// The hashing for the uids of these entities and of their parents. Takes no memory.
+    /// The hashing for the uids of these entities and of their parents.
     pub(crate) fn new(entities: &[Entity]) -> Self {
         let mut digest = DefaultHasher::new();
         for entity in entities {
@@ -24,7 +23,7 @@ impl UidHashing {
         UidHashing::by_digest(digest)
     }
 
-    /// The hashing for uids that were all fed to the digest. Takes no memory.
+    /// The hashing for the uids that the digest was fed. Takes no memory.
     pub fn by_digest(mut digest: DefaultHasher) -> Self {
         let key = digest.finish();
         digest.write_u64(key);

@@ -117,7 +117,7 @@ byte_is (x ∷ a ∷ b ∷ bs) e h =
     let all : list_all is_hex (a ∷ b ∷ []) ≡ true = and_from (is_hex a) (is_hex b && true) (lt-ltb (digit_value a) 16 (omega arith)) (and_from (is_hex b) true p.1 refl) in
     at (λ (x : ℕ). EscapeIs (x ∷ a ∷ b ∷ bs) (Some 3)) x 120 e (120 ∷ a ∷ b ∷ [], bs, Character (hexadecimal_from 0 (a ∷ b ∷ [])), refl, refl, byte all (omega arith))
 
--- one to six digits of a character, and the brace behind them
+-- one to six digits of a character, and the brace after them
 code_parts : (n : ℕ) (bs : List ℕ) → is_code n bs ≡ true → (0 < n) × (n < 7) × (slice_index bs n ≡ 125) × (scalar (capped_hexadecimal_from 0 (take n bs)) ≡ true)
 code_parts n bs h =
     let p = and_parts (ltb 0 n && ltb n 7 && eqb (slice_index bs n) 125) (scalar (capped_hexadecimal_from 0 (take n bs))) h in

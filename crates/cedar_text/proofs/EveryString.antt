@@ -57,7 +57,7 @@ first_byte b bs c a rest small e f = ap (λ (xs : List ℕ). get_or xs 0 0) (e �
 abbrev Shorter : ℕ → Type 0
 Shorter most = (bytes : List ℕ) → length bytes ≤ most → IsUtf8 bytes → s.IsString bytes → Written bytes
 
--- a character that stands for itself
+-- a character that denotes itself
 character_written : (c : ℕ) (rest : List ℕ) → IsScalar c → c ≢ 34 → c ≢ 92 → Written rest → Written (encode_utf8 c ++ rest)
 character_written c rest valid q t w =
     elim (cases_eq c 42) [
@@ -95,6 +95,6 @@ within (suc most) _ le u (s.escape {front = front} {bs = bs} {letter = letter} e
 pub every_string_by : (inner : List ℕ) → IsUtf8 inner → s.IsString inner → (letters : List Letter) × IsSpelled (34 ∷ inner ++ 34 ∷ []) letters
 every_string_by inner u i = let w = within (length inner) inner (omega arith) u i in (w.0, (inner, refl, w.1))
 
--- What writes no letters is no string.
+-- What writes no letters is not a string.
 pub no_string_stuck : (text inner : List ℕ) → IsUtf8 inner → text ≡ 34 ∷ inner ++ 34 ∷ [] → ((letters : List Letter) → IsSpelled text letters → ⊥) → s.IsString inner → ⊥
 no_string_stuck text inner u e none i = let w = every_string_by inner u i in none w.0 (subst (λ (x : List ℕ). IsSpelled x w.0) (sym e) w.1)

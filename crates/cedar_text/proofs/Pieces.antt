@@ -177,7 +177,7 @@ sign_fine a bs q d None (Some kind) e f = let i = short_fine a kind bs e f in fi
 sign_fine a [] q d (Some kind) s e f = absurd (no_null a kind e)
 sign_fine a (b ∷ bs) q d (Some kind) s e f = let i = long_fine a b kind bs e in fine_at (a ∷ b ∷ []) bs (Some kind) 2 0 refl (omega arith) (sign i.0 i.1)
 
--- a slot, behind its `?`
+-- a slot, after its `?`
 slot_run : (b : ℕ) (bs : List ℕ) (m : ℕ) → is_letter b ≡ true → IsRun is_word bs m → IsPiece (63 ∷ b ∷ bs) (Some k.Slot) (suc (suc m)) 0
 slot_run b bs m h r =
     subst (λ (xs : List ℕ). IsPiece (63 ∷ b ∷ xs) (Some k.Slot) (suc (suc m)) 0) r.whole
@@ -270,7 +270,7 @@ line_fine a bs =
     cond_both (begins_comment (a ∷ bs)) (Ok (skipped (prefix_len goes_on_line (a ∷ bs)))) (letter_tail (a ∷ bs)) (λ r. Fine (a ∷ bs) r)
     (line_by a bs) (λ e. letter_fine a bs)
 
--- white space, or what stands there in place of it
+-- white space, or what is there in place of it
 white_piece : (bs : List ℕ) (n : ℕ) → WhiteIs bs (suc n) → IsPiece bs None (suc n) 0
 white_piece bs n h = subst (λ (xs : List ℕ). IsPiece xs None (suc n) 0) (sym h.3) (fine_at (encode_utf8 h.0) h.1 None (suc n) 0 h.4 (omega arith) (white h.2))
 

@@ -65,7 +65,7 @@ escape_one f r g s l m i j e =
     let q = same_front f r g s e n in
     (same_letter l m (sym (letter_of f l i) ∙ ap escaped_letter q.0 ∙ letter_of g m j), q.1)
 
--- a character of ASCII that stands first
+-- a character of ASCII that comes first
 pub ascii_first : (c a : ℕ) (r s : List ℕ) → a < 128 → encode_utf8 c ++ r ≡ a ∷ s → (c ≡ a) × (r ≡ s)
 ascii_first c a r s small e = encode_same c a r s (e ∙ sym (ap (λ (xs : List ℕ). xs ++ s) (encode_ascii a small)))
 

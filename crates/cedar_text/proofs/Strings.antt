@@ -15,7 +15,7 @@ use Rattle.cedar_text.proofs.Passing.{passed, further_further}
 abbrev NoEscape : List ℕ → Type 0
 NoEscape more = (front rest : List ℕ) (letter : Letter) → more ≡ front ++ rest → IsEscape front letter → ⊥
 
--- what stands behind the opening quote
+-- what follows the opening quote
 abbrev pub StringIs : List ℕ → Result ℕ Refusal → Type 0
 StringIs xs (Ok n) = (inner rest : List ℕ) × (xs ≡ inner ++ 34 ∷ rest) × (n ≡ length inner + 1) × IsString inner
 StringIs xs (Err UnclosedString) = IsOpen xs
@@ -60,12 +60,12 @@ escape_more front xs letter (Err BadEscape) i h =
 escape_more front xs letter (Err BadCharacter) i h = h
 escape_more front xs letter (Err NumberTooLarge) i h = h
 
--- no escape stands behind a backslash
+-- no escape stands after a backslash
 none_more : (bs : List ℕ) → NoEscape bs → StringIs (92 ∷ bs) (further 1 (no_escape bs))
 none_more [] h = lone
 none_more (b ∷ bs) h = ([], b ∷ bs, refl, empty, h)
 
--- the escape that stands behind a backslash
+-- the escape that stands after a backslash
 found_more : (bs front rest : List ℕ) (letter : Letter) (n : ℕ) → bs ≡ front ++ rest → length front ≡ n → IsEscape front letter → StringIs rest (string_len 0 rest) → StringIs (92 ∷ bs) (further 1 (string_len n bs))
 found_more bs front rest letter n e l i h =
     let le : length front ≤ length (front ++ rest) = omega (arith, length-append front rest) in

@@ -28,7 +28,7 @@ encode_typographic d le =
     ∙ cond-true (ltb (0x2000 + d) 65536) three long (lt-ltb (0x2000 + d) 65536 (omega arith))
     ∙ ap (λ (x : ℕ). x ∷ next ((0x2000 + d) / 64) ∷ next (0x2000 + d) ∷ []) a ∙ ap (λ (x : ℕ). 0xE2 ∷ x ∷ next (0x2000 + d) ∷ []) b ∙ ap (λ (x : ℕ). 0xE2 ∷ 0x80 ∷ x ∷ []) e
 
--- the white space of this length stands first
+-- the white space of this length comes first
 abbrev Found : ℕ → List ℕ → ℕ → Type 0
 Found c rest n = (white_len (encode_utf8 c ++ rest) ≡ n) × (length (encode_utf8 c) ≡ n)
 
@@ -71,7 +71,7 @@ white_again _ rest ideographic_space = (3, omega arith, (refl, refl))
 
 -- ---- what is found is white space of the grammar
 
--- a white character of this many bytes stands first
+-- a white character of this many bytes comes first
 abbrev pub WhiteIs : List ℕ → ℕ → Type 0
 WhiteIs bs zero = Unit {0}
 WhiteIs bs (suc n) = (c : ℕ) × (rest : List ℕ) × IsWhite c × (bs ≡ encode_utf8 c ++ rest) × (length (encode_utf8 c) ≡ suc n)

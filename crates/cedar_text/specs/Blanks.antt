@@ -1,4 +1,4 @@
--- What may stand between tokens: white space and comments (Cedar language reference, grammar: WHITESPACE, COMMENT).
+-- What may be between tokens: white space and comments (Cedar language reference, grammar: WHITESPACE, COMMENT).
 use Rattle.std.specs.Prelude.{◌≡◌, ℕ, ◌≤◌, true, List, ◌∷◌, encode_utf8}
 use Rattle.std.specs.List.{list_all}
 use Rattle.cedar_text.specs.Bytes.{goes_on_line, Stops}

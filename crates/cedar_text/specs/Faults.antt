@@ -44,7 +44,7 @@ pub record IsBadCharacter (rest : List ℕ) : Type 0 where
 pub data IsUnclosed : List ℕ → Type 0 where
   unclosed : {bs : List ℕ} → IsOpen bs → IsUnclosed (34 ∷ bs)
 
--- The text begins with a quote, what may stand after one, and a backslash that begins no escape (Cedar language reference,
+-- The text begins with a quote, then what may follow one, and then a backslash that begins no escape (Cedar language reference,
 -- grammar: STR).
 pub data IsBadEscape : List ℕ → Type 0 where
   bad : (bs more : List ℕ) → IsString bs → ((front rest : List ℕ) (letter : Letter) → more ≡ front ++ rest → IsEscape front letter → ⊥) → IsBadEscape (34 ∷ bs ++ 92 ∷ more)
@@ -58,7 +58,7 @@ pub data IsTooLarge : List ℕ → Type 0 where
 abbrev pub Meets : (List ℕ → Type 0) → List ℕ → Type 0
 Meets fault source = (ts : Lexemes) × (rest : List ℕ) × IsCut 0 source ts rest × fault rest
 
--- The text has the fault of this refusal after some tokens; a refusal for memory says nothing of the text (own).
+-- The text has the fault of this refusal after some tokens. A refusal for memory says nothing about the text (own).
 abbrev pub HasFault : List ℕ → TextFault → Type 0
 HasFault source f.OutOfMemory = Unit {0}
 HasFault source (f.BadCharacter at) = Meets IsBadCharacter source

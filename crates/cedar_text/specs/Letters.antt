@@ -1,5 +1,5 @@
--- What a string token stands for; of the bytes, 34 is the quote, 92 the backslash, 42 the star (Cedar language reference,
--- grammar: STR; operators: like).
+-- What a string token denotes; of the bytes, 34 is the quote, 92 the backslash, 42 the star (Cedar language reference, grammar:
+-- STR; operators: like).
 use Rattle.std.specs.Prelude.{◌≡◌, ◌≢◌, ℕ, Bool, true, false, if◌then◌else◌, List, [], ◌∷◌, ◌++◌, Option, Some, None, Result, Ok, Err, encode_utf8}
 use Rattle.std.specs.Char.{IsScalar}
 use Rattle.std.specs.Global.{Vec}
@@ -17,7 +17,7 @@ pub data IsWritten : List ℕ → Letter → Type 0 where
   bare_star : IsWritten (42 ∷ []) Star
   escaped : {front : List ℕ} {letter : Letter} → IsEscape front letter → IsWritten (92 ∷ front) letter
 
--- A string writes these letters, one after the other, with these bytes (Cedar language reference, grammar: STR).
+-- A string writes these letters, one after another, with these bytes (Cedar language reference, grammar: STR).
 pub data AreWritten : List ℕ → List Letter → Type 0 where
   nothing : AreWritten [] []
   more : {front rest : List ℕ} {letter : Letter} {letters : List Letter} → IsWritten front letter → AreWritten rest letters → AreWritten (front ++ rest) (letter ∷ letters)
@@ -26,14 +26,14 @@ pub data AreWritten : List ℕ → List Letter → Type 0 where
 abbrev pub IsSpelled : List ℕ → List Letter → Type 0
 IsSpelled text letters = (inner : List ℕ) × (text ≡ 34 ∷ inner ++ 34 ∷ []) × AreWritten inner letters
 
--- Whether the letter may stand in a string that is not a pattern: each but the escape `\*` (Cedar language reference,
--- operators: like).
+-- Whether the letter may be in a string that is not a pattern: each but the escape `\*` (Cedar language reference, operators:
+-- like).
 abbrev pub is_plain : Letter → Bool
 is_plain (Character c) = true
 is_plain Star = true
 is_plain EscapedStar = false
 
--- The character that a letter stands for in a text: that of a star is the star (Cedar language reference, grammar: STR).
+-- The character that a letter denotes in a text: that of a star is the star (Cedar language reference, grammar: STR).
 abbrev pub character_of : Letter → ℕ
 character_of (Character c) = c
 character_of Star = 42
@@ -44,8 +44,8 @@ abbrev pub utf8_of : List Letter → List ℕ
 utf8_of [] = []
 utf8_of (letter ∷ letters) = encode_utf8 (character_of letter) ++ utf8_of letters
 
--- The text in UTF-8 that the letters of a string stand for: letters with an escape `\*` stand for none (Cedar language
--- reference, operators: like).
+-- The text in UTF-8 that the letters of a string denote: letters with an escape `\*` denote none (Cedar language reference,
+-- operators: like).
 abbrev pub plain_text_of : List Letter → Option (List ℕ)
 plain_text_of letters = if list_all is_plain letters then Some (utf8_of letters) else None
 
@@ -62,8 +62,8 @@ HasLetters letters (Err (f.NumberTooLarge at)) = ⊥
 abbrev pub HasQuotes : List ℕ → List ℕ → Type 0
 HasQuotes text inner = text ≡ 34 ∷ inner ++ 34 ∷ []
 
--- A text writes no letters since it has no quotes round it, or since what stands between them is not a string; a refusal for
--- memory says nothing of the text (own).
+-- A text writes no letters since it has no quotes round it, or since what is between them is not a string. A refusal for memory
+-- says nothing about the text (own).
 abbrev pub HasLettersFault : List ℕ → TextFault → Type 0
 HasLettersFault text f.OutOfMemory = Unit {0}
 HasLettersFault text (f.UnclosedString at) = (inner : List ℕ) → HasQuotes text inner → ⊥

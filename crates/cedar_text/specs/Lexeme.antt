@@ -4,7 +4,7 @@ use Rattle.cedar_text.specs.declared.token_kind.TokenKind.{TokenKind}
 use Rattle.cedar_text.specs.declared.token.Token.{Token}
 use Rattle.cedar_text.specs.Numbers.{number_in}
 
--- A token: its kind, the byte from 0 at which it begins, its text, and the number that its digits are worth (own).
+-- A token: its kind, the byte from 0 at which it begins, its text, and the value of its digits (own).
 pub record Lexeme : Type 0 where
   pub kind : TokenKind
   pub start : ℕ

@@ -9,7 +9,7 @@ use Rattle.cedar_text.specs.declared.letter.Letter.TheVariants.{Character, Escap
 use Rattle.cedar_text.specs.Bytes.{is_hex}
 use Rattle.cedar_text.specs.Numbers.{hexadecimal_from}
 
--- The byte alone is an escape after a backslash, and stands for this character (Rust reference, quote and ASCII escapes).
+-- The byte alone is an escape after a backslash, and denotes this character (Rust reference, quote and ASCII escapes).
 pub data IsShort : ℕ → ℕ → Type 0 where
   line_feed : IsShort 110 10
   carriage_return : IsShort 114 13
@@ -19,8 +19,8 @@ pub data IsShort : ℕ → ℕ → Type 0 where
   apostrophe : IsShort 39 39
   quote : IsShort 34 34
 
--- These bytes are an escape after a backslash, and stand for this letter: one byte, `*`, `xHH` up to 7F, or `u{H..}` with one
--- to six digits of a character (Cedar language reference, grammar: STR; Rust reference, string literals).
+-- These bytes are an escape after a backslash, and denote this letter: one byte, `*`, `xHH` up to 7F, or `u{H..}` with one to
+-- six digits of a character (Cedar language reference, grammar: STR; Rust reference, string literals).
 pub data IsEscape : List ℕ → Letter → Type 0 where
   short : {b c : ℕ} → IsShort b c → IsEscape (b ∷ []) (Character c)
   star : IsEscape (42 ∷ []) EscapedStar
@@ -28,8 +28,7 @@ pub data IsEscape : List ℕ → Letter → Type 0 where
   character : (digits : List ℕ) → list_all is_hex digits ≡ true → 1 ≤ length digits → length digits ≤ 6 → IsScalar (hexadecimal_from 0 digits)
       → IsEscape (117 ∷ 123 ∷ digits ++ 125 ∷ []) (Character (hexadecimal_from 0 digits))
 
--- These bytes may stand between quotes: characters other than `"` and `\`, and escapes (Cedar language reference, grammar:
--- STR).
+-- These bytes may be between quotes: characters other than `"` and `\`, and escapes (Cedar language reference, grammar: STR).
 pub data IsString : List ℕ → Type 0 where
   empty : IsString []
   plain : {b : ℕ} {bs : List ℕ} → b ≢ 34 → b ≢ 92 → IsString bs → IsString (b ∷ bs)

@@ -1,4 +1,4 @@
-//! White space.
+//! White space between tokens.
 
 ghost use Rattle.std.specs.Prelude.{◌≡◌};
 ghost use Rattle.cedar_text.specs.Private.Lexing as spec;
@@ -22,7 +22,7 @@ fn is_white_triple(a: u8, b: u8, c: u8) -> bool
         || (a == 0xE3 && b == 0x80 && c == 0x80)
 }
 
-/// How many bytes the white space has that stands first; 0 where none does.
+/// How many bytes the white space at the beginning has; 0 where there is none.
 pub fn white_len(bytes: &[u8]) -> usize
     ensures { result ≡ spec.white_len bytes.now }
 {

@@ -25,14 +25,14 @@ fn is_short(b: u8) -> bool
         || b == b'*'
 }
 
-/// Whether the number is a character's.
+/// Whether the number is that of a character.
 fn is_scalar(code: u32) -> bool
     ensures { result ≡ scalar code }
 {
     char::from_u32(code).is_some()
 }
 
-/// Whether the first bytes are one to six digits of a character, with a brace behind them.
+/// Whether the first bytes are one to six digits of a character, followed by a brace.
 fn is_code(len: usize, bytes: &[u8]) -> bool
     requires { len ≤ length bytes.now }
     ensures { result ≡ spec.is_code len bytes.now }
@@ -43,7 +43,7 @@ fn is_code(len: usize, bytes: &[u8]) -> bool
         && is_scalar(hexadecimal_value(&bytes[..len]))
 }
 
-/// How many bytes the escape has that stands right behind a backslash.
+/// How many bytes the escape that follows a backslash has, without the backslash.
 #[tactic(auto, unfolding(crate::specs::Private::Lexing::escape_len))]
 pub fn escape_len(bytes: &[u8]) -> Option<usize>
     ensures value { result ≡ spec.escape_len bytes.now }
@@ -94,7 +94,7 @@ pub fn string_len(bytes: &[u8], at: usize) -> Result<usize, TextFault>
     Err(TextFault::UnclosedString(at))
 }
 
-/// What is wrong in the string that begins at `at` where no escape stands behind its i-th byte, a backslash.
+/// What is wrong in the string that begins at `at`, where no escape follows its i-th byte, a backslash.
 fn no_escape(rest: &[u8], at: usize, i: usize) -> TextFault
     ensures { Refuses (spec.no_escape rest.now) result }
 {

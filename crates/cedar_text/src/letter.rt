@@ -2,7 +2,7 @@ ghost use Rattle.std.specs.Prelude.{◌≡◌, ◌↔◌, true, IsSome, IfSome};
 
 /// A character as a string token writes it.
 ///
-/// A pattern and a string read `*` differently, so it is kept apart (Cedar language reference, "Operators": `like`).
+/// A pattern and a string read `*` differently, so it is a letter of its own (Cedar language reference, "Operators": `like`).
 #[derive(Clone, Copy, Debug, PartialEq, Eq)]
 pub enum Letter {
     /// A character, written plainly or by an escape other than `\*`.

@@ -46,7 +46,7 @@ fn push<'a>(
     Ok(())
 }
 
-/// How many tokens there are, or, of a text that has none, before its first fault.
+/// How many tokens the text has. Where the text has a fault, how many come before the first fault.
 fn count(source: &str) -> usize {
     let mut found = 0usize;
     let mut rest = source;
@@ -84,34 +84,39 @@ fn lex(alloc: Global, source: &str) -> Result<Vec<Token<'_>>, TextFault>
     Ok(found)
 }
 
-/// The tokens of a policy text, each with the slice of the text that it is (Cedar language reference, "Grammar").
+/// The tokens of a policy text, each with its slice of the text (Cedar language reference, "Grammar"). Each token is as long as
+/// the text allows. The time is linear in the text, and only the list takes memory.
 ///
-/// Of each token as much is taken as the whole text allows. Refused, with the byte from 0 where the fault lies, are
-/// [`TextFault::BadCharacter`] with the character at which no token begins, [`TextFault::UnclosedString`] with the
-/// opening quote of a string that is not closed, [`TextFault::BadEscape`] with the backslash at which no escape
-/// begins, and [`TextFault::NumberTooLarge`] with the first digit of a number above 9223372036854775808; and
-/// [`TextFault::OutOfMemory`]. The time is linear in the text, and the list is all that takes memory.
+/// # Errors
+///
+/// All but the last have a place, in bytes from 0.
+///
+/// - [`TextFault::BadCharacter`]: no token begins with the character there.
+/// - [`TextFault::UnclosedString`]: the string whose opening quote is there is not closed.
+/// - [`TextFault::BadEscape`]: the backslash there begins no escape.
+/// - [`TextFault::NumberTooLarge`]: a number above 9223372036854775808 begins there.
+/// - [`TextFault::OutOfMemory`].
 pub fn tokens(alloc: Global, source: &str) -> Result<Vec<Token<'_>>, TextFault>
-    // What is answered are the tokens of the text.
+    // The result is the tokens of the text.
     ensures found { IfOk result (λ v. AreTokens source.now (lexemes v.items)) }
-    // The tokens of the text are what is answered, unless memory runs out.
+    // If the text has tokens, they are the result, unless memory runs out.
     ensures only { (ts : Lexemes) → AreTokens source.now ts → HasTokens ts result }
-    // Each fault comes only where it stands.
+    // Each fault is reported only where the text has it.
     ensures fault { IfErr result (HasFault source.now) }
 
-    // The tokens lie one behind the other, each between characters, and its text is what stands there.
+    // The tokens are in order, each lies between characters, and its text is the text of its place.
     ensures order { IfOk result (λ v. AreInOrder 0 (lexemes v.items)) }
     ensures slices { IfOk result (λ v. All (IsSliceOf source.now) (lexemes v.items)) }
 {
     lex(alloc, source)
 }
 
-/// The law that no text has two lists of tokens. It does nothing.
+/// No text has two lists of tokens. A law: it runs no code.
 pub fn one_list()
     ensures { (source : List ℕ) (ts us : Lexemes) → AreTokens source ts → AreTokens source us → ts ≡ us }
 {}
 
-/// The law that a text has tokens or none. It does nothing.
+/// A text has tokens or none. A law: it runs no code.
 pub fn tokens_or_none()
     ensures { (source : List ℕ) → ((ts : Lexemes) × AreTokens source ts) ⊎ ((ts : Lexemes) → AreTokens source ts → ⊥) }
 {}

@@ -1,11 +1,13 @@
-//! The lexer: the tokens of a policy text (Cedar language reference, grammar).
+//! The lexer: it cuts a policy text into tokens.
 //!
 //! ```
+//! use cedar_text::tokens;
+//!
 //! let found = tokens(rt.alloc(), "resource.pages >= 18")?;
 //! assert_eq!(rt; found.len(), 5);
 //! ```
 //!
-//! What the tokens of a text are is said in `specs/Tokens.antt`, and what the letters of a string are in `specs/Letters.antt`.
+//! The tokens of a text are defined in `specs/Tokens.antt`, and the letters of a string in `specs/Letters.antt`.
 #![tactic(auto)]
 
 mod blank;

@@ -1,11 +1,11 @@
-//! What digits are worth.
+//! The values of digits.
 
 ghost use Rattle.std.specs.Prelude.{◌≡◌, ◌≤◌};
 ghost use Rattle.cedar_text.specs.Private.Lexing as spec;
 
 use crate::bytes::digit_value;
 
-/// The largest number that a token may be: that of the least long, without its sign.
+/// The largest number that a token may be: the least long, without its sign.
 pub const MAX_NUMBER: u64 = 9223372036854775808;
 
 /// One more than the largest character.
@@ -23,7 +23,7 @@ pub fn decimal_value(digits: &[u8]) -> u64
     value
 }
 
-/// The value of hexadecimal digits, cut at the first number that is no character.
+/// The value of hexadecimal digits, cut at the first number that is not a character.
 pub fn hexadecimal_value(digits: &[u8]) -> u32
     ensures { result ≡ spec.capped_hexadecimal_from 0 digits.now }
 {

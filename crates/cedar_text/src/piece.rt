@@ -47,7 +47,7 @@ fn begins_comment(bytes: &[u8]) -> bool
     byte_at(bytes, 0) == b'/' && byte_at(bytes, 1) == b'/'
 }
 
-/// The number that stands first.
+/// The number that comes first.
 fn number(bytes: &[u8], at: usize) -> Result<Piece, TextFault>
     ensures { Gives (λ p. p) (spec.number_at bytes.now) result }
 {
@@ -59,7 +59,7 @@ fn number(bytes: &[u8], at: usize) -> Result<Piece, TextFault>
     Ok(token(TokenKind::Number, len, value))
 }
 
-/// The string of which the opening quote stands first.
+/// The string whose opening quote comes first.
 fn string(bytes: &[u8], at: usize) -> Result<Piece, TextFault>
     requires { 0 < length bytes.now }
     ensures { Gives (λ p. p) (spec.string_of (spec.string_len 0 (drop 1 bytes.now))) result }
@@ -68,7 +68,7 @@ fn string(bytes: &[u8], at: usize) -> Result<Piece, TextFault>
     Ok(token(TokenKind::String, len + 1, 0))
 }
 
-/// The slot of which the `?` stands first.
+/// The slot whose `?` comes first.
 fn slot(bytes: &[u8], at: usize) -> Result<Piece, TextFault>
     requires { 0 < length bytes.now }
     ensures { Gives (λ p. p) (spec.slot_of (drop 1 bytes.now)) result }
@@ -80,7 +80,7 @@ fn slot(bytes: &[u8], at: usize) -> Result<Piece, TextFault>
     Ok(token(TokenKind::Slot, word_len(name) + 1, 0))
 }
 
-/// The sign that stands first.
+/// The sign that comes first.
 fn sign(bytes: &[u8], at: usize) -> Result<Piece, TextFault>
     ensures { Gives (λ p. p) (spec.sign_at bytes.now) result }
 {
@@ -94,7 +94,7 @@ fn sign(bytes: &[u8], at: usize) -> Result<Piece, TextFault>
     Ok(token(kind, 1, 0))
 }
 
-/// The blank or token that stands first, in a text of which this begins at `at`.
+/// The blank or token that comes first. These bytes are the rest, from `at` on, of a text.
 #[tactic(auto, unfolding(crate::specs::Private::Lexing::piece))]
 pub fn first_piece(bytes: &[u8], at: usize) -> Result<Piece, TextFault>
     requires { 0 < length bytes.now }

@@ -1,4 +1,4 @@
-//! Signs.
+//! The kinds of tokens that are signs, of one or two bytes.
 
 ghost use Rattle.std.specs.Prelude.{◌≡◌};
 ghost use Rattle.cedar_text.specs.Private.Lexing as spec;

@@ -1,4 +1,4 @@
-//! What a string token stands for.
+//! What a string token denotes.
 
 ghost use Rattle.std.specs.Prelude.{◌≡◌, ◌<◌, ◌≤◌, [], ◌∷◌, ◌++◌, List, ℕ, length, IfOk, IfErr, IfSome, IfNone, IsSome, ◌⊎◌, option_map};
 ghost use Rattle.std.specs.String.{string_bytes};
@@ -46,7 +46,7 @@ fn code_letter(code: u32) -> Option<Letter>
     }
 }
 
-/// The letter of an escape, of which these are the bytes behind the backslash.
+/// The letter of an escape. These are the bytes after the backslash.
 #[tactic(auto, unfolding(crate::specs::Private::Lexing::escaped_letter))]
 fn escaped_letter(front: &[u8]) -> Option<Letter>
     requires { 0 < length front.now }
@@ -65,7 +65,7 @@ fn escaped_letter(front: &[u8]) -> Option<Letter>
     }
 }
 
-/// The letter of the escape that stands first, behind its backslash, and how many bytes it has.
+/// The letter of the escape that comes first, without its backslash, and how many bytes it has.
 fn first_escape(bytes: &[u8]) -> Option<(Letter, usize)>
     ensures found { IfSome result (λ x. StartsEscape bytes.now x.0 x.1) }
     ensures none { IfNone result (StartsNoEscape bytes.now) }
@@ -80,7 +80,7 @@ fn first_escape(bytes: &[u8]) -> Option<(Letter, usize)>
     }
 }
 
-/// The letter that stands first, and how many bytes it has.
+/// The letter that comes first, and how many bytes it has.
 fn first_letter(text: &str) -> Option<(Letter, usize)>
     requires { 0 < length text.now }
     ensures found { IfSome result (λ x. IsFirst text.now x.0 x.1) }
@@ -100,7 +100,7 @@ fn first_letter(text: &str) -> Option<(Letter, usize)>
     }
 }
 
-/// What stands between the quotes.
+/// The text between the quotes.
 fn between_quotes(text: &str) -> Option<&str>
     ensures found { IfSome result (λ inner. HasQuotes text.now inner.now) }
     ensures none { IfNone result ((inner : List ℕ) → HasQuotes text.now inner → ⊥) }
@@ -114,17 +114,19 @@ fn between_quotes(text: &str) -> Option<&str>
     Some(&text[1..len - 1])
 }
 
-/// The letters of a string token, of which this is the text with its quotes: for a pattern.
+/// The letters of a string token, as a pattern has them. The text is that of the token, with its quotes. Each letter takes
+/// memory once.
 ///
-/// Refused are [`TextFault::UnclosedString`] where the text has no quotes round it, [`TextFault::BadEscape`] with the
-/// byte from 0 where no letter begins, and [`TextFault::OutOfMemory`]; of a string token of [`crate::tokens`] only the
-/// last. Each letter takes memory once.
+/// # Errors
+///
+/// [`TextFault::UnclosedString`] where the text has no quotes round it, [`TextFault::BadEscape`] with the byte from 0 where no
+/// letter begins, and [`TextFault::OutOfMemory`]. A string token of [`crate::tokens`] gives only the last.
 pub fn letters(alloc: Global, text: &str) -> Result<Vec<Letter>, TextFault>
-    // What is answered are the letters that the text writes.
+    // The result is the letters that the text writes.
     ensures found { IfOk result (λ v. IsSpelled text.now v.items) }
-    // The letters that the text writes are what is answered, unless memory runs out.
+    // If the text writes letters, they are the result, unless memory runs out.
     ensures only { (letters : List Letters) → IsSpelled text.now letters → HasLetters letters result }
-    // Each fault comes only where it is.
+    // Each fault is reported only where the text has it.
     ensures fault { IfErr result (HasLettersFault text.now) }
 {
     let Some(inner) = between_quotes(text) else {
@@ -142,8 +144,12 @@ pub fn letters(alloc: Global, text: &str) -> Result<Vec<Letter>, TextFault>
     Ok(found)
 }
 
-/// The string that the letters of a string token stand for, or none where one of them is the escape `\*`, which only a
-/// pattern may hold. 1: memory was refused.
+/// The string that the letters of a string token denote, or none where one of them is the escape `\*`, which only a pattern may
+/// hold.
+///
+/// # Errors
+///
+/// Fails only when out of memory.
 pub fn plain_text(alloc: Global, letters: &[Letter]) -> Result<Option<String>, AllocError>
     ensures { IfOk result (λ text. option_map string_bytes text ≡ plain_text_of letters.now) }
 {
@@ -157,8 +163,8 @@ pub fn plain_text(alloc: Global, letters: &[Letter]) -> Result<Option<String>, A
     Ok(Some(text))
 }
 
-/// Where the first `\*` of a string token begins, of which this is the text with its quotes, in bytes from 0; 0 where it has
-/// none.
+/// The place at which the first `\*` of a string token begins, in bytes from 0; 0 where it has none. The text is that of the
+/// token, with its quotes.
 pub fn escaped_star(text: &str) -> usize {
     let mut behind = false;
     for (i, &b) in text.as_bytes().iter().enumerate() {
@@ -170,17 +176,17 @@ pub fn escaped_star(text: &str) -> usize {
     0
 }
 
-/// The law that no text writes two lists of letters. It does nothing.
+/// No text writes two lists of letters. A law: it runs no code.
 pub fn one_spelling()
     ensures { (text : List ℕ) (letters others : List Letters) → IsSpelled text letters → IsSpelled text others → letters ≡ others }
 {}
 
-/// The law that what stands between the quotes of a string token always writes letters. It does nothing.
+/// The text between the quotes of a string token always writes letters. A law: it runs no code.
 pub fn every_string_is_spelled()
     ensures { (inner : List ℕ) → IsUtf8 inner → IsString inner → (letters : List Letters) × IsSpelled (34 ∷ inner ++ 34 ∷ []) letters }
 {}
 
-/// The law that a string token writes letters or none, where it may be no UTF-8. It does nothing.
+/// A string token, even one that is not UTF-8, writes letters or none. A law: it runs no code.
 pub fn letters_or_none()
     ensures { (inner : List ℕ) → IsString inner → ((letters : List Letters) × IsSpelled (34 ∷ inner ++ 34 ∷ []) letters) ⊎ ((letters : List Letters) → IsSpelled (34 ∷ inner ++ 34 ∷ []) letters → ⊥) }
 {}

@@ -4,7 +4,7 @@ use thiserror::Error;
 /// Why a text has no tokens, with the place of the fault in bytes from 0.
 #[derive(Clone, Copy, Debug, PartialEq, Eq, Error)]
 pub enum TextFault {
-    /// Memory ran out; it says nothing of the text.
+    /// Out of memory. It says nothing about the text.
     #[error("out of memory")]
     OutOfMemory,
     /// No token begins with the character there.
@@ -38,7 +38,7 @@ impl TextFault {
         }
     }
 
-    /// Where the fault is, in bytes from 0; out of memory is nowhere.
+    /// The place of the fault, in bytes from 0. Out of memory has no place.
     pub fn offset(self) -> Option<usize>
         ensures { result ≡ offset_of self }
     {

@@ -12,12 +12,12 @@ pub struct Token<'a> {
     pub kind: TokenKind,
     /// Where it begins in the source, in bytes from 0.
     pub start: usize,
-    /// The slice of the source that it is: of a string with its quotes and escapes, of a slot with its `?`.
+    /// Its slice of the source: for a string with its quotes and escapes, for a slot with its `?`.
     pub text: &'a str,
 }
 
 impl Token<'_> {
-    /// Where it ends in the source: the place right behind its last byte, in bytes from 0.
+    /// Where it ends in the source: the place right after its last byte, in bytes from 0.
     pub fn end(&self) -> usize
         ensures { self.now.start + length self.now.text.now < 2 ^ 64 → result ≡ self.now.start + length self.now.text.now }
     {

@@ -25,7 +25,7 @@ pub enum TokenKind {
     Number,
     /// A string with its quotes.
     String,
-    /// A `?` and the word behind it.
+    /// A `?` and the word after it.
     Slot,
     /// `::`
     DoubleColon,

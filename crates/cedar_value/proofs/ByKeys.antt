@@ -92,7 +92,7 @@ module _ {A : Type 0} (key : A → List ℕ) where
   module _ {B : Type 0} (found : A → B) (look : List ℕ → List A → Option B)
       (look_none : (k : List ℕ) → look k [] ≡ None)
       (look_more : (k : List ℕ) (x : A) (xs : List A) → look k (x ∷ xs) ≡ cond (bytes_eq (key x) k) (Some (found x)) (look k xs)) where
-    -- an element that stands at place i
+    -- an element that is at place i
     pub look-place : (xs : List A) (k : List ℕ) (i : ℕ) (x : A) → Ascend xs → i < length xs → x ≡ get_or xs i x → text_cmp (key x) k ≡ Equal → look k xs ≡ Some (found x)
     look-place [] k i x up lt is same = absurd (omega arith)
     look-place (y ∷ ys) k zero x up lt is same =

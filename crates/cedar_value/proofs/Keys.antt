@@ -23,7 +23,7 @@ key p = p.0
 
 -- ---- a search
 
--- the value at a key that stands at place i
+-- the value at a key that is at place i
 pub value_at-place : (ps : List Pair) (k : List ℕ) (i : ℕ) (p : Pair) → AreKeysAscending ps → i < length ps → p ≡ get_or ps i p → text_cmp p.0 k ≡ Equal → value_at k ps ≡ Some p.1
 value_at-place = look-place key (λ p. p.1) value_at (λ k. refl) (λ k p ps. refl)
 

@@ -34,7 +34,7 @@ no_colon : (w rest : List ℕ) → list_all is_word_byte (w ++ 58 ∷ rest) ≡ 
 no_colon [] rest h = cc
 no_colon (b ∷ w) rest h = no_colon w rest (and_second (is_word_byte b) _ h)
 
--- the first `::` of a text stands behind word bytes that stand before one
+-- the first `::` of a text stands after word bytes that stand before one
 meet : (w first o r : List ℕ) → w ++ (58 ∷ 58 ∷ o) ≡ first ++ (58 ∷ 58 ∷ r) → list_all is_word_byte first ≡ true → ((k : ℕ) → k < length w → (rest : List ℕ) → drop k (w ++ (58 ∷ 58 ∷ o)) ≡ 58 ∷ 58 ∷ rest → ⊥) → (w ≡ first) × (o ≡ r)
 meet [] [] o r e h lacks = (refl, cc)
 meet [] (b ∷ first) o r e h lacks =
@@ -76,7 +76,7 @@ module _ (text word rest : List ℕ) (cut : text ≡ word ++ (58 ∷ 58 ∷ rest
   pub shorter : length rest < length text
   shorter = omega (arith, length-append word (58 ∷ 58 ∷ rest), ap length cut)
 
--- what a search for `::` tells of the text before it and behind it
+-- what a search for `::` tells of the text before it and after it
 pub record IsCut (text word rest : List ℕ) : Type 0 where
   pub parts : text ≡ word ++ (58 ∷ 58 ∷ rest)
   pub is_first : (k : ℕ) → k < length word → (r : List ℕ) → drop k text ≡ 58 ∷ 58 ∷ r → ⊥

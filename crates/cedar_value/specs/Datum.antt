@@ -4,9 +4,9 @@ use Rattle.std.specs.Ordering.{int_eq}
 use Rattle.std.specs.Str.{bytes_eq}
 use Rattle.cedar_value.specs.declared.uid.Uid.{Uid}
 
--- A Boolean, a whole number, a text by its bytes, an entity's uid, a set by its members, a record by
--- its keys and their values, or a decimal by its ten-thousandths. `IsValue` says which of these trees
--- are values (Cedar language reference, data types; cedar-spec, Lean: Cedar.Spec.Value).
+-- A Boolean, a whole number, a string given by its bytes, an entity's uid, a set given by its members, a record given by its
+-- keys and their values, or a decimal given by its ten-thousandths. `IsValue` says which of these trees are values (Cedar
+-- language reference, data types; cedar-spec, Lean: Cedar.Spec.Value).
 mutual
   pub data Datum : Type 0 where
     boolean : Bool → Datum

@@ -18,7 +18,7 @@ abbrev pub is_word : List ℕ → Bool
 is_word [] = false
 is_word (b ∷ bs) = is_word_start b && list_all is_word_byte bs
 
--- The words that are no identifiers (Cedar language reference, policy grammar: IDENT).
+-- The words that are not identifiers (Cedar language reference, policy grammar: IDENT).
 abbrev pub reserved_words : List (List ℕ)
 reserved_words =
     codes "true" ∷ codes "false" ∷ codes "if" ∷ codes "then" ∷ codes "else" ∷ codes "in" ∷ codes "is" ∷ codes "like" ∷ codes "has" ∷ []
@@ -43,8 +43,8 @@ pub record IsName (text : List ℕ) : Type 0 where
   pub identifiers : IsTrue (list_all is_identifier (first ∷ others))
   pub text_is : text ≡ joined first others
 
--- The words of a text between its `::`, where a beginning of the first one stands before the text (Cedar language
--- reference, policy grammar: Path).
+-- The words of a text between its `::`, where a beginning of the first word comes before the text (Cedar language reference,
+-- policy grammar: Path).
 abbrev pub words_from : List ℕ → List ℕ → List (List ℕ)
 words_from word [] = word ∷ []
 words_from word (b ∷ []) = (word ++ b ∷ []) ∷ []

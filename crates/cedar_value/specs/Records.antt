@@ -10,7 +10,7 @@ abbrev pub value_at : List ℕ → List (List ℕ × Datum) → Option Datum
 value_at k [] = None
 value_at k (p ∷ ps) = if bytes_eq p.0 k then Some p.1 else value_at k ps
 
--- No key stands twice (Cedar language reference, records).
+-- No key is repeated (Cedar language reference, records).
 abbrev pub AreKeysDistinct : List (List ℕ × Datum) → Type 0
 AreKeysDistinct ps = AllPairs (λ k l. k ≢ l) (map (λ p. p.0) ps)
 

@@ -2,7 +2,7 @@
 use Rattle.std.specs.Prelude.{ℕ, ◌+◌, ℤ, pos, ◌+ℤ◌, Bool, true, false, List, [], ◌∷◌}
 use Rattle.cedar_value.specs.Datum.{Datum, boolean, long, text, uid, set, record_of, decimal, Members, no_members, member, Fields, no_fields, field}
 
--- Each row goes before a rest, which is empty behind a whole value.
+-- Each row goes before a rest, which is empty after a whole value.
 
 -- The row of a text: each byte plus 1, then 0 (this project).
 abbrev pub text_row : List ℕ → List ℤ → List ℤ
@@ -14,8 +14,8 @@ abbrev pub truth_number : Bool → ℤ
 truth_number false = pos 0
 truth_number true = pos 1
 
--- The row of a value: the number of its kind, and then of a number or a decimal its number plus 9223372036854775808, of a
--- uid its type's text and its id, of a set the rows of its members and 0, of a record for each pair 1, the key and the
+-- The row of a value: first the number of its kind. Then, for a number or a decimal, that number plus 9223372036854775808. For
+-- a uid, its type's text and its id. For a set, the rows of its members and 0. For a record, for each pair 1, the key and the
 -- value, and at the end 0 (this project).
 abbrev mutual
   pub row : Datum → List ℤ → List ℤ

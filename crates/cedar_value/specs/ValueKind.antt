@@ -1,9 +1,9 @@
--- What a kind of the code stands for.
+-- What a kind of the code denotes.
 use Rattle.cedar_value.specs.Datum.{Datum, boolean, long, text, uid, set, record_of, decimal, members_of, fields_of}
 use Rattle.cedar_value.specs.declared.value.ValueKind.{ValueKind}
 use Rattle.cedar_value.specs.declared.value.ValueKind.TheVariants.{Boolean, Long, String, Uid, Set, Record, Decimal}
 
--- The value that a kind stands for (this project).
+-- The value that a kind denotes (this project).
 abbrev pub datum_of : ValueKind → Datum
 datum_of (Boolean b) = boolean b
 datum_of (Long n) = long n

@@ -4,9 +4,9 @@ use Rattle.std.specs.Prelude.{FitsSigned}
 use Rattle.cedar_value.specs.Datum.{Datum, boolean, long, text, uid, set, record_of, decimal, Members, no_members, member, Fields, no_fields, field, list_of, pairs_of}
 use Rattle.cedar_value.specs.Order.{IsAscending, AreKeysAscending}
 
--- The tree is a value: its numbers and the ten-thousandths of its decimals are numbers of 64 bits, the members of each of
--- its sets ascend in the order of values, and the keys of each of its records ascend by their bytes, at every depth
--- (Cedar language reference, data types).
+-- The tree is a value, at every depth. Its numbers and the ten-thousandths of its decimals are numbers of 64 bits. The members
+-- of each set ascend in the order of values, and the keys of each record ascend by their bytes (Cedar language reference, data
+-- types).
 abbrev mutual
   pub IsValue : Datum → Type 0
   IsValue (boolean b) = Unit {0}

@@ -1,5 +1,5 @@
--- Worlds of entities, and what lies above an entity (Cedar language reference, entities and hierarchy;
--- cedar-spec, Lean: Cedar.Spec.Entities).
+-- Worlds of entities, and what is above an entity (Cedar language reference, entities and hierarchy; cedar-spec, Lean:
+-- Cedar.Spec.Entities).
 use Rattle.std.specs.Prelude.{ℕ, Bool, false, List, [], ◌∷◌, length, Option, Some, None, is_some, unwrap_or, if◌then◌else◌}
 use Rattle.std.specs.Option.{option_map}
 use Rattle.std.specs.List.{list_any}
@@ -15,8 +15,7 @@ pub record EntityTree : Type 0 where
   pub attributes : List (List ℕ × Datum)
   pub parents : List Uid
 
--- A finite map from uids to entities: of a uid that stands twice, the first entity counts (Cedar language reference,
--- entities).
+-- A finite map from uids to entities. Where a uid is repeated, its first entity counts (Cedar language reference, entities).
 abbrev pub World : Type 0
 World = List EntityTree
 
@@ -42,12 +41,12 @@ parents_of w u = unwrap_or (option_map (λ e. e.parents) (entry_of w u)) []
 abbrev pub Below : World → Uid → Uid → Type 0
 Below w = LeadsTo (parents_of w)
 
--- The test of it, which evaluation computes with: as many links as there are entities are enough;
+-- The test for `Below`, with which evaluation computes. As many links as there are entities are enough;
 -- `below_is_a_chain_of_links` ties the two (Cedar language reference, `in`).
 unfoldable pub below : World → Uid → Uid → Bool
 below w u v = leads same_uid (parents_of w) (length w) u v
 
--- Whether the entity is below a value; nothing is below what is no uid (Cedar language reference, `in`).
+-- Whether the entity is below a value. Nothing is below a value that is not a uid (Cedar language reference, `in`).
 abbrev pub below_datum : World → Uid → Datum → Bool
 below_datum w u (uid v) = below w u v
 below_datum w u _ = false

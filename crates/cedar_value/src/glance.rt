@@ -12,14 +12,14 @@ use crate::value_set::ValueSet;
 use cedar_ext::Decimal;
 use std::alloc::{AllocError, Global};
 
-/// A value that is looked at, wherever it lies: in a policy, in the request, in an entity or on its own.
+/// A value that is looked at, wherever it is: in a policy, in the request, in an entity or on its own.
 #[derive(Clone, Copy)]
 pub enum Glance<'a> {
     /// A Boolean.
     Boolean(bool),
     /// A whole number.
     Long(i64),
-    /// A text.
+    /// A string.
     String(&'a Text),
     /// An entity's uid.
     Uid(&'a Uid),
@@ -32,7 +32,7 @@ pub enum Glance<'a> {
 }
 
 impl Glance<'_> {
-    /// A copy of what is looked at. Of a Boolean, a number or a decimal it takes no memory.
+    /// A copy of the value. A Boolean, a number or a decimal takes no memory.
     pub fn to_value(self, alloc: Global) -> Result<Value, AllocError>
         ensures value { IfOk result (λ v. v ≡ datum_seen self.entry) }
         ensures succeeds { IsPlain (datum_seen self.entry) → IsOk result }

@@ -1,4 +1,4 @@
-//! What is asked of the entities.
+//! What evaluation looks up in the entities.
 ghost use Rattle.std.specs.Prelude.{◌≡◌, ◌↔◌, IsTrue, Contains, option_copied};
 ghost use Rattle.cedar_value.specs.Datum.{uid};
 ghost use Rattle.cedar_value.specs.World.{World, has_entity, attributes_of, below, below_any, Below};
@@ -7,8 +7,8 @@ use crate::uid::Uid;
 use crate::value_record::Record;
 use crate::value_set::ValueSet;
 
-/// The entities that policies are evaluated over, and what lies above each of them. Contracts see
-/// them as a world. Nothing here takes memory.
+/// The entities over which policies are evaluated, and what is above each of them. Contracts see them as a world. Nothing here
+/// takes memory.
 pub trait Hierarchy {
     ghost world: { Self → World };
 
@@ -20,8 +20,8 @@ pub trait Hierarchy {
     fn attributes(&self, entity: &Uid) -> Option<&Record>
         ensures { option_copied result ≡ attributes_of (world self.now) entity.now };
 
-    /// Whether the one is below the other: one or more links lead from it up to the other, each to
-    /// a direct parent (Cedar language reference, `in`). An entity is not below itself by being itself.
+    /// Whether the one is below the other: one or more links lead from it up to the other, each to a direct parent (Cedar
+    /// language reference, `in`). An entity is below itself only where such links lead back to it.
     fn is_below(&self, low: &Uid, high: &Uid) -> bool
         ensures chain { IsTrue result ↔ Below (world self.now) low.now high.now }
         ensures gives { result ≡ below (world self.now) low.now high.now };

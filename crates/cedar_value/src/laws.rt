@@ -1,4 +1,4 @@
-//! What the tests tell that evaluation computes with. Each law is proved by its contract, and runs nothing.
+//! What the tests that evaluation uses decide. Each law is proved by its contract, and runs no code.
 ghost use Rattle.std.specs.Prelude.{◌≡◌, ◌↔◌, ℕ, List, Some, Contains};
 ghost use Rattle.std.specs.Bool.{Decides};
 ghost use Rattle.cedar_value.specs.Datum.{Datum, same};
@@ -10,8 +10,8 @@ ghost use Rattle.cedar_value.specs.World.{World, Below, below};
 
 use crate::uid::Uid;
 
-/// The test of what lies above holds exactly where one or more links lead up, in every world, also in
-/// one with cycles (Cedar language reference, `in`).
+/// The test of what is above an entity holds exactly where one or more links lead up, in every world, also in one with cycles
+/// (Cedar language reference, `in`).
 pub fn below_is_a_chain_of_links()
     ensures { (w : World) (u v : Uid) → Decides (below w u v) (Below w u v) }
 {}
@@ -34,8 +34,8 @@ pub fn set_from_has_the_members()
     ensures only { (members list : List Datum) → IsAscending members → SameMembers members list → members ≡ set_from list }
 {}
 
-/// The record that pairs make has those pairs and, where no key stands twice, ascends by the keys, and no
-/// other list does both (Cedar language reference, records).
+/// The record that pairs make has those pairs. Where no key is repeated it ascends by the keys, and no other list does both
+/// (Cedar language reference, records).
 pub fn record_from_has_the_pairs()
     ensures pairs { (list : List (List ℕ × Datum)) → SamePairs (record_from list) list }
     ensures ascending { (list : List (List ℕ × Datum)) → AreKeysDistinct list → AreKeysAscending (record_from list) }
@@ -43,8 +43,7 @@ pub fn record_from_has_the_pairs()
     ensures itself { (pairs : List (List ℕ × Datum)) → AreKeysAscending pairs → record_from pairs ≡ pairs }
 {}
 
-/// The value found at a key is the one that stands there with it, where no key stands twice (Cedar
-/// language reference, records).
+/// Where no key is repeated, the value found at a key is the one that is paired with it (Cedar language reference, records).
 pub fn value_at_tells_pairs()
     ensures { (pairs : List (List ℕ × Datum)) → AreKeysDistinct pairs
         → (key : List ℕ) (x : Datum) → (value_at key pairs ≡ Some x) ↔ Contains pairs (key, x) }

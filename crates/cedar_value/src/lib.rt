@@ -1,7 +1,7 @@
-//! Values of the Cedar policy language: names, uids, values and requests, and the worlds that they are asked over.
+//! Names, uids, values, sets, records and requests, and the worlds of entities over which policies are evaluated.
 //!
 //! ```rust
-//! use cedar_value::{Name, Record, Request, SharedText, Text, Uid, Value};
+//! use cedar_value::{Name, Record, SharedText, Text, Uid, Value};
 //!
 //! let ty = Name::read(alloc, "Photos::User")?.unwrap();
 //! let alice = Uid { ty, id: Text::read(alloc, "alice")? };

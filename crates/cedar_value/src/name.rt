@@ -10,8 +10,8 @@ use base_reach::Key;
 use std::alloc::{AllocError, Global};
 use std::marker::Model;
 
-/// A path of identifiers, as `Photos::Album`, which contracts see as the bytes of its text
-/// (Cedar language reference, entity types and namespaces). Its copies share one text.
+/// A path of identifiers, for example `Photos::Album`, which contracts see as the bytes of its text (Cedar language reference,
+/// entity types and namespaces). Its copies share one text.
 #[derive(Drop, Eq, Hash, PartialOrd, Ord)]
 pub struct Name {
     path: SharedText,
@@ -28,7 +28,7 @@ impl Model for Name {
 }
 
 impl Name {
-    /// The name whose text this is, for a caller that knows that it is one; `read` tests a text.
+    /// The name with this text. The caller knows that the text is a name; `read` tests a text.
     pub fn new(alloc: Global, path: Text) -> Result<Self, AllocError>
         ensures { IfOk result (λ name. name ≡ path) }
     {
@@ -68,7 +68,7 @@ impl Name {
     }
 }
 
-// The words that are no identifiers.
+// The words that are not identifiers.
 const RESERVED: [&str; 9] = [
     "true", "false", "if", "then", "else", "in", "is", "like", "has",
 ];

@@ -9,7 +9,7 @@ use crate::shared_text::SharedText;
 use crate::value::{Value, ValueKind};
 use std::cmp::Ordering;
 
-/// How two values stand in the order of values.
+/// How two values compare in the order of values.
 #[cycle(order)]
 pub(crate) fn order_values(left: &Value, right: &Value) -> Ordering
     ensures { result ≡ datum_cmp left.now right.now }
@@ -26,7 +26,7 @@ pub(crate) fn order_values(left: &Value, right: &Value) -> Ordering
     }
 }
 
-/// The order of two ascending lists of members, a beginning first.
+/// The order of two ascending lists of members. A beginning of the other list comes first.
 #[cycle(order)]
 pub(crate) fn order_members(left: &[Value], right: &[Value]) -> Ordering
     ensures { result ≡ slice_cmp datum_cmp left.now right.now }
@@ -43,7 +43,7 @@ pub(crate) fn order_members(left: &[Value], right: &[Value]) -> Ordering
     left.len().cmp(&right.len())
 }
 
-/// The order of two ascending lists of pairs, a beginning first.
+/// The order of two ascending lists of pairs. A beginning of the other list comes first.
 #[cycle(order)]
 pub(crate) fn order_pairs(left: &[(SharedText, Value)], right: &[(SharedText, Value)]) -> Ordering
     ensures { result ≡ slice_cmp pair_cmp left.now right.now }
@@ -60,7 +60,7 @@ pub(crate) fn order_pairs(left: &[(SharedText, Value)], right: &[(SharedText, Va
     left.len().cmp(&right.len())
 }
 
-/// The order of two pairs: by their keys, and then by their values.
+/// The order of two pairs: first their keys, and then their values.
 #[cycle(order)]
 fn order_pair(left: &(SharedText, Value), right: &(SharedText, Value)) -> Ordering
     ensures { result ≡ pair_cmp left.now right.now }

@@ -9,8 +9,8 @@ use std::hash::{Hash, Hasher};
 use std::marker::Model;
 use std::rc::Rc;
 
-/// A text that is kept once for all who hold it, as the key of a record or the name of a type, which
-/// contracts see as the list of its bytes. It has the size of one address, and is shared without memory.
+/// A text that is kept once for all who hold it, for example the key of a record or the name of a type. Contracts see the list
+/// of its bytes. It has the size of one address, and sharing it takes no memory.
 #[derive(Drop)]
 pub struct SharedText {
     content: Rc<Text>,
@@ -25,7 +25,7 @@ impl Model for SharedText {
 }
 
 impl SharedText {
-    /// The text, from now on shared. Takes the memory of one text's place.
+    /// The text, shared from now on. Takes the memory of one text's place.
     pub fn new(alloc: Global, content: Text) -> Result<Self, AllocError>
         ensures { IfOk result (λ t. t ≡ content) }
     {
@@ -48,8 +48,11 @@ impl SharedText {
         self.content.as_str()
     }
 
-    /// The same text for one holder more. Takes no memory: it is refused only where so many hold the
-    /// text that their count has no room.
+    /// The same text for one more holder. Takes no memory.
+    ///
+    /// # Errors
+    ///
+    /// Fails only where the text has so many holders that their count has no room.
     pub fn share(&self) -> Result<Self, AllocError>
         ensures { IfOk result (λ t. t ≡ self.now) }
     {

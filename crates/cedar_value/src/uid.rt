@@ -14,7 +14,7 @@ use std::hash::{Hash, Hasher};
 pub struct Uid {
     /// The name of the entity's type.
     pub ty: Name,
-    /// The entity's id, which may be any text.
+    /// The entity's id, which may be any string.
     pub id: Text,
 }
 

@@ -26,13 +26,13 @@ pub enum ValueKind {
     Boolean(bool),
     /// A whole number of 64 bits.
     Long(i64),
-    /// A text.
+    /// A string.
     String(Text),
     /// A reference to an entity.
     Uid(Box<Uid>),
     /// A set of values.
     Set(ValueSet),
-    /// A record: values by keys.
+    /// A record: values under keys.
     Record(Record),
     /// A number of ten-thousandths.
     Decimal(Decimal),
@@ -74,7 +74,7 @@ impl Value {
     pub fn new(kind: ValueKind) -> Self
         ensures { result ≡ datum_of kind }
     {
-        // A law: it runs nothing.
+        // What this kind denotes is a value.
         kind_is_a_value(&kind);
         Value { kind }
     }
@@ -93,7 +93,7 @@ impl Value {
         Value::new(ValueKind::Long(number))
     }
 
-    /// A text.
+    /// A string.
     pub fn string(content: Text) -> Self
         ensures { result ≡ text content }
     {
@@ -157,7 +157,7 @@ impl Value {
         }
     }
 
-    /// A copy, equal to the original. Of a Boolean, a number or a decimal it takes no memory.
+    /// A copy, equal to the original. A Boolean, a number or a decimal takes no memory.
     #[cycle(copy)]
     pub fn try_clone(&self, alloc: Global) -> Result<Self, AllocError>
         ensures copy { IfOk result (λ v. v ≡ self.now) }
@@ -175,8 +175,8 @@ impl Value {
         Ok(Value::new(kind))
     }
 
-    /// Numbers are of 64 bits, members ascend, and keys ascend, at every depth (Cedar language reference,
-    /// data types). It is a law of each value, and the function does nothing.
+    /// Numbers are of 64 bits, members ascend, and keys ascend, at every depth (Cedar language reference, data types). A law:
+    /// it runs no code.
     pub fn well_formedness(&self)
         ensures { IsValue self.now }
     {
@@ -184,7 +184,7 @@ impl Value {
     }
 }
 
-// What a kind stands for is a value. It is a law, and runs nothing.
+// What a kind denotes is a value. A law: it runs no code.
 fn kind_is_a_value(kind: &ValueKind)
     ensures { IsValue (datum_of kind.now) }
 {

@@ -14,8 +14,8 @@ use std::cmp::Ordering;
 use std::marker::Model;
 use std::slice;
 
-/// A record, which contracts see as the list of its keys with their values, ascending by the bytes of
-/// the keys, each of which stands once.
+/// A record, which contracts see as the list of its keys with their values, ascending by the bytes of the keys. No key is
+/// repeated.
 #[cycle(value)]
 #[derive(Drop)]
 pub struct Record {
@@ -60,15 +60,15 @@ impl Record {
         }
     }
 
-    /// The record of these pairs, in whatever order they come. None where a key stands twice
-    /// (Cedar language reference, records).
+    /// The record of these pairs, in whatever order they come. None where a key is repeated (Cedar language reference,
+    /// records).
     pub fn from_pairs(mut pairs: Vec<(SharedText, Value)>) -> Result<Option<Self>, AllocError>
         ensures distinct { IfOk result (λ o. IsSome o ↔ AreKeysDistinct pairs.items) }
         ensures pairs { IfOk result (λ o. IfSome o (λ r. SamePairs r pairs.items)) }
         ensures ascending { IfOk result (λ o. IfSome o AreKeysAscending) }
         ensures gives { IfOk result (λ o. IfSome o (λ r. r ≡ record_from pairs.items)) }
     {
-        // A law: it runs nothing.
+        // Each pair holds a value.
         hold_values(&pairs);
         pairs.sort()?;
         if keys_ascend(&pairs) {
@@ -83,12 +83,12 @@ impl Record {
         requires { AreKeysAscending pairs.items }
         ensures { result ≡ pairs.items }
     {
-        // That each pair holds a value is a law: it runs nothing.
+        // Each pair of an ordered list holds a value.
         hold_values(&pairs);
         Record { pairs }
     }
 
-    /// The value at a key. Takes no memory, and comparisons by the logarithm of the record's size.
+    /// The value at a key. Takes no memory, and as many comparisons as the logarithm of the record's size.
     pub fn get(&self, key: &str) -> Option<&Value>
         ensures { option_copied result ≡ value_at key.now self.now }
     {
@@ -98,7 +98,7 @@ impl Record {
         }
     }
 
-    /// The value at a key, taken out of the record. Takes no memory, and comparisons as `get` does.
+    /// The value at a key, taken out of the record. Takes no memory, and as many comparisons as `get`.
     pub fn into_value(mut self, key: &str) -> Option<Value>
         ensures { result ≡ value_at key.now self }
     {
@@ -124,8 +124,7 @@ impl Record {
         &self.pairs
     }
 
-    /// Keys ascend, and values stand at them, at every depth (Cedar language reference, records). It is a
-    /// law of each record, and the function does nothing.
+    /// Keys ascend, and hold values, at every depth (Cedar language reference, records). A law: it runs no code.
     pub fn well_formedness(&self)
         ensures ascending { AreKeysAscending self.now }
         ensures values { HoldValues (fields_of self.now) }
@@ -144,7 +143,7 @@ impl Record {
     }
 }
 
-// Each pair of a list holds a value. It is a law, and its loop does nothing.
+// Each pair of a list holds a value. A law, whose loop only serves its proof.
 fn hold_values(pairs: &[(SharedText, Value)])
     ensures { HoldValues (fields_of pairs.now) }
 {
@@ -169,7 +168,7 @@ fn clone_pairs(
     Ok(copies)
 }
 
-// Whether each key is below the next.
+// Whether the keys ascend strictly.
 fn keys_ascend(pairs: &[(SharedText, Value)]) -> bool
     ensures { IsTrue result ↔ AreKeysAscending pairs.now }
 {

@@ -67,15 +67,15 @@ impl ValueSet {
         ensures ascending { IfOk result IsAscending }
         ensures gives { IfOk result (λ s. s ≡ set_from list.items) }
     {
-        // A law: it runs nothing.
+        // Each element of the list is a value.
         are_values(&list);
         list.sort()?;
         list.dedup();
         Ok(ValueSet { members: list })
     }
 
-    /// Whether the value is a member (Cedar language reference, `contains`). Takes no memory, and
-    /// comparisons by the logarithm of the set's size.
+    /// Whether the value is a member (Cedar language reference, `contains`). Takes no memory, and as many comparisons as the
+    /// logarithm of the set's size.
     pub fn contains(&self, value: &Value) -> bool
         ensures member { IsTrue result ↔ Contains self.now value.now }
         ensures gives { result ≡ has_member self.now value.now }
@@ -131,8 +131,7 @@ impl ValueSet {
         &self.members
     }
 
-    /// Members ascend, and are values, at every depth (Cedar language reference, sets). It is a law of each
-    /// set, and the function does nothing.
+    /// Members ascend, and are values, at every depth (Cedar language reference, sets). A law: it runs no code.
     pub fn well_formedness(&self)
         ensures ascending { IsAscending self.now }
         ensures values { AreValues (members_of self.now) }
@@ -151,7 +150,7 @@ impl ValueSet {
     }
 }
 
-// Each element of a list is a value. It is a law, and its loop does nothing.
+// Each element of a list is a value. A law, whose loop only serves its proof.
 fn are_values(list: &[Value])
     ensures { AreValues (members_of list.now) }
 {

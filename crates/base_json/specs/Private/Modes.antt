@@ -1,11 +1,11 @@
--- In which mode the lexer is behind some bytes.
+-- The mode of the lexer after some bytes.
 use Rattle.std.specs.Prelude.{ℕ, List, [], ◌∷◌, Bool, true, false}
 use Rattle.json.specs.Lex as json
 use Rattle.json.specs.Lex.{Class, quote, backslash, operator, space, other, class, between, in_word, in_string, in_escape}
 use Rattle.base_json.specs.declared.object_end.Mode.{Mode}
 use Rattle.base_json.specs.declared.object_end.Mode.TheVariants.{Between, InWord, InString, InEscape}
 
--- the mode in which the lexer goes on behind a byte of the class
+-- the mode in which the lexer goes on after a byte of the class
 abbrev pub mode_next : json.Mode → Class → json.Mode
 mode_next between quote = in_string
 mode_next between backslash = in_word
@@ -24,7 +24,7 @@ mode_next in_string space = in_string
 mode_next in_string other = in_string
 mode_next in_escape c = in_string
 
--- the mode behind all the bytes
+-- the mode after all the bytes
 unfoldable pub mode_behind : json.Mode → List ℕ → json.Mode
 mode_behind m [] = m
 mode_behind m (x ∷ xs) = mode_behind (mode_next m (class x)) xs

@@ -25,7 +25,7 @@ pub record Answered (answers : Answering) (bytes rest text : List ℕ) : Type 0 
   pub cut : bytes ≡ joined lines ++ rest
   pub answered : AnswersEach answers lines text
 
--- the bytes are whole lines and then the rest; the answers to those lines were written, but for what waits in `out`
+-- the bytes are whole lines and then the rest; the answers to those lines were written, except those that wait in `out`
 pub record Sent (answers : Answering) (bytes rest : List ℕ) (old new : Option (List ℕ)) (out : List ℕ) : Type 0 where
   pub text : List ℕ
   pub written : List ℕ
@@ -44,7 +44,7 @@ pub record Served (answers : Answering) (left left' old new : Option (List ℕ))
   pub consumes : Consumes left left' given
   pub sent : Sent answers given rest old new out
 
--- all that was read has its answer text, which was written but for `out`
+-- all that was read has its answer text, which was written except for `out`
 pub record ServedAll (answers : Answering) (left left' old new : Option (List ℕ)) (out : List ℕ) : Type 0 where
   pub given : List ℕ
   pub text : List ℕ

@@ -5,7 +5,7 @@ use crate::source::{ReadFailed, Source};
 use std::io::Read;
 use std::marker::Model;
 
-/// So many bytes a [`StdSource`] gives at most.
+/// How many bytes a [`StdSource`] gives at most.
 const MOST_BYTES: u64 = 9223372036854775807;
 
 /// Reads from a reader of `std`, and counts its failures. What it has left is the first of what the reader says that it

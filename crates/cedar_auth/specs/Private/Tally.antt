@@ -1,4 +1,4 @@
--- What is gathered while the policies run one after the other.
+-- What is gathered while the policies run one after another.
 use Rattle.std.specs.Prelude.{ℕ, Bool, true, false, ◌==◌, not, ◌&&◌, if◌then◌else◌, List, [], ◌∷◌, ◌++◌, length, map, filter, Ok, Err}
 use Rattle.std.specs.List.{filter_map}
 use Rattle.cedar_value.specs.World.{World}

@@ -25,11 +25,11 @@ Lists = IndexMap Uid (Vec ℕ) UidHashing
 abbrev pub list_at : Lists → Uid → List ℕ
 list_at lists u = unwrap_or (option_map (λ v. v.items) (get same_uid lists u)) []
 
--- what was kept under a uid is kept there still
+-- what was kept under a uid is still kept there
 abbrev pub KeepsAll : Lists → Lists → Type 0
 KeepsAll old new = (u : Uid) → Holds (list_at old u) (list_at new u)
 
--- the bits that were set are set still
+-- the bits that were set are still set
 abbrev pub KeepsBits : List ℕ → List ℕ → Type 0
 KeepsBits old new = (k : ℕ) → has_bit old k ≡ true → has_bit new k ≡ true
 
@@ -37,7 +37,7 @@ KeepsBits old new = (k : ℕ) → has_bit old k ≡ true → has_bit new k ≡ t
 abbrev pub HasBits : List ℕ → List ℕ → Type 0
 HasBits row ks = (k : ℕ) → Contains ks k → has_bit row k ≡ true
 
--- no bit is set but those of these positions
+-- only the bits of these positions are set
 abbrev pub HasBitsAlone : List ℕ → List ℕ → Type 0
 HasBitsAlone row ks = (k : ℕ) → has_bit row k ≡ true → Contains ks k
 
@@ -47,19 +47,19 @@ pub record IsListed (row ks unnamed : List ℕ) : Type 0 where
   pub alone : HasBitsAlone row ks
   pub among : Holds unnamed ks
 
--- what the tables kept they keep still
+-- the tables still keep what they kept
 pub record KeepsTables (old new : Tables) : Type 0 where
   pub unnamed : KeepsBits old.unnamed.items new.unnamed.items
   pub principals : KeepsAll old.principals new.principals
   pub resources : KeepsAll old.resources new.resources
 
--- the position of a policy is kept by the uids that its scope names, of the principal and of the resource
+-- the position of a policy is kept according to the uids that its scope names for the principal and for the resource
 abbrev pub IsKeptAt : Tables → Option Uid → Option Uid → ℕ → Type 0
 IsKeptAt tables (Some u) other k = Contains (list_at tables.principals u) k
 IsKeptAt tables None (Some u) k = Contains (list_at tables.resources u) k
 IsKeptAt tables None None k = has_bit tables.unnamed.items k ≡ true
 
--- the position of a policy is kept by what its scope names
+-- the position of a policy is kept according to what its scope names
 abbrev pub IsEntered : Tables → Scope → ℕ → Type 0
 IsEntered tables scope k = IsKeptAt tables (uid_in scope.principal) (uid_in scope.resource) k
 

@@ -16,11 +16,11 @@ use Rattle.cedar_ast.specs.declared.scope.Scope.{Scope}
 abbrev pub is_within : World → Uid → Uid → Bool
 is_within w v u = same_uid v u || below w v u
 
--- or so it is with one of these
+-- the same for one of these
 abbrev pub is_within_one_of : World → Uid → List Uid → Bool
 is_within_one_of w v us = list_any (is_within w v) us
 
--- the entity is what the scope asks for
+-- the entity is what the scope requires
 abbrev pub is_entity_met : World → Uid → EntityScope → Bool
 is_entity_met w v entity.Any = true
 is_entity_met w v (entity.Equal u) = same_uid v u
@@ -28,7 +28,7 @@ is_entity_met w v (entity.In u) = is_within w v u
 is_entity_met w v (entity.Is ty) = bytes_eq v.ty ty
 is_entity_met w v (entity.IsIn ty u) = bytes_eq v.ty ty && is_within w v u
 
--- the action is
+-- the action is what the scope requires
 abbrev pub is_action_met : World → Uid → ActionScope → Bool
 is_action_met w v action.Any = true
 is_action_met w v (action.Equal u) = same_uid v u

@@ -24,7 +24,7 @@ LeavesOpen (action.Equal u) = ⊥
 LeavesOpen (action.In u) = ⊥
 LeavesOpen (action.InSet us) = ⊥
 
--- what is asked of a policy's scope
+-- the scope of the policy answers the question with yes
 abbrev pub Holds : SchemaTree → Question → PolicyTree → Type 0
 Holds s AnyAction p = LeavesOpen p.scope.action
 Holds s SomeAction p = ¬ LeavesOpen p.scope.action
@@ -37,13 +37,13 @@ abbrev pub OfPolicy : (PolicyTree → Type 0) → Option PolicyTree → Type 0
 OfPolicy P None = ⊥
 OfPolicy P (Some p) = P p
 
--- the first list with just those positions of which this holds
+-- the first list, with exactly those positions of which this holds
 pub data Sifted (Q : ℕ → Type 0) : List ℕ → List ℕ → Type 0 where
   none_left : Sifted Q [] []
   keeps : (k : ℕ) (ks js : List ℕ) → Q k → Sifted Q ks js → Sifted Q (k ∷ ks) (k ∷ js)
   drops : (k : ℕ) (ks js : List ℕ) → ¬ Q k → Sifted Q ks js → Sifted Q (k ∷ ks) js
 
--- the positions sifted by what holds of their policies
+-- the positions for whose policies this holds
 abbrev pub SiftedBy : List PolicyTree → (PolicyTree → Type 0) → List ℕ → List ℕ → Type 0
 SiftedBy ps P ks js = Sifted (λ k. OfPolicy P (slice_get ps k)) ks js
 
@@ -67,7 +67,7 @@ RowCells = BTreeMap (List ℕ) Cells
 abbrev pub Rows : Type 0
 Rows = BTreeMap Uid Row
 
--- what was made for each digest is listed by the index
+-- the index lists what was made for each digest
 abbrev pub AreListedBy : IndexTree → BTreeMap ℕ ListingTree → Type 0
 AreListedBy index made = (digest : ℕ) (cell : ListingTree) → get nat_cmp made digest ≡ Some cell → IsListingBy index cell
 

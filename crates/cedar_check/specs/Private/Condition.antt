@@ -1,4 +1,4 @@
--- What prepared conditions stand for.
+-- What prepared conditions denote.
 use Rattle.std.specs.Prelude.{◌≡◌, false}
 use Rattle.cedar_ast_expressions.specs.Expression.{Expression, and}
 use Rattle.cedar_check.specs.declared.prepared.Parts.{Parts}
@@ -16,8 +16,7 @@ condition_in (prepared.Open e) = e.now
 condition_in (prepared.Parts p) = whole p
 condition_in (prepared.Whole e) = e.now
 
--- The action stands nowhere in an open condition, and where there are parts neither in what is asked of the principal nor in
--- what else is asked.
+-- The action occurs nowhere in an open condition. Where there are parts, it occurs only in the condition on the action.
 abbrev pub IsReady : Prepared → Type 0
 IsReady (prepared.Open e) = mentions e.now ≡ false
 IsReady (prepared.Parts p) = (mentions p.principal.now ≡ false) × (mentions p.rest.now ≡ false)

@@ -1,4 +1,4 @@
--- Where the variable `action` stands in expressions.
+-- Where the variable `action` occurs in expressions.
 use Rattle.std.specs.Prelude.{Bool, true, false, ◌||◌}
 use Rattle.cedar_ast_expressions.specs.declared.variable.Variable.{Variable}
 use Rattle.cedar_ast_expressions.specs.declared.variable.Variable.TheVariants.{Principal, Action, Resource, Context}
@@ -11,7 +11,7 @@ is_action Principal = false
 is_action Resource = false
 is_action Context = false
 
--- Whether the action stands in an expression.
+-- Whether the action occurs in an expression.
 abbrev mutual
   pub mentions : Expression → Bool
   mentions (literal v) = false
@@ -24,12 +24,12 @@ abbrev mutual
   mentions (set_with es) = any_mentions es
   mentions (record_with fs) = entries_mention fs
 
-  -- Whether it stands in one of these.
+  -- Whether it occurs in one of these.
   pub any_mentions : Expressions → Bool
   any_mentions no_more = false
   any_mentions (and_then e es) = mentions e || any_mentions es
 
-  -- Whether it stands in the value of one of these entries.
+  -- Whether it occurs in the value of one of these entries.
   pub entries_mention : Entries → Bool
   entries_mention no_entries = false
   entries_mention (entry k e fs) = mentions e || entries_mention fs

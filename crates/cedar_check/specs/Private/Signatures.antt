@@ -1,4 +1,4 @@
--- Signatures of environments, and what is known of a condition by them.
+-- Signatures of environments, and what is known of a condition for each of them.
 use Rattle.std.specs.Prelude.{◌≡◌, ℕ, List, Option, Some, IfSome, IsSomeAnd, option_and_then, slice_get, []}
 use Rattle.std.specs.Borrow.{Bor}
 use Rattle.std.specs.List.{AllZip}
@@ -27,7 +27,7 @@ IsNumberOf examples env n = IsSomeAnd (slice_get examples n) (λ example. AreAli
 abbrev pub AreNumbered : List (Bor Environment) → List (Option ℕ) → List Environment → Type 0
 AreNumbered examples numbers envs = AllZip (λ number env. IfSome number (IsNumberOf examples env)) numbers envs
 
--- What is known of a condition in an environment, with the environment's action in the place of the variable.
+-- What is known of a condition in an environment, with the environment's action in place of the variable.
 abbrev pub form_with : Settings → SchemaTree → Environment → Expression → Option Truth
 form_with settings s env e = option_and_then (λ x. truth_in x.ty) (type_of_with settings s env [] (replace env.action e))
 

@@ -1,4 +1,4 @@
--- The function of typing answers just the typings that there are.
+-- The function of typing gives exactly the typings that there are.
 use Rattle.std.specs.Prelude.{◌≡◌, ◌↔◌, Some}
 use Rattle.cedar_ast_expressions.specs.Expression.{Expression}
 use Rattle.cedar_ast.specs.PolicyTree.{PolicyTree}

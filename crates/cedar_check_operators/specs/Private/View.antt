@@ -1,4 +1,4 @@
--- What only the rules among themselves speak of: looks at types, and the row of `is`.
+-- Definitions for contracts between the rules: looks at types, and the row of `is`.
 use Rattle.std.specs.Prelude.{ℕ, ◌||◌, bytes_eq, List, Option, option_and_then}
 use Rattle.cedar_schema_types.specs.Joining.{only_if}
 use Rattle.cedar_schema_types.specs.Membership.{known}

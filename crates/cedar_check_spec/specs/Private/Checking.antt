@@ -40,7 +40,7 @@ is_held x (y ∷ ys) = same_capability y x || is_held x ys
 abbrev pub common : Capabilities → Capabilities → Capabilities
 common xs ys = filter (λ x. is_held x ys) xs
 
--- Whether no key stands twice.
+-- Whether no key is repeated.
 abbrev pub are_distinct : List (List ℕ) → Bool
 are_distinct [] = true
 are_distinct (k ∷ ks) = not (list_any (λ l. bytes_eq l k) ks) && are_distinct ks
@@ -68,41 +68,41 @@ variable_type env Action = None
 variable_type env Resource = as_type (kind.entity env.resource)
 variable_type env Context = as_type env.context
 
--- The row of `&&`, by the right side, where the left is not known false.
+-- The row of `&&` where the left side is not known false: what the right side gives.
 abbrev pub and_right : Truth → Capabilities → Truth → Capabilities → Option Typed
 and_right f ga False gb = as_type (kind.boolean False)
 and_right f ga True gb = gaining (kind.boolean f) (ga ++ gb)
 and_right f ga Any gb = gaining (kind.boolean Any) (ga ++ gb)
 
--- The row of `&&`, by the left side: the right is typed with what that gains held.
+-- The row of `&&`, from the left side: the right side is typed where the gains of the left are held.
 abbrev pub and_type : Capabilities → (Capabilities → Option Typed) → Truth → Capabilities → Option Typed
 and_type h b False ga = as_type (kind.boolean False)
 and_type h b True ga = on_boolean (b (h ++ ga)) (and_right True ga)
 and_type h b Any ga = on_boolean (b (h ++ ga)) (and_right Any ga)
 
--- The row of `||`, by the right side, where nothing is known of the left.
+-- The row of `||` where nothing is known of the left side: what the right side gives.
 abbrev pub or_right : Capabilities → Truth → Capabilities → Option Typed
 or_right ga True gb = as_type (kind.boolean True)
 or_right ga False gb = gaining (kind.boolean Any) ga
 or_right ga Any gb = gaining (kind.boolean Any) (common ga gb)
 
--- The row of `||`, by the left side.
+-- The row of `||`, from the left side.
 abbrev pub or_type : Option Typed → Truth → Capabilities → Option Typed
 or_type b True ga = as_type (kind.boolean True)
 or_type b False ga = on_boolean b (λ f gb. gaining (kind.boolean f) gb)
 or_type b Any ga = on_boolean b (or_right ga)
 
--- The row of `if`, by the condition: the first branch is typed with what that gains held.
+-- The row of `if`, from the condition: the first branch is typed where the gains of the condition are held.
 abbrev pub if_type : (Capabilities → Option Typed) → Option Typed → Truth → Capabilities → Option Typed
 if_type x y True gi = option_map (λ t. record { ty = t.ty; gained = gi ++ t.gained }) (x gi)
 if_type x y False gi = y
 if_type x y Any gi = option_and_then (λ t. option_and_then (λ u. option_map (λ v. record { ty = v; gained = common (gi ++ t.gained) u.gained }) (join t.ty u.ty)) y) (x gi)
 
--- The row of `has`, by what is declared.
+-- The row of `has`, from what is declared.
 abbrev pub has_type : Capabilities → Expression → List ℕ → TypeTree → Option Attribute → Option Typed
 has_type h e a t o = has_row (is_held (record { on = e; key = a }) h) e a t o
 
--- The row of `.`, by what is declared.
+-- The row of `.`, from what is declared.
 abbrev pub get_type : Capabilities → Expression → List ℕ → Option Attribute → Option Typed
 get_type h e a o = get_row (is_held (record { on = e; key = a }) h) o
 
@@ -129,7 +129,7 @@ abbrev mutual
   types_all settings s env h no_more = None
   types_all settings s env h (and_then e es) = option_and_then (λ x. types_onto settings s env h x.ty es) (type_of_with settings s env h e)
 
-  -- What a type joins to with those of further members, from the left.
+  -- What a type and those of further members join to, from the left.
   pub types_onto : Settings → SchemaTree → Environment → Capabilities → TypeTree → Expressions → Option TypeTree
   types_onto settings s env h t no_more = Some t
   types_onto settings s env h t (and_then e es) = option_and_then (λ x. option_and_then (λ v. types_onto settings s env h v es) (join t x.ty)) (type_of_with settings s env h e)
@@ -139,11 +139,11 @@ abbrev mutual
   types_entries settings s env h at no_entries = Some at
   types_entries settings s env h at (entry k e fs) = option_and_then (λ x. types_entries settings s env h (with_attribute k true x.ty at) fs) (type_of_with settings s env h e)
 
--- The typing of a policy's condition in an environment, with the environment's action in the place of the variable, from no
--- held capabilities.
+-- The typing of a policy's condition in an environment, with the environment's action in place of the variable, from no held
+-- capabilities.
 abbrev pub type_in_with : Settings → SchemaTree → Environment → PolicyTree → Option Typed
 type_in_with settings s env p = type_of_with settings s env [] (replace env.action (condition_of p))
 
--- What is known of the condition there, where it has a type of Booleans.
+-- What is known of the condition there, where its type is Boolean.
 abbrev pub form_in_with : Settings → SchemaTree → Environment → PolicyTree → Option Truth
 form_in_with settings s env p = option_and_then (λ x. truth_in x.ty) (type_in_with settings s env p)

@@ -10,16 +10,16 @@ use Rattle.cedar_check_spec.specs.Private.Checking.{form_in_with}
 use Rattle.cedar_check_spec.specs.Reports.{FaultTree, fault_at}
 use Rattle.cedar_check_spec.specs.declared.settings.Settings.{Settings}
 
--- A fault for each of these environments in which the policy's condition has no type of Booleans under these settings.
+-- A fault for each of these environments in which the type of the policy's condition is not Boolean under these settings.
 abbrev pub faults_in_with : Settings → SchemaTree → PolicyTree → List Environment → List FaultTree
 faults_in_with settings s p [] = []
 faults_in_with settings s p (env ∷ envs) = cond (is_some (form_in_with settings s env p)) (faults_in_with settings s p envs) (fault_at p env ∷ faults_in_with settings s p envs)
 
--- Those of all environments of the schema, in their order.
+-- The faults in all environments of the schema, in their order.
 abbrev pub faults_of_with : Settings → SchemaTree → PolicyTree → List FaultTree
 faults_of_with settings s p = faults_in_with settings s p (environments_of s.actions)
 
--- Those of all policies: in the order of the policies, and of one policy in that of the environments.
+-- The faults of all policies: in the order of the policies, and for one policy in the order of the environments.
 abbrev pub all_faults_with : Settings → SchemaTree → List PolicyTree → List FaultTree
 all_faults_with settings s [] = []
 all_faults_with settings s (p ∷ ps) = faults_of_with settings s p ++ all_faults_with settings s ps

@@ -1,4 +1,4 @@
--- What a call that reads a request from its JSON answers.
+-- The result of a call that reads a request from its JSON.
 use Rattle.std.specs.Prelude.{◌≢◌, Result, MatchResult}
 use Rattle.serde_json.specs.Data.{Data}
 use Rattle.cedar_value.specs.declared.request.Request.{Request}

@@ -1,4 +1,4 @@
--- What a call that reads what no schema is asked for answers: it is denoted, or nothing is.
+-- The result of a call that reads without a schema: a value that is denoted, or a refusal where none is.
 use Rattle.std.specs.Prelude.{◌≡◌, ◌≢◌, Result, MatchResult}
 use Rattle.cedar_conform_values.specs.declared.conform_fault.ConformFault.{ConformFault}
 use Rattle.cedar_conform_values.specs.declared.conform_fault.ConformFault.TheVariants.{OutOfMemory, Shape}

@@ -1,4 +1,4 @@
--- How far the reading of a list has come whose items are still to come.
+-- How far the reading of a list has come while items are still to come.
 use Rattle.std.specs.Prelude.{◌≡◌, ◌≢◌, ◌⊎◌, Option, Some, None, option_map}
 use Rattle.std.specs.BTreeSet.{BTreeSet}
 use Rattle.serde_json.specs.Data.{Data, Items, item}
@@ -15,11 +15,11 @@ use Rattle.cedar_value.specs.declared.uid.Uid.{Uid}
 abbrev pub ComesFirst : SchemaTree → Option Items → Option Items → Entry → Type 0
 ComesFirst s all rest entry = (d : Data) × IsEntry s d entry × (all ≡ option_map (item d) rest)
 
--- what is told of a fault once the items to come were read: that they are no JSON, or else the fault
+-- what is reported for a fault once the items to come were read: that they are not JSON, or else the fault
 abbrev pub IsToldAfter : Option Items → ConformFault → ConformFault → Type 0
 IsToldAfter rest fault told = told ≢ OutOfMemory → ((told ≡ Json) × (rest ≡ None)) ⊎ ((told ≡ fault) × (ds : Items) × (rest ≡ Some ds))
 
--- what is to come is no JSON, or a list with the fault
+-- what is to come is not JSON, or a list with the fault
 abbrev pub HasComingFault : SchemaTree → Option Items → ConformFault → Type 0
 HasComingFault s all f = ((f ≡ Json) × (all ≡ None)) ⊎ ((ds : Items) × (all ≡ Some ds) × HasListFault s ds f)
 
@@ -27,11 +27,11 @@ HasComingFault s all f = ((f ≡ Json) × (all ≡ None)) ⊎ ((ds : Items) × (
 abbrev pub RefusesComing : SchemaTree → Option Items → ConformFault → Type 0
 RefusesComing s all f = f ≢ OutOfMemory → HasComingFault s all f
 
--- what was to come is a list, whose entities stand behind the first ones
+-- what was to come is a list, whose entities come after the first ones
 abbrev pub IsComingRead : SchemaTree → World → Option Items → World → Type 0
 IsComingRead s first all w = (ds : Items) × (all ≡ Some ds) × IsRead s first ds w
 
--- the items that have been read stand before those that are to come, and whatever these are, what has been read of the whole
+-- the items that have been read come before those that are to come, and whatever these are, what has been read of the whole
 -- list is known
 pub record ComingProgress (s : SchemaTree) (first : World) (all rest : Option Items) (w : World) (told : BTreeSet Uid) : Type 0 where
   pub behind_read : Items → Items

@@ -1,4 +1,4 @@
--- What the parts of the reading of an entry answer.
+-- The results of the parts of reading an entry.
 use Rattle.std.specs.Prelude.{◌≡◌, ◌≢◌, ◌++◌, ℕ, codes, List, Contains, MatchOption}
 use Rattle.serde_json.specs.Data.{Data}
 use Rattle.serde_json.specs.Find.{as_array}
@@ -37,7 +37,7 @@ pub data HasParentsFault (s : SchemaTree) (u : Uid) (parents : List Uid) : Confo
   undeclared_parent : {p : Uid} → Contains parents p → ¬ IsEntityType s p.ty → HasParentsFault s u parents UnknownType
   no_descent : {p : Uid} → Contains parents p → ¬ TypeDescends s u.ty p.ty → HasParentsFault s u parents BadAncestor
 
--- what an entry that has been read stands for
+-- what an entry that has been read denotes
 abbrev pub IsEntry : SchemaTree → Data → Entry → Type 0
 IsEntry s d (Entity e) = DenotesEntity s d e
 IsEntry s d (Action u) = (parents : List Uid) × RepeatsAction s d u parents

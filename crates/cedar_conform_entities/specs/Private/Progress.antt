@@ -23,7 +23,7 @@ pub data DenoteAll (s : SchemaTree) : Items → World → List Uid → Type 0 wh
   entity_first : {d : Data} {e : EntityTree} {ds : Items} {es : World} {us : List Uid} → DenotesEntity s d e → DenoteAll s ds es us → DenoteAll s (item d ds) (e ∷ es) us
   action_first : {d : Data} {u : Uid} {parents : List Uid} {ds : Items} {es : World} {us : List Uid} → RepeatsAction s d u parents → DenoteAll s ds es us → DenoteAll s (item d ds) es (u ∷ us)
 
--- the uid stands in the list, and once more behind
+-- the uid is in the list, and once more in the rest after it
 abbrev pub Twice : List Uid → Uid → Type 0
 Twice [] u = ⊥
 Twice (x ∷ xs) u = ((x ≡ u) × Contains xs u) ⊎ Twice xs u
@@ -32,7 +32,7 @@ Twice (x ∷ xs) u = ((x ≡ u) × Contains xs u) ⊎ Twice xs u
 abbrev pub IsItem : Items → Data → Type 0
 IsItem ds d = (k : ℕ) × (get_item k ds ≡ Some d)
 
--- what has been read, before what is left to read, is all: entities behind the first ones, and actions, each of them once,
+-- what has been read, followed by what is left to read, is all: entities after the first ones, and actions, each of them once,
 -- and all of them in the set
 pub record Progress (s : SchemaTree) (first : World) (all rest : Items) (w : World) (told : BTreeSet Uid) : Type 0 where
   pub entities : World
@@ -45,7 +45,7 @@ pub record Progress (s : SchemaTree) (first : World) (all rest : Items) (w : Wor
   pub once : (u : Uid) → ¬ Twice actions u
   pub are_told : (u : Uid) → IsTrue (contains uid_cmp told u) ↔ Contains actions u
 
--- the entities behind the first ones are those of a list
+-- the entities after the first ones are those of a list
 pub record IsRead (s : SchemaTree) (first : World) (ds : Items) (w : World) : Type 0 where
   pub entities : World
   pub is : w ≡ first ++ entities
@@ -53,7 +53,7 @@ pub record IsRead (s : SchemaTree) (first : World) (ds : Items) (w : World) : Ty
   pub denoted : DenoteAll s ds entities actions
   pub once : (u : Uid) → ¬ Twice actions u
 
--- the bytes are a list, whose entities stand behind the schema's actions
+-- the bytes are a list, whose entities come after the schema's actions
 pub record AreRead (s : SchemaTree) (bytes : List ℕ) (w : World) : Type 0 where
   pub json : Data
   pub is_json : json_of bytes ≡ Some json
@@ -70,7 +70,7 @@ pub data HasListFault (s : SchemaTree) (ds : Items) : ConformFault → Type 0 wh
 abbrev pub RefusesList : SchemaTree → Items → ConformFault → Type 0
 RefusesList s ds f = f ≢ OutOfMemory → HasListFault s ds f
 
--- an entity is put behind the others, and an action into the set
+-- an entity is appended to the others, and an action is put into the set
 abbrev pub Entered : Entry → World → World → BTreeSet Uid → BTreeSet Uid → Type 0
 Entered (Entity e) old new told now = (new ≡ old ++ e ∷ []) × (now ≡ told)
 Entered (Action u) old new told now = (new ≡ old) × (contains uid_cmp told u ≡ false) × Updates uid_cmp told now u true

@@ -13,12 +13,12 @@ abbrev pub none_left : List (List ℕ × Datum) → Bool
 none_left [] = true
 none_left (p ∷ ps) = false
 
--- the pairs, where nothing has to stand before them
+-- the pairs, where nothing has to come before them
 abbrev pub unless_required : Bool → List (List ℕ × Datum) → Option (List (List ℕ × Datum))
 unless_required true ps = None
 unless_required false ps = Some ps
 
--- the pairs behind what stands at an attribute's name, none where it may not stand there
+-- the pairs after the one at an attribute's name, none where that pair may not be there
 abbrev pub behind : List ℕ → Bool → (Datum → Bool) → List (List ℕ × Datum) → Option (List (List ℕ × Datum))
 behind k r test [] = unless_required r []
 behind k r test (p ∷ ps) = match_ordering (text_cmp k p.0) (unless_required r (p ∷ ps)) (if test p.1 then Some ps else None) None

@@ -15,7 +15,7 @@ BreaksSize size (f.TooHigh at) = max_height < size.height
 BreaksSize size (f.TooLarge at) = max_nodes < size.nodes
 BreaksSize size fault = ⊥
 
--- Strings are judged before all else: only where each stands for a text are the keys told by their texts.
+-- Strings are judged before all else: only where each denotes a text are the keys compared as texts.
 abbrev pub KeepsBefore : SideCondition → StatementTree → Type 0
 KeepsBefore Strings s = Unit {0}
 KeepsBefore _ s = KeepsStatement Strings s

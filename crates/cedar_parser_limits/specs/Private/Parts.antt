@@ -20,7 +20,7 @@ KeepLink c (Method name ms) = IsKnown c (method_of name) × HasArity c (method_a
 abbrev pub KeepField : SideCondition → Field → Type 0
 KeepField c f = Stands c f.key × Keeps c f.value
 
--- an expression, and a link behind it
+-- an expression, and a link after it
 abbrev pub behind : Expression → Link → Expression
 behind left (Operand sign a) = linked sign left (to_expression a)
 behind left (Attribute c) = e.unary (Get (text_of c)) left

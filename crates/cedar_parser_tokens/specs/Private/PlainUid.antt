@@ -1,5 +1,5 @@
--- The plain form of a uid's text: a path, `::`, and a string whose letters stand for themselves.
--- Of the bytes, 34 is the quote, 92 the backslash.
+-- The plain form of a uid's text: a path, `::`, and a string whose letters are themselves. Of the bytes, 34 is the quote, 92
+-- the backslash.
 use Rattle.std.specs.Prelude.{◌≡◌, ℕ, Bool, true, not, ◌&&◌, ◌==◌, List, [], ◌∷◌, ◌++◌, codes}
 use Rattle.std.specs.List.{list_all}
 use Rattle.std.specs.Str.{IsUtf8}

@@ -23,7 +23,7 @@ other_letters (l ∷ ls) = ls
 abbrev pub letters_at : TokenKind → List (List Letter) → List Letter
 letters_at kind ls = if is_string kind then first_letters ls else []
 
--- those of the strings behind it
+-- those of the strings after it
 abbrev pub strings_behind : TokenKind → List (List Letter) → List (List Letter)
 strings_behind kind ls = if is_string kind then other_letters ls else ls
 

@@ -1,4 +1,4 @@
--- What a call that makes a schema answers.
+-- The result of a call that makes a schema.
 use Rattle.std.specs.Prelude.{◌≢◌, List, Result, MatchResult}
 use Rattle.cedar_schema_json.specs.declared.schema_fault.SchemaFault.{SchemaFault}
 use Rattle.cedar_schema_json.specs.declared.schema_fault.SchemaFault.TheVariants.{OutOfMemory}

@@ -1,4 +1,4 @@
--- What a schema keeps beside what it declares.
+-- What a schema keeps in addition to what it declares.
 use Rattle.std.specs.Prelude.{◌≡◌, ◌≢◌, ◌↔◌, ◌<◌, IsTrue, Bool, false, true, ◌&&◌, bytes_eq, ℕ, List, [], ◌∷◌, Contains, Option, None, Some, get_or, set, option_map, unwrap_or}
 use Rattle.std.specs.List.{AllZip, slice_get}
 use Rattle.std.specs.BTreeMap.{BTreeMap, get, btree_map_len}
@@ -85,6 +85,6 @@ HasTypeBit rows ty n = (u : Uid) × (row : List ℕ) × (u.ty ≡ ty) × (get ui
 abbrev pub AreTypeRows : BTreeMap Uid (List ℕ) → BTreeMap (List ℕ) (List ℕ) → Type 0
 AreTypeRows rows types = (ty : List ℕ) (n : ℕ) → IsTrue (type_bit types ty n) ↔ HasTypeBit rows ty n
 
--- whether the number is of an action of the one type, and stands in the row of the other
+-- whether the number is of an action of the one type, and is in the row of the other
 abbrev pub has_number : BTreeMap (List ℕ) (List ℕ) → List ℕ → List ℕ → Uid × ℕ → Bool
 has_number types low high e = bytes_eq (e.0).ty high && type_bit types low e.1

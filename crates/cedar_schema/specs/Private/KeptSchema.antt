@@ -1,4 +1,4 @@
--- What a schema keeps beside what it declares.
+-- What a schema keeps in addition to what it declares.
 use Rattle.std.specs.Prelude.{◌≡◌, ℕ, List}
 use Rattle.std.specs.Map.{keys_of}
 use Rattle.std.specs.BTreeMap.{BTreeMap}

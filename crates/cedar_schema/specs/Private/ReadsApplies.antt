@@ -1,4 +1,4 @@
--- What reading an `appliesTo` answers.
+-- The result of reading an `appliesTo`.
 use Rattle.std.specs.Prelude.{◌≡◌, [], Result, MatchResult}
 use Rattle.cedar_schema_json.specs.declared.schema_fault.SchemaFault.{SchemaFault}
 use Rattle.cedar_schema.specs.declared.schema.action.AppliesTo.{AppliesTo}

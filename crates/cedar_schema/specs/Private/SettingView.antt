@@ -1,4 +1,4 @@
--- What settings and sections of the code stand for.
+-- What settings and sections of the code denote.
 use Rattle.std.specs.Prelude.{◌≡◌, List, []}
 use Rattle.std.specs.List.{AllByRecursion}
 use Rattle.cedar_schema_json.specs.Entries.{EntryTree, whole_names}

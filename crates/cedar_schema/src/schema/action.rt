@@ -21,7 +21,7 @@ use std::alloc::Global;
 use std::collections::BTreeSet;
 use std::marker::Model;
 
-/// An action, but for its uid (Cedar documentation, JSON schema format: actions).
+/// An action without its uid (Cedar documentation, JSON schema format: actions).
 #[derive(Drop)]
 pub struct Action {
     parents: Vec<Uid>,

@@ -1,4 +1,4 @@
-//! What a schema's entries declare, entry by entry.
+//! The declarations of a schema, entry by entry.
 ghost use Rattle.std.specs.Prelude.{◌≡◌, [], false, MatchResult};
 ghost use Rattle.cedar_schema_json.specs.Faults.{Told};
 ghost use Rattle.cedar_schema_json.specs.Reading.{type_read};
@@ -22,8 +22,8 @@ use cedar_value::{Name, Uid};
 use std::alloc::Global;
 use std::collections::{BTreeMap, BTreeSet};
 
-/// What is declared: the names of the entity types and of the common types, these as they are written,
-/// and the uids of the actions.
+/// The declared names and uids: the names of the entity types, the common types as they are written, and the uids of the
+/// actions.
 #[derive(Clone, Copy)]
 pub(crate) struct Setting<'a> {
     pub entities: &'a NameTable,
@@ -72,7 +72,7 @@ fn read_form(
     read_type(alloc, &scope, entry.body, false)
 }
 
-/// Refuses a common type that is too large or leads back to itself. Takes no memory.
+/// Refuses a common type that is too large or leads back to itself.
 pub(crate) fn judge_forms(table: Table<'_>) -> Result<(), SchemaFault>
     requires { AreEnds (table_of table.forms.now) table.ends.now }
     ensures { MatchResult result
@@ -85,7 +85,7 @@ pub(crate) fn judge_forms(table: Table<'_>) -> Result<(), SchemaFault>
     Ok(())
 }
 
-/// The entity types, by their names.
+/// The entity types, under their names.
 pub(crate) fn read_entities(
     alloc: Global,
     setting: Setting<'_>,
@@ -125,7 +125,7 @@ fn read_entity(
     read_entity_type(alloc, &scope, setting.table, entry)
 }
 
-/// The actions, by their uids.
+/// The actions, under their uids.
 pub(crate) fn read_actions(
     alloc: Global,
     setting: Setting<'_>,

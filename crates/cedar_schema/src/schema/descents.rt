@@ -20,7 +20,7 @@ pub(crate) struct Descents<K: Ord> {
 }
 
 impl<K: Key> Descents<K> {
-    /// Whether the one descends from the other. Takes no memory.
+    /// Whether the one descends from the other.
     pub(crate) fn descends(&self, low: &K, high: &K) -> bool
         ensures { result ≡ has_row K.cmp self.now low.now high.now }
     {
@@ -31,7 +31,7 @@ impl<K: Key> Descents<K> {
     }
 }
 
-/// What the declared keys descend from. The cost goes by the number of links times the words of a row.
+/// What the declared keys descend from. The cost is the number of links times the words of a row.
 pub(crate) fn descents_of<K: Key, V, G: Links<K>>(
     alloc: Global,
     declared: &BTreeMap<K, V>,
@@ -58,7 +58,7 @@ fn keys_in_order<K: Key, V>(alloc: Global, declared: &BTreeMap<K, V>) -> Result<
     Ok(keys)
 }
 
-// The rows by their keys, taken from the last to the first.
+// The rows, under their keys. They are taken from the last to the first.
 fn rows_by_key<K: Key>(
     alloc: Global,
     keys: &[&K],

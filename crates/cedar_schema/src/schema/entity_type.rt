@@ -16,7 +16,7 @@ use cedar_value::Name;
 use std::alloc::Global;
 use std::marker::Model;
 
-/// An entity type, but for its name (Cedar documentation, JSON schema format: entityTypes).
+/// An entity type without its name (Cedar documentation, JSON schema format: entityTypes).
 #[derive(Drop)]
 pub(crate) struct EntityType {
     pub parents: Vec<Name>,

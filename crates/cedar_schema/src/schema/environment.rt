@@ -9,8 +9,8 @@ use cedar_value::{Name, Uid};
 use std::alloc::{AllocError, Global};
 use std::collections::BTreeMap;
 
-/// The environments of the actions, ascending by the action's uid, then by the type of the principal,
-/// then by that of the resource.
+/// The environments of the actions, in ascending order: first of the action's uid, then of the principal's type, then of the
+/// resource's type.
 pub(crate) fn environments_of(
     alloc: Global,
     actions: &BTreeMap<Uid, Action>,

@@ -10,8 +10,8 @@ use base_search::{Graph, Lists};
 use std::alloc::{AllocError, Global};
 use std::collections::BTreeMap;
 
-/// A number for each key that some of the declared ones links to, in the order of first mention, and for
-/// each declared key the numbers of what it links to.
+/// A number for each key that some declared key links to, in the order of first mention. For each declared key, the numbers of
+/// the keys that it links to.
 pub(crate) fn graph_of<K: Key, G: Links<K>>(
     alloc: Global,
     declared: &[&K],
@@ -31,7 +31,7 @@ pub(crate) fn graph_of<K: Key, G: Links<K>>(
     Ok((numbers, Graph { lists, places }))
 }
 
-// The place of each number's key among the declared ones, where it is one of them.
+// The place of each number's key among the declared keys, where it is one of them.
 fn places_of<K: Key>(
     alloc: Global,
     declared: &[&K],
@@ -47,7 +47,7 @@ fn places_of<K: Key>(
     Ok(places)
 }
 
-// No place yet, of so many numbers.
+// No place yet, for so many numbers.
 fn no_places(alloc: Global, numbers: usize) -> Result<Vec<Option<usize>>, AllocError>
     ensures long { IfOk result (λ places. length places.items ≡ numbers) }
     ensures none { IfOk result (λ places. (n : ℕ) → get_or places.items n None ≡ None) }
@@ -59,7 +59,7 @@ fn no_places(alloc: Global, numbers: usize) -> Result<Vec<Option<usize>>, AllocE
     Ok(places)
 }
 
-// Keeps the place of a key by its number, where it has one.
+// Keeps the place of a key under its number, where it has one.
 fn place_key<K: Key>(
     numbers: &BTreeMap<K, usize>,
     key: &K,

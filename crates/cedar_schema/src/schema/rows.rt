@@ -52,7 +52,7 @@ pub(crate) fn action_types(
     Ok(types)
 }
 
-/// For each type of actions a row of what some action of it descends from.
+/// For each type of actions, a row of all that some action of it descends from.
 pub(crate) fn type_rows(
     alloc: Global,
     rows: &BTreeMap<Uid, Row>,
@@ -66,7 +66,7 @@ pub(crate) fn type_rows(
     Ok(types)
 }
 
-// Joins a row to that of the type.
+// Joins a row to the row of the type.
 fn join_type(
     alloc: Global,
     types: &mut BTreeMap<Name, Row>,
@@ -81,7 +81,7 @@ fn join_type(
     Ok(())
 }
 
-/// Whether the row of the one type has the number of an action of the other. Takes no memory.
+/// Whether the row of the one type has the number of an action of the other.
 pub(crate) fn some_descends(
     types: &BTreeMap<Name, Row>,
     numbers: &BTreeMap<Uid, usize>,

@@ -1,4 +1,4 @@
--- What is found behind the name of a common type.
+-- What the name of a common type leads to.
 use Rattle.std.specs.Prelude.{◌≡◌, ◌<◌, ℕ, Some, Contains}
 use Rattle.std.specs.List.{slice_get}
 use Rattle.cedar_schema_json.specs.declared.schema_fault.SchemaFault.TheVariants.{UnknownType, CommonCycle}
@@ -8,7 +8,7 @@ use Rattle.cedar_schema_json.specs.Forms.{FormTree}
 use Rattle.cedar_schema_json.specs.FormView.{form_of}
 use Rattle.cedar_schema_json.specs.Expansion.{Table, common_size, common_type, cycle_faults, form_type, form_faults, size}
 
--- with n names to follow the common type says what f says with m
+-- with n names to follow, the common type gives what f gives with m
 pub record StandsBehind (t : Table) (n place m : ℕ) (f : FormTree) : Type 0 where
   pub same_size : common_size t n place ≡ size t m f
   pub same_type : common_type t n place ≡ form_type (common_type t m) f

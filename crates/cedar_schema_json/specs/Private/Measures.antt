@@ -1,10 +1,10 @@
--- What measuring a form answers.
+-- The result of measuring a form.
 use Rattle.std.specs.Prelude.{◌≡◌, ◌+◌, ◌<◌, ◌≤◌, ◌⊎◌, ℕ, List, [], Contains, Result, MatchResult}
 use Rattle.cedar_schema_json.specs.declared.schema_fault.SchemaFault.{SchemaFault}
 use Rattle.cedar_schema_json.specs.declared.schema_fault.SchemaFault.TheVariants.{TooLarge}
 use Rattle.cedar_schema_json.specs.Expansion.{Size}
 
--- why what has this size has no room, or it has faults
+-- why a form of this size has no room, or it has faults
 abbrev pub IsOver : SchemaFault → ℕ → ℕ → Size → List SchemaFault → Type 0
 IsOver e room levels s faults = ((e ≡ TooLarge) × ((room < s.nodes) ⊎ (levels < s.height))) ⊎ Contains faults e
 

@@ -1,4 +1,4 @@
--- What a call that reads an attribute answers.
+-- The result of a call that reads an attribute.
 use Rattle.std.specs.Prelude.{◌≡◌, ℕ, List, [], ◌++◌, Option, Result, MatchResult}
 use Rattle.serde_json.specs.Data.{Data}
 use Rattle.cedar_schema_json.specs.declared.schema_fault.SchemaFault.{SchemaFault}

@@ -1,5 +1,5 @@
-//! Where chains of common types lead each of which is but the name of the next. A chain may be as long
-//! as the schema, so it is followed without recursion, in time by the logarithm of its length.
+//! Where chains of common types lead, where each type of a chain only names the next. A chain may be as long as the schema. So
+//! it is followed without recursion, in as many rounds as the logarithm of its length.
 ghost use Rattle.std.specs.Prelude.{◌≡◌, IfOk};
 ghost use Rattle.cedar_schema_json.specs.Ends.{AreEnds, Leads};
 ghost use Rattle.cedar_schema_json.specs.Expansion.{Table as Forms};
@@ -9,8 +9,7 @@ use crate::form::Form;
 use crate::form::table::end_of;
 use std::alloc::{AllocError, Global};
 
-/// For each common type the place that names alone lead to. Each round follows twice as many names as
-/// the one before.
+/// For each common type, the place that names alone lead to. Each round follows twice as many names as the one before.
 pub fn ends_of(alloc: Global, forms: &[Form]) -> Result<Vec<(usize, usize)>, AllocError>
     ensures { IfOk result (λ ends. AreEnds (table_of forms.now) ends.items) }
 {
@@ -23,7 +22,7 @@ pub fn ends_of(alloc: Global, forms: &[Form]) -> Result<Vec<(usize, usize)>, All
     Ok(ends)
 }
 
-// For each common type the next, where it is but its name.
+// For each common type the next one, where the type only names it.
 fn first_ends(alloc: Global, forms: &[Form]) -> Result<Vec<(usize, usize)>, AllocError>
     ensures { IfOk result (λ ends. AreEnds (table_of forms.now) ends.items) }
 {
@@ -43,7 +42,7 @@ fn first_end(forms: &[Form], place: usize) -> (usize, usize)
     }
 }
 
-// For each common type the end of its end.
+// For each common type, the end of its end.
 fn doubled(alloc: Global, ends: &[(usize, usize)]) -> Result<Vec<(usize, usize)>, AllocError>
     ensures { IfOk result (λ further. (t : Forms) → AreEnds t ends.now → AreEnds t further.items) }
 {

@@ -1,4 +1,4 @@
-//! Common types are expanded.
+//! The expansion of common types.
 ghost use Rattle.std.specs.Prelude.{◌≡◌, [], Some, MatchResult};
 ghost use Rattle.cedar_schema_json.specs.Faults.{Told};
 ghost use Rattle.cedar_schema_json.specs.FormView.{form_of};
@@ -103,8 +103,12 @@ fn expand_field(
     })
 }
 
-/// Refuses a form that has more than 10,000 nodes or is more than 100 high with its common types
-/// expanded, or whose names lead back to one of them. Takes no memory.
+/// Refuses a form that is too large with its common types expanded, or that leads back to itself. Takes no memory.
+///
+/// # Errors
+///
+/// Only a fault that the form has: 303 where a common type is not declared, 304 where its names lead back to one of them, and
+/// 309 where it has more than 10,000 nodes or is more than 100 high.
 #[tactic(auto, unfolding(crate::specs::Expansion::typed))]
 pub fn judge(table: Table<'_>, form: &Form) -> Result<(), SchemaFault>
     requires { AreEnds (table_of table.forms.now) table.ends.now }
@@ -116,7 +120,7 @@ pub fn judge(table: Table<'_>, form: &Form) -> Result<(), SchemaFault>
     Ok(())
 }
 
-/// The type of a form. It is counted before it is made.
+/// The type of a form. Its size is counted before it is made.
 pub(crate) fn build(alloc: Global, table: Table<'_>, form: &Form) -> Result<Type, SchemaFault>
     requires { AreEnds (table_of table.forms.now) table.ends.now }
     ensures { Expands result (typed (table_of table.entry.forms.now) (form_of form.now)) }

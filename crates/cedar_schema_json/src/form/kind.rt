@@ -1,8 +1,8 @@
-//! Which kind of type a text names.
+//! The kinds of types that the key `type` names.
 ghost use Rattle.std.specs.Prelude.{◌≡◌};
 ghost use Rattle.cedar_schema_json.specs.Reading.{kind_named, allowed, may_have};
 
-/// What the key `type` names.
+/// A kind of type that the key `type` names.
 #[derive(Clone, Copy, PartialEq, Eq, Debug)]
 pub(crate) enum Kind {
     Boolean,
@@ -15,7 +15,7 @@ pub(crate) enum Kind {
     Common,
 }
 
-/// The kind that a text names.
+/// The kind that a string names.
 #[tactic(auto, unfolding(crate::specs::Reading::kind_named))]
 pub(crate) fn kind_named(text: &str) -> Kind
     ensures { result ≡ kind_named text.now }

@@ -1,4 +1,4 @@
-//! What a form would make is counted before it is made.
+//! The size of a form with its common types expanded, counted before the type is made.
 ghost use Rattle.std.specs.Prelude.{◌≡◌, []};
 ghost use Rattle.cedar_schema_json.specs.FormView.{form_of};
 ghost use Rattle.cedar_schema_json.specs.Private.Expanding.{expanded};
@@ -22,8 +22,8 @@ fn take_one(levels: u32, room: u32) -> Result<u32, SchemaFault>
     }
 }
 
-/// What is left of the room, where the form has so many nodes and levels with its common types
-/// expanded, and at most so many names are followed in a chain. Takes no memory.
+/// What is left of the room for nodes after a form, with its common types expanded. Refused where the form has more nodes than
+/// the room, more levels than these, or a chain of more names than these.
 #[cycle(measure)]
 pub(crate) fn measure(
     table: Table<'_>,

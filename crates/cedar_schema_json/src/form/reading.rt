@@ -35,7 +35,7 @@ fn check_keys(
     Ok(())
 }
 
-/// The text at a key.
+/// The string at a key.
 pub fn text_at<'v>(json: &'v Value, key: &str) -> Option<&'v str>
     ensures { option_map (λ s. s.now) result ≡ text_at key.now (view json.now) }
 {
@@ -77,7 +77,7 @@ fn read_extension(alloc: Global, json: &Value) -> Result<Form, SchemaFault>
     }
 }
 
-// A record is closed: it may say so, and no other thing.
+// Refuses a record that is open, or whose `additionalAttributes` is not a Boolean.
 fn check_closed(json: &Value) -> Result<(), SchemaFault>
     ensures { MatchResult result
         (λ _. closed_faults (get (codes "additionalAttributes") (view json.now)) ≡ [])
@@ -103,7 +103,11 @@ fn read_required(json: &Value) -> Result<bool, SchemaFault>
     }
 }
 
-/// The form that a type's JSON says, or an attribute's.
+/// The form that the JSON of a type or of an attribute writes.
+///
+/// # Errors
+///
+/// 1 when out of memory, and otherwise 302, 303, 306 or 307 only where that fault is in the JSON.
 #[cycle(read)]
 pub fn read_type(
     alloc: Global,

@@ -17,7 +17,11 @@ use cedar_schema_types::{RecordType, Type, TypeKind};
 use serde_json::Value;
 use std::alloc::Global;
 
-/// A type that expands to a record, the empty one where there is none.
+/// A type that expands to a record. Where the JSON is absent, the empty record.
+///
+/// # Errors
+///
+/// 1 when out of memory, and otherwise 302, 303, 304, 306, 307 or 309 only where that fault is in the JSON.
 #[tactic(auto, unfolding(crate::specs::Shapes::record_type))]
 pub fn read_record_type(
     alloc: Global,
@@ -61,7 +65,7 @@ fn is_record(ty: &Type) -> bool
     }
 }
 
-/// Refuses what is no object without members, where it is there.
+/// Refuses, with 302, a JSON that is there and is not an object without members.
 pub fn check_empty(json: Option<&Value>) -> Result<(), SchemaFault>
     ensures { MatchResult result
         (λ _. empty_faults (option_map (λ v. view v.now) json.entry) ≡ [])

@@ -1,4 +1,4 @@
-//! Common types by their places.
+//! Common types, found by their places.
 ghost use Rattle.std.specs.Prelude.{◌≡◌};
 ghost use Rattle.cedar_schema_json.specs.Private.Behind.{IsBehind};
 ghost use Rattle.cedar_schema_json.specs.Ends.{AreEnds, Leads};
@@ -13,11 +13,11 @@ use crate::form::Form;
 pub struct Table<'a> {
     /// The forms, by their places.
     pub forms: &'a [Form],
-    /// Of each the place that names alone lead to, and how many they are (`ends_of`).
+    /// For each common type, the place that names alone lead to, and the number of these names (`ends_of`).
     pub ends: &'a [(usize, usize)],
 }
 
-/// What is found behind the name of a common type.
+/// What the name of a common type leads to.
 pub(crate) enum Behind<'a> {
     /// A form, and how many further names may be followed in it.
     Form(&'a Form, usize),
@@ -28,7 +28,7 @@ pub(crate) enum Behind<'a> {
 }
 
 impl<'a> Table<'a> {
-    /// What stands behind a common type, where so many names may be followed.
+    /// What a common type leads to, where so many names may be followed.
     pub(crate) fn behind(self, names: usize, place: usize) -> Behind<'a>
         requires { AreEnds (table_of self.forms.now) self.ends.now }
         ensures { IsBehind (table_of self.entry.forms.now) names place result }
@@ -44,7 +44,7 @@ impl<'a> Table<'a> {
     }
 }
 
-/// A place that names alone lead to, and how many they are.
+/// A place that names alone lead to, and the number of these names.
 pub(crate) fn end_of(ends: &[(usize, usize)], place: usize) -> (usize, usize)
     ensures { (t : Forms) → AreEnds t ends.now → Leads t place result.1 result.0 }
 {

@@ -1,4 +1,4 @@
-//! What a schema's JSON declares, as flat lists.
+//! The declarations of a schema's JSON, as flat lists.
 ghost use Rattle.std.specs.Prelude.{◌≡◌, ◌++◌, [], map, IfOk, OnOk, MatchResult, Some, None, option_map, string_bytes};
 ghost use Rattle.serde_json.specs.View.{view, members_view};
 ghost use Rattle.serde_json.specs.Find.{get, as_object};
@@ -14,14 +14,14 @@ use cedar_value::Name;
 use serde_json::{Map, Value};
 use std::alloc::{AllocError, Global};
 
-/// What stands at a key of a section, and the namespace that the section is of.
+/// The value at a key of a section, and the namespace that the section is of.
 #[derive(Clone, Copy)]
 pub struct Entry<'a> {
     /// The namespace.
     pub namespace: &'a str,
     /// The key.
     pub key: &'a str,
-    /// What stands at the key.
+    /// The value at the key.
     pub body: &'a Value,
 }
 
@@ -73,7 +73,7 @@ fn push_entries<'a>(
     Ok(())
 }
 
-/// The whole names of what the entries declare.
+/// The full names of what the entries declare.
 pub fn names_of(alloc: Global, entries: &[Entry<'_>]) -> Result<Vec<Name>, AllocError>
     ensures { IfOk result (λ v. v.items ≡ whole_names (entries_view entries.now)) }
 {
@@ -84,7 +84,11 @@ pub fn names_of(alloc: Global, entries: &[Entry<'_>]) -> Result<Vec<Name>, Alloc
     Ok(names)
 }
 
-/// Refuses namespaces of wrong names, and what is no namespace.
+/// Refuses a namespace whose name is wrong, and a value that is not a namespace.
+///
+/// # Errors
+///
+/// 1 when out of memory, and otherwise 302 or 306 only where that fault is in a namespace.
 pub fn check_spaces(alloc: Global, root: &Map<String, Value>) -> Result<(), SchemaFault>
     ensures { MatchResult result
         (λ _. root_faults (members_view root.now.entries) ≡ [])
@@ -133,7 +137,7 @@ fn check_section(space: &Value, key: &str) -> Result<(), SchemaFault>
     }
 }
 
-// Refuses a key that is no identifier.
+// Refuses a key that is not an identifier.
 #[tactic(auto, unfolding(crate::specs::Entries::key_text_faults))]
 fn check_key(alloc: Global, key: &str) -> Result<(), SchemaFault>
     ensures { MatchResult result
@@ -148,7 +152,11 @@ fn check_key(alloc: Global, key: &str) -> Result<(), SchemaFault>
     }
 }
 
-/// Refuses a key that is no name of an entity type.
+/// Refuses a key that is not a name of an entity type.
+///
+/// # Errors
+///
+/// 1 when out of memory, 302 where the key is not an identifier, 306 where it is reserved or `Action`.
 #[tactic(auto, unfolding(crate::specs::Entries::entity_key_faults))]
 pub fn check_entity_key(alloc: Global, key: &str) -> Result<(), SchemaFault>
     ensures { MatchResult result
@@ -163,7 +171,11 @@ pub fn check_entity_key(alloc: Global, key: &str) -> Result<(), SchemaFault>
     }
 }
 
-/// Refuses a key that is no name of a common type.
+/// Refuses a key that is not a name of a common type.
+///
+/// # Errors
+///
+/// 1 when out of memory, 302 where the key is not an identifier, 306 where it is reserved or the name of a built-in type.
 #[tactic(auto, unfolding(crate::specs::Entries::common_key_faults))]
 pub fn check_common_key(alloc: Global, key: &str) -> Result<(), SchemaFault>
     ensures { MatchResult result

@@ -1,4 +1,4 @@
-//! Names that are found by their texts.
+//! Names, found by their texts.
 ghost use Rattle.std.specs.Prelude.{◌≡◌, IfOk};
 ghost use Rattle.cedar_schema_json.specs.Naming.{place_of};
 ghost use Rattle.cedar_schema_json.specs.Private.Places.{ArePlaces};
@@ -27,7 +27,7 @@ impl Model for NameTable {
 }
 
 impl NameTable {
-    /// The table of these names. Of a name that stands twice, the first place counts.
+    /// The table of these names. Where a name is repeated, its first place counts.
     pub fn new(alloc: Global, names: Vec<Name>) -> Result<Self, AllocError>
         ensures { IfOk result (λ table. table ≡ names.items) }
     {
@@ -35,7 +35,7 @@ impl NameTable {
         Ok(NameTable { names, places })
     }
 
-    /// The place of a name, counted from 0. Takes no memory.
+    /// The place of a name, counted from 0.
     pub(crate) fn place(&self, name: &Name) -> Option<usize>
         ensures { result ≡ place_of self.now name.now }
     {

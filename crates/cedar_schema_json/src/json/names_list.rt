@@ -14,7 +14,12 @@ use serde_json::Value;
 use std::alloc::{AllocError, Global};
 use std::collections::BTreeSet;
 
-/// The declared entity types of a list. `missing` is what a list that is not there is.
+/// The declared entity types of a list.
+///
+/// # Errors
+///
+/// 1 when out of memory, and `missing`, if it is given, where the list is absent. Otherwise 302, 303 or 306 only where that
+/// fault is in the list.
 pub fn read_names_at(
     alloc: Global,
     scope: &Scope<'_>,

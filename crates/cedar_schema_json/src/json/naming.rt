@@ -1,4 +1,4 @@
-//! Names in a schema, and what they stand for.
+//! Names in a schema, and what they denote.
 ghost use Rattle.std.specs.Prelude.{◌≡◌, ◌++◌, [], nat_eq, codes, Some, IfOk, MatchResult, string_bytes};
 ghost use Rattle.std.specs.List.{list_any};
 ghost use Rattle.cedar_schema_json.specs.Faults.{Told};
@@ -9,7 +9,11 @@ use crate::schema_fault::SchemaFault;
 use cedar_value::{Name, Text};
 use std::alloc::{AllocError, Global};
 
-/// The name that a text writes, whether it is declared or not.
+/// The name that a string writes, whether it is declared or not.
+///
+/// # Errors
+///
+/// 1 when out of memory, 302 where the string is not a name, 306 where one of its words is `__cedar`.
 #[tactic(auto, unfolding(crate::specs::Naming::text_faults))]
 pub fn read_name(alloc: Global, text: &str) -> Result<Name, SchemaFault>
     ensures { MatchResult result
@@ -25,7 +29,7 @@ pub fn read_name(alloc: Global, text: &str) -> Result<Name, SchemaFault>
     }
 }
 
-/// The declared name that a text in a namespace stands for, with its place.
+/// The declared name that a string in a namespace denotes, with its place.
 #[tactic(auto, unfolding(crate::specs::Naming::name_faults))]
 pub(crate) fn read_declared(
     alloc: Global,
@@ -41,7 +45,7 @@ pub(crate) fn read_declared(
     resolve(alloc, names, namespace, name)?.ok_or(SchemaFault::UnknownType)
 }
 
-// The declared name that a name in a namespace stands for.
+// The declared name that a name in a namespace denotes.
 #[tactic(auto, unfolding(crate::specs::Naming::resolved))]
 fn resolve(
     alloc: Global,
@@ -71,14 +75,14 @@ fn listed(names: &NameTable, name: Name) -> Option<(Name, usize)>
     }
 }
 
-/// Whether there is a colon in the text.
+/// Whether the string has a colon.
 pub fn has_colon(text: &str) -> bool
     ensures { result ≡ list_any (nat_eq 58) text.now }
 {
     text.as_bytes().iter().any(|b| 58 == *b)
 }
 
-/// A name in a namespace, as a whole.
+/// The full name of a name in a namespace.
 pub fn qualified(alloc: Global, namespace: &str, name: &str) -> Result<Name, AllocError>
     ensures { IfOk result (λ n. n ≡ qualified namespace.now name.now) }
 {
@@ -103,7 +107,7 @@ fn joined(alloc: Global, namespace: &str, name: &str) -> Result<String, AllocErr
     format!(in alloc; "{namespace}::{name}")
 }
 
-// Whether `__cedar` is a word of the text.
+// Whether `__cedar` is one of the words of the string.
 #[tactic(auto, unfolding(crate::specs::Naming::is_reserved))]
 fn is_reserved(text: &str) -> bool
     ensures { result ≡ is_reserved text.now }

@@ -37,7 +37,7 @@ fn belongs(part: Part, key: &str) -> bool
     }
 }
 
-/// Refuses what is no object of these keys alone.
+/// Refuses, with 302, a JSON that is not an object of these keys alone.
 pub fn check_part(part: Part, json: &Value) -> Result<(), SchemaFault>
     ensures { MatchResult result
         (λ _. part_faults part (view json.now) ≡ [])
@@ -62,7 +62,7 @@ fn check_part_keys(part: Part, members: &Map<String, Value>) -> Result<(), Schem
     Ok(())
 }
 
-/// What stands at a key, where null counts as absent.
+/// The value at a key, where null counts as absent.
 pub fn present<'v>(json: &'v Value, key: &str) -> Option<&'v Value>
     ensures { option_map (λ v. view v.now) result ≡ unless_null (get key.now (view json.now)) }
 {

@@ -1,7 +1,7 @@
-//! Where a type stands in a schema.
+//! Where in a schema a type is written.
 use crate::json::name_table::NameTable;
 
-/// Where a type stands: its namespace, and the names that are declared in the schema.
+/// Where a type is written: its namespace, and the names that are declared in the schema.
 #[derive(Drop)]
 pub struct Scope<'a> {
     /// The namespace.

@@ -1,4 +1,4 @@
--- What has links is declared, as the search over them asks.
+-- What has links is declared, as the search over them requires.
 use Rattle.std.proofs.Common.{◌≡◌, ℕ, List, [], Option, Some, None, IsSome, unwrap_or, option_map, refl, arith, Contains, Ordering, Equal}
 use Rattle.std.proofs.lemmas.Map.Views.{Contains-keys_from_lookup, tells_apart}
 use Rattle.std.specs.BTreeMap.{is_at}

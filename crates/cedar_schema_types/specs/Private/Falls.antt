@@ -1,4 +1,4 @@
--- What is inside a record type nests less deep than the type, as its model asks.
+-- What is inside a record type nests less deep than the type, as its model requires.
 use Rattle.std.specs.Prelude.{◌≤◌, ◌+◌, ℕ, List, [], ◌∷◌}
 use Rattle.std.proofs.Common.{arith}
 use denote.Param.Weighed.{most, w_this}

@@ -1,4 +1,4 @@
--- What is inside a kind nests less deep than its type, as the model of a type asks.
+-- What is inside a kind nests less deep than its type, as the model of a type requires.
 use Rattle.std.specs.Prelude.{◌≤◌, max}
 use Rattle.std.proofs.Common.{arith}
 use Rattle.cedar_schema_types.specs.Private.Weight.{weight}

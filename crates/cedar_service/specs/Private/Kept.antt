@@ -13,7 +13,7 @@ use Rattle.cedar_auth_spec.specs.Ready.{ReadyTree}
 use Rattle.cedar_service_law.specs.Results.{Results}
 use Rattle.cedar_service.specs.Private.Parts.{policies_at}
 
--- the configuration of the run under way, if there is one
+-- the configuration of the current run, if there is one
 abbrev pub configuration_of : Option RestingView → Configuration
 configuration_of None = start
 configuration_of (Some r) = r.configuration
@@ -23,7 +23,7 @@ abbrev pub IsBegun : Option RestingView → Type 0
 IsBegun None = Unit {0}
 IsBegun (Some r) = (r.configuration ≡ start) × (r.executed ≡ 0)
 
--- the run under way, if there is one, came by steps of the first policy that is left
+-- the current run, if there is one, came by steps of the first policy that is left
 abbrev pub IsReached : ReadyTree → Request → List PolicyTree → Option RestingView → Type 0
 IsReached v q (p ∷ rest) (Some r) = Steps (policy_code p) q v.world r.executed start r.configuration
 IsReached v q _ _ = Unit {0}
@@ -32,7 +32,7 @@ IsReached v q _ _ = Unit {0}
 abbrev pub AreAllowed : Settings → List ErringTree → Type 0
 AreAllowed settings xs = (x : ErringTree) → Contains xs x → IsAllowedWith settings x.error
 
--- each position is one of the policies, a run is under way exactly where one is left, and the request fits
+-- each position is that of a policy, there is a run exactly where a policy is left, and the request fits
 pub record IsKept (v : ReadyTree) (q : Request) (positions : List ℕ) (done : ℕ) (results : Results) (run : Option RestingView) : Type 0 where
   pub fits : Fits v.schema q
   pub within : All (λ k. k < length v.policies.policies) positions

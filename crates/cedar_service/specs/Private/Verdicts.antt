@@ -1,4 +1,4 @@
--- What the end of a policy's run says.
+-- What the end of a policy's run means.
 use Rattle.std.specs.Prelude.{ℕ, true, false, List, [], ◌∷◌, ◌++◌, Option, Some, None, Ok, Err}
 use Rattle.cedar_ast.specs.declared.effect.Effect.{Effect}
 use Rattle.cedar_ast.specs.Response.{is_true}

@@ -1,4 +1,4 @@
--- What the stores keep beside their entities.
+-- What the stores keep in addition to their entities.
 use Rattle.std.specs.Prelude.{◌≡◌, ◌↔◌, ℕ, ◌≤◌, Bool, false, List, [], Option, Some, get_or, length, position}
 use Rattle.std.specs.BTreeSet.{BTreeSet, contains}
 use Rattle.std.specs.List.{AllZip, slice_get}
@@ -11,7 +11,7 @@ use Rattle.cedar_value.specs.World.{EntityTree, World, parents_of}
 use Rattle.cedar_value.specs.declared.uid.Uid.{Uid}
 use Rattle.cedar_store.specs.Entities.{uids_of}
 
--- the map tells of each uid the place where it stands
+-- the map has for each uid its place in the list
 abbrev pub ArePlaces : {S : Type 0} → IndexMap Uid ℕ S → List Uid → Type 0
 ArePlaces m us = (u : Uid) (k : ℕ) → (get same_uid m u ≡ Some k) ↔ (slice_get us k ≡ Some u)
 
@@ -43,7 +43,7 @@ KeepsNumbers old new = (u : Uid) (n : ℕ) → number_in old u ≡ Some n → nu
 abbrev pub AreParentNumbers : List Uid → World → List (List ℕ) → Type 0
 AreParentNumbers keys w lists = AllZip (λ e ns. AreNumbersOf (number_in keys) e.parents ns) w lists
 
--- the place where the uid stands, where it does
+-- the place of the uid, where it has one
 abbrev pub IsPlace : List Uid → Uid → Option ℕ → Type 0
 IsPlace us u o = (k : ℕ) → (o ≡ Some k) ↔ (slice_get us k ≡ Some u)
 
@@ -55,11 +55,11 @@ AreKeyPlaces keys w places = AllZip (λ u o. IsPlace (uids_of w) u o) keys place
 abbrev pub in_row : List Uid → List ℕ → Uid → Bool
 in_row keys row u = bit_told row (number_in keys u)
 
--- the row stands at the place of the uid
+-- the row is the one at the place of the uid
 abbrev pub IsRowOf : List Uid → List (List ℕ) → Uid → List ℕ → Type 0
 IsRowOf us rows u row = (k : ℕ) × (slice_get us k ≡ Some u) × (row ≡ get_or rows k [])
 
--- no row stands at a place of the uid
+-- there is no row at a place of the uid
 abbrev pub HasNoRow : List Uid → List (List ℕ) → Uid → Type 0
 HasNoRow us rows u = (k : ℕ) → slice_get us k ≡ Some u → length rows ≤ k
 

@@ -1,4 +1,4 @@
--- The letter that stands first, as the private functions that read letters speak of it.
+-- The first letter, as the private functions that read letters use it.
 use Rattle.std.specs.Prelude.{◌≡◌, ℕ, ◌<◌, ◌≤◌, List, ◌++◌, length, take, encode_utf8}
 use Rattle.std.specs.Str.{IsCharBoundary}
 use Rattle.cedar_text.specs.declared.letter.Letter.{Letter}
@@ -9,7 +9,7 @@ use Rattle.cedar_text.specs.Letters.{IsWritten}
 abbrev pub BeginsWith : List ℕ → ℕ → Type 0
 BeginsWith text c = (rest : List ℕ) × (text ≡ encode_utf8 c ++ rest)
 
--- behind a backslash: the first bytes are an escape of this letter, or none
+-- after a backslash: the first bytes are an escape of this letter, or none
 abbrev pub StartsEscape : List ℕ → Letter → ℕ → Type 0
 StartsEscape bytes letter len = (front rest : List ℕ) × (bytes ≡ front ++ rest) × (length front ≡ len) × IsEscape front letter
 

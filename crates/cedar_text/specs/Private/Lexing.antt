@@ -1,4 +1,4 @@
--- Cutting from left to right, as the code does. What a text's tokens are is said by the grammar in `specs/Tokens.antt`.
+-- Cutting from left to right, as the code does. The grammar in `specs/Tokens.antt` says what the tokens of a text are.
 use Rattle.std.specs.Prelude.{ℕ, zero, suc, ◌+◌, ◌*◌, ◌-◌, min, Bool, ◌||◌, ◌&&◌, ◌==◌, nat_le, nat_lt, if◌then◌else◌, List, [], ◌∷◌, ◌++◌, take, drop, Option, Some, None, Result, Ok, Err, slice_index}
 use Rattle.std.specs.Char.{digit_value}
 use Rattle.std.specs.List.{prefix_len}
@@ -32,7 +32,7 @@ is_white_triple a b c =
     || (a == 0xE2 && b == 0x81 && c == 0x9F)
     || (a == 0xE3 && b == 0x80 && c == 0x80)
 
--- how many bytes of white space stand first
+-- how many bytes of white space come first
 abbrev pub white_len : List ℕ → ℕ
 white_len bs =
     if first bs == 32 || (nat_le 9 (first bs) && nat_le (first bs) 13) then 1
@@ -45,16 +45,16 @@ white_len bs =
 abbrev pub is_short : ℕ → Bool
 is_short b = b == 110 || b == 114 || b == 116 || b == 92 || b == 48 || b == 39 || b == 34 || b == 42
 
--- the value of hexadecimal digits, cut at the first number that is no character
+-- the value of hexadecimal digits, cut at the first number that is not a character
 abbrev pub capped_hexadecimal_from : ℕ → List ℕ → ℕ
 capped_hexadecimal_from n [] = n
 capped_hexadecimal_from n (b ∷ bs) = capped_hexadecimal_from (min (16 * n + digit_value b) 0x110000) bs
 
--- whether one to six of these bytes are digits of a character, with a brace behind them
+-- whether one to six of these bytes are digits of a character, followed by a brace
 abbrev pub is_code : ℕ → List ℕ → Bool
 is_code n bs = nat_lt 0 n && nat_lt n 7 && slice_index bs n == 125 && scalar (capped_hexadecimal_from 0 (take n bs))
 
--- how many bytes the escape has that stands first
+-- how many bytes the escape at the beginning has
 unfoldable pub escape_len : List ℕ → Option ℕ
 escape_len bs =
     if is_short (first bs) then Some 1
@@ -67,7 +67,7 @@ abbrev pub further : ℕ → Result ℕ Refusal → Result ℕ Refusal
 further n (Ok m) = Ok (m + n)
 further n (Err x) = Err x
 
--- what is wrong where no escape stands
+-- what is wrong where there is no escape
 abbrev pub no_escape : List ℕ → Result ℕ Refusal
 no_escape [] = Err UnclosedString
 no_escape (b ∷ bs) = Err BadEscape
@@ -85,14 +85,14 @@ string_len zero (b ∷ bs) =
     else (if b == 92 then further 1 (escaped (escape_len bs) bs (λ n. string_len n bs))
     else further 1 (string_len zero bs))
 
--- the character of a byte behind a backslash
+-- the character of a byte after a backslash
 abbrev pub short_value : ℕ → ℕ
 short_value b = if b == 110 then 10 else (if b == 114 then 13 else (if b == 116 then 9 else (if b == 48 then 0 else b)))
 
 abbrev pub code_letter : ℕ → Option Letter
 code_letter n = if scalar n then Some (Character n) else None
 
--- the letter of an escape, of which these are the bytes behind the backslash
+-- the letter of an escape: these are the bytes after the backslash
 unfoldable pub escaped_letter : List ℕ → Option Letter
 escaped_letter front =
     if first front == 42 then Some EscapedStar
@@ -183,7 +183,7 @@ piece bs =
 
 -- ---- the whole text
 
--- the tokens of a piece, with those behind it
+-- the tokens of a piece, with those after it
 abbrev pub add : ℕ → List ℕ → Piece → Lexemes → Lexemes
 add at bs p ts = add_by p.kind at bs p ts
   where

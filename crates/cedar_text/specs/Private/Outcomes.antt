@@ -4,7 +4,7 @@ use Rattle.cedar_text.specs.declared.text_fault.TextFault.{TextFault}
 use Rattle.cedar_text.specs.declared.text_fault.TextFault.TheVariants as f
 use Rattle.cedar_text.specs.Private.Lexing.{Refusal, BadCharacter, UnclosedString, BadEscape, NumberTooLarge}
 
--- The place of a fault isn't spoken of.
+-- The place of a fault is left open.
 abbrev pub Refuses : {A : Type 0} → Result A Refusal → TextFault → Type 0
 Refuses o f.OutOfMemory = Unit {0}
 Refuses o (f.BadCharacter at) = o ≡ Err BadCharacter

@@ -1,4 +1,4 @@
--- Members and fields as lists, and back, give what they were made of.
+-- Members and fields as lists, and back: the result is what they were made of.
 use Rattle.std.specs.Prelude.{◌≡◌, ℕ, List, [], ◌∷◌, refl}
 use Rattle.std.proofs.Common.{ap}
 use Rattle.cedar_value.specs.Datum.{Datum, Members, no_members, member, Fields, no_fields, field, members_of, list_of, fields_of, pairs_of}

@@ -1,4 +1,4 @@
--- The order of values is total, and what it does not tell apart is the same tree.
+-- The order of values is total, and values that it does not distinguish are the same tree.
 use Rattle.std.specs.Prelude.{◌≡◌, ℕ, ℤ, ◌<ℤ◌, ◌<◌, Bool, true, false, List, [], ◌∷◌, refl}
 use Rattle.std.proofs.Common.{ap, sym, ◌∙◌}
 use Rattle.std.proofs.lemmas.Cmp.{ranked, int_ranked, tied_itself, lists_total, int_cmp_total, on_total}

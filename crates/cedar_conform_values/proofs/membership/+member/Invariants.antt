@@ -24,7 +24,7 @@ invariant-all_belong-walk l = list_all (is_member l.member) l.rest ≡ list_all 
 abbrev pub decreases-all_belong-walk : goal.decreases-all_belong-walk
 decreases-all_belong-walk l = length l.rest
 
--- all stand at their names where those that are left stand at the names that are left
+-- all are at their names where those that are left are at the names that are left
 abbrev pub invariant-are_fields-walk : goal.invariant-are_fields-walk
 invariant-are_fields-walk l = record {
   same : are_fields (attributes_of l.rest) l.left ≡ are_fields (attributes_of l.attributes) l.pairs;

@@ -5,7 +5,7 @@ use Rattle.cedar_schema_spec.specs.WellFormed.{AreTypesApart}
 use Rattle.cedar_schema_spec.specs.Conformance.{Fits}
 use Rattle.cedar_auth_spec.specs.Ready.{ReadyTree}
 use Rattle.cedar_auth.specs.Private.Selected.{LeavesFalse}
-use Rattle.cedar_auth.proofs.Selected.{leaves_false}
+use Rattle.cedar_auth.proofs.Selected.{leaves_false, selected_within}
 use Rattle.cedar_auth.proofs.ready.Ready.select.Goals as goal
 
 pub returns-clause-others : goal.returns-clause-others
@@ -30,6 +30,7 @@ returns-clause-within c =
     let ks = c.select.new.selection in
     on_ok_weaker c.select.result
     (λ selected. subst (λ (r : ReadyTree). Fits r.schema q → (k : ℕ) → Contains ks k → k < length r.policies.policies) c.self.view_is
-    (λ fits. (selected inside.validated.schema inside.validated.policies.policies fits.0 c.self.invariant.candidates fits.1).within)
+    (λ fits. selected_within inside.validated.schema inside.validated.policies.policies fits.0 q inside.store ks
+    (selected inside.validated.schema inside.validated.policies.policies fits.0 c.self.invariant.candidates fits.1))
     c.requires)
     c.select.ensures.selected

@@ -1,6 +1,6 @@
-// A photo service: users own photos, photos lie in albums, and albums are shared with groups.
+// A photo service: users own photos, photos are in albums, and albums are shared with groups.
 
-// Jane's friends see and comment on what lies in her vacation album.
+// Jane's friends may view and comment on everything in her vacation album.
 @id("shared-with-friends")
 permit (
   principal in UserGroup::"jane_friends",
@@ -8,21 +8,21 @@ permit (
   resource in Album::"jane_vacation"
 );
 
-// Who owns a photo does with it what they like.
+// The owner of a photo may do everything with it.
 @id("owner")
 permit (principal is User, action, resource is Photo)
 when { resource has owner && resource.owner == principal };
 
-// Everybody sees the photos that are marked as public.
+// Everybody may view photos with the label public.
 @id("public")
 permit (principal, action == Action::"view", resource is Photo)
 when { resource has labels && resource.labels.contains("public") };
 
-// Administrators do everything.
+// Administrators may do everything.
 @id("administrators")
 permit (principal in UserGroup::"administrators", action, resource);
 
-// But a private photo is for its owner alone. A photo that is not stored can't be judged: this policy then errs.
+// But a private photo is only for its owner. If a photo is not stored, this policy fails.
 @id("private")
 forbid (principal, action, resource is Photo)
 when { resource.private }

@@ -1,11 +1,11 @@
 // A to-do service: users own lists, and share them with readers and editors.
 
-// Who owns a list does with it what they like.
+// The owner of a list may do everything with it.
 @id("owner")
 permit (principal, action, resource is List)
 when { resource has owner && resource.owner == principal };
 
-// Readers and editors of a list read it; editors change it, too.
+// Readers and editors of a list may read it. Editors may change it, too.
 @id("read-shared")
 permit (principal, action == Action::"read_list", resource is List)
 when {
@@ -17,12 +17,12 @@ when {
 permit (principal, action in [Action::"add_task", Action::"finish_task"], resource is List)
 when { resource has editors && principal in resource.editors };
 
-// Every user makes lists, but no more than a hundred where the request says how many there are.
+// Every user may create lists, but at most a hundred if the request says how many there are.
 @id("create")
 permit (principal is User, action == Action::"create_list", resource == Service::"todos")
 unless { context has lists && context.lists + 1 > 100 };
 
-// Temporary workers delete nothing.
+// Temporary workers may not delete anything.
 @id("temporary")
 forbid (
   principal in Team::"temporary",
@@ -30,7 +30,7 @@ forbid (
   resource
 );
 
-// One list can be shared with one user: a template, which answers nothing until it is linked.
+// One list can be shared with one user: a template, which has no effect without links.
 @id("share-with")
 permit (
   principal == ?principal,

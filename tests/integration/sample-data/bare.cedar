@@ -1,0 +1,2 @@
+@internal
+permit (principal, action, resource);

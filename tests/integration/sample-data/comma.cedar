@@ -1,0 +1,5 @@
+permit (
+  principal,
+  action,
+  resource, // the last
+);

@@ -1,0 +1,1 @@
+permit (principal, action, resource) when { iq("10.0.0.1") };

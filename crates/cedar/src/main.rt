@@ -1,13 +1,16 @@
-//! `cedar`, the program: validates policies and links by a schema, and answers request lines by them and entities.
+//! The program `cedar`: `validate` checks policies against a schema, and `authorize` answers request lines.
 #![tactic(auto)]
 
+mod explaining;
+
+use crate::explaining::explain;
 use base_lines::{StdSink, StdSource};
-use cedar_cli::{End, NamedFiles, Subcommand, authorize, validate, words};
+use cedar_cli::{End, NamedFiles, Subcommand, Words, authorize, validate, words};
 use clap::error::ErrorKind;
 use std::process::ExitCode;
 use std::{env, io};
 
-/// Tells what `clap` says of a command line that gives no words: a refusal, or the help that was asked for.
+/// Prints what `clap` says of a command line that gives no words: a refusal, or the help that the user wanted.
 fn tell(rt: &HostRuntime, error: &clap::Error) -> io::Result<End> {
     if error.kind() == ErrorKind::OutOfMemory {
         return Ok(End::Memory);
@@ -20,7 +23,8 @@ fn tell(rt: &HostRuntime, error: &clap::Error) -> io::Result<End> {
     })
 }
 
-/// Says that the words of the command line cannot be read, as where one is not UTF-8: it is then refused.
+/// Says that the words of the command line cannot be read, for example where one is not UTF-8. The command line is then
+/// refused.
 fn refuse_words(rt: &HostRuntime, error: &io::Error) -> io::Result<End> {
     if error.kind() == io::ErrorKind::OutOfMemory {
         return Ok(End::Memory);
@@ -29,7 +33,7 @@ fn refuse_words(rt: &HostRuntime, error: &io::Error) -> io::Result<End> {
     Ok(End::CommandLine)
 }
 
-/// Does what the command line asks for.
+/// Runs the subcommand of the command line.
 fn run(rt: &HostRuntime) -> io::Result<End> {
     let alloc = rt.alloc();
     let given = match env::args(rt) {
@@ -45,17 +49,38 @@ fn run(rt: &HostRuntime) -> io::Result<End> {
         Ok(words) => words,
         Err(error) => return tell(rt, &error),
     };
-    let subcommand = words.subcommand;
+    Ok(run_words(rt, words))
+}
+
+/// Runs a subcommand, and explains on standard error what it ended with, unless the words say not to.
+fn run_words(rt: &HostRuntime, words: Words<'_>) -> End {
+    let alloc = rt.alloc();
     let settings = words.settings;
     let files = NamedFiles::new(rt, words);
     let mut sink = StdSink::new(io::writer(rt));
-    match subcommand {
-        Subcommand::Validate => Ok(validate(alloc, &files, &mut sink, settings)),
+    let end = match words.subcommand {
+        Subcommand::Validate => validate(alloc, &files, &mut sink, settings),
         Subcommand::Authorize => {
             let mut source = StdSource::new(rt.reader());
-            Ok(authorize(alloc, &files, &mut source, &mut sink, settings))
+            authorize(alloc, &files, &mut source, &mut sink, settings)
         }
+    };
+    say(rt, end);
+    if !words.quiet {
+        explain(rt, &files, &words, end);
     }
+    end
+}
+
+/// Prints the line for a device that failed, or for memory that ran out.
+fn say(rt: &HostRuntime, end: End) {
+    let said = match end {
+        End::Device => rt.eprintln("cedar: device failed"),
+        End::Memory => rt.eprintln("cedar: out of memory"),
+        _ => Ok(()),
+    };
+    // Where standard error is gone, the line is lost.
+    let _ = said;
 }
 
 /// How the program ends where a call of the host failed.
@@ -68,13 +93,13 @@ fn end_of(error: &io::Error) -> End {
 }
 
 fn main(rt: HostRuntime) -> ExitCode {
-    let end = run(&rt).unwrap_or_else(|error| end_of(&error));
-    let told = match end {
-        End::Device => rt.eprintln("cedar: device failed"),
-        End::Memory => rt.eprintln("cedar: out of memory"),
-        _ => Ok(()),
+    let end = match run(&rt) {
+        Ok(end) => end,
+        Err(error) => {
+            let end = end_of(&error);
+            say(&rt, end);
+            end
+        }
     };
-    // With no standard error there is nobody to tell.
-    let _ = told;
     ExitCode::from(end.status())
 }

@@ -28,7 +28,7 @@ use Rattle.cedar_cli.proofs.Prefixes.{take-next}
 
 -- ---- texts
 
--- what tells these lines, and behind it what tells more
+-- what tells these lines, and after it what tells more
 pub tells-append : (xs ys : List ReportLine) (a b : List ℕ) → TellsEach xs a → TellsEach ys b → TellsEach (xs ++ ys) (a ++ b)
 tells-append [] ys a b h k = subst (λ (t : List ℕ). TellsEach ys (t ++ b)) (sym h) k
 tells-append (x ∷ xs) ys a b h k =
@@ -38,7 +38,7 @@ tells-append (x ∷ xs) ys a b h k =
 pub tells-one : (x : ReportLine) (told : List ℕ) → Tells x told → TellsEach (x ∷ []) (told ++ line_feed ∷ [])
 tells-one x told h = (told, [], h, refl, refl)
 
--- a line written behind a text
+-- a line written after a text
 pub line-behind : {E : Type 0} (r : Result (Unit {0}) E) (x : ReportLine) (d : Data) (old before new : List ℕ) (none tokens : List Token) → Tells x (compact_text d)
     → before ≡ old → none ≡ [] → tokens ≡ none ++ data_tokens d → OnOk r (new ≡ before ++ print tokens ++ line_feed ∷ []) → OnOk r (AppendsLines (x ∷ []) old new)
 line-behind {E} (Err e) x d old before new none tokens t b z w n = tt
@@ -47,12 +47,12 @@ line-behind {E} (Ok u) x d old before new none tokens t b z w n =
     let whole : new ≡ (old ++ compact_text d) ++ line_feed ∷ [] = n ∙ ap₂ (λ (u v : List ℕ). (u ++ v) ++ line_feed ∷ []) b written in
     (compact_text d ++ line_feed ∷ [], tells-one x (compact_text d) t, whole ∙ append_assoc old (compact_text d) (line_feed ∷ []))
 
--- some lines and some more behind a text
+-- some lines and some more after a text
 pub lines-behind : (xs ys : List ReportLine) (a b c : List ℕ) → AppendsLines xs a b → AppendsLines ys b c → AppendsLines (xs ++ ys) a c
 lines-behind xs ys a b c h k =
     (h.0 ++ k.0, tells-append xs ys h.0 k.0 h.1 k.1, k.2 ∙ ap (λ (t : List ℕ). t ++ k.0) h.2 ∙ append_assoc a h.0 k.0)
 
--- what tells the first lines is behind the text, if what tells the second is told behind it
+-- what tells the first lines is after the text, if what tells the second is told after it
 abbrev pub IsTellingOn : List ReportLine → List ReportLine → List ℕ → List ℕ → Type 0
 IsTellingOn left all old now = (so : List ℕ) × (now ≡ old ++ so) × ((more : List ℕ) → TellsEach left more → TellsEach all (so ++ more))
 

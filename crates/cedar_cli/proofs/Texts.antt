@@ -7,7 +7,7 @@ use Rattle.serde_json.specs.Written.{compact_text}
 use Rattle.serde_json.proofs.Texts.{print-outline}
 use Rattle.cedar_cli.specs.Private.Tokens.{data_tokens}
 
--- the tokens of a value, printed behind what stood before, are its compact text there
+-- the tokens of a value, printed after what came before, are its compact text there
 pub text_behind : {E : Type 0} (r w : Result (Unit {0}) E) (new old before : List ℕ) (none tokens : List Token) (d : Data)
     → r ≡ w → OnOk r (new ≡ before ++ print tokens) → before ≡ old → none ≡ [] → OnOk w (tokens ≡ none ++ data_tokens d) → OnOk r (new ≡ old ++ compact_text d)
 text_behind {E} (Err e) w new old before none tokens d same n b z t = tt

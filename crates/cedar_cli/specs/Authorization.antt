@@ -1,4 +1,4 @@
--- What authorization writes, by what the files hold.
+-- What authorization writes, given what the files hold.
 use Rattle.std.specs.Prelude.{◌≡◌, ◌⊎◌, ℕ, List, Option, None, IfSome}
 use Rattle.std.specs.Io.KnownBytes.{Keeps}
 use Rattle.cedar_value.specs.declared.request.Request.{Request}
@@ -23,9 +23,10 @@ use Rattle.cedar_cli.specs.declared.files.Role.{Role}
 use Rattle.cedar_cli.specs.declared.files.Role.TheVariants.{Schema, Policies, Links, Entities}
 use Rattle.cedar_cli.specs.declared.refusal.FileRefusal.{FileRefusal}
 
--- The files hold a schema, policies and a world, where it is known what they hold: strict validation under these settings accepts
--- the policies for the schema, no action's type is an entity type of the schema, the world conforms to it, and each request that a
--- line denotes by it is answered soundly (own; Cedar documentation, policy validation; cedar-spec, Lean: Cedar.Thm).
+-- The files hold a schema, policies and a world, where it is known what they hold. Strict validation under these settings
+-- accepts the policies for the schema, no action's type is an entity type of the schema, the world conforms to it, and each
+-- request that a line denotes for it is answered soundly (own; Cedar documentation, policy validation; cedar-spec, Lean:
+-- Cedar.Thm).
 pub record HoldAll (settings : Settings) (holds : Holdings) (r : ReadyTree) : Type 0 where
   pub hold : Hold holds r.schema r.policies
   pub settings_are : r.settings ≡ settings
@@ -35,8 +36,8 @@ pub record HoldAll (settings : Settings) (holds : Holdings) (r : ReadyTree) : Ty
   pub conforms : Conforms r.schema r.world
   pub sound : (line : List ℕ) (q : Request) → LineDenotes r.schema line q → IsAnsweredSoundlyWith settings r.policies.policies q r.world
 
--- The code of one of the policies, or of one that is linked, would have over 1,000,000 instructions, for which the policy file
--- is refused by 701, without a place (own).
+-- The code of one of the policies, or of one that is linked, would have over 1,000,000 instructions. The policy file is then
+-- refused with 701, without a place (own).
 abbrev pub IsTooLong : Holdings → FileRefusal → Type 0
 IsTooLong holds refusal =
     (s : SchemaTree) × (set : PolicySetTree) × Hold holds s set × HasLongCode set.policies × (refusal ≡ record { number = 701; offset = None })
@@ -51,13 +52,13 @@ IsFirstRefused settings holds Links refusal = IsRefused holds Links refusal
 IsFirstRefused settings holds Entities refusal =
     (s : SchemaTree) × (set : PolicySetTree) × Hold holds s set × IsValidatedWith settings s set.policies × IfSome (holds Entities) (λ held. HoldsNoWorld s held refusal)
 
--- Whole lines were written: none, or the answers of some first lines by what the files hold (own).
+-- Whole lines were written: none, or the answers of some first lines, given what the files hold (own).
 abbrev pub StandsWhole : Settings → Holdings → Option (List ℕ) → Option (List ℕ) → Option (List ℕ) → Type 0
 StandsWhole settings holds source old new = Keeps old new
     ⊎ ((r : ReadyTree) × HoldAll settings holds r × IfSome source (λ input. Writes old new (AnswersFirst (AnswersLine r) (lines_of input))))
 
 -- Where a device failed: nothing was written, or a beginning of the line that refuses a file, or a beginning of the report on
--- what the files hold, or a beginning of the answers by it (own).
+-- what the files hold, or a beginning of the answers, given what the files hold (own).
 abbrev pub Stands : Settings → Holdings → Option (List ℕ) → Option (List ℕ) → Option (List ℕ) → Type 0
 Stands settings holds source old new = Keeps old new
     ⊎ ((role : Role) × (refusal : FileRefusal) × IsFirstRefused settings holds role refusal × Writes old new (BeginsRefusal role refusal))

@@ -18,16 +18,17 @@ over_policies name =
     with_rule (with_rule (with_rule (new_app name) (file_rule (codes "schema") true)) (file_rule (codes "policies") true))
     (file_rule (codes "links") false)
 
--- The subcommand `validate --schema FILE --policies FILE [--links FILE] [--any-decimal]` (own).
+-- The subcommand `validate --schema FILE --policies FILE [--links FILE] [--any-decimal] [--quiet]` (own).
 abbrev pub validate_app : App
-validate_app = with_rule (over_policies (codes "validate")) (flag_rule (codes "any-decimal"))
+validate_app = with_rule (with_rule (over_policies (codes "validate")) (flag_rule (codes "any-decimal"))) (flag_rule (codes "quiet"))
 
--- The subcommand `authorize --schema FILE --policies FILE [--links FILE] --entities FILE [--any-decimal]` (own).
+-- The subcommand `authorize --schema FILE --policies FILE [--links FILE] --entities FILE [--any-decimal] [--quiet]` (own).
 abbrev pub authorize_app : App
 authorize_app =
-    with_rule (with_rule (over_policies (codes "authorize")) (file_rule (codes "entities") true)) (flag_rule (codes "any-decimal"))
+    with_rule (with_rule (with_rule (over_policies (codes "authorize")) (file_rule (codes "entities") true)) (flag_rule (codes "any-decimal")))
+    (flag_rule (codes "quiet"))
 
--- The program: `cedar` and one of the two subcommands, which has to be there; `--version` tells its version (own).
+-- The program: `cedar` and one of the two subcommands, which has to be there; `--version` prints its version (own).
 abbrev pub program : App
 program =
     with_subcommand

@@ -1,4 +1,4 @@
--- What the words of a command line say, by `clap`'s definition of the matches.
+-- What the words of a command line say, according to `clap`'s definition of the matches.
 use Rattle.std.specs.Prelude.{◌≡◌, Bool, true, false, List, codes, Option, Some, None, option_map}
 use Rattle.clap.specs.Words.{Row, Text, first_of, one_of, subcommand_of}
 use Rattle.cedar_cli.specs.CommandLine.{program}
@@ -19,7 +19,7 @@ pub record IsFlag (value : Option Text) (on : Bool) : Type 0 where
   pub unused : value ≡ Some (codes "false") → on ≡ false
 
 -- The words name this subcommand, and these files in its options: its rows of matches hold each file at its option's name,
--- and none where the option isn't used; and its flag is the setting (clap, `ArgMatches::subcommand`, `ArgMatches::get_one` and
+-- and none where the option isn't used; and its flags are the setting and the quiet (clap, `ArgMatches::subcommand`, `ArgMatches::get_one` and
 -- `ArgMatches::get_flag`).
 pub record AreGiven (words : List Text) (w : Words) : Type 0 where
   pub rows : List Row
@@ -29,3 +29,4 @@ pub record AreGiven (words : List Text) (w : Words) : Type 0 where
   pub links : first_of (codes "links") rows ≡ option_map (λ s. s.now) w.links
   pub entities : first_of (codes "entities") rows ≡ option_map (λ s. s.now) w.entities
   pub any_decimal : IsFlag (one_of (codes "any-decimal") rows) w.settings.any_decimal
+  pub quiet : IsFlag (one_of (codes "quiet") rows) w.quiet

@@ -1,3 +1,3 @@
--- What proofs and private contracts speak of, and no public clause.
+-- What proofs and private contracts use. No public clause uses it.
 pub mod Telling
 pub mod Tokens

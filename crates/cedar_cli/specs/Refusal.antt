@@ -1,10 +1,10 @@
--- The JSON that tells which file is refused.
+-- The JSON that says which file is refused.
 use Rattle.std.specs.Prelude.{ℕ, List, Option, None, Some, codes}
 use Rattle.serde_json.specs.Data.{Data, Members, number, unsigned, string, object, no_members, member}
 use Rattle.cedar_cli.specs.declared.files.Role.{Role}
 use Rattle.cedar_cli.specs.declared.files.Role.TheVariants.{Schema, Policies, Links, Entities}
 
--- The word for a file, by its role (own).
+-- The word for the file of a role (own).
 abbrev pub file_name : Role → List ℕ
 file_name Schema = codes "schema"
 file_name Policies = codes "policies"

@@ -8,7 +8,7 @@ use Rattle.cedar_check_spec.specs.Reports.{FaultTree}
 abbrev pub action_data : Uid → Data
 action_data action = object (member (codes "id") (string action.id) (member (codes "type") (string action.ty) no_members))
 
--- A fault, by its number: `{"action":A,"fault":N,"policy":P,"principal":T,"resource":T}` (own; Cedar documentation, policy
+-- A fault, with its number: `{"action":A,"fault":N,"policy":P,"principal":T,"resource":T}` (own; Cedar documentation, policy
 -- validation).
 abbrev pub fault_data : FaultTree → ℕ → Data
 fault_data f n =
@@ -18,8 +18,8 @@ fault_data f n =
     (member (codes "principal") (string f.principal)
     (member (codes "resource") (string f.resource) no_members)))))
 
--- A policy that no request can satisfy, by its id: `{"policy":P,"warning":650}` (own; Cedar documentation, policy validation:
--- impossible policies).
+-- A policy that no request can satisfy, given by its id: `{"policy":P,"warning":650}` (own; Cedar documentation, policy
+-- validation: impossible policies).
 abbrev pub warning_data : List ℕ → Data
 warning_data policy =
     object (member (codes "policy") (string policy) (member (codes "warning") (number (unsigned 650)) no_members))

@@ -1,4 +1,4 @@
--- Files by their roles.
+-- Files, by their roles.
 use Rattle.std.specs.Prelude.{ℕ, List, Option}
 use Rattle.cedar_cli.specs.declared.files.Role.{Role}
 use Rattle.cedar_cli.specs.declared.files.Role.TheVariants.{Schema, Policies, Links, Entities}

@@ -11,8 +11,8 @@ use Rattle.cedar_cli.specs.declared.refusal.FileRefusal.{FileRefusal}
 abbrev pub HoldsSchema : Option (List ℕ) → SchemaTree → Type 0
 HoldsSchema held s = MatchOption held ⊥ (λ bytes. BytesDenote bytes s)
 
--- The command line names a schema file, and this is why it holds no schema: the number, without a place, of a fault of its bytes;
--- 1, out of memory, is no fault of theirs (own).
+-- The command line names a schema file, and this is why it holds no schema: the number, without a place, of a fault of its
+-- bytes. It is never 1, since out of memory is not a fault of bytes (own).
 abbrev pub HoldsNoSchema : Option (List ℕ) → FileRefusal → Type 0
 HoldsNoSchema held refusal =
     MatchOption held ⊥ (λ bytes. (fault : SchemaFault) × BytesAreRefusedWith bytes fault × (fault ≢ OutOfMemory) × (refusal ≡ record { number = number_of fault; offset = None }))

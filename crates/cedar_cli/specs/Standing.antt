@@ -1,4 +1,4 @@
--- What stands written where the program breaks off, as memory runs out or a device fails.
+-- What has been written where the program breaks off, because memory runs out or a device fails.
 use Rattle.std.specs.Prelude.{◌≡◌, ℕ, List, [], ◌∷◌, ◌++◌}
 use Rattle.serde_json.specs.Written.{compact_text}
 use Rattle.base_lines.specs.Lines.{line_feed}

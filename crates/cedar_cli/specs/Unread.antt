@@ -1,10 +1,10 @@
--- What is said of a file that gives nothing to go on with.
+-- What is promised of a file that cannot be used.
 use Rattle.cedar_cli.specs.declared.refusal.FileRefusal.{FileRefusal}
 use Rattle.cedar_cli.specs.declared.reading.Unread.{Unread}
 use Rattle.cedar_cli.specs.declared.reading.Unread.TheVariants.{Refused, Unnamed, Device, Memory}
 
--- If the file is refused, this holds of its refusal; of a file that is not named or cannot be read, or where memory ran out,
--- nothing is said (own).
+-- If the file is refused, this holds of its refusal. Nothing is said of a file that is not named or cannot be read, or where
+-- memory ran out (own).
 abbrev pub IfRefused : Unread → (FileRefusal → Type 0) → Type 0
 IfRefused (Refused r) P = P r
 IfRefused Unnamed P = Unit {0}

@@ -1,4 +1,4 @@
--- What validation writes, by what the files hold.
+-- What validation writes, given what the files hold.
 use Rattle.std.specs.Prelude.{◌⊎◌, ℕ, List, ◌++◌, Option, IfSome}
 use Rattle.std.specs.Io.KnownBytes.{Keeps}
 use Rattle.cedar_ast.specs.PolicyTree.{PolicyTree}
@@ -21,7 +21,7 @@ pub record HoldText (holds : Holdings) (s : SchemaTree) (text : PolicySetTree) :
   pub is_schema : IfSome (holds Schema) (λ held. HoldsSchema held s)
   pub are_policies : IfSome (holds Policies) (λ held. HoldsPolicies held text)
 
--- The files hold this schema and these policies: those of the policy file and, behind them, those that the links file links from
+-- The files hold this schema and these policies: those of the policy file and, after them, those that the links file links from
 -- its templates, where it is known what the files hold (own).
 pub record Hold (holds : Holdings) (s : SchemaTree) (set : PolicySetTree) : Type 0 where
   pub text : PolicySetTree
@@ -38,7 +38,7 @@ IsRefused holds Links refusal =
     (s : SchemaTree) × (text : PolicySetTree) × HoldText holds s text × IfSome (holds Links) (λ held. HoldsNoLinks held text refusal)
 IsRefused holds _ refusal = ⊥
 
--- The text is a beginning of a report on these policies by this schema under these settings (own).
+-- The text is a beginning of a report on these policies for this schema under these settings (own).
 abbrev pub BeginsReport : Settings → SchemaTree → List PolicyTree → List ℕ → Type 0
 BeginsReport settings s ps text = (more : List ℕ) × IsReportText settings s ps (text ++ more)
 

@@ -32,7 +32,7 @@ use std::alloc::Global;
 /// 701: the code of a policy is too long.
 const TOO_LONG: u16 = 701;
 
-// Tells why the policies are not accepted for the schema under these settings.
+// Reports why the policies are not accepted for the schema under these settings.
 fn tell<K: Sink>(alloc: Global, refused: &NotValidated, sink: &mut K, settings: Settings) -> End
     requires sink_count { K.failed sink.old < 2 ^ 64 - 1 }
     requires refused { HasFaultWith settings refused.now.schema refused.now.policies.policies refused.now.fault }
@@ -109,13 +109,13 @@ fn over_entities<F: Files, S: Source, K: Sink>(
         Ok(ready) => ready,
         Err(unread) => return stop(alloc, Role::Entities, unread, sink),
     };
-    // Laws, which run nothing.
+    // The premises of the theorem hold of what was read, and each request that a line denotes is answered soundly.
     ready.premises();
     ready.lines_are_answered_soundly();
     answer(alloc, &ready, source, sink)
 }
 
-// Validates the policies by the schema under these settings, and answers each request line by them.
+// Validates the policies against the schema under these settings, and answers each request line with them.
 fn over_policies<F: Files, S: Source, K: Sink>(
     alloc: Global,
     files: &F,
@@ -152,7 +152,7 @@ fn over_policies<F: Files, S: Source, K: Sink>(
     over_entities(alloc, files, validated, source, sink)
 }
 
-// Enters the links behind the policies, and answers each request line by them.
+// Enters the links after the policies, and answers each request line with them.
 fn over_links<F: Files, S: Source, K: Sink>(
     alloc: Global,
     files: &F,
@@ -189,14 +189,17 @@ fn over_links<F: Files, S: Source, K: Sink>(
 }
 
 /// Reads the schema, the policies, the links and the entities, in this order, and answers each request line of the source by an
-/// answer line to the sink. The policies are validated under these settings.
+/// answer line to the sink. The policies are validated under these settings. It ends with:
 ///
-/// `Done` where all lines were answered. `Faults` where strict validation finds faults in the policies: the report on them was
-/// written, and the entities were not read. `Refused` where a file is refused: one line, as
-/// `{"file":"policies","offset":43,"refused":104}`, tells which, by which number and where the fault is (that of a
-/// policy text has a place). `CommandLine` where no schema, no policies or no entities are named: nothing is written. `Device` where a file
-/// can't be read, or where the source or the sink failed; `Memory` where memory ran out. What was answered before stays written:
-/// whole lines after `Memory`, and after `Device` perhaps a part of a line too.
+/// - `Done`: all lines were answered.
+/// - `Faults`: strict validation finds faults in the policies. The report on them was written, and the entities were not read.
+/// - `Refused`: a file is refused. One line such as `{"file":"policies","offset":43,"refused":104}` gives the file, the number and,
+///   for a policy text, the place of the fault.
+/// - `CommandLine`: the command line does not name a schema, policies and entities. Nothing is written.
+/// - `Device`: a file can't be read, or the source or the sink failed.
+/// - `Memory`: memory ran out.
+///
+/// What was answered before stays written: whole lines after `Memory`, and after `Device` perhaps a part of a line too.
 pub fn authorize<F: Files, S: Source, K: Sink>(
     alloc: Global,
     files: &F,

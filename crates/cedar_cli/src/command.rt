@@ -14,7 +14,7 @@ const VERSION: &str = "0.1.0";
 const ABOUT: &str =
     "Validates policies of the Cedar language, and answers authorization requests by them";
 
-/// What `cedar --help` says behind the options.
+/// What `cedar --help` says after the options.
 const EXAMPLE: &str = "\
 Examples:
   cedar validate --schema schema.json --policies policies.cedar
@@ -31,7 +31,7 @@ Statuses:
 const VALIDATE_ABOUT: &str =
     "Reports on standard output where policies break the rules of a schema";
 
-/// What `cedar validate --help` says behind the options.
+/// What `cedar validate --help` says after the options.
 const VALIDATE_EXAMPLE: &str = "\
 Example:
   cedar validate --schema schema.json --policies policies.cedar
@@ -57,7 +57,7 @@ Statuses:
 const AUTHORIZE_ABOUT: &str =
     "Answers each request line of standard input by a line on standard output";
 
-/// What `cedar authorize --help` says behind the options.
+/// What `cedar authorize --help` says after the options.
 const AUTHORIZE_EXAMPLE: &str = "\
 Example:
   cedar authorize --schema schema.json --policies policies.cedar --entities entities.json < requests.jsonl
@@ -95,6 +95,9 @@ const ENTITIES_HELP: &str = "The entities: JSON of the format that the Cedar lan
 /// What the help of `validate` and `authorize` says of `--any-decimal`.
 const ANY_DECIMAL_HELP: &str =
     "Accept decimal(..) of any text, which may then err when a request is answered";
+
+/// What the help of `validate` and `authorize` says of `--quiet`.
+const QUIET_HELP: &str = "Explain nothing on standard error";
 
 /// `--name FILE`
 fn file<'a>(alloc: Global, name: &'a str, help: &'a str, required: bool) -> Arg<'a>
@@ -138,7 +141,8 @@ fn validate<'a>(alloc: Global) -> Result<Command<'a>, AllocError>
     let command = over_policies(alloc, "validate")?
         .about(VALIDATE_ABOUT)
         .after_help(VALIDATE_EXAMPLE)
-        .arg(flag(alloc, "any-decimal", ANY_DECIMAL_HELP))?;
+        .arg(flag(alloc, "any-decimal", ANY_DECIMAL_HELP))?
+        .arg(flag(alloc, "quiet", QUIET_HELP))?;
     Ok(command)
 }
 
@@ -150,7 +154,8 @@ fn authorize<'a>(alloc: Global) -> Result<Command<'a>, AllocError>
         .about(AUTHORIZE_ABOUT)
         .after_help(AUTHORIZE_EXAMPLE)
         .arg(file(alloc, "entities", ENTITIES_HELP, true))?
-        .arg(flag(alloc, "any-decimal", ANY_DECIMAL_HELP))?;
+        .arg(flag(alloc, "any-decimal", ANY_DECIMAL_HELP))?
+        .arg(flag(alloc, "quiet", QUIET_HELP))?;
     Ok(command)
 }
 

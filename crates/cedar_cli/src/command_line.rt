@@ -29,7 +29,7 @@ pub type WordsFault = clap::Error;
 ///
 /// # Errors
 ///
-/// A refusal is `clap`'s own: it comes only where `clap`'s definition does not take the words, or where memory ran out.
+/// The error is `clap`'s own. It comes only where `clap`'s definition does not take the words, or when out of memory.
 pub fn words<'a>(alloc: Global, words: &'a [&'a str]) -> Result<Words<'a>, WordsFault>
     ensures ok { IfOk result (AreGiven (map (λ s. s.now) words.now)) }
     ensures err { IfErr result (λ e. takes program (map (λ s. s.now) words.now) ≡ true → kind_of e ≡ ErrorKind.OutOfMemory) }
@@ -40,7 +40,7 @@ pub fn words<'a>(alloc: Global, words: &'a [&'a str]) -> Result<Words<'a>, Words
         return Err(WordsFault::from(AllocError));
     };
     let Some(subcommand) = subcommand_of(name) else {
-        // `help`, which the parse refuses.
+        // The subcommand `help`, which the parse refuses.
         return Err(WordsFault::from(AllocError));
     };
     Ok(Words {
@@ -52,5 +52,6 @@ pub fn words<'a>(alloc: Global, words: &'a [&'a str]) -> Result<Words<'a>, Words
         settings: Settings {
             any_decimal: found.get_flag("any-decimal"),
         },
+        quiet: found.get_flag("quiet"),
     })
 }

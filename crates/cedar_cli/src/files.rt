@@ -40,8 +40,8 @@ pub trait Files {
     // The bytes of each file, or none where none is named; where that is known.
     ghost holds: { Self → Role → Option (Option (List ℕ)) } = { λ _ _. None };
 
-    /// The bytes of the file, or none where the command line names no such file. `Device` only where it isn't known what
-    /// the file holds.
+    /// The bytes of the file. None where the command line names no such file. `Device` only where it isn't known what the file
+    /// holds.
     fn read(&self, alloc: Global, role: Role) -> Result<Option<Vec<u8>>, FileFault>
         ensures held { IfOk result (λ o. IfSome (holds self.now role) (λ held. option_map (λ v. v.items) o ≡ held)) }
         ensures device { IsErrOf result FileFault.Device → holds self.now role ≡ None };

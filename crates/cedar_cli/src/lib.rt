@@ -1,7 +1,8 @@
-//! What the program `cedar` does: it reads a schema, policies, links and entities from their files, reports on policies, and
-//! answers request lines by them.
+//! What the program does: its subcommands, its files, the lines that it writes, and its command line.
 //!
 //! ```
+//! use cedar_cli::{Subcommand, authorize, validate, words};
+//!
 //! let words = words(alloc, &texts)?;
 //! let end = match words.subcommand {
 //!     Subcommand::Validate => validate(alloc, &files, &mut sink, words.settings),
@@ -10,8 +11,8 @@
 //! assert_eq!(rt; end.status(), 0);
 //! ```
 //!
-//! [`authorize`] and [`validate`] say what is written and how the program ends, by what the files hold: read
-//! `specs/Authorization.antt` and `specs/Validation.antt` first. The files are read by [`Files`], the command line by [`words`].
+//! [`authorize`] and [`validate`] say what is written and how the program ends, given what the files hold: read
+//! `specs/Authorization.antt` and `specs/Validation.antt` first. [`Files`] reads the files, and [`words`] the command line.
 #![tactic(auto)]
 
 mod authorizing;

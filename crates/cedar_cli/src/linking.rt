@@ -1,4 +1,4 @@
-//! Reads the links from their file, and enters them behind the policies.
+//! Reads the links from their file, and enters them after the policies.
 ghost use Rattle.std.specs.Prelude.{◌≡◌, ◌≢◌, None, Some, IfErr, IfSome, IsErrOf, OnOk};
 ghost use Rattle.cedar_ast.specs.LinkFault.{number_of};
 ghost use Rattle.cedar_ast.specs.Linking.{IsLinked};
@@ -60,9 +60,13 @@ fn enter_read(alloc: Global, bytes: &[u8], policies: &mut PolicySet) -> Result<(
     }
 }
 
-/// Enters the links of the links file behind the policies, in their order; where the command line names no such file, nothing.
-/// `Refused` where its bytes denote no links (501, 502), or at the first link that is refused (204, 210 to 212), with no place;
-/// never `Unnamed`. After an error the set may hold some of the links, and is of no use.
+/// Enters the links of the links file after the policies, in their order. Where the command line names no links file, the set
+/// stays as it is.
+///
+/// # Errors
+///
+/// `Refused` where the file's bytes denote no links (501, 502), or at the first link that is refused (204, 210 to 212), with no
+/// place. Otherwise `Device` or `Memory`, never `Unnamed`. After an error the set may hold some of the links, so do not use it.
 pub fn enter_links<F: Files>(
     alloc: Global,
     files: &F,

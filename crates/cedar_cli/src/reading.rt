@@ -17,13 +17,13 @@ use cedar_schema::{Schema, SchemaFault};
 use std::alloc::Global;
 use thiserror::Error;
 
-/// 105: a policy file that is no UTF-8.
+/// 105: a policy file that is not UTF-8.
 const NO_UTF8: u16 = 105;
 
 /// 1: out of memory.
 pub(crate) const OUT_OF_MEMORY: u16 = 1;
 
-/// Why a file gives nothing to go on with.
+/// Why the program cannot go on after reading a file.
 #[derive(Clone, Copy, Debug, PartialEq, Eq, Error)]
 pub enum Unread {
     /// It is refused.
@@ -55,7 +55,11 @@ pub(crate) fn read_file<F: Files>(alloc: Global, files: &F, role: Role) -> Resul
     }
 }
 
-/// The schema of the schema file. `Refused` where its bytes denote none: 301 to 309, with no place.
+/// The schema of the schema file.
+///
+/// # Errors
+///
+/// `Refused` where the file's bytes write no schema: 301 to 309, with no place. Otherwise `Unnamed`, `Device` or `Memory`.
 pub fn read_schema<F: Files>(alloc: Global, files: &F) -> Result<Schema, Unread>
     ensures found { IfOk result (λ s. IfSome (F.holds files.now Role.Schema) (λ held. HoldsSchema held s)) }
     ensures refused { IfErr result (λ unread. IfRefused unread (λ refusal.
@@ -71,8 +75,12 @@ pub fn read_schema<F: Files>(alloc: Global, files: &F) -> Result<Schema, Unread>
     }
 }
 
-/// The policies of the policy file. `Refused` where it is no UTF-8 (105, with no place), or where its text has a fault (101 to
-/// 104 and 201 to 209, with its place).
+/// The policies of the policy file.
+///
+/// # Errors
+///
+/// `Refused` where the file is not UTF-8 (105, with no place), or where its text has a fault (101 to 104 and 201 to 209, with
+/// its place). Otherwise `Unnamed`, `Device` or `Memory`.
 pub fn read_policies<F: Files>(alloc: Global, files: &F) -> Result<PolicySet, Unread>
     ensures found { IfOk result (λ set. IfSome (F.holds files.now Role.Policies) (λ held. HoldsPolicies held set)) }
     ensures refused { IfErr result (λ unread. IfRefused unread (λ refusal.
@@ -107,8 +115,12 @@ pub(crate) fn refusal_of(fault: &ConformFault) -> Unread
     }
 }
 
-/// The policies, ready to answer over the entities of the entities file. `Refused` where its bytes denote none by the schema:
-/// 401, 402, 501 to 509, with no place.
+/// The policies, ready to answer over the entities of the entities file.
+///
+/// # Errors
+///
+/// `Refused` where the file's bytes denote no entities for the schema: 401, 402, 501 to 509, with no place. Otherwise
+/// `Unnamed`, `Device` or `Memory`.
 pub fn read_ready<F: Files>(alloc: Global, files: &F, validated: Validated) -> Result<Ready, Unread>
     ensures holds { IfOk result (λ ready. (ready.schema ≡ validated.schema) × (ready.policies ≡ validated.policies)) }
     ensures settings { IfOk result (λ ready. ready.settings ≡ validated.settings) }

@@ -1,4 +1,4 @@
-//! The line that tells which file is refused.
+//! The line that says which file is refused.
 ghost use Rattle.std.specs.Prelude.{◌≡◌, ◌-◌, ◌<◌, ◌^◌, List, ◌++◌, [], ◌∷◌, None, Some, IfOk, OnOk};
 ghost use Rattle.std.specs.Io.KnownBytes.{Keeps};
 ghost use Rattle.serde_json.specs.Written.{compact_text};
@@ -91,7 +91,7 @@ fn write_refusal(writer: &mut Writer, role: Role, refusal: FileRefusal) -> Resul
     }
 }
 
-/// The line that tells that a file is refused, why and where: `{"file":"policies","offset":43,"refused":104}` and LF.
+/// The line that says that a file is refused, why and where: `{"file":"policies","offset":43,"refused":104}` and LF.
 pub fn refusal_line(alloc: Global, role: Role, refusal: FileRefusal) -> Result<Vec<u8>, AllocError>
     ensures { IfOk result (λ line. line.items ≡ compact_text (refusal_of role refusal.offset refusal.number) ++ line_feed ∷ []) }
 {
@@ -102,8 +102,11 @@ pub fn refusal_line(alloc: Global, role: Role, refusal: FileRefusal) -> Result<V
     Ok(line)
 }
 
-/// Tells on the sink that a file is refused. `Refused` where the whole line was written, `Device` where the sink failed during
-/// the call, which may leave a part of the line, and `Memory` where memory ran out, which leaves nothing.
+/// Writes to the sink that a file is refused. It ends with:
+///
+/// - `Refused`: the whole line was written.
+/// - `Device`: the sink failed during the call, which may leave a part of the line.
+/// - `Memory`: memory ran out, which leaves nothing.
 pub fn refuse<K: Sink>(alloc: Global, role: Role, refusal: FileRefusal, sink: &mut K) -> End
     requires { K.failed sink.old < 2 ^ 64 - 1 }
     ensures refused { result ≡ End.Refused → Writes (K.written sink.old) (K.written sink.new) (IsRefusalLine role refusal) }

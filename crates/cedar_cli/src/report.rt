@@ -84,7 +84,7 @@ fn write_totals(writer: &mut Writer, faults: usize, warnings: usize) -> Result<(
     Ok(())
 }
 
-// A writer behind what the text holds, which is empty until the line is ended.
+// A writer that appends to what the text holds. The text is empty until the line is ended.
 fn begin_line(alloc: Global, text: &mut Vec<u8>) -> Writer
     ensures before { result.before ≡ text.old.items }
     ensures tokens { result.tokens ≡ [] }
@@ -92,7 +92,7 @@ fn begin_line(alloc: Global, text: &mut Vec<u8>) -> Writer
     Writer::new(mem::replace(text, Vec::new(alloc)))
 }
 
-// Gives back to the text what was written, with LF behind it.
+// Gives back to the text what was written, and appends LF.
 fn end_line(writer: Writer, text: &mut Vec<u8>) -> Result<(), AllocError>
     ensures { OnOk result (text.new.items ≡ writer.before ++ print writer.tokens ++ line_feed ∷ []) }
 {
@@ -133,7 +133,7 @@ fn append_totals(
     end_line(writer, text)
 }
 
-// Appends the lines of the first faults, as many as are this policy's, and gives the others.
+// Appends the lines of the first faults, as many as are this policy's, and returns the others.
 fn tell_faults<'r>(
     alloc: Global,
     policy: &Text,
@@ -154,7 +154,7 @@ fn tell_faults<'r>(
     Ok(rest)
 }
 
-// Appends the first warning where it is this policy's, and gives the others.
+// Appends the first warning where it is this policy's, and returns the others.
 fn tell_warning<'r>(
     alloc: Global,
     policy: &Text,
@@ -175,7 +175,11 @@ fn tell_warning<'r>(
 }
 
 /// The text of a report on policies: for each policy, in their order, a line for each of its faults, or for its warning, and
-/// then a line with the numbers of faults and of warnings. 1: memory was refused.
+/// then a line with the numbers of faults and of warnings.
+///
+/// # Errors
+///
+/// Fails only when out of memory.
 pub fn report_text(
     alloc: Global,
     policies: &PolicySet,

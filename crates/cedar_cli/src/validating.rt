@@ -22,7 +22,7 @@ use cedar_check_spec::Settings;
 use cedar_schema::Schema;
 use std::alloc::Global;
 
-/// Ends where a file gives nothing to go on with.
+/// Ends the program where a file cannot be used.
 pub(crate) fn stop<K: Sink>(alloc: Global, role: Role, unread: Unread, sink: &mut K) -> End
     requires { K.failed sink.old < 2 ^ 64 - 1 }
     ensures refused { result ≡ End.Refused → (refusal : FileRefusal) × (unread ≡ Unread.Refused refusal)
@@ -44,8 +44,12 @@ pub(crate) fn stop<K: Sink>(alloc: Global, role: Role, unread: Unread, sink: &mu
     }
 }
 
-/// Writes a report on the policies. `Faults` where it has faults, else `Done`; `Device` where the sink failed during the call,
-/// which may leave a part of the report, and `Memory` where memory ran out, which leaves nothing.
+/// Writes a report on the policies. It ends with:
+///
+/// - `Done`: the report has no faults.
+/// - `Faults`: the report has faults.
+/// - `Device`: the sink failed during the call, which may leave a part of the report.
+/// - `Memory`: memory ran out, which leaves nothing.
 pub fn write_report<K: Sink>(
     alloc: Global,
     policies: &PolicySet,
@@ -73,7 +77,7 @@ pub fn write_report<K: Sink>(
     }
 }
 
-// Checks the policies by the schema under these settings, and writes the report.
+// Checks the policies against the schema under these settings, and writes the report.
 fn report_on<K: Sink>(
     alloc: Global,
     schema: &Schema,
@@ -98,7 +102,7 @@ fn report_on<K: Sink>(
     write_report(alloc, policies, &report, sink)
 }
 
-// Enters the links behind the policies, checks them by the schema, and writes the report.
+// Enters the links after the policies, checks them against the schema, and writes the report.
 fn report_linked<F: Files, K: Sink>(
     alloc: Global,
     files: &F,
@@ -129,14 +133,17 @@ fn report_linked<F: Files, K: Sink>(
     }
 }
 
-/// Reports on the policies, and on those that the links give, by the schema and under these settings.
+/// Reports on the policies, and on those that the links give, against the schema and under these settings. It ends with:
 ///
-/// `Done` where they have no fault, `Faults` where they have some: the report was written, a line for each fault and each
-/// warning and one with their numbers. `Refused` where a file is refused, the schema before the policies and these before the
-/// links: one line, as `{"file":"schema","refused":302}` or `{"file":"policies","offset":43,"refused":104}`, tells by which number
-/// and where the fault is (that of a policy text has a place). `CommandLine` where no schema or no policies are named: nothing is
-/// written. `Device` where a file can't be read, or where the sink failed, which may leave a part of a line; `Memory` where memory
-/// ran out, which leaves nothing.
+/// - `Done`: the policies have no fault. The report was written, a line for each warning and one with the numbers of faults and
+///   warnings.
+/// - `Faults`: the policies have faults. The report was written, with a line for each fault too.
+/// - `Refused`: a file is refused, the schema before the policies and these before the links. One line such as
+///   `{"file":"schema","refused":302}` or `{"file":"policies","offset":43,"refused":104}` gives the file, the number and, for a
+///   policy text, the place of the fault.
+/// - `CommandLine`: the command line does not name a schema and policies. Nothing is written.
+/// - `Device`: a file can't be read, or the sink failed, which may leave a part of a line.
+/// - `Memory`: memory ran out, which leaves nothing.
 pub fn validate<F: Files, K: Sink>(
     alloc: Global,
     files: &F,

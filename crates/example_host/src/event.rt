@@ -1,14 +1,14 @@
 //! Reads event lines.
 use cedar_service::JobId;
 
-/// What an event line asks for.
+/// The events that lines write.
 #[derive(Drop)]
 pub enum Event<'l> {
     /// `open REQUEST`: a request line.
     Open(&'l [u8]),
     /// `step JOB`
     Step(JobId),
-    /// `running JOB`: this one changes nothing.
+    /// `running JOB`: this event changes nothing.
     Running(JobId),
     /// `take JOB`
     Take(JobId),
@@ -26,7 +26,7 @@ fn of_job<'l>(word: &str, job: JobId) -> Option<Event<'l>> {
     }
 }
 
-// The event of a word and what stands behind it.
+// The event of a word and the text after it.
 fn of_words<'l>(word: &str, rest: &'l str) -> Option<Event<'l>> {
     if word == "publish" {
         let (policies, entities) = rest.split_once(' ')?;
@@ -35,7 +35,7 @@ fn of_words<'l>(word: &str, rest: &'l str) -> Option<Event<'l>> {
     of_job(word, rest.parse::<JobId>().ok()?)
 }
 
-/// The event that a line, without its LF, asks for; none where it is no event line.
+/// The event of a line, which is given without its LF. None where the line is not an event line.
 pub fn read_event(line: &[u8]) -> Option<Event<'_>> {
     if let Some(request) = line.strip_prefix(b"open ") {
         return Some(Event::Open(request));

@@ -21,7 +21,7 @@ struct Hosting<'a, R> {
 }
 
 impl<'a, R: std::rt::Files + AllocGlobal> Hosting<'a, R> {
-    // Publishes the version that these files hold, by the schema of the first.
+    // Publishes the version that these files hold, validated against the schema of the first version.
     fn publish(
         &self,
         alloc: Global,
@@ -88,7 +88,7 @@ impl<'a, R: std::rt::Files + AllocGlobal> Engine for Hosting<'a, R> {
     }
 }
 
-// Tells why the files of the first version give none.
+// Reports why the files of the first version give none.
 fn tell<K: Sink>(alloc: Global, refused: NoVersion, sink: &mut K) -> End
     requires { K.failed sink.old < 2 ^ 64 - 1 }
 {
@@ -132,8 +132,12 @@ fn host_from<R: std::rt::Files + AllocGlobal, S: Source, K: Sink>(
 }
 
 /// Reads the first version from the files of these names, and replies to each event line of the source by a line to the sink.
-/// `Done` where all were replied to, whatever was refused. `Refused` or `Faults` where the files give no first version: one line
-/// tells why. `Device` where a file can't be read or the source or the sink failed, `Memory` where memory ran out.
+/// It ends with:
+///
+/// - `Done`: all events were replied to, whatever was refused.
+/// - `Refused` or `Faults`: the files give no first version. One line says why.
+/// - `Device`: a file can't be read, or the source or the sink failed.
+/// - `Memory`: memory ran out.
 pub fn host<R: std::rt::Files + AllocGlobal, S: Source, K: Sink>(
     rt: &R,
     names: Names<'_>,

@@ -1,5 +1,6 @@
-//! `example_host`, an example of a host of `cedar_service`: it reads events as lines of standard input, and replies to each by a
-//! line of standard output, through the calls of a service.
+//! An example of a host: it reads events as lines, and answers each through one call of a service.
+//!
+//! Events come as lines of standard input, and replies go to standard output.
 #![tactic(auto)]
 
 mod calls;
@@ -18,7 +19,7 @@ use cedar_cli::End;
 use std::process::ExitCode;
 use std::{env, io};
 
-/// What is said of a command line that names no three files.
+/// The message for a command line that does not name three files.
 const USAGE: &str = "usage: example_host SCHEMA POLICIES ENTITIES < EVENTS";
 
 // Hosts between the standard streams.
@@ -28,7 +29,8 @@ fn host_streams(rt: &HostRuntime, names: Names<'_>) -> End {
     host(rt, names, &mut source, &mut sink)
 }
 
-// How the program ends where the words of the command line cannot be read, as where one is not UTF-8: they name no files.
+// How the program ends where the words of the command line cannot be read, for example where one is not UTF-8. They then name
+// no files.
 fn end_of_words(error: &io::Error) -> End {
     if error.kind() == io::ErrorKind::OutOfMemory {
         End::Memory
@@ -37,7 +39,7 @@ fn end_of_words(error: &io::Error) -> End {
     }
 }
 
-// Does what the command line asks for.
+// Runs the host on the files of the command line.
 fn run(rt: &HostRuntime) -> io::Result<End> {
     let given = match env::args(rt) {
         Ok(given) => given,
@@ -70,7 +72,7 @@ fn main(rt: HostRuntime) -> ExitCode {
         End::Memory => rt.eprintln("example_host: out of memory"),
         _ => Ok(()),
     };
-    // With no standard error there is nobody to tell.
+    // Where standard error is gone, the message is lost.
     let _ = told;
     ExitCode::from(end.status())
 }

@@ -14,7 +14,7 @@ pub struct Names<'a> {
 }
 
 impl<'a> Names<'a> {
-    /// Those that the words of a command line give behind the program's name, where they are three.
+    /// The names that a command line gives after the program's name, where they are three.
     pub fn given(words: &'a [String]) -> Option<Names<'a>> {
         let [_, schema, policies, entities] = words else {
             return None;
@@ -35,6 +35,7 @@ impl<'a> Names<'a> {
             links: None,
             entities: Some(self.entities),
             settings: Settings { any_decimal: false },
+            quiet: true,
         };
         NamedFiles::new(rt, words)
     }

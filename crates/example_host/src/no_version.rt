@@ -15,7 +15,7 @@ pub enum NoVersion {
     Unread(Role),
     /// A file is refused.
     Refused(Role, FileRefusal),
-    /// The policies have so many faults by the schema, and so many warnings.
+    /// Validation against the schema found this many faults, and this many warnings.
     Faults(usize, usize),
 }
 
@@ -42,7 +42,7 @@ fn faults_text(alloc: Global, faults: usize, warnings: usize) -> Result<Vec<u8>,
 }
 
 impl NoVersion {
-    /// That of a file which gives nothing to go on with.
+    /// Why a file gives no version, where it cannot be used.
     pub fn of_file(role: Role, unread: Unread) -> NoVersion {
         match unread {
             Unread::Refused(refusal) => NoVersion::Refused(role, refusal),
@@ -51,7 +51,7 @@ impl NoVersion {
         }
     }
 
-    /// That of policies which are not accepted.
+    /// Why policies that are not accepted give no version.
     pub fn of_policies(fault: &ValidationFault) -> NoVersion {
         match fault {
             ValidationFault::OutOfMemory => NoVersion::Memory,
@@ -74,7 +74,11 @@ impl NoVersion {
         }
     }
 
-    /// The line that tells it, without its LF. 1: memory was refused.
+    /// The line that reports it, without its LF.
+    ///
+    /// # Errors
+    ///
+    /// Fails only when out of memory.
     pub fn text(self, alloc: Global) -> Result<Vec<u8>, AllocError> {
         match self {
             NoVersion::Memory => Vec::from_slice(alloc, b"{\"refused\":1}"),

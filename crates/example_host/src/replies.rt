@@ -1,9 +1,9 @@
-//! The replies to events, one function for each kind: a line without its LF. 1: memory was refused.
+//! The replies to events, one function for each kind: a line without its LF. Each fails only when out of memory.
 use crate::response_text::response_text;
 use cedar_service::{JobId, Response, Service};
 use std::alloc::{AllocError, Global};
 
-/// What is replied to a line that is no event line.
+/// The reply to a line that is not an event line.
 pub const MALFORMED: &[u8] = b"malformed event";
 
 // A word and a number.
@@ -43,7 +43,7 @@ pub fn stepped(alloc: Global, outcome: Result<bool, u16>) -> Result<Vec<u8>, All
     }
 }
 
-/// `executed N`, how many instructions of the policy under way were executed; `no run` where none is.
+/// `executed N`: how many instructions of the current policy were executed. `no run` where none is running.
 pub fn running(alloc: Global, service: &Service, job: JobId) -> Result<Vec<u8>, AllocError> {
     match service.running(job) {
         Some(run) => numbered(alloc, "executed", u64::from(run.executed())),

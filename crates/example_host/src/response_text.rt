@@ -63,7 +63,11 @@ fn write_response(writer: &mut Writer, response: &Response) -> Result<(), AllocE
     Ok(())
 }
 
-/// `{"decision":D,"determining":[ID, ..],"erring":[{"error":E,"policy":ID}, ..]}`. 1: memory was refused.
+/// `{"decision":D,"determining":[ID, ..],"erring":[{"error":E,"policy":ID}, ..]}`.
+///
+/// # Errors
+///
+/// Fails only when out of memory.
 pub fn response_text(alloc: Global, response: &Response) -> Result<Vec<u8>, AllocError> {
     let mut writer = Writer::new(Vec::new(alloc));
     write_response(&mut writer, response)?;

@@ -1,4 +1,4 @@
--- How a report is told policy by policy.
+-- How a report is written policy by policy.
 use Rattle.std.specs.Prelude.{◌≡◌, ℕ, Bool, false, cond, List, [], ◌∷◌, ◌++◌}
 use Rattle.std.specs.Str.{bytes_eq}
 use Rattle.cedar_check_spec.specs.Reports.{FaultTree}
@@ -19,6 +19,6 @@ abbrev pub begins_with : List ℕ → List (List ℕ) → Bool
 begins_with policy [] = false
 begins_with policy (id ∷ ids) = bytes_eq id policy
 
--- behind the old text these lines were told
+-- these lines were appended to the old text
 abbrev pub AppendsLines : List ReportLine → List ℕ → List ℕ → Type 0
 AppendsLines lines old new = (told : List ℕ) × TellsEach lines told × (new ≡ old ++ told)

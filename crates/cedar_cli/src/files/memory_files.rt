@@ -2,7 +2,7 @@
 use crate::files::{FileFault, Files, Role};
 use std::alloc::Global;
 
-/// Files in memory, for tests: each is none where the command line names no such file.
+/// Files in memory, for tests. Each is None where the command line names no such file.
 #[derive(Clone, Copy)]
 pub struct MemoryFiles<'a> {
     /// The schema.

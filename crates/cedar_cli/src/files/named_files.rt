@@ -3,7 +3,7 @@ use crate::files::{FileFault, Files, Role};
 use crate::options::Words;
 use std::alloc::Global;
 use std::fs;
-use std::io::ErrorKind;
+use std::io::{self, ErrorKind, Read};
 
 /// The files that a command line names. Nothing is known of what they hold.
 #[derive(Drop)]
@@ -16,6 +16,41 @@ impl<'a, R: std::rt::Files + AllocGlobal> NamedFiles<'a, R> {
     /// The files that these words name.
     pub fn new(rt: &'a R, words: Words<'a>) -> NamedFiles<'a, R> {
         NamedFiles { rt, words }
+    }
+
+    /// The name of a file, or none if the command line names no such file.
+    pub fn name(&self, role: Role) -> Option<&'a str> {
+        name(&self.words, role)
+    }
+
+    /// Whether a file can be read a second time: whether it is a regular file, and not a pipe, for example. True if the command line
+    /// names no such file.
+    pub fn is_regular(&self, role: Role) -> bool {
+        match name(&self.words, role) {
+            Some(name) => match fs::metadata(self.rt, name) {
+                Ok(metadata) => metadata.is_file(),
+                Err(_) => false,
+            },
+            None => true,
+        }
+    }
+
+    /// Why a regular file or a folder cannot be read, as the system says it; or none if its first byte can be read. Nothing is read
+    /// from a pipe or a device.
+    pub fn why_unreadable(&self, role: Role) -> Option<io::Error> {
+        let name = name(&self.words, role)?;
+        match fs::metadata(self.rt, name) {
+            Ok(metadata) if !metadata.is_file() && !metadata.is_dir() => return None,
+            Ok(_) => {}
+            Err(error) => return Some(error),
+        }
+        match fs::open(self.rt, name) {
+            Ok(mut file) => {
+                let mut first = [0u8; 1];
+                file.read(&mut first).err()
+            }
+            Err(error) => Some(error),
+        }
     }
 }
 

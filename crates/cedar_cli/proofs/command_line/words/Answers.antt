@@ -28,4 +28,9 @@ returns-clause-ok c =
         used = λ e. c.get_flag.ensures.value (one_text-rows (found_of found) _ ∙ e);
         unused = λ e. c.get_flag.ensures.other (one_text-rows (found_of found) _ ∙ e);
       };
+      quiet = record {
+        none = λ e. c.get_flag-2.ensures.none (one_text-rows (found_of found) _ ∙ e);
+        used = λ e. c.get_flag-2.ensures.value (one_text-rows (found_of found) _ ∙ e);
+        unused = λ e. c.get_flag-2.ensures.other (one_text-rows (found_of found) _ ∙ e);
+      };
     }

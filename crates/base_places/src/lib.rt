@@ -1,0 +1,21 @@
+//! Places in texts: lines and columns, and lines of a text that are safe to show on a terminal.
+//!
+//! ```rust
+//! use base_places::{Place, line_before, push_shown};
+//!
+//! let text = "permit(\n  principla,";
+//! let place = Place::of(text.as_bytes(), 10);
+//! assert_eq!(rt; (place.line, place.column), (1, 2));
+//! let mut shown = String::new(alloc);
+//! push_shown(&mut shown, line_before(text, 10))?;
+//! assert_eq!(rt; shown.as_str(), "  ");
+//! ```
+#![tactic(auto)]
+
+mod line;
+mod place;
+mod shown;
+
+pub use line::{line_before, line_from};
+pub use place::Place;
+pub use shown::push_shown;

@@ -1,0 +1,63 @@
+//! The faults of the policies of files.
+use crate::faults::explain_faults;
+use cedar_ast::PolicySet;
+use cedar_check::check_with;
+use cedar_check_spec::Settings;
+use cedar_cli::{Files, Role, enter_links, read_policies, read_schema};
+use cedar_schema::Schema;
+use std::alloc::{AllocError, Global};
+
+/// What is said of the policies of these files where they have faults; or none if the files cannot be read again. `name` is that
+/// of the policy file.
+pub fn explain_policy_faults<F: Files>(
+    alloc: Global,
+    files: &F,
+    name: &str,
+    settings: Settings,
+) -> Result<Option<String>, AllocError> {
+    let Ok(schema) = read_schema(alloc, files) else {
+        return Ok(None);
+    };
+    let explained = match read_policies(alloc, files) {
+        Ok(policies) => with_links(alloc, files, name, &schema, policies, settings),
+        Err(_) => Ok(None),
+    };
+    drop(schema);
+    explained
+}
+
+fn with_links<F: Files>(
+    alloc: Global,
+    files: &F,
+    name: &str,
+    schema: &Schema,
+    mut policies: PolicySet,
+    settings: Settings,
+) -> Result<Option<String>, AllocError> {
+    let explained = match enter_links(alloc, files, &mut policies) {
+        Ok(()) => over_policies(alloc, files, name, schema, &policies, settings),
+        Err(_) => Ok(None),
+    };
+    drop(policies);
+    explained
+}
+
+fn over_policies<F: Files>(
+    alloc: Global,
+    files: &F,
+    name: &str,
+    schema: &Schema,
+    policies: &PolicySet,
+    settings: Settings,
+) -> Result<Option<String>, AllocError> {
+    let Ok(Some(bytes)) = files.read(alloc, Role::Policies) else {
+        return Ok(None);
+    };
+    let Ok(text) = str::from_utf8(&bytes) else {
+        return Ok(None);
+    };
+    let report = check_with(alloc, schema, policies, settings)?;
+    let environments = schema.environments().len();
+    let says = explain_faults(alloc, name, text, &report.faults, environments)?;
+    Ok(Some(says))
+}

@@ -1,0 +1,69 @@
+//! JSON files that are not JSON.
+ghost use Rattle.std.specs.Prelude.{◌≡◌, IfOk, IfSome, None};
+ghost use Rattle.std.specs.Str.{IsUtf8};
+ghost use Rattle.serde_json.specs.Read.{read as read_text};
+
+use crate::excerpt::{push_heading, push_line, push_note, push_place};
+use base_places::Place;
+use serde_json::Value;
+use std::alloc::{AllocError, Global};
+
+/// Where the bytes of a file stop being JSON, as `serde_json` finds it, in bytes from 0; or none if they are JSON. Where more of the
+/// text is wanted, it is its end.
+pub fn json_offset(alloc: Global, bytes: &[u8]) -> Result<Option<usize>, AllocError>
+    ensures { IfOk result (λ o. IfSome o (λ _. IsUtf8 bytes.now → read_text bytes.now ≡ None)) }
+{
+    match Value::from_slice(alloc, bytes) {
+        Ok(value) => {
+            drop(value);
+            Ok(None)
+        }
+        Err(error) if error.is_memory() => Err(AllocError),
+        Err(error) if error.is_eof() => Ok(Some(bytes.len())),
+        Err(error) => Ok(Some(offset_of(bytes, error.line(), error.column()))),
+    }
+}
+
+// The offset of a line and a column, both from 1, of which a column is a byte; at most the end.
+fn offset_of(bytes: &[u8], line: usize, column: usize) -> usize {
+    let mut lines = 1usize;
+    for (at, byte) in bytes.iter().enumerate() {
+        if lines >= line {
+            let offset = at.saturating_add(column.saturating_sub(1));
+            return offset.min(bytes.len());
+        }
+        if *byte == b'\n' {
+            lines = lines.saturating_add(1);
+        }
+    }
+    bytes.len()
+}
+
+/// What is said of a file that is refused since it is not JSON, 301 or 501; or none if it is JSON.
+pub fn explain_json(
+    alloc: Global,
+    file: &str,
+    number: u16,
+    bytes: &[u8],
+) -> Result<Option<String>, AllocError> {
+    let Some(at) = json_offset(alloc, bytes)? else {
+        return Ok(None);
+    };
+    let mut out = String::new(alloc);
+    push_heading(&mut out, number, "the file is not JSON")?;
+    push_place(&mut out, file, Place::of(bytes, at))?;
+    match str::from_utf8(bytes) {
+        Ok(text) => {
+            push_line(&mut out, text, at, '^', "JSON cannot go on like this")?;
+            if text.starts_with('\u{FEFF}') {
+                push_note(
+                    &mut out,
+                    "hint: ",
+                    "the file begins with a byte order mark: save it without one",
+                )?;
+            }
+        }
+        Err(_) => push_note(&mut out, "hint: ", "save the file as UTF-8")?,
+    }
+    Ok(Some(out))
+}

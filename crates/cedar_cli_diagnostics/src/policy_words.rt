@@ -1,0 +1,75 @@
+//! Words for the faults of policy texts.
+use cedar_parser_tokens::ParseFault;
+use cedar_text::TextFault;
+
+/// Why a policy text is refused, in a few words without the place.
+pub fn reason_of(fault: ParseFault) -> &'static str {
+    match fault {
+        ParseFault::OutOfMemory => "out of memory",
+        ParseFault::Text(fault) => reason_of_text(fault),
+        ParseFault::NumberTooLarge(_) => "a number is above 9223372036854775807",
+        ParseFault::EscapedStar(_) => "the escape `\\*` is outside a pattern of `like`",
+        ParseFault::Syntax(_) => "a policy text cannot go on like this",
+        ParseFault::TooDeep(_) => "more than 100 brackets and `if`s are open",
+        ParseFault::TooHigh(_) => "a condition is nested higher than 2,000 nodes",
+        ParseFault::DuplicateKey(_) => "a record has a key twice",
+        ParseFault::DuplicateId(_) => "two statements have one id",
+        ParseFault::UnknownFunction(_) => "an unknown function or method",
+        ParseFault::Arity(_) => "a wrong number of arguments",
+        ParseFault::SlotMisplaced(_) => "a slot is where no slot may be",
+        ParseFault::DuplicateAnnotation(_) => "a statement has an annotation twice",
+        ParseFault::TooLarge(_) => "a condition has more than 100,000 nodes",
+    }
+}
+
+fn reason_of_text(fault: TextFault) -> &'static str {
+    match fault {
+        TextFault::OutOfMemory => "out of memory",
+        TextFault::BadCharacter(_) => "no token begins with this character",
+        TextFault::UnclosedString(_) => "a string is not closed",
+        TextFault::BadEscape(_) => "an unknown escape in a string",
+        TextFault::NumberTooLarge(_) => "a number is above 9223372036854775808",
+    }
+}
+
+/// What the mark at the place of the fault says.
+pub fn mark_of(fault: ParseFault) -> &'static str {
+    match fault {
+        ParseFault::Text(TextFault::UnclosedString(_)) => "the string that begins here has no end",
+        ParseFault::Text(TextFault::BadEscape(_)) => "this escape",
+        ParseFault::Text(TextFault::NumberTooLarge(_)) | ParseFault::NumberTooLarge(_) => {
+            "this number"
+        }
+        ParseFault::TooHigh(_) | ParseFault::TooLarge(_) => "in the statement that begins here",
+        ParseFault::DuplicateKey(_) => "this key is in the record already",
+        ParseFault::DuplicateId(_) => "an earlier statement has the id of the one that begins here",
+        ParseFault::DuplicateAnnotation(_) => "this annotation",
+        ParseFault::TooDeep(_) => "the bracket or `if` that is one too many",
+        _ => "",
+    }
+}
+
+/// What to do about it, if one thing is likely.
+pub fn hint_of(fault: ParseFault) -> Option<&'static str> {
+    match fault {
+        ParseFault::Text(TextFault::UnclosedString(_)) => Some(
+            "a string may go on over the end of a line: if this one is closed, a `\"` may be missing in a line above",
+        ),
+        ParseFault::Text(TextFault::BadEscape(_)) => {
+            Some("the escapes are \\n \\r \\t \\\\ \\0 \\' \\\" \\xHH and \\u{H..}")
+        }
+        ParseFault::EscapedStar(_) => Some("write `*` without a backslash"),
+        ParseFault::DuplicateId(_) => Some("give each policy an `@id` of its own"),
+        ParseFault::SlotMisplaced(_) => {
+            Some("`?principal` and `?resource` may be in the scope of their own variable alone")
+        }
+        ParseFault::Arity(_) => Some("`isEmpty` takes no argument, all others take one"),
+        ParseFault::UnknownFunction(_) => Some(
+            "IP addresses, dates, durations and entity tags are left out; docs/GRAMMAR.md has the functions and methods",
+        ),
+        ParseFault::TooDeep(_) | ParseFault::TooHigh(_) | ParseFault::TooLarge(_) => {
+            Some("split the policy into several")
+        }
+        _ => None,
+    }
+}

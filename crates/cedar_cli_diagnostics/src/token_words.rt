@@ -1,0 +1,70 @@
+//! Words for the text at a place that the grammar does not allow.
+use crate::excerpt::first_of;
+use base_places::push_shown;
+use cedar_text::{Token, TokenKind, tokens};
+use std::alloc::{AllocError, Global};
+
+/// How many bytes of a token are shown at most.
+const MOST: usize = 40;
+
+// The token that begins at an offset.
+fn token_at<'t>(found: &[Token<'t>], at: usize) -> Option<Token<'t>> {
+    found.iter().find(|token| token.start == at).copied()
+}
+
+/// What the mark says: the token that begins at an offset of a text that has tokens, or the end of the text.
+pub fn unexpected(alloc: Global, text: &str, at: usize) -> Result<String, AllocError> {
+    let token = match tokens(alloc, text) {
+        Ok(found) => token_at(&found, at),
+        Err(_) => None,
+    };
+    let mut says = String::new(alloc);
+    match token {
+        Some(token) => {
+            says.push_str("unexpected `")?;
+            let line = token.text.lines().next().unwrap_or(token.text);
+            let shown = first_of(line, MOST);
+            push_shown(&mut says, shown)?;
+            if shown.len() < token.text.len() {
+                says.push_str("..")?;
+            }
+            says.push('`')?;
+        }
+        None => says.push_str("unexpected end of the text")?,
+    }
+    Ok(says)
+}
+
+/// What is likely meant by a word that the grammar does not allow, or none.
+pub fn meant_by_word(
+    alloc: Global,
+    text: &str,
+    at: usize,
+) -> Result<Option<&'static str>, AllocError> {
+    let token = match tokens(alloc, text) {
+        Ok(found) => token_at(&found, at),
+        Err(_) => None,
+    };
+    Ok(match token {
+        Some(token) if token.kind == TokenKind::Identifier => match token.text {
+            "and" => Some("`&&` is Cedar's and"),
+            "or" => Some("`||` is Cedar's or"),
+            "not" => Some("`!` is Cedar's not"),
+            "allow" | "deny" => Some("a policy begins with `permit` or `forbid`"),
+            _ => None,
+        },
+        _ => None,
+    })
+}
+
+/// What is likely meant by a character with which no token begins, or none. The text is what is from it on.
+pub fn meant_by_character(rest: &str) -> Option<&'static str> {
+    match rest.chars().next() {
+        Some('\u{FEFF}') => Some("the file begins with a byte order mark: save it without one"),
+        Some('&') => Some("`&&` is Cedar's and"),
+        Some('|') => Some("`||` is Cedar's or"),
+        Some('=') => Some("`==` compares"),
+        Some('\'') => Some("strings are in double quotes"),
+        _ => None,
+    }
+}

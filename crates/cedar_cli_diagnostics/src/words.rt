@@ -1,0 +1,123 @@
+//! Words for the refusals of schemas, entities and links, by their numbers.
+use crate::excerpt::{push_file, push_heading, push_note};
+use std::alloc::{AllocError, Global};
+
+/// Why a file is refused with a number, and what to do about it. The numbers of policy texts have words of their own.
+pub fn words_of(number: u16) -> Option<(&'static str, &'static str)> {
+    let words = match number {
+        204 => (
+            "two policies have one id",
+            "give each link an id that no other policy has",
+        ),
+        210 => (
+            "a link names a template that is not there",
+            "`template_id` is the id of a statement with a slot",
+        ),
+        211 => (
+            "a link gives no uid for a slot of its template",
+            "`args` has a uid for each slot of the template",
+        ),
+        212 => (
+            "a link gives a uid for a slot that its template does not have",
+            "remove it from `args`",
+        ),
+        301 => ("the schema is not JSON", "the file has to be JSON"),
+        302 => (
+            "a part of the schema has another shape than the format allows",
+            "docs/SCHEMA.md has the keys of each part; tools/from_cedar turns what `cedar translate-schema` writes into this form",
+        ),
+        303 => (
+            "the schema names a type or an action that it does not declare",
+            "check the name and its namespace",
+        ),
+        304 => (
+            "a common type leads back to itself",
+            "a common type may not contain itself",
+        ),
+        305 => (
+            "an action is in itself",
+            "remove one `memberOf` of the circle",
+        ),
+        306 => (
+            "the schema declares a reserved name",
+            "`__cedar`, `Action` as an entity type and the names of built-in types are reserved",
+        ),
+        307 => (
+            "a record is open",
+            "`additionalAttributes` may be false alone",
+        ),
+        308 => (
+            "an action applies to an unspecified principal or resource",
+            "name the types in `principalTypes` and `resourceTypes`",
+        ),
+        309 => ("a type is too large", "split it, or give fewer attributes"),
+        701 => (
+            "the code of a policy would have more than 1,000,000 instructions",
+            "split the policy",
+        ),
+        _ => return words_of_data(number),
+    };
+    Some(words)
+}
+
+fn words_of_data(number: u16) -> Option<(&'static str, &'static str)> {
+    let words = match number {
+        401 => ("two entities have one uid", "write each entity once"),
+        402 => (
+            "an entity is below itself",
+            "remove one parent of the circle",
+        ),
+        501 => ("the file is not JSON", "the file has to be JSON"),
+        502 => (
+            "a part of the file has another shape than the format allows",
+            "docs/DATA.md has the keys of each part",
+        ),
+        503 => (
+            "an entity has a type that the schema does not declare",
+            "check the type and its namespace",
+        ),
+        504 => (
+            "a value has another type than the schema gives it",
+            "compare the value with its attribute in the schema",
+        ),
+        505 => (
+            "a required attribute is missing",
+            "add it, or declare it with `\"required\": false`",
+        ),
+        506 => (
+            "an attribute is not declared",
+            "remove it, or declare it in the shape of the entity's type",
+        ),
+        507 => (
+            "an entity has a parent of a type that its type may not be in",
+            "add the type to `memberOfTypes` in the schema",
+        ),
+        508 => (
+            "an action differs from the schema",
+            "leave actions out of the entities: the schema has them",
+        ),
+        509 => (
+            "a number is out of range, or is not an integer",
+            "integers go from -9223372036854775808 to 9223372036854775807",
+        ),
+        _ => return None,
+    };
+    Some(words)
+}
+
+/// What is said of a refused schema, links or entities file whose refusal has no place; or none of a number that such a file does
+/// not get.
+pub fn explain_number(
+    alloc: Global,
+    file: &str,
+    number: u16,
+) -> Result<Option<String>, AllocError> {
+    let Some((reason, hint)) = words_of(number) else {
+        return Ok(None);
+    };
+    let mut out = String::new(alloc);
+    push_heading(&mut out, number, reason)?;
+    push_file(&mut out, file)?;
+    push_note(&mut out, "hint: ", hint)?;
+    Ok(Some(out))
+}

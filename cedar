@@ -1,18 +1,28 @@
 #!/usr/bin/env bash
-# Runs the program `cedar` with the words given: the proved one, where `./build` has made it and no source of it is newer. Else
-# the program is built without proof for this run alone, which takes about a minute and is told on standard error; it then has
-# an hour, and its output, of at most 1 MiB, comes when it has ended.
+# Runs the program `cedar` with the words given: the one of release/, if it was built from the sources of this checkout; else the
+# proved one that ./build has made, if no source is newer. Else it says so on standard error and builds the program without proof,
+# for this run alone, which takes two to four minutes. Such a run has an hour, and its output, of at most 1 MiB, comes at its end.
 set -eu
 top=$(cd "$(dirname "$0")" && pwd)
-folder=$top/crates/cedar
-if program=$("$top/tools/current"); then
+why=$(mktemp)
+trap 'rm -f "$why"' EXIT
+if program=$("$top/tools/released" 2> "$why") || program=$("$top/tools/current"); then
+  rm -f "$why"
   exec "$program" "$@"
 fi
-echo "cedar: this run is of a build that is not proved; ./build makes the proved one" >&2
+
+# Before anything is built, a command line or a file that the program would refuse is refused.
+"$top/tools/command_line" "$@" || exit $?
+cat "$why" >&2
+if ! command -v rt > /dev/null; then
+  echo "cedar: to build it, the toolchain's command rt has to be on the path" >&2
+  exit 1
+fi
+echo "cedar: this run builds the program without proof; ./build --program makes the proved one" >&2
 
 # Such a build runs in a folder of its own, so the file that an option names is handed to it under a name there.
 room=$(mktemp -d)
-trap 'rm -rf "$room"' EXIT
+trap 'rm -rf "$room" "$why"' EXIT
 words=() files=() before=
 for word in "$@"; do
   name=${word#--*=}
@@ -26,11 +36,11 @@ for word in "$@"; do
   before=$word
 done
 status=0
-(cd "$folder" && rt try --seconds 3600 ${files[@]+"${files[@]}"} -- ${words[@]+"${words[@]}"}) 2> "$room/told" || status=$?
-if ! grep -q '^run=ended ' "$room/told"; then
-  cat "$room/told" >&2
+(cd "$top/crates/cedar" && rt try --seconds 3600 ${files[@]+"${files[@]}"} -- ${words[@]+"${words[@]}"}) 2> "$room/errors" || status=$?
+if ! grep -q '^run=ended ' "$room/errors"; then
+  cat "$room/errors" >&2
   exit 1
 fi
-# What the program told on standard error stands between lines of `rt try`.
-sed '/^\(interpreter\|checked\|races\|run\|rt\)[:=]/d' "$room/told" >&2
+# What the program wrote to standard error is between lines of `rt try`.
+sed '/^\(interpreter\|checked\|races\|run\|rt\)[:=]/d' "$room/errors" >&2
 exit "$status"

@@ -1,8 +1,8 @@
-"""The definitions of specs/ and the contracts of src/, and which definitions each of them names. Used by tools/believed and
-tools/lint_definitions.
+"""The definitions of specs/ and the contracts of src/, and which definitions each of them names. Used by tools/believed,
+tools/definitions and tools/lint_definitions.
 
-A name is followed as the prover follows it: through `use`, `pub use`, `as`, and qualified by its module. A constructor stands
-for its data type. A Rust type in a contract stands for what its contracts see: the `Value` of its model, or its public fields."""
+A name is followed as the prover follows it: through `use`, `pub use`, `as`, and qualified by its module. A constructor counts
+as its data type. A Rust type in a contract counts as what its contracts see: the `Value` of its model, or its public fields."""
 import os
 import re
 from dataclasses import dataclass, field
@@ -41,6 +41,12 @@ class Definition:
         """The source in the brackets that end its comment."""
         found = SOURCE.search(' '.join(self.comment))
         return found[1] if found else ''
+
+    def says(self):
+        """Its comment without the source."""
+        text = ' '.join(self.comment)
+        found = SOURCE.search(text)
+        return text[:found.start()].rstrip() if found else text.rstrip('.')
 
 
 @dataclass(eq=False)

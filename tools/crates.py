@@ -1,5 +1,5 @@
 #!/usr/bin/env python3
-"""Prints the crates of the repository that a crate stands on, as crates.txt names them, lowest first, and the crate last.
+"""Prints the crates of the repository below a crate, as crates.txt names them, lowest first, and the crate last.
 
   tools/crates.py CRATE"""
 import os
@@ -16,7 +16,7 @@ def named(top=TOP):
 
 
 def below(crate, libraries=None):
-    """The crates that a crate stands on, lowest first, and the crate."""
+    """The crates below a crate, lowest first, and the crate."""
     libraries = libraries or named()
     order = []
 

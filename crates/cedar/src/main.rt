@@ -38,7 +38,7 @@ fn run(rt: &HostRuntime) -> io::Result<End> {
     let alloc = rt.alloc();
     let given = match env::args(rt) {
         Ok(given) => given,
-        Err(error) => return refuse_words(rt, &error),
+        Err(error) => return said(rt, refuse_words(rt, &error)?),
     };
     let arguments: Vec<String> = given.collect(alloc)?;
     let mut texts = Vec::with_capacity(alloc, arguments.len())?;
@@ -47,7 +47,7 @@ fn run(rt: &HostRuntime) -> io::Result<End> {
     }
     let words = match words(alloc, &texts) {
         Ok(words) => words,
-        Err(error) => return tell(rt, &error),
+        Err(error) => return said(rt, tell(rt, &error)?),
     };
     Ok(run_words(rt, words))
 }
@@ -70,6 +70,12 @@ fn run_words(rt: &HostRuntime, words: Words<'_>) -> End {
         explain(rt, &files, &words, end);
     }
     end
+}
+
+/// The end of a run without words, whose line is printed.
+fn said(rt: &HostRuntime, end: End) -> io::Result<End> {
+    say(rt, end);
+    Ok(end)
 }
 
 /// Prints the line for a device that failed, or for memory that ran out.

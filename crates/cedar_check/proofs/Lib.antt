@@ -5,4 +5,5 @@ pub mod Joined
 pub mod Kept
 pub mod Numbers
 pub mod Policies
+pub mod Typings
 pub mod Unmentioned

@@ -1,2 +1,3 @@
 pub mod FaultView
 pub mod Private
+pub mod Typings

@@ -31,9 +31,11 @@ mod report;
 mod rows;
 mod signatures;
 mod type_order;
+mod typing;
 
 pub use cedar_check_law::{typing_is_determined, typing_is_sound};
-pub use cedar_check_operators::TypeFault;
+pub use cedar_check_operators::{Capability, LentType, TypeFault, Typed, Typing};
 pub use cedar_check_spec::Settings;
 pub use fault::Fault;
 pub use report::{Report, check, check_with};
+pub use typing::type_of;

@@ -1,5 +1,5 @@
 -- Which world a list of entities denotes for a schema.
-use Rattle.std.specs.Prelude.{◌≡◌, List, [], ◌∷◌, Some, Contains}
+use Rattle.std.specs.Prelude.{◌≡◌, ◌⊎◌, List, [], ◌∷◌, Some, Contains}
 use Rattle.serde_json.specs.Data.{Data, object, Items, no_items, item, no_members}
 use Rattle.serde_json.specs.Find.{as_array}
 use Rattle.cedar_conform_values.specs.Values.{value_read}
@@ -35,6 +35,10 @@ pub record RepeatsAction (s : SchemaTree) (d : Data) (u : Uid) (parents : List U
   pub declared : IsAction s u
   pub empty : attributes_in d ≡ object no_members
   pub ancestors : (p : Uid) → Contains parents p → ActionDescends s u p
+
+-- An entry is accepted: it denotes an entity, or it repeats an action (Cedar documentation, entities and context in JSON).
+abbrev pub IsAccepted : SchemaTree → Data → Type 0
+IsAccepted s d = ((e : EntityTree) × DenotesEntity s d e) ⊎ ((u : Uid) × ((parents : List Uid) × RepeatsAction s d u parents))
 
 -- Entry by entry: the entities that a list denotes. The actions that it repeats add nothing to them (Cedar documentation,
 -- entities and context in JSON).

@@ -1,10 +1,11 @@
 //! One entry of a list of entities.
-ghost use Rattle.std.specs.Prelude.{MatchResult, codes};
+ghost use Rattle.std.specs.Prelude.{IfNone, IfOk, IfSome, MatchResult, codes};
 ghost use Rattle.serde_json.specs.View.{view};
 ghost use Rattle.cedar_conform_values.specs.Reads.{ReadsRecord};
 ghost use Rattle.cedar_conform_values.specs.Values.{value_read};
-ghost use Rattle.cedar_conform_entities.specs.Denotes.{DenotesEntity};
+ghost use Rattle.cedar_conform_entities.specs.Denotes.{DenotesEntity, IsAccepted};
 ghost use Rattle.cedar_conform_entities.specs.Entries.{IsActionName, Writes, attributes_in};
+ghost use Rattle.cedar_conform_entities.specs.Faults.{HasEntryFault};
 ghost use Rattle.cedar_conform_entities.specs.Private.Parts.{IsEntry, RefusesEntry};
 ghost use Rattle.cedar_schema_spec.specs.WellFormed.{IsOrderedRecord};
 
@@ -16,7 +17,7 @@ use cedar_schema_types::{Type, TypeKind};
 use cedar_store::Entity;
 use cedar_value::{Record, Uid};
 use serde_json::{Map, Value as Json};
-use std::alloc::Global;
+use std::alloc::{AllocError, Global};
 
 /// What an entry denotes.
 #[derive(Drop)]
@@ -25,6 +26,30 @@ pub(crate) enum Entry {
     Entity(Entity),
     /// An action, as the schema has it, by its uid.
     Action(Uid),
+}
+
+/// Why an entry of a list of entities is refused for a schema, 502 to 509; or none where it denotes an entity or repeats an action.
+/// It serves to find the entry for which `read_entities` refuses a list.
+///
+/// # Errors
+///
+/// Fails only when out of memory.
+pub fn entry_fault(
+    alloc: Global,
+    schema: &Schema,
+    entry: &Json,
+) -> Result<Option<ConformFault>, AllocError>
+    ensures fault { IfOk result (λ found. IfSome found (HasEntryFault schema.now (view entry.now))) }
+    ensures none { IfOk result (λ found. IfNone found (IsAccepted schema.now (view entry.now))) }
+{
+    match read_entry(alloc, schema, entry) {
+        Ok(read) => {
+            drop(read);
+            Ok(None)
+        }
+        Err(ConformFault::OutOfMemory) => Err(AllocError),
+        Err(fault) => Ok(Some(fault)),
+    }
 }
 
 /// What the entry denotes for the schema, or one of its faults: 502 to 509.

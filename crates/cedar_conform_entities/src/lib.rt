@@ -26,4 +26,5 @@ mod objects;
 mod written;
 
 pub use entities::{read_entities, read_entities_owned};
+pub use entry::entry_fault;
 pub use laws::{denoted_worlds_are_exact, denoted_worlds_conform, sound_entities_conform};

@@ -15,8 +15,8 @@ use cedar_parser_tokens::{
     Content, Cursor, ParseFault, Word, parse_entity_of_type, parse_key, parse_path, parse_string,
 };
 use cedar_parser_tree::{
-    Field, Link, Series, Written, WrittenKind, group, has, if_else, is, is_in, like, minus, not,
-    push_field, push_item, push_link, relation,
+    Field, Link, Series, Span, Written, WrittenKind, group, has, if_else, is, is_in, like, minus,
+    not, push_field, push_item, push_link, relation,
 };
 use cedar_text::TokenKind;
 use cedar_value::{Name, Text};
@@ -64,9 +64,14 @@ impl<F: Fn(Global, &mut Cursor<'_>, u8) -> Result<Written, ParseFault>> Expressi
         requires { Operands self.now.depth level (P.pre operand self) (P.post operand self) }
         ensures { Reads (spec.chain_of self.now.depth (spec.nested self.now.depth) level tokens.old) result tokens.new }
     {
+        let start = tokens.start();
         let first = operand(self, tokens)?;
         let links = self.parse_links(tokens, level, operand);
-        finish_chain(self.alloc, first, links)
+        spanning(
+            finish_chain(self.alloc, first, links),
+            start,
+            tokens.taken(),
+        )
     }
 
     // Parses signs, each with the operand after it.
@@ -114,8 +119,10 @@ impl<F: Fn(Global, &mut Cursor<'_>, u8) -> Result<Written, ParseFault>> Expressi
         requires { Nests self.now.depth (F.pre self.now.inner) (F.post self.now.inner) }
         ensures { Reads (spec.relation self.now.depth (spec.nested self.now.depth) tokens.old) result tokens.new }
     {
+        let start = tokens.start();
         let left = self.parse_add(tokens)?;
-        self.parse_relation_tail(tokens, left)
+        let read = self.parse_relation_tail(tokens, left);
+        spanning(read, start, tokens.taken())
     }
 
     // Parses what follows the left operand of a relation.
@@ -227,10 +234,13 @@ impl<F: Fn(Global, &mut Cursor<'_>, u8) -> Result<Written, ParseFault>> Expressi
         requires { Nests self.now.depth (F.pre self.now.inner) (F.post self.now.inner) }
         ensures { Reads (spec.unary self.now.depth (spec.nested self.now.depth) tokens.old) result tokens.new }
     {
+        let start = tokens.start();
         if tokens.sees(TokenKind::Minus) {
-            return self.parse_minuses(tokens, 4);
+            let read = self.parse_minuses(tokens, 4);
+            return spanning(read, start, tokens.taken());
         }
-        self.parse_nots(tokens, 4)
+        let read = self.parse_nots(tokens, 4);
+        spanning(read, start, tokens.taken())
     }
 
     // Parses up to `most` of `!`, and then a member.
@@ -272,9 +282,14 @@ impl<F: Fn(Global, &mut Cursor<'_>, u8) -> Result<Written, ParseFault>> Expressi
         requires { Nests self.now.depth (F.pre self.now.inner) (F.post self.now.inner) }
         ensures { Reads (spec.member self.now.depth (spec.nested self.now.depth) tokens.old) result tokens.new }
     {
+        let start = tokens.start();
         let first = self.parse_primary(tokens)?;
         let links = self.parse_accesses(tokens);
-        finish_chain(self.alloc, first, links)
+        spanning(
+            finish_chain(self.alloc, first, links),
+            start,
+            tokens.taken(),
+        )
     }
 
     fn parse_accesses(&self, tokens: &mut Cursor<'_>) -> Result<Vec<Link>, ParseFault>
@@ -711,4 +726,18 @@ pub fn parse_expression(
         inner: parse_expression,
     }
     .parse_expression(tokens)
+}
+
+// What was read, with its place: where its first token begins, and where its last token begins.
+fn spanning(
+    read: Result<Written, ParseFault>,
+    start: usize,
+    last: usize,
+) -> Result<Written, ParseFault>
+    ensures { result ≡ read }
+{
+    match read {
+        Ok(written) => Ok(written.spanning(Span { start, last })),
+        Err(fault) => Err(fault),
+    }
 }

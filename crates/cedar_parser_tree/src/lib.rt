@@ -25,7 +25,7 @@ pub use constructors::{
 };
 pub use series::Series;
 pub use sign::{ChainSign, RelationSign};
-pub use written::{Field, Link, Written, WrittenKind};
+pub use written::{Field, Link, Span, Written, WrittenKind};
 pub use written_statement::{
     Reference, WrittenActionScope, WrittenAnnotation, WrittenCondition, WrittenEntityScope,
     WrittenScope, WrittenStatement, WrittenUids,

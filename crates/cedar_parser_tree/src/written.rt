@@ -84,6 +84,16 @@ pub struct Field {
 #[derive(Drop)]
 pub struct Written {
     kind: WrittenKind,
+    span: Span,
+}
+
+/// Where an expression is written: where its first token begins and where its last token begins, in bytes from 0.
+#[derive(Clone, Copy, Debug, PartialEq, Eq)]
+pub struct Span {
+    /// Where the first token begins.
+    pub start: usize,
+    /// Where the last token begins.
+    pub last: usize,
 }
 
 impl Model for Written {
@@ -106,11 +116,27 @@ impl Model for Written {
 }
 
 impl Written {
-    /// The expression of this form. Takes no memory.
+    /// The expression of this form, with no place yet. Takes no memory.
     pub fn new(kind: WrittenKind) -> Self
         ensures { result ≡ written_of kind }
     {
-        Written { kind }
+        let span = Span { start: 0, last: 0 };
+        Written { kind, span }
+    }
+
+    /// The same expression, written at this place. Takes no memory.
+    pub fn spanning(self, span: Span) -> Self
+        ensures { result ≡ self }
+    {
+        Written {
+            kind: self.kind,
+            span,
+        }
+    }
+
+    /// Where it is written. Contracts do not see it.
+    pub fn span(&self) -> Span {
+        self.span
     }
 
     /// The form, with its parts, lent.

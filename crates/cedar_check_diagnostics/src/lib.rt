@@ -1,0 +1,35 @@
+//! Explains why a policy has no type: the part of its condition, the name or the operand, and what is wanted there.
+//!
+//! ```rust
+//! use cedar_check_diagnostics::refused_part;
+//!
+//! let whole = policy.condition(alloc)?;
+//! let condition = whole.with_action(alloc, &environment.action)?;
+//! if let Some(part) = refused_part(alloc, settings, &schema, environment, &condition)? {
+//!     println!(rt; "{}: {}", part.number, part.says.as_str())?;
+//! }
+//! ```
+//!
+//! The part is given by a path from the condition: which operand, branch, member or entry at each step. That it has no type where
+//! the path leads to it is proved; the words are tested. Read `specs/Paths.antt`, and then `specs/Refusals.antt`.
+#![tactic(auto)]
+
+mod attributes;
+mod checking;
+mod found;
+mod joins;
+mod kinds;
+mod listing;
+mod literals;
+mod near;
+mod parts;
+mod refusal;
+mod search;
+mod spot;
+mod type_words;
+mod undeclared;
+mod walk;
+mod words;
+mod written;
+
+pub use refusal::{Operand, RefusedPart, refused_part};

@@ -1,0 +1,44 @@
+//! Built-in types.
+use crate::near::is_near;
+
+/// The names of the built-in types.
+const BUILT_IN: [&str; 7] = [
+    "Long",
+    "String",
+    "Boolean",
+    "Set",
+    "Record",
+    "Entity",
+    "Extension",
+];
+
+/// Whether a text is the name of a built-in type.
+pub(crate) fn is_built_in(text: &str) -> bool {
+    for name in BUILT_IN {
+        if name == text {
+            return true;
+        }
+    }
+    false
+}
+
+/// The built-in type that is likely meant by the name of a type, or none.
+pub(crate) fn meant_built_in(text: &str) -> Option<&'static str> {
+    match text {
+        "Int" | "Integer" | "int" | "integer" | "Number" | "number" => Some("Long"),
+        "Bool" | "bool" => Some("Boolean"),
+        "List" | "list" | "Array" | "array" => Some("Set"),
+        "Object" | "object" => Some("Record"),
+        _ => near_built_in(text),
+    }
+}
+
+// `Set` has so few letters that only its case may differ.
+fn near_built_in(text: &str) -> Option<&'static str> {
+    for name in BUILT_IN {
+        if is_near(text, name) && (name != "Set" || text.eq_ignore_ascii_case(name)) {
+            return Some(name);
+        }
+    }
+    None
+}

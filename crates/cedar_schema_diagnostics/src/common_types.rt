@@ -1,0 +1,52 @@
+//! Common types.
+use crate::built_in::is_built_in;
+use crate::naming::refused_identifier;
+use crate::part::{RefusedPart, part_of};
+use crate::records::refused_size;
+use crate::setting::Setting;
+use crate::text::shown;
+use crate::types::refused_in_type;
+use serde_json::Value;
+use std::alloc::{AllocError, Global};
+
+/// Why an entry of `commonTypes` is refused, or none.
+pub(crate) fn refused_common_type(
+    alloc: Global,
+    setting: Setting<'_>,
+    key: &str,
+    body: &Value,
+) -> Result<Option<RefusedPart>, AllocError> {
+    let found = refused_common_key(alloc, setting.number, key)?;
+    if found.is_some() {
+        return Ok(found);
+    }
+    let found = refused_in_type(alloc, setting, body)?;
+    if found.is_some() {
+        return Ok(found);
+    }
+    match setting.forms {
+        Some(forms) if setting.number == 309 => {
+            refused_size(alloc, forms, setting.namespace, body)
+        }
+        _ => Ok(None),
+    }
+}
+
+fn refused_common_key(
+    alloc: Global,
+    number: u16,
+    key: &str,
+) -> Result<Option<RefusedPart>, AllocError> {
+    if number == 306 && is_built_in(key) {
+        return part_of(
+            alloc,
+            &[
+                "`",
+                shown(key),
+                "` is a built-in type, so a common type cannot have this name",
+            ],
+            &["choose another name"],
+        );
+    }
+    refused_identifier(alloc, number, key)
+}

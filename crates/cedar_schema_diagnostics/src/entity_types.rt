@@ -1,0 +1,108 @@
+//! Entity types, and lists of them.
+use crate::keys::refused_keys;
+use crate::kinds::kind_of;
+use crate::naming::refused_identifier;
+use crate::part::{RefusedPart, at, part_of};
+use crate::records::refused_record;
+use crate::setting::Setting;
+use crate::step::Step;
+use crate::text::{is_plain, shown};
+use crate::type_names::refused_entity_name;
+use cedar_schema_json::Part;
+use serde_json::Value;
+use std::alloc::{AllocError, Global};
+
+/// Why an entry of `entityTypes` is refused, or none.
+pub(crate) fn refused_entity_type(
+    alloc: Global,
+    setting: Setting<'_>,
+    key: &str,
+    body: &Value,
+) -> Result<Option<RefusedPart>, AllocError> {
+    let found = refused_entity_key(alloc, setting.number, key)?;
+    if found.is_some() {
+        return Ok(found);
+    }
+    if setting.number == 302 {
+        let found = refused_keys(alloc, Part::EntityType, body)?;
+        if found.is_some() {
+            return Ok(found);
+        }
+    }
+    if let Some(list) = body.get("memberOfTypes") {
+        let found = refused_names(alloc, setting, list)?;
+        if found.is_some() {
+            return at(alloc, Step::Key("memberOfTypes"), found);
+        }
+    }
+    refused_record(alloc, setting, body, "shape", "a shape")
+}
+
+fn refused_entity_key(
+    alloc: Global,
+    number: u16,
+    key: &str,
+) -> Result<Option<RefusedPart>, AllocError> {
+    if key == "Action" && number == 306 {
+        return part_of(
+            alloc,
+            &["`Action` is the type of actions, so an entity type cannot have this name"],
+            &["choose another name"],
+        );
+    }
+    refused_identifier(alloc, number, key)
+}
+
+/// Why a list of entity types is refused, or none.
+pub(crate) fn refused_names(
+    alloc: Global,
+    setting: Setting<'_>,
+    list: &Value,
+) -> Result<Option<RefusedPart>, AllocError> {
+    let Some(items) = list.as_array() else {
+        return refused_list(alloc, setting.number, list);
+    };
+    for (index, item) in items.iter().enumerate() {
+        let found = refused_item(alloc, setting, item)?;
+        if found.is_some() {
+            return at(alloc, Step::Item(index), found);
+        }
+    }
+    Ok(None)
+}
+
+fn refused_list(
+    alloc: Global,
+    number: u16,
+    list: &Value,
+) -> Result<Option<RefusedPart>, AllocError> {
+    if number != 302 {
+        return Ok(None);
+    }
+    let says = [
+        "a list of entity types is wanted, and this is ",
+        kind_of(list),
+    ];
+    match list.as_str() {
+        Some(name) if is_plain(name) => part_of(alloc, &says, &["write [\"", shown(name), "\"]"]),
+        _ => part_of(alloc, &says, &[]),
+    }
+}
+
+fn refused_item(
+    alloc: Global,
+    setting: Setting<'_>,
+    item: &Value,
+) -> Result<Option<RefusedPart>, AllocError> {
+    match item.as_str() {
+        Some(name) => refused_entity_name(alloc, setting, name, false),
+        None if setting.number == 302 => {
+            let says = [
+                "the name of an entity type is wanted, and this is ",
+                kind_of(item),
+            ];
+            part_of(alloc, &says, &[])
+        }
+        None => Ok(None),
+    }
+}

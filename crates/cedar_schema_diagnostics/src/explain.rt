@@ -1,0 +1,94 @@
+//! Why a schema is refused.
+ghost use Rattle.std.specs.Prelude.{IfOk, IfSome, IsSome};
+ghost use Rattle.base_json.specs.JsonTree.{json_of};
+
+use crate::action_circle::refused_action_circle;
+use crate::common_circle::refused_common_circle;
+use crate::declared::Declared;
+use crate::forms::Forms;
+use crate::kinds::kind_of;
+use crate::part::{RefusedPart, part_of};
+use crate::sections::refused_entries;
+use crate::spaces::refused_spaces;
+use base_json::read_json;
+use serde_json::{Map, Value};
+use std::alloc::{AllocError, Global};
+
+/// The first part of a schema that explains a refusal with this number, 302 to 309, in the order in which a schema is read; or none
+/// where no part does. Takes time and memory in proportion to the schema, and for 309 to its types with their common types expanded.
+///
+/// # Errors
+///
+/// Fails only when out of memory.
+pub fn refused_part(
+    alloc: Global,
+    bytes: &[u8],
+    number: u16,
+) -> Result<Option<RefusedPart>, AllocError>
+    ensures { IfOk result (λ found. IfSome found (λ _. IsSome (json_of bytes.now))) }
+{
+    let Some(json) = read_json(alloc, bytes)? else {
+        return Ok(None);
+    };
+    let found = refused_in(alloc, &json, number);
+    drop(json);
+    found
+}
+
+fn refused_in(alloc: Global, json: &Value, number: u16) -> Result<Option<RefusedPart>, AllocError> {
+    match json.as_object() {
+        Some(root) => refused_in_root(alloc, root, number),
+        None if number == 302 => {
+            let says = [
+                "a schema is an object of namespaces, and this is ",
+                kind_of(json),
+            ];
+            part_of(alloc, &says, &[])
+        }
+        None => Ok(None),
+    }
+}
+
+fn refused_in_root(
+    alloc: Global,
+    root: &Map<String, Value>,
+    number: u16,
+) -> Result<Option<RefusedPart>, AllocError> {
+    match number {
+        304 => refused_common_circle(alloc, root),
+        305 => refused_action_circle(alloc, root),
+        302 | 303 | 306 | 307 | 308 | 309 => refused_written(alloc, root, number),
+        _ => Ok(None),
+    }
+}
+
+fn refused_written(
+    alloc: Global,
+    root: &Map<String, Value>,
+    number: u16,
+) -> Result<Option<RefusedPart>, AllocError> {
+    let found = refused_spaces(alloc, number, root)?;
+    if found.is_some() {
+        return Ok(found);
+    }
+    let declared = Declared::read(alloc, root)?;
+    let found = refused_declared(alloc, root, number, &declared);
+    drop(declared);
+    found
+}
+
+// Only 302 and 309 need common types expanded.
+fn refused_declared(
+    alloc: Global,
+    root: &Map<String, Value>,
+    number: u16,
+    declared: &Declared,
+) -> Result<Option<RefusedPart>, AllocError> {
+    if number != 302 && number != 309 {
+        return refused_entries(alloc, number, root, declared, None);
+    }
+    let forms = Forms::read(alloc, root)?;
+    let found = refused_entries(alloc, number, root, declared, forms.as_ref());
+    drop(forms);
+    found
+}

@@ -1,0 +1,178 @@
+//! The keys that parts may have.
+use crate::kinds::kind_of;
+use crate::left_out::left_out_key;
+use crate::near::is_near;
+use crate::part::{RefusedPart, at, part_of, part_saying};
+use crate::step::Step;
+use crate::text::{is_plain, push_all, shown};
+use cedar_schema_json::Part;
+use serde_json::Value;
+use std::alloc::{AllocError, Global};
+
+static NAMESPACE_KEYS: [&str; 3] = ["entityTypes", "actions", "commonTypes"];
+
+static ENTITY_TYPE_KEYS: [&str; 2] = ["memberOfTypes", "shape"];
+
+static ACTION_KEYS: [&str; 3] = ["memberOf", "appliesTo", "attributes"];
+
+static APPLIES_TO_KEYS: [&str; 3] = ["principalTypes", "resourceTypes", "context"];
+
+static MEMBER_KEYS: [&str; 2] = ["id", "type"];
+
+/// How many bytes a key has at least that is offered for one that it begins, or for its beginning.
+const LEAST: usize = 4;
+
+fn keys_of(part: Part) -> &'static [&'static str] {
+    match part {
+        Part::Namespace => &NAMESPACE_KEYS,
+        Part::EntityType => &ENTITY_TYPE_KEYS,
+        Part::Action => &ACTION_KEYS,
+        Part::AppliesTo => &APPLIES_TO_KEYS,
+        Part::Member => &MEMBER_KEYS,
+    }
+}
+
+// What a part is, in words.
+fn name_of(part: Part) -> &'static str {
+    match part {
+        Part::Namespace => "a namespace",
+        Part::EntityType => "an entity type",
+        Part::Action => "an action",
+        Part::AppliesTo => "`appliesTo`",
+        Part::Member => "a member of `memberOf`",
+    }
+}
+
+/// Why a JSON is not an object of the keys of a part (302), or none.
+pub(crate) fn refused_keys(
+    alloc: Global,
+    part: Part,
+    json: &Value,
+) -> Result<Option<RefusedPart>, AllocError> {
+    let Some(members) = json.as_object() else {
+        return refused_kind(alloc, part, json);
+    };
+    for (key, _) in members.iter() {
+        if !has_key(keys_of(part), key.as_str()) {
+            return refused_key(alloc, part, key.as_str());
+        }
+    }
+    Ok(None)
+}
+
+/// Whether a key is among these.
+pub(crate) fn has_key(keys: &[&str], key: &str) -> bool {
+    for known in keys {
+        if *known == key {
+            return true;
+        }
+    }
+    false
+}
+
+// A part that is not an object.
+fn refused_kind(
+    alloc: Global,
+    part: Part,
+    json: &Value,
+) -> Result<Option<RefusedPart>, AllocError> {
+    let says = [name_of(part), " is an object, and this is ", kind_of(json)];
+    match json.as_str() {
+        Some(id) if part == Part::Member && is_plain(id) => {
+            part_of(alloc, &says, &["write {\"id\":\"", shown(id), "\"}"])
+        }
+        _ => part_of(alloc, &says, &[]),
+    }
+}
+
+// A key that a part may not have.
+fn refused_key(alloc: Global, part: Part, key: &str) -> Result<Option<RefusedPart>, AllocError> {
+    let found = match left_out_key(part, key) {
+        Some((says, hint)) => part_saying(alloc, says, hint)?,
+        None => { unknown_key(alloc, name_of(part), key, keys_of(part))? }
+    };
+    at(alloc, Step::Key(key), found)
+}
+
+/// What is said of a key that is not among these, with the key that is likely meant, or with all of them. `what` is what has the keys,
+/// in words.
+pub(crate) fn unknown_key(
+    alloc: Global,
+    what: &str,
+    key: &str,
+    keys: &[&'static str],
+) -> Result<Option<RefusedPart>, AllocError> {
+    let says = [shown(what), " has no key `", shown(key), "`"];
+    match nearest_key(key, keys) {
+        Some(meant) => part_of(alloc, &says, &["is `", shown(meant), "` meant?"]),
+        None => {
+            let list = list_of(alloc, keys)?;
+            part_of(alloc, &says, &["its keys: ", list.as_str()])
+        }
+    }
+}
+
+// The key that is likely meant: a near one, or one of which the other is the beginning.
+fn nearest_key(key: &str, keys: &[&'static str]) -> Option<&'static str> {
+    for known in keys {
+        if is_near(key, *known) || is_beginning(key, *known) || is_beginning(*known, key) {
+            return Some(*known);
+        }
+    }
+    None
+}
+
+fn is_beginning(begin: &str, key: &str) -> bool {
+    begin.len() >= LEAST && key.starts_with(begin)
+}
+
+fn list_of(alloc: Global, keys: &[&str]) -> Result<String, AllocError> {
+    let mut list = String::new(alloc);
+    for (index, key) in keys.iter().enumerate() {
+        if index > 0 {
+            list.push_str(", ")?;
+        }
+        push_all(&mut list, &["`", shown(*key), "`"])?;
+    }
+    Ok(list)
+}
+
+/// What is wrong at a key that has to hold a string (302), or none. `what` is what the key belongs to, in words.
+pub(crate) fn refused_text(
+    alloc: Global,
+    json: &Value,
+    key: &str,
+    what: &str,
+) -> Result<Option<RefusedPart>, AllocError> {
+    match json.get(key) {
+        Some(Value::String(_)) => Ok(None),
+        Some(other) => {
+            let found = part_of(
+                alloc,
+                &["a string is wanted, and this is ", kind_of(other)],
+                &[],
+            )?;
+            at(alloc, Step::Key(key), found)
+        }
+        None => part_of(
+            alloc,
+            &[shown(what), " needs the key `", shown(key), "`"],
+            &[],
+        ),
+    }
+}
+
+/// What is said of the value at a key that is not an object (302).
+pub(crate) fn refused_object(
+    alloc: Global,
+    key: &str,
+    json: &Value,
+) -> Result<Option<RefusedPart>, AllocError> {
+    let found = other_kind(alloc, key, kind_of(json))?;
+    at(alloc, Step::Key(key), found)
+}
+
+fn other_kind(alloc: Global, key: &str, kind: &str) -> Result<Option<RefusedPart>, AllocError> {
+    let says = ["`", shown(key), "` is an object, and this is ", shown(kind)];
+    part_of(alloc, &says, &[])
+}

@@ -1,0 +1,58 @@
+//! What Cedar has and this engine does not, in words.
+use crate::part::{RefusedPart, part_of};
+use cedar_schema_json::Part;
+use std::alloc::{AllocError, Global};
+
+/// What is said of annotations.
+pub(crate) const ANNOTATIONS: &str = "annotations are not read here";
+
+/// What to do about annotations.
+pub(crate) const WITHOUT_ANNOTATIONS: &str =
+    "remove `annotations`; tools/from_cedar does it for a whole file";
+
+/// What is said of a key of Cedar that a part may not have here, and what to do; or none of another key.
+pub(crate) fn left_out_key(part: Part, key: &str) -> Option<(&'static str, &'static str)> {
+    if key == "annotations" {
+        return Some((ANNOTATIONS, WITHOUT_ANNOTATIONS));
+    }
+    if part != Part::EntityType {
+        return None;
+    }
+    match key {
+        "tags" => Some((
+            "entity tags are not in this engine",
+            "remove `tags`, and declare in `shape` the attributes that policies read",
+        )),
+        "enum" => Some((
+            "enumerated entity types are not in this engine",
+            "write {}: the entities of a type may have any ids",
+        )),
+        "attributes" => Some((
+            "an entity type has its attributes in `shape`",
+            "write \"shape\":{\"type\":\"Record\",\"attributes\":{..}}",
+        )),
+        _ => None,
+    }
+}
+
+/// What to write in place of an extension type of Cedar that is not in this engine; none of another name.
+pub(crate) fn left_out_extension(name: &str) -> Option<&'static str> {
+    match name {
+        "ipaddr" => Some("write {\"type\":\"String\"}, and compare it with `==` or `like`"),
+        "datetime" => Some("write {\"type\":\"Long\"}, for example milliseconds since 1970"),
+        "duration" => Some("write {\"type\":\"Long\"}, for example milliseconds"),
+        _ => None,
+    }
+}
+
+/// What is said of the type that Cedar's own translator writes for every name.
+pub(crate) fn entity_or_common(alloc: Global) -> Result<Option<RefusedPart>, AllocError> {
+    part_of(
+        alloc,
+        &["`EntityOrCommon` is what Cedar's translator writes; here it is not read"],
+        &[
+            "write {\"type\":\"String\"}, {\"type\":\"Entity\",\"name\":\"T\"} or {\"type\":\"C\"} of a common type",
+            "; tools/from_cedar does it for a whole file",
+        ],
+    )
+}

@@ -1,0 +1,120 @@
+//! The keys that types may have.
+use crate::built_in::{is_built_in, meant_built_in};
+use crate::keys::{has_key, unknown_key};
+use crate::left_out::{ANNOTATIONS, WITHOUT_ANNOTATIONS, entity_or_common};
+use crate::part::{RefusedPart, at, part_of, part_saying};
+use crate::step::Step;
+use crate::text::{joined, shown};
+use serde_json::{Map, Value};
+use std::alloc::{AllocError, Global};
+
+static PLAIN_KEYS: [&str; 1] = ["type"];
+
+static SET_KEYS: [&str; 2] = ["type", "element"];
+
+static RECORD_KEYS: [&str; 3] = ["type", "attributes", "additionalAttributes"];
+
+static NAMED_KEYS: [&str; 2] = ["type", "name"];
+
+static PLAIN_ATTRIBUTE_KEYS: [&str; 2] = ["type", "required"];
+
+static SET_ATTRIBUTE_KEYS: [&str; 3] = ["type", "element", "required"];
+
+static RECORD_ATTRIBUTE_KEYS: [&str; 4] = [
+    "type",
+    "attributes",
+    "additionalAttributes",
+    "required",
+];
+
+static NAMED_ATTRIBUTE_KEYS: [&str; 3] = ["type", "name", "required"];
+
+// The keys of a type, or of an attribute of the type.
+fn keys_of(text: &str, is_attribute: bool) -> &'static [&'static str] {
+    if is_attribute {
+        return keys_of_attribute(text);
+    }
+    keys_of_type(text)
+}
+
+fn keys_of_type(text: &str) -> &'static [&'static str] {
+    match text {
+        "Set" => &SET_KEYS,
+        "Record" => &RECORD_KEYS,
+        "Entity" | "Extension" => &NAMED_KEYS,
+        _ => &PLAIN_KEYS,
+    }
+}
+
+fn keys_of_attribute(text: &str) -> &'static [&'static str] {
+    match text {
+        "Set" => &SET_ATTRIBUTE_KEYS,
+        "Record" => &RECORD_ATTRIBUTE_KEYS,
+        "Entity" | "Extension" => &NAMED_ATTRIBUTE_KEYS,
+        _ => &PLAIN_ATTRIBUTE_KEYS,
+    }
+}
+
+/// The first key that a type, or an attribute of the type, may not have (302), or none.
+pub(crate) fn refused_type_keys(
+    alloc: Global,
+    members: &Map<String, Value>,
+    text: &str,
+    is_attribute: bool,
+) -> Result<Option<RefusedPart>, AllocError> {
+    for (key, _) in members.iter() {
+        if !has_key(keys_of(text, is_attribute), key.as_str()) {
+            return refused_type_key(alloc, text, key.as_str(), is_attribute);
+        }
+    }
+    Ok(None)
+}
+
+fn refused_type_key(
+    alloc: Global,
+    text: &str,
+    key: &str,
+    is_attribute: bool,
+) -> Result<Option<RefusedPart>, AllocError> {
+    if text == "EntityOrCommon" && key == "name" {
+        return entity_or_common(alloc);
+    }
+    let found = match key {
+        "annotations" => part_saying(alloc, ANNOTATIONS, WITHOUT_ANNOTATIONS)?,
+        "required" => part_of(
+            alloc,
+            &["only an attribute of a record has `required`"],
+            &["remove `required`"],
+        )?,
+        _ => other_key(alloc, text, key, is_attribute)?,
+    };
+    at(alloc, Step::Key(key), found)
+}
+
+fn other_key(
+    alloc: Global,
+    text: &str,
+    key: &str,
+    is_attribute: bool,
+) -> Result<Option<RefusedPart>, AllocError> {
+    let what = joined(alloc, &["the type `", shown(text), "`"])?;
+    match meant_with_key(text, key) {
+        Some(meant) => part_of(
+            alloc,
+            &[what.as_str(), " has no key `", shown(key), "`"],
+            &["is the type `", shown(meant), "` meant?"],
+        ),
+        None => unknown_key(alloc, what.as_str(), key, keys_of(text, is_attribute)),
+    }
+}
+
+// The built-in type that is likely meant by another name, if it has the key.
+fn meant_with_key(text: &str, key: &str) -> Option<&'static str> {
+    if is_built_in(text) {
+        return None;
+    }
+    match meant_built_in(text) {
+        Some(meant) if has_key(keys_of_attribute(meant), key) => Some(meant),
+        _ => None,
+    }
+}

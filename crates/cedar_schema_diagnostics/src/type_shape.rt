@@ -1,0 +1,130 @@
+//! The shape of the JSON of one type, without the types in it.
+use crate::built_in::meant_built_in;
+use crate::keys::{refused_object, refused_text};
+use crate::kinds::kind_of;
+use crate::part::{RefusedPart, at, part_of};
+use crate::step::Step;
+use crate::text::{is_plain, shown};
+use crate::type_keys::refused_type_keys;
+use serde_json::{Map, Value};
+use std::alloc::{AllocError, Global};
+
+/// Why the JSON of a type, or of an attribute, has another shape than the format allows (302), or none. The types in it are not looked
+/// at.
+pub(crate) fn refused_shape(
+    alloc: Global,
+    json: &Value,
+    is_attribute: bool,
+) -> Result<Option<RefusedPart>, AllocError> {
+    let Some(members) = json.as_object() else {
+        return refused_kind(alloc, json);
+    };
+    if is_attribute {
+        let found = refused_truth(alloc, json, "required", "true or false")?;
+        if found.is_some() {
+            return Ok(found);
+        }
+    }
+    match json.get("type") {
+        Some(Value::String(text)) => {
+            refused_members(alloc, json, members, text.as_str(), is_attribute)
+        }
+        Some(other) => {
+            let found = part_of(
+                alloc,
+                &["a string is wanted, and this is ", kind_of(other)],
+                &[],
+            )?;
+            at(alloc, Step::Key("type"), found)
+        }
+        None => without_type(alloc, json),
+    }
+}
+
+// A type that is not an object.
+fn refused_kind(alloc: Global, json: &Value) -> Result<Option<RefusedPart>, AllocError> {
+    let says = ["a type is an object, and this is ", kind_of(json)];
+    match json.as_str() {
+        Some(text) if is_plain(text) => {
+            let name = meant_built_in(text).unwrap_or(text);
+            part_of(alloc, &says, &["write {\"type\":\"", shown(name), "\"}"])
+        }
+        _ => part_of(alloc, &says, &[]),
+    }
+}
+
+fn without_type(alloc: Global, json: &Value) -> Result<Option<RefusedPart>, AllocError> {
+    let says = ["a type needs the key `type`"];
+    if json.get("attributes").is_some() {
+        return part_of(
+            alloc,
+            &says,
+            &["write \"type\":\"Record\" beside `attributes`"],
+        );
+    }
+    if json.get("element").is_some() {
+        return part_of(alloc, &says, &["write \"type\":\"Set\" beside `element`"]);
+    }
+    part_of(alloc, &says, &[])
+}
+
+fn refused_members(
+    alloc: Global,
+    json: &Value,
+    members: &Map<String, Value>,
+    text: &str,
+    is_attribute: bool,
+) -> Result<Option<RefusedPart>, AllocError> {
+    let found = refused_type_keys(alloc, members, text, is_attribute)?;
+    if found.is_some() {
+        return Ok(found);
+    }
+    match text {
+        "Set" if json.get("element").is_none() => part_of(
+            alloc,
+            &["the type `Set` needs the key `element`"],
+            &[
+                "write {\"type\":\"Set\",\"element\":{\"type\":\"String\"}}, or the type of the members",
+            ],
+        ),
+        "Record" => refused_record(alloc, json),
+        "Entity" => refused_text(alloc, json, "name", "the type `Entity`"),
+        "Extension" => refused_text(alloc, json, "name", "the type `Extension`"),
+        _ => Ok(None),
+    }
+}
+
+fn refused_record(alloc: Global, json: &Value) -> Result<Option<RefusedPart>, AllocError> {
+    let found = refused_truth(alloc, json, "additionalAttributes", "false")?;
+    if found.is_some() {
+        return Ok(found);
+    }
+    match json.get("attributes") {
+        Some(attributes) if !attributes.is_object() => {
+            refused_object(alloc, "attributes", attributes)
+        }
+        _ => Ok(None),
+    }
+}
+
+// Why the value at a key is not a Boolean, or none. `wanted` is what it may be, in words.
+fn refused_truth(
+    alloc: Global,
+    json: &Value,
+    key: &str,
+    wanted: &str,
+) -> Result<Option<RefusedPart>, AllocError> {
+    match json.get(key) {
+        None => Ok(None),
+        Some(Value::Bool(_)) => Ok(None),
+        Some(other) => {
+            let found = other_kind(alloc, wanted, kind_of(other))?;
+            at(alloc, Step::Key(key), found)
+        }
+    }
+}
+
+fn other_kind(alloc: Global, wanted: &str, kind: &str) -> Result<Option<RefusedPart>, AllocError> {
+    let says = [shown(wanted), " is wanted, and this is ", shown(kind)];
+    part_of(alloc, &says, &[])
+}

@@ -1,0 +1,103 @@
+//! Names that are not declared: where they were looked for, and which names are likely meant.
+use crate::near::is_near;
+use crate::text::{push_all, shown};
+use cedar_schema_json::{has_colon, qualified};
+use cedar_value::Name;
+use std::alloc::{AllocError, Global};
+use std::collections::BTreeSet;
+
+/// Appends that a name is not declared, and where it was looked for: a name with `::` as it is, another in its own namespace and in the
+/// empty one. `what` is what it would name, in words.
+pub(crate) fn push_nowhere(
+    says: &mut String,
+    what: &str,
+    text: &str,
+    namespace: &str,
+) -> Result<(), AllocError> {
+    push_all(says, &["there is no ", shown(what), " `", shown(text), "`"])?;
+    if has_colon(text) {
+        return Ok(());
+    }
+    push_namespaces(says, namespace)
+}
+
+/// Appends that a name was looked for in a namespace and in the empty one.
+pub(crate) fn push_namespaces(says: &mut String, namespace: &str) -> Result<(), AllocError> {
+    push_namespace(says, namespace)?;
+    if namespace.is_empty() {
+        Ok(())
+    } else {
+        says.push_str(", nor in the empty one")
+    }
+}
+
+/// Appends that a name was looked for in a namespace.
+pub(crate) fn push_namespace(says: &mut String, namespace: &str) -> Result<(), AllocError> {
+    if namespace.is_empty() {
+        says.push_str(" in the empty namespace")
+    } else {
+        push_all(says, &[" in the namespace `", shown(namespace), "`"])
+    }
+}
+
+/// The name that is likely meant by a text that is written in a namespace, or none: the same name with its namespace or without it,
+/// or else one that is near.
+pub(crate) fn meant_name(
+    alloc: Global,
+    names: &BTreeSet<Name>,
+    namespace: &str,
+    text: &str,
+) -> Result<Option<Name>, AllocError> {
+    for name in names.iter() {
+        if last_word(name.as_str()) == text || last_word(text) == name.as_str() {
+            return Ok(Some(name.try_clone(alloc)?));
+        }
+    }
+    let whole = qualified(alloc, namespace, text)?;
+    near_name(alloc, names, whole.as_str(), text)
+}
+
+// The first name that is near one of two texts.
+fn near_name(
+    alloc: Global,
+    names: &BTreeSet<Name>,
+    whole: &str,
+    text: &str,
+) -> Result<Option<Name>, AllocError> {
+    for name in names.iter() {
+        if is_near(whole, name.as_str()) || is_near(text, name.as_str()) {
+            return Ok(Some(name.try_clone(alloc)?));
+        }
+    }
+    Ok(None)
+}
+
+/// What is after the last `::` of a name.
+pub(crate) fn last_word(name: &str) -> &str {
+    match name.rsplit_once("::") {
+        Some((_, word)) => word,
+        None => name,
+    }
+}
+
+/// What offers a name: the name between two texts.
+pub(crate) fn meant_hint(
+    alloc: Global,
+    before: &str,
+    name: &Name,
+    namespace: &str,
+    after: &str,
+) -> Result<String, AllocError> {
+    let mut hint = String::from_str(alloc, before)?;
+    hint.push_str(as_written(name.as_str(), namespace))?;
+    hint.push_str(after)?;
+    Ok(hint)
+}
+
+// A name as it may be written in a namespace: there, a name of this namespace needs no `::`.
+fn as_written<'n>(name: &'n str, namespace: &str) -> &'n str {
+    match name.rsplit_once("::") {
+        Some((space, word)) if space == namespace => word,
+        _ => name,
+    }
+}

@@ -1,0 +1,98 @@
+//! What is said of a request line.
+ghost use Rattle.cedar_schema_spec.specs.Conformance.{Fits};
+
+use crate::entries::entries_of;
+use crate::json_text::json_of;
+use crate::layout::text_of;
+use crate::options::WhyOptions;
+use cedar_auth::{Ready, Response};
+use cedar_value::Request;
+use std::alloc::{AllocError, Global};
+
+/// What is said of one request line: text of whole lines, each ended by `\n`. `text` is the policy text that the policies were read
+/// from, `line` the request line without its end, and `number` its number, from 1.
+///
+/// As text it is the decision and what it is due to, the entities of the request, and a line for each policy that matters. As JSON it
+/// is one object. Of a line that is not a request the number of its refusal is said.
+///
+/// # Errors
+///
+/// Fails only when out of memory.
+pub fn why_line(
+    alloc: Global,
+    ready: &Ready,
+    text: &str,
+    line: &[u8],
+    number: usize,
+    options: WhyOptions,
+) -> Result<String, AllocError> {
+    match ready.read(alloc, line) {
+        Ok(request) => {
+            let says = of_request(alloc, ready, text, &request, number, options);
+            drop(request);
+            says
+        }
+        Err(fault) => {
+            let refusal = fault.number();
+            drop(fault);
+            of_refusal(alloc, number, refusal, options.json)
+        }
+    }
+}
+
+// What is said of a line that is refused. Out of memory is passed on.
+fn of_refusal(alloc: Global, line: usize, refusal: u16, json: bool) -> Result<String, AllocError> {
+    if refusal == 1 {
+        return Err(AllocError);
+    }
+    if json {
+        format!(in alloc; "{{\"line\":{line},\"refused\":{refusal}}}\n")
+    } else {
+        format!(in alloc; "line {line}: refused {refusal}\n")
+    }
+}
+
+// What is said of a request.
+fn of_request(
+    alloc: Global,
+    ready: &Ready,
+    text: &str,
+    request: &Request,
+    number: usize,
+    options: WhyOptions,
+) -> Result<String, AllocError>
+    requires { Fits ready.now.schema request.now }
+{
+    match ready.answer(alloc, request) {
+        Ok(response) => {
+            let says = of_response(alloc, ready, text, request, &response, number, options);
+            drop(response);
+            says
+        }
+        Err(error) => Err(error),
+    }
+}
+
+// What is said of a request with this response.
+fn of_response(
+    alloc: Global,
+    ready: &Ready,
+    text: &str,
+    request: &Request,
+    response: &Response<'_>,
+    number: usize,
+    options: WhyOptions,
+) -> Result<String, AllocError>
+    requires { Fits ready.now.schema request.now }
+{
+    let all = options.all;
+    let decision = response.decision;
+    let entries = entries_of(alloc, ready, request, text, decision, all)?;
+    let says = if options.json {
+        json_of(alloc, ready, request, response, &entries, text, number)
+    } else {
+        text_of(alloc, ready, request, response, &entries, text, number, all)
+    };
+    drop(entries);
+    says
+}

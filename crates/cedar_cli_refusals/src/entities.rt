@@ -1,0 +1,111 @@
+//! The rows of docs/REFUSALS.md, `Entities`. tools/refusals writes this file.
+use crate::row::Row;
+
+/// Refusals of the entities file.
+pub(crate) const ROWS: [Row; 15] = [
+    Row {
+        number: 401,
+        refused: "the entities file",
+        when: "two entities have the same uid",
+        example: "`[{\"uid\":{\"type\":\"Group\",\"id\":\"g\"}},{\"uid\":{\"type\":\"Group\",\"id\":\"g\"}}]`",
+        remedy: "list each entity once",
+    },
+    Row {
+        number: 402,
+        refused: "the entities file",
+        when: "an entity is below itself",
+        example: "`[{\"uid\":{\"type\":\"Group\",\"id\":\"a\"},\"parents\":[{\"type\":\"Group\",\"id\":\"b\"}]},{\"uid\":{\"type\":\"Group\",\"id\":\"b\"},\"parents\":[{\"type\":\"Group\",\"id\":\"a\"}]}]`",
+        remedy: "break the circle of parents",
+    },
+    Row {
+        number: 501,
+        refused: "the entities file",
+        when: "the entities are not UTF-8, not JSON, or nested deeper than 127",
+        example: "`[`",
+        remedy: "find the mistake with a JSON tool, for example `jq . entities.json`",
+    },
+    Row {
+        number: 501,
+        refused: "the entities file",
+        when: "the same",
+        example: "128 times `[` 128 times `]`",
+        remedy: "as above",
+    },
+    Row {
+        number: 501,
+        refused: "the entities file",
+        when: "the same",
+        example: "the byte FF",
+        remedy: "save the file as UTF-8",
+    },
+    Row {
+        number: 502,
+        refused: "the entities file",
+        when: "the JSON has the wrong form: not a list, an entry that is not an object, an unknown key, `uid` is missing",
+        example: "`[{\"uid\":{\"type\":\"Group\",\"id\":\"g\"},\"attr\":{}}]`",
+        remedy: "compare with `docs/DATA.md`",
+    },
+    Row {
+        number: 502,
+        refused: "the entities file",
+        when: "a uid is not a uid object",
+        example: "`[{\"uid\":\"Group::\\\"g\\\"\"}]`",
+        remedy: "write `{\"type\":\"Group\",\"id\":\"g\"}`",
+    },
+    Row {
+        number: 503,
+        refused: "the entities file",
+        when: "the type of an entity is not declared",
+        example: "`[{\"uid\":{\"type\":\"Ghost\",\"id\":\"g\"}}]`",
+        remedy: "declare it, or correct the name",
+    },
+    Row {
+        number: 503,
+        refused: "the entities file",
+        when: "the type of a parent is not a declared entity type",
+        example: "`[{\"uid\":{\"type\":\"User\",\"id\":\"ann\"},\"parents\":[{\"type\":\"Action\",\"id\":\"view\"}]}]`",
+        remedy: "as above",
+    },
+    Row {
+        number: 504,
+        refused: "the entities file",
+        when: "an attribute has another type than in the schema",
+        example: "`[{\"uid\":{\"type\":\"User\",\"id\":\"ann\"},\"attrs\":{\"age\":null}}]`",
+        remedy: "write a value of that type; leave out an optional attribute that has no value",
+    },
+    Row {
+        number: 505,
+        refused: "the entities file",
+        when: "a required attribute is missing",
+        example: "`[{\"uid\":{\"type\":\"Doc\",\"id\":\"d\"}}]`",
+        remedy: "add it, or declare it with `\"required\":false`",
+    },
+    Row {
+        number: 506,
+        refused: "the entities file",
+        when: "an attribute is not declared",
+        example: "`[{\"uid\":{\"type\":\"Doc\",\"id\":\"d\"},\"attrs\":{\"name\":\"plans\",\"size\":1}}]`",
+        remedy: "remove it, or declare it",
+    },
+    Row {
+        number: 507,
+        refused: "the entities file",
+        when: "the type of an entity does not descend from the type of its parent",
+        example: "`[{\"uid\":{\"type\":\"User\",\"id\":\"ann\"},\"parents\":[{\"type\":\"Doc\",\"id\":\"d\"}]}]`",
+        remedy: "correct the parent, or `memberOfTypes` in the schema",
+    },
+    Row {
+        number: 508,
+        refused: "the entities file",
+        when: "an entry of an action differs from the schema",
+        example: "`[{\"uid\":{\"type\":\"Action\",\"id\":\"delete\"},\"parents\":[{\"type\":\"Action\",\"id\":\"read\"}]}]`",
+        remedy: "leave the entry out: the actions come from the schema",
+    },
+    Row {
+        number: 509,
+        refused: "the entities file",
+        when: "a number is not a whole number of 64 bits",
+        example: "`[{\"uid\":{\"type\":\"User\",\"id\":\"ann\"},\"attrs\":{\"age\":9223372036854775808}}]`",
+        remedy: "write a whole number of 64 bits, without a point and without an exponent",
+    },
+];

@@ -10,7 +10,6 @@ use Rattle.cedar_cli.specs.EntitiesFile.{HoldsNoWorld}
 use Rattle.cedar_cli.specs.Unread.{IfRefused}
 use Rattle.cedar_cli.specs.declared.reading.Unread.{Unread}
 use Rattle.cedar_cli.specs.declared.reading.Unread.TheVariants.{Refused, Unnamed, Device, Memory}
-use Rattle.cedar_cli.specs.declared.refusal.FileRefusal.{FileRefusal}
 
 -- what is refused of the bytes that were read is refused of the file
 pub of_bytes : (s : SchemaTree) (holds : Option (Option (List ℕ))) (bytes : List ℕ) (fault : ConformFault) (unread : Unread)

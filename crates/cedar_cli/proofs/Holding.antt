@@ -1,5 +1,5 @@
 -- Lemmas on what the files hold.
-use Rattle.std.proofs.Common.{◌≡◌, ℕ, List, Option, sym, subst}
+use Rattle.std.proofs.Common.{◌≡◌, ℕ, List, sym, subst}
 use Rattle.std.specs.Prelude.{IfSome}
 use Rattle.cedar_value.specs.declared.request.Request.{Request}
 use Rattle.cedar_ast.specs.PolicySetTree.{PolicySetTree}

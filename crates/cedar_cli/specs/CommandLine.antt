@@ -4,33 +4,71 @@ use Rattle.clap.specs.Words.{App, Rule, Text, new_app, new_rule, with_rule, with
 use Rattle.clap.specs.Simple.{on_top}
 use Rattle.clap.specs.declared.builder.action.ArgAction.TheVariants.{SetTrue}
 
--- The option `--name FILE`, which takes one value, called FILE in the help, and has to be there where it is required (clap, `Arg::long`).
-abbrev pub file_rule : Text → Bool → Rule
-file_rule name required = record (new_rule name) { long = Some name; value_names = 1; required = required }
+-- The option `--name VALUE`, which takes one value, and has to be there where it is required (clap, `Arg::long`).
+abbrev pub option_rule : Text → Bool → Rule
+option_rule name required = record (new_rule name) { long = Some name; value_names = 1; required = required }
 
 -- The flag `--name`, which takes no value (clap, `ArgAction::SetTrue`).
 abbrev pub flag_rule : Text → Rule
 flag_rule name = record (new_rule name) { long = Some name; action = Some SetTrue }
 
+-- A word without an option, which has to be there (clap, positional arguments).
+abbrev pub word_rule : Text → Rule
+word_rule name = record (new_rule name) { value_names = 1; required = true }
+
+-- A subcommand with the options `[--quiet] [--diagnostics FORMAT]` after its own (own).
+abbrev pub explained : App → App
+explained a = with_rule (with_rule a (flag_rule (codes "quiet"))) (option_rule (codes "diagnostics") false)
+
 -- A subcommand `NAME --schema FILE --policies FILE [--links FILE]` (own).
 abbrev pub over_policies : Text → App
 over_policies name =
-    with_rule (with_rule (with_rule (new_app name) (file_rule (codes "schema") true)) (file_rule (codes "policies") true))
-    (file_rule (codes "links") false)
+    with_rule (with_rule (with_rule (new_app name) (option_rule (codes "schema") true)) (option_rule (codes "policies") true))
+    (option_rule (codes "links") false)
 
--- The subcommand `validate --schema FILE --policies FILE [--links FILE] [--any-decimal] [--quiet]` (own).
+-- A subcommand over policies, with `--entities FILE [--any-decimal]` (own).
+abbrev pub over_entities : Text → App
+over_entities name = with_rule (with_rule (over_policies name) (option_rule (codes "entities") true)) (flag_rule (codes "any-decimal"))
+
+-- The subcommand `validate`, over policies, with `[--any-decimal] [--deny-warnings]` (own).
 abbrev pub validate_app : App
-validate_app = with_rule (with_rule (over_policies (codes "validate")) (flag_rule (codes "any-decimal"))) (flag_rule (codes "quiet"))
+validate_app = explained (with_rule (with_rule (over_policies (codes "validate")) (flag_rule (codes "any-decimal"))) (flag_rule (codes "deny-warnings")))
 
--- The subcommand `authorize --schema FILE --policies FILE [--links FILE] --entities FILE [--any-decimal] [--quiet]` (own).
+-- The subcommand `authorize`, over entities, with `[--explain-lines]` (own).
 abbrev pub authorize_app : App
-authorize_app =
-    with_rule (with_rule (with_rule (over_policies (codes "authorize")) (file_rule (codes "entities") true)) (flag_rule (codes "any-decimal")))
-    (flag_rule (codes "quiet"))
+authorize_app = explained (with_rule (over_entities (codes "authorize")) (flag_rule (codes "explain-lines")))
 
--- The program: `cedar` and one of the two subcommands, which has to be there; `--version` prints its version (own).
+-- The subcommand `why`, over entities, with `[--all] [--json]` (own).
+abbrev pub why_app : App
+why_app = explained (with_rule (with_rule (over_entities (codes "why")) (flag_rule (codes "all"))) (flag_rule (codes "json")))
+
+-- A subcommand with the options `--principal UID --action UID --resource UID [--context FILE]` after its own (own).
+abbrev pub over_request : App → App
+over_request a =
+    with_rule (with_rule (with_rule (with_rule a (option_rule (codes "principal") true)) (option_rule (codes "action") true)) (option_rule (codes "resource") true))
+    (option_rule (codes "context") false)
+
+-- The subcommand `ask`, over entities and a request (own).
+abbrev pub ask_app : App
+ask_app = explained (over_request (over_entities (codes "ask")))
+
+-- The subcommand `check-parse --policies FILE` (own).
+abbrev pub check_parse_app : App
+check_parse_app = explained (with_rule (new_app (codes "check-parse")) (option_rule (codes "policies") true))
+
+-- The subcommand `explain NUMBER` (own).
+abbrev pub explain_app : App
+explain_app = with_rule (new_app (codes "explain")) (word_rule (codes "number"))
+
+-- The program's own settings: one of its subcommands has to be there, and `--version` prints its version (own).
+abbrev pub top : App
+top = on_top (λ s. record s { has_version = true; subcommand_required = true }) (new_app (codes "cedar"))
+
+-- The program: `cedar` and its six subcommands (own).
 abbrev pub program : App
 program =
     with_subcommand
-    (with_subcommand (on_top (λ s. record s { has_version = true; subcommand_required = true }) (new_app (codes "cedar"))) validate_app.top)
-    authorize_app.top
+    (with_subcommand
+    (with_subcommand (with_subcommand (with_subcommand (with_subcommand top validate_app.top) authorize_app.top) why_app.top) ask_app.top)
+    check_parse_app.top)
+    explain_app.top

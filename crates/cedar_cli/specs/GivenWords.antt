@@ -2,14 +2,20 @@
 use Rattle.std.specs.Prelude.{◌≡◌, Bool, true, false, List, codes, Option, Some, None, option_map}
 use Rattle.clap.specs.Words.{Row, Text, first_of, one_of, subcommand_of}
 use Rattle.cedar_cli.specs.CommandLine.{program}
+use Rattle.cedar_cli.specs.declared.options.AskedRequest.{AskedRequest}
+use Rattle.cedar_cli.specs.declared.options.FileNames.{FileNames}
 use Rattle.cedar_cli.specs.declared.options.Subcommand.{Subcommand}
-use Rattle.cedar_cli.specs.declared.options.Subcommand.TheVariants.{Validate, Authorize}
+use Rattle.cedar_cli.specs.declared.options.Subcommand.TheVariants.{Validate, Authorize, Why, Ask, CheckParse, Explain}
 use Rattle.cedar_cli.specs.declared.options.Words.{Words}
 
 -- The word that names a subcommand (own).
 abbrev pub subcommand_name : Subcommand → Text
 subcommand_name Validate = codes "validate"
 subcommand_name Authorize = codes "authorize"
+subcommand_name Why = codes "why"
+subcommand_name Ask = codes "ask"
+subcommand_name CheckParse = codes "check-parse"
+subcommand_name Explain = codes "explain"
 
 -- A flag of this value is on where the value is "true", and off where it is "false" or there is none (clap,
 -- `ArgMatches::get_flag`).
@@ -18,15 +24,34 @@ pub record IsFlag (value : Option Text) (on : Bool) : Type 0 where
   pub used : value ≡ Some (codes "true") → on ≡ true
   pub unused : value ≡ Some (codes "false") → on ≡ false
 
--- The words name this subcommand, and these files in its options: its rows of matches hold each file at its option's name,
--- and none where the option isn't used; and its flags are the setting and the quiet (clap, `ArgMatches::subcommand`, `ArgMatches::get_one` and
+-- The names of files are these: each at its option's name, and none where the option isn't used (clap, `ArgMatches::get_one`).
+pub record AreNamed (rows : List Row) (files : FileNames) : Type 0 where
+  pub schema : first_of (codes "schema") rows ≡ option_map (λ s. s.now) files.schema
+  pub policies : first_of (codes "policies") rows ≡ option_map (λ s. s.now) files.policies
+  pub links : first_of (codes "links") rows ≡ option_map (λ s. s.now) files.links
+  pub entities : first_of (codes "entities") rows ≡ option_map (λ s. s.now) files.entities
+
+-- The texts of the options of a request are these: each at its option's name, and none where the option isn't used (clap,
+-- `ArgMatches::get_one`).
+pub record AreAsked (rows : List Row) (r : AskedRequest) : Type 0 where
+  pub principal : first_of (codes "principal") rows ≡ option_map (λ s. s.now) r.principal
+  pub action : first_of (codes "action") rows ≡ option_map (λ s. s.now) r.action
+  pub resource : first_of (codes "resource") rows ≡ option_map (λ s. s.now) r.resource
+  pub context : first_of (codes "context") rows ≡ option_map (λ s. s.now) r.context
+
+-- The words name this subcommand, and these files and texts in its options: its rows of matches hold each at its option's name,
+-- and none where the option isn't used; and its flags are these (clap, `ArgMatches::subcommand`, `ArgMatches::get_one` and
 -- `ArgMatches::get_flag`).
 pub record AreGiven (words : List Text) (w : Words) : Type 0 where
   pub rows : List Row
   pub subcommand : subcommand_of program words ≡ Some (subcommand_name w.subcommand, rows)
-  pub schema : first_of (codes "schema") rows ≡ option_map (λ s. s.now) w.schema
-  pub policies : first_of (codes "policies") rows ≡ option_map (λ s. s.now) w.policies
-  pub links : first_of (codes "links") rows ≡ option_map (λ s. s.now) w.links
-  pub entities : first_of (codes "entities") rows ≡ option_map (λ s. s.now) w.entities
+  pub files : AreNamed rows w.files
+  pub request : AreAsked rows w.request
+  pub number : first_of (codes "number") rows ≡ option_map (λ s. s.now) w.number
+  pub diagnostics : first_of (codes "diagnostics") rows ≡ option_map (λ s. s.now) w.diagnostics
   pub any_decimal : IsFlag (one_of (codes "any-decimal") rows) w.settings.any_decimal
   pub quiet : IsFlag (one_of (codes "quiet") rows) w.quiet
+  pub deny_warnings : IsFlag (one_of (codes "deny-warnings") rows) w.deny_warnings
+  pub explain_lines : IsFlag (one_of (codes "explain-lines") rows) w.explain_lines
+  pub all : IsFlag (one_of (codes "all") rows) w.all
+  pub json : IsFlag (one_of (codes "json") rows) w.json

@@ -1,9 +1,11 @@
+pub mod Asking
 pub mod Authorization
 pub mod CommandLine
 pub mod Ending
 pub mod EntitiesFile
 pub mod GivenWords
 pub mod LinksFile
+pub mod Parsing
 pub mod PolicyFile
 pub mod Private
 pub mod Refusal

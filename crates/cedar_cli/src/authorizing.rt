@@ -32,8 +32,13 @@ use std::alloc::Global;
 /// 701: the code of a policy is too long.
 const TOO_LONG: u16 = 701;
 
-// Reports why the policies are not accepted for the schema under these settings.
-fn tell<K: Sink>(alloc: Global, refused: &NotValidated, sink: &mut K, settings: Settings) -> End
+/// Reports why the policies are not accepted for the schema under these settings.
+pub(crate) fn tell<K: Sink>(
+    alloc: Global,
+    refused: &NotValidated,
+    sink: &mut K,
+    settings: Settings,
+) -> End
     requires sink_count { K.failed sink.old < 2 ^ 64 - 1 }
     requires refused { HasFaultWith settings refused.now.schema refused.now.policies.policies refused.now.fault }
     ensures faults { result ≡ End.Faults → ¬ AreFaultsWith settings refused.now.schema refused.now.policies.policies []
@@ -57,8 +62,13 @@ fn tell<K: Sink>(alloc: Global, refused: &NotValidated, sink: &mut K, settings: 
     }
 }
 
-// Answers each request line.
-fn answer<S: Source, K: Sink>(alloc: Global, ready: &Ready, source: &mut S, sink: &mut K) -> End
+/// Answers each request line.
+pub(crate) fn answer<S: Source, K: Sink>(
+    alloc: Global,
+    ready: &Ready,
+    source: &mut S,
+    sink: &mut K,
+) -> End
     requires source_count { S.failed source.old < 2 ^ 64 - 1 }
     requires sink_count { K.failed sink.old < 2 ^ 64 - 1 }
     ensures done { result ≡ End.Done → IfSome (S.left source.old) (λ input. Writes (K.written sink.old) (K.written sink.new)

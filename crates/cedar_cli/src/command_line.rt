@@ -5,7 +5,7 @@ ghost use Rattle.cedar_cli.specs.CommandLine.{program};
 ghost use Rattle.cedar_cli.specs.GivenWords.{AreGiven, subcommand_name};
 
 use crate::command::command;
-use crate::options::{Subcommand, Words};
+use crate::options::{AskedRequest, FileNames, Subcommand, Words};
 use cedar_check_spec::Settings;
 use clap::error::ErrorKind;
 use std::alloc::{AllocError, Global};
@@ -18,6 +18,18 @@ fn subcommand_of(name: &str) -> Option<Subcommand>
     }
     if name == "authorize" {
         return Some(Subcommand::Authorize);
+    }
+    if name == "why" {
+        return Some(Subcommand::Why);
+    }
+    if name == "ask" {
+        return Some(Subcommand::Ask);
+    }
+    if name == "check-parse" {
+        return Some(Subcommand::CheckParse);
+    }
+    if name == "explain" {
+        return Some(Subcommand::Explain);
     }
     None
 }
@@ -45,13 +57,27 @@ pub fn words<'a>(alloc: Global, words: &'a [&'a str]) -> Result<Words<'a>, Words
     };
     Ok(Words {
         subcommand,
-        schema: found.get_str("schema"),
-        policies: found.get_str("policies"),
-        links: found.get_str("links"),
-        entities: found.get_str("entities"),
+        files: FileNames {
+            schema: found.get_str("schema"),
+            policies: found.get_str("policies"),
+            links: found.get_str("links"),
+            entities: found.get_str("entities"),
+        },
+        request: AskedRequest {
+            principal: found.get_str("principal"),
+            action: found.get_str("action"),
+            resource: found.get_str("resource"),
+            context: found.get_str("context"),
+        },
+        number: found.get_str("number"),
+        diagnostics: found.get_str("diagnostics"),
         settings: Settings {
             any_decimal: found.get_flag("any-decimal"),
         },
         quiet: found.get_flag("quiet"),
+        deny_warnings: found.get_flag("deny-warnings"),
+        explain_lines: found.get_flag("explain-lines"),
+        all: found.get_flag("all"),
+        json: found.get_flag("json"),
     })
 }

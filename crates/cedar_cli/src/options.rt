@@ -8,14 +8,19 @@ pub enum Subcommand {
     Validate,
     /// Answer the request lines of standard input.
     Authorize,
+    /// Say why the request lines of standard input are allowed or denied.
+    Why,
+    /// Answer the one request of the command line.
+    Ask,
+    /// Read the policies without a schema, and count them.
+    CheckParse,
+    /// Explain a number of a refusal.
+    Explain,
 }
 
-/// What a command line says: the subcommand, the name of each file, the settings, and whether to explain refusals. The name is None where its option isn't
-/// used.
+/// The names of files, each None where its option isn't used.
 #[derive(Clone, Copy, Debug)]
-pub struct Words<'a> {
-    /// The subcommand.
-    pub subcommand: Subcommand,
+pub struct FileNames<'a> {
     /// The file of the schema, after `--schema`.
     pub schema: Option<&'a str>,
     /// The file of the policies, after `--policies`.
@@ -24,8 +29,45 @@ pub struct Words<'a> {
     pub links: Option<&'a str>,
     /// The file of the entities, after `--entities`.
     pub entities: Option<&'a str>,
+}
+
+/// The request of a command line: of `ask`. A text is None where its option isn't used.
+#[derive(Clone, Copy, Debug)]
+pub struct AskedRequest<'a> {
+    /// The principal as a policy writes it, after `--principal`.
+    pub principal: Option<&'a str>,
+    /// The action, after `--action`.
+    pub action: Option<&'a str>,
+    /// The resource, after `--resource`.
+    pub resource: Option<&'a str>,
+    /// The file of the context, after `--context`.
+    pub context: Option<&'a str>,
+}
+
+/// What a command line says: the subcommand, the names of files, the settings, and what to write. A text is None where its option
+/// isn't used.
+#[derive(Clone, Copy, Debug)]
+pub struct Words<'a> {
+    /// The subcommand.
+    pub subcommand: Subcommand,
+    /// The names of files.
+    pub files: FileNames<'a>,
+    /// The request of `ask`.
+    pub request: AskedRequest<'a>,
+    /// The number that `explain` explains.
+    pub number: Option<&'a str>,
+    /// The form of what is explained on standard error, after `--diagnostics`.
+    pub diagnostics: Option<&'a str>,
     /// The choices beyond strict validation: `--any-decimal` turns `any_decimal` on.
     pub settings: Settings,
     /// `--quiet`: nothing is explained on standard error.
     pub quiet: bool,
+    /// `--deny-warnings`: `validate` ends with 3 where there are warnings alone.
+    pub deny_warnings: bool,
+    /// `--explain-lines`: `authorize` explains each refused request line.
+    pub explain_lines: bool,
+    /// `--all`: `why` shows each policy.
+    pub all: bool,
+    /// `--json`: `why` writes JSON.
+    pub json: bool,
 }

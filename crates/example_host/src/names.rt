@@ -1,8 +1,7 @@
 //! The names of a version's files.
-use cedar_check_spec::Settings;
-use cedar_cli::{NamedFiles, Subcommand, Words};
+use cedar_cli::{FileNames, NamedFiles};
 
-/// The names of a version's files. It has no links, and is validated strictly, under no setting.
+/// The names of a version's files. It has no links.
 #[derive(Clone, Copy)]
 pub struct Names<'a> {
     /// The file of the schema.
@@ -28,15 +27,12 @@ impl<'a> Names<'a> {
 
     /// The files of these names.
     pub fn files<R: std::rt::Files + AllocGlobal>(self, rt: &'a R) -> NamedFiles<'a, R> {
-        let words = Words {
-            subcommand: Subcommand::Authorize,
+        let names = FileNames {
             schema: Some(self.schema),
             policies: Some(self.policies),
             links: None,
             entities: Some(self.entities),
-            settings: Settings { any_decimal: false },
-            quiet: true,
         };
-        NamedFiles::new(rt, words)
+        NamedFiles::new(rt, names)
     }
 }

@@ -21,11 +21,15 @@ fn words_text(alloc: Global, read: &Words<'_>) -> Result<String, AllocError> {
     let subcommand = match read.subcommand {
         Subcommand::Validate => "validate",
         Subcommand::Authorize => "authorize",
+        Subcommand::Why => "why",
+        Subcommand::Ask => "ask",
+        Subcommand::CheckParse => "check-parse",
+        Subcommand::Explain => "explain",
     };
-    let schema = read.schema.unwrap_or("-");
-    let policies = read.policies.unwrap_or("-");
-    let links = read.links.unwrap_or("-");
-    let entities = read.entities.unwrap_or("-");
+    let schema = read.files.schema.unwrap_or("-");
+    let policies = read.files.policies.unwrap_or("-");
+    let links = read.files.links.unwrap_or("-");
+    let entities = read.files.entities.unwrap_or("-");
     let any_decimal = read.settings.any_decimal;
     format!(in alloc;
         "{subcommand} schema {schema} policies {policies} links {links} entities {entities} any-decimal {any_decimal}"

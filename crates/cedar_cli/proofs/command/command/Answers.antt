@@ -1,10 +1,12 @@
-use Rattle.std.proofs.Common.{◌≡◌, ◌∙◌, ap, ap₂, true, codes, rules}
-use Rattle.clap.specs.Words.{App, app_of, new_app, with_subcommand}
-use Rattle.clap.specs.Simple.{on_top}
+use Rattle.std.proofs.Common.{◌≡◌, ◌∙◌, ap, ap₂}
+use Rattle.clap.specs.Words.{App, with_subcommand}
 use Rattle.cedar_cli.proofs.command.command.Goals as goal
 
 pub returns : goal.returns
 returns c =
-    let top : app_of c.subcommand_required.result ≡ on_top (λ s. record s { has_version = true; subcommand_required = true }) (new_app (codes "cedar")) = search rules in
-    let first = c.in_ok-subcommand.ensures.shape c.in_ok-validate.ensures.local ∙ ap₂ with_subcommand top (ap (λ (a : App). a.top) c.in_ok-validate.ensures.app) in
-    c.in_ok-program.ensures.shape c.in_ok-authorize.ensures.local ∙ ap₂ with_subcommand first (ap (λ (a : App). a.top) c.in_ok-authorize.ensures.app)
+    let one = c.in_ok-subcommand.ensures.shape c.in_ok-validate.ensures.local ∙ ap₂ with_subcommand c.in_ok-top.ensures (ap (λ (a : App). a.top) c.in_ok-validate.ensures.app) in
+    let two = c.in_ok-subcommand-2.ensures.shape c.in_ok-authorize.ensures.local ∙ ap₂ with_subcommand one (ap (λ (a : App). a.top) c.in_ok-authorize.ensures.app) in
+    let three = c.in_ok-subcommand-3.ensures.shape c.in_ok-why.ensures.local ∙ ap₂ with_subcommand two (ap (λ (a : App). a.top) c.in_ok-why.ensures.app) in
+    let four = c.in_ok-subcommand-4.ensures.shape c.in_ok-ask.ensures.local ∙ ap₂ with_subcommand three (ap (λ (a : App). a.top) c.in_ok-ask.ensures.app) in
+    let five = c.in_ok-subcommand-5.ensures.shape c.in_ok-check_parse.ensures.local ∙ ap₂ with_subcommand four (ap (λ (a : App). a.top) c.in_ok-check_parse.ensures.app) in
+    c.in_ok-program.ensures.shape c.in_ok-explain.ensures.local ∙ ap₂ with_subcommand five (ap (λ (a : App). a.top) c.in_ok-explain.ensures.app)

@@ -19,10 +19,20 @@ returns-clause-ok c =
     record {
       rows = rows_of (found_of found);
       subcommand = ap (λ (a : App). subcommand_of a given) (sym c.in_ok-command.ensures) ∙ sym m.1 ∙ pair ∙ ap (λ (t : Text). let p : Text × List Row = (t, rows_of (found_of found)) in Some p) c.in-Some-subcommand_of.ensures;
-      schema = sym (c.get_str.ensures ∙ first_value-rows (found_of found) _);
-      policies = sym (c.get_str-2.ensures ∙ first_value-rows (found_of found) _);
-      links = sym (c.get_str-3.ensures ∙ first_value-rows (found_of found) _);
-      entities = sym (c.get_str-4.ensures ∙ first_value-rows (found_of found) _);
+      files = record {
+        schema = sym (c.get_str.ensures ∙ first_value-rows (found_of found) _);
+        policies = sym (c.get_str-2.ensures ∙ first_value-rows (found_of found) _);
+        links = sym (c.get_str-3.ensures ∙ first_value-rows (found_of found) _);
+        entities = sym (c.get_str-4.ensures ∙ first_value-rows (found_of found) _);
+      };
+      request = record {
+        principal = sym (c.get_str-5.ensures ∙ first_value-rows (found_of found) _);
+        action = sym (c.get_str-6.ensures ∙ first_value-rows (found_of found) _);
+        resource = sym (c.get_str-7.ensures ∙ first_value-rows (found_of found) _);
+        context = sym (c.get_str-8.ensures ∙ first_value-rows (found_of found) _);
+      };
+      number = sym (c.get_str-9.ensures ∙ first_value-rows (found_of found) _);
+      diagnostics = sym (c.get_str-10.ensures ∙ first_value-rows (found_of found) _);
       any_decimal = record {
         none = λ e. c.get_flag.ensures.none (one_text-rows (found_of found) _ ∙ e);
         used = λ e. c.get_flag.ensures.value (one_text-rows (found_of found) _ ∙ e);
@@ -32,5 +42,25 @@ returns-clause-ok c =
         none = λ e. c.get_flag-2.ensures.none (one_text-rows (found_of found) _ ∙ e);
         used = λ e. c.get_flag-2.ensures.value (one_text-rows (found_of found) _ ∙ e);
         unused = λ e. c.get_flag-2.ensures.other (one_text-rows (found_of found) _ ∙ e);
+      };
+      deny_warnings = record {
+        none = λ e. c.get_flag-3.ensures.none (one_text-rows (found_of found) _ ∙ e);
+        used = λ e. c.get_flag-3.ensures.value (one_text-rows (found_of found) _ ∙ e);
+        unused = λ e. c.get_flag-3.ensures.other (one_text-rows (found_of found) _ ∙ e);
+      };
+      explain_lines = record {
+        none = λ e. c.get_flag-4.ensures.none (one_text-rows (found_of found) _ ∙ e);
+        used = λ e. c.get_flag-4.ensures.value (one_text-rows (found_of found) _ ∙ e);
+        unused = λ e. c.get_flag-4.ensures.other (one_text-rows (found_of found) _ ∙ e);
+      };
+      all = record {
+        none = λ e. c.get_flag-5.ensures.none (one_text-rows (found_of found) _ ∙ e);
+        used = λ e. c.get_flag-5.ensures.value (one_text-rows (found_of found) _ ∙ e);
+        unused = λ e. c.get_flag-5.ensures.other (one_text-rows (found_of found) _ ∙ e);
+      };
+      json = record {
+        none = λ e. c.get_flag-6.ensures.none (one_text-rows (found_of found) _ ∙ e);
+        used = λ e. c.get_flag-6.ensures.value (one_text-rows (found_of found) _ ∙ e);
+        unused = λ e. c.get_flag-6.ensures.other (one_text-rows (found_of found) _ ∙ e);
       };
     }

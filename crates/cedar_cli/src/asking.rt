@@ -1,0 +1,68 @@
+//! The subcommand `ask`.
+ghost use Rattle.std.specs.Prelude.{◌-◌, ◌<◌, ◌^◌, IfOk};
+ghost use Rattle.cedar_auth_spec.specs.Ready.{ReadyTree};
+ghost use Rattle.cedar_cli.specs.Asking.{DecidesLine};
+ghost use Rattle.cedar_cli.specs.Authorization.{HoldAll};
+
+use crate::authorizing::answer;
+use crate::ending::End;
+use crate::files::Files;
+use crate::preparing::prepare;
+use base_lines::{Sink, SliceSource};
+use cedar_ast::Decision;
+use cedar_auth::Ready;
+use cedar_check_spec::Settings;
+use cedar_conform_values::ConformFault;
+use std::alloc::Global;
+
+// What the policies decide of a line; or how the program ends where the line is refused or memory ran out.
+fn decision_of(alloc: Global, ready: &Ready, line: &[u8]) -> Result<Decision, End>
+    ensures { IfOk result (λ decision. DecidesLine ready.now line.now decision) }
+{
+    match ready.read(alloc, line) {
+        Ok(request) => match ready.answer(alloc, &request) {
+            Ok(response) => Ok(response.decision),
+            Err(_) => Err(End::Memory),
+        },
+        Err(ConformFault::OutOfMemory) => Err(End::Memory),
+        Err(_) => Err(End::Refused),
+    }
+}
+
+// Answers a line, and gives what the policies decide of it.
+fn answer_line<K: Sink>(
+    alloc: Global,
+    ready: &Ready,
+    line: &[u8],
+    sink: &mut K,
+) -> Result<Decision, End>
+    requires { K.failed sink.old < 2 ^ 64 - 1 }
+    ensures { IfOk result (λ decision. DecidesLine ready.now line.now decision) }
+{
+    let mut source = SliceSource::new(line);
+    match answer(alloc, ready, &mut source, sink) {
+        End::Done => decision_of(alloc, ready, line),
+        end => Err(end),
+    }
+}
+
+/// Answers one request line, which has no line feed: it reads the files as `authorize` does, writes the answer line, and gives the
+/// decision.
+///
+/// # Errors
+///
+/// The error is how the program ends: `Refused` where a file or the line is refused, and otherwise as `authorize` ends. What is
+/// written then is what `authorize` writes.
+pub fn ask<F: Files, K: Sink>(
+    alloc: Global,
+    files: &F,
+    line: &[u8],
+    sink: &mut K,
+    settings: Settings,
+) -> Result<Decision, End>
+    requires { K.failed sink.old < 2 ^ 64 - 1 }
+    ensures { IfOk result (λ decision. (r : ReadyTree) × HoldAll settings (F.holds files.now) r × DecidesLine r line.now decision) }
+{
+    let ready = prepare(alloc, files, sink, settings)?;
+    answer_line(alloc, &ready, line, sink)
+}

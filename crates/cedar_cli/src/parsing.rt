@@ -1,0 +1,91 @@
+//! The subcommand `check-parse`.
+ghost use Rattle.std.specs.Prelude.{◌≡◌, ◌⊎◌, ◌-◌, ◌<◌, ◌^◌, ◌++◌, [], ◌∷◌, None, IfOk, IfSome, OnOk};
+ghost use Rattle.std.specs.Io.KnownBytes.{Keeps};
+ghost use Rattle.serde_json.specs.Written.{compact_text};
+ghost use Rattle.base_lines.specs.AnswerText.{Writes};
+ghost use Rattle.base_lines.specs.Lines.{line_feed};
+ghost use Rattle.cedar_ast.specs.PolicySetTree.{PolicySetTree};
+ghost use Rattle.cedar_cli.specs.Parsing.{IsCountsLine, counts_data};
+ghost use Rattle.cedar_cli.specs.PolicyFile.{HoldsNoPolicies, HoldsPolicies};
+ghost use Rattle.cedar_cli.specs.Standing.{IsRefusalLine};
+ghost use Rattle.cedar_cli.specs.Private.Tokens.{data_tokens};
+
+use crate::ending::End;
+use crate::files::{Files, Role};
+use crate::reading::read_policies;
+use crate::refusal::FileRefusal;
+use crate::validating::stop;
+use base_lines::{Sink, flush};
+use cedar_ast::PolicySet;
+use json::Writer;
+use std::alloc::{AllocError, Global};
+
+// `{"policies":P,"templates":T}`
+fn write_counts(writer: &mut Writer, policies: usize, templates: usize) -> Result<(), AllocError>
+    ensures tokens { OnOk result (writer.new.tokens ≡ writer.old.tokens ++ data_tokens (counts_data policies templates)) }
+    ensures before { writer.new.before ≡ writer.old.before }
+{
+    writer.begin_object()?;
+    writer.key("policies")?;
+    writer.u64(policies as u64)?;
+    writer.key("templates")?;
+    writer.u64(templates as u64)?;
+    writer.end_object()?;
+    Ok(())
+}
+
+// The line that says how many policies and templates there are.
+fn counts_line(alloc: Global, policies: usize, templates: usize) -> Result<Vec<u8>, AllocError>
+    ensures { IfOk result (λ line. line.items ≡ compact_text (counts_data policies templates) ++ line_feed ∷ []) }
+{
+    let mut writer = Writer::new(Vec::new(alloc));
+    write_counts(&mut writer, policies, templates)?;
+    let mut line = writer.into_inner();
+    line.push(b'\n')?;
+    Ok(line)
+}
+
+// Writes how many policies and templates there are.
+fn report_counts<K: Sink>(alloc: Global, policies: &PolicySet, sink: &mut K) -> End
+    requires { K.failed sink.old < 2 ^ 64 - 1 }
+    ensures done { result ≡ End.Done → Writes (K.written sink.old) (K.written sink.new) (IsCountsLine policies.now) }
+    ensures device { result ≡ End.Device → K.failed sink.old < K.failed sink.new }
+    ensures stands_whole { result ≡ End.Memory → Keeps (K.written sink.old) (K.written sink.new) }
+    ensures others { (result ≡ End.Refused → ⊥) × (result ≡ End.CommandLine → ⊥) }
+{
+    let Ok(mut line) = counts_line(alloc, policies.count(), policies.template_count()) else {
+        return End::Memory;
+    };
+    match flush(&mut line, sink) {
+        Ok(()) => End::Done,
+        Err(_) => End::Device,
+    }
+}
+
+/// Reads the policies of the policy file, without a schema, and writes how many policies and templates they are:
+/// `{"policies":6,"templates":1}`. It ends with:
+///
+/// - `Done`: the file holds policies, and the line was written.
+/// - `Refused`: the file is refused. One line such as `{"file":"policies","offset":43,"refused":104}` gives the number and the place.
+/// - `CommandLine`: the command line names no policy file. Nothing is written.
+/// - `Device`: the file can't be read, or the sink failed, which may leave a part of a line.
+/// - `Memory`: memory ran out, which leaves nothing.
+pub fn check_parse<F: Files, K: Sink>(alloc: Global, files: &F, sink: &mut K) -> End
+    requires { K.failed sink.old < 2 ^ 64 - 1 }
+    ensures done { result ≡ End.Done → (set : PolicySetTree)
+        × IfSome (F.holds files.now Role.Policies) (λ held. HoldsPolicies held set)
+        × Writes (K.written sink.old) (K.written sink.new) (IsCountsLine set) }
+    ensures refused { result ≡ End.Refused → (refusal : FileRefusal)
+        × IfSome (F.holds files.now Role.Policies) (λ held. HoldsNoPolicies held refusal)
+        × Writes (K.written sink.old) (K.written sink.new) (IsRefusalLine Role.Policies refusal) }
+    ensures unnamed { result ≡ End.CommandLine → IfSome (F.holds files.now Role.Policies) (λ held. held ≡ None) }
+    ensures untouched { result ≡ End.CommandLine → sink.new ≡ sink.old }
+    ensures device { result ≡ End.Device → (F.holds files.now Role.Policies ≡ None) ⊎ (K.failed sink.old < K.failed sink.new) }
+    ensures stands_whole { result ≡ End.Memory → Keeps (K.written sink.old) (K.written sink.new) }
+{
+    let policies = match read_policies(alloc, files) {
+        Ok(policies) => policies,
+        Err(unread) => return stop(alloc, Role::Policies, unread, sink),
+    };
+    report_counts(alloc, &policies, sink)
+}

@@ -1,12 +1,9 @@
 //! What is explained on standard error after the work has ended. Nothing is said when out of memory.
-use base_places::push_shown;
 use cedar_cli::{End, NamedFiles, Role, Words};
-use cedar_cli_diagnostics::{explain_file, explain_policy_faults, refused_file};
+use cedar_cli_diagnostics::{
+    Explanation, Format, explain_file, explain_policy_faults, not_again, refused_file, unreadable,
+};
 use std::alloc::{AllocError, Global};
-use std::fmt::Write;
-
-/// What is said where the files that were refused are accepted, or cannot be read, the second time.
-const NOT_AGAIN: &str = "cedar: this is not explained, since a file is a pipe or has changed\n";
 
 /// What files are to the program, in the order in which it reads them.
 const ROLES: [Role; 4] = [Role::Schema, Role::Policies, Role::Links, Role::Entities];
@@ -21,76 +18,113 @@ fn option_of(role: Role) -> &'static str {
     }
 }
 
-// Appends why a file cannot be read, if so: its option, its name and what the system says.
-fn push_unreadable(
-    says: &mut String,
-    files: &NamedFiles<'_, HostRuntime>,
-    role: Role,
-) -> Result<(), AllocError> {
-    if let (Some(name), Some(error)) = (files.name(role), files.why_unreadable(role)) {
-        write!(says, "  {} ", option_of(role))?;
-        push_shown(says, name)?;
-        write!(says, ": {error}\n")?;
-    }
-    Ok(())
+/// Explains on standard error how a run over files ended.
+#[derive(Clone, Copy)]
+pub struct Explainer<'a> {
+    /// The host.
+    pub rt: &'a HostRuntime,
+    /// The files of the run.
+    pub files: &'a NamedFiles<'a, HostRuntime>,
+    /// What the command line says.
+    pub words: &'a Words<'a>,
+    /// The form of what is explained.
+    pub format: Format,
 }
 
-// Which files cannot be read, and why.
-fn unreadable(alloc: Global, files: &NamedFiles<'_, HostRuntime>) -> Result<String, AllocError> {
-    let mut says = String::new(alloc);
-    for role in ROLES {
-        push_unreadable(&mut says, files, role)?;
-    }
-    Ok(says)
-}
-
-// Why a file is refused.
-fn refusal(
-    alloc: Global,
-    files: &NamedFiles<'_, HostRuntime>,
-    words: &Words<'_>,
-) -> Result<String, AllocError> {
-    let explained = match refused_file(alloc, files, words.subcommand, words.settings) {
-        Some(refused) => {
-            let name = files.name(refused.role).unwrap_or("");
-            explain_file(alloc, files, name, refused)?
+impl<'a> Explainer<'a> {
+    // Appends why a file cannot be read, if so: its option, its name and what the system says.
+    fn push_unreadable(
+        self,
+        alloc: Global,
+        says: &mut String,
+        role: Role,
+    ) -> Result<(), AllocError> {
+        if let (Some(name), Some(error)) = (
+            self.files.name(role),
+            self.files.why_unreadable(role),
+        ) {
+            let reason = error.to_string(alloc)?;
+            let line = unreadable(alloc, self.format, option_of(role), name, reason.as_str())?;
+            says.push_str(line.as_str())?;
         }
-        None => None,
-    };
-    match explained {
-        Some(says) => Ok(says),
-        None => String::from_str(alloc, NOT_AGAIN),
+        Ok(())
     }
-}
 
-// Which faults the policies have.
-fn faults(
-    alloc: Global,
-    files: &NamedFiles<'_, HostRuntime>,
-    words: &Words<'_>,
-) -> Result<String, AllocError> {
-    let name = files.name(Role::Policies).unwrap_or("");
-    match explain_policy_faults(alloc, files, name, words.settings)? {
-        Some(says) => Ok(says),
-        None => String::from_str(alloc, NOT_AGAIN),
-    }
-}
-
-/// Explains on standard error why a run ended as it did: which file cannot be read, why a file is refused, or which faults the
-/// policies have.
-pub fn explain(rt: &HostRuntime, files: &NamedFiles<'_, HostRuntime>, words: &Words<'_>, end: End) {
-    let alloc = rt.alloc();
-    let says = match end {
-        End::Device => unreadable(alloc, files),
-        End::Refused | End::Faults if !ROLES.iter().all(|role| files.is_regular(*role)) => {
-            String::from_str(alloc, NOT_AGAIN)
+    // Which files cannot be read, and why.
+    fn unreadable(self, alloc: Global) -> Result<String, AllocError> {
+        let mut says = String::new(alloc);
+        for role in ROLES {
+            self.push_unreadable(alloc, &mut says, role)?;
         }
-        End::Refused => refusal(alloc, files, words),
-        End::Faults => faults(alloc, files, words),
-        End::Done | End::Memory | End::CommandLine => return,
-    };
-    if let Ok(says) = says {
-        // Where standard error is gone, the explanation is lost.
-        let _ = rt.eprint(says.as_str());
+        Ok(says)
+    }
+
+    // What is explained; or that it is not, since the files cannot be read again.
+    fn text_of(self, alloc: Global, explained: Option<Explanation>) -> Result<String, AllocError> {
+        match explained {
+            Some(explained) => explained.to_text(alloc, self.format),
+            None => not_again(alloc, self.format),
+        }
+    }
+
+    // Why a file is refused.
+    fn refusal(self, alloc: Global) -> Result<String, AllocError> {
+        let explained = match refused_file(
+            alloc,
+            self.files,
+            self.words.subcommand,
+            self.words.settings,
+        ) {
+            Some(refused) => {
+                let name = self.files.name(refused.role).unwrap_or("");
+                explain_file(alloc, self.files, name, refused)?
+            }
+            None => None,
+        };
+        self.text_of(alloc, explained)
+    }
+
+    // Which faults the policies have.
+    fn faults(self, alloc: Global) -> Result<String, AllocError> {
+        let name = self.files.name(Role::Policies).unwrap_or("");
+        let explained = explain_policy_faults(alloc, self.files, name, self.words.settings)?;
+        self.text_of(alloc, explained)
+    }
+
+    // Whether each file can be read again.
+    fn are_regular(self) -> bool {
+        ROLES.iter().all(|role| self.files.is_regular(*role))
+    }
+
+    /// Explains why a run ended as it did: which file cannot be read, why a file is refused, or which faults the policies have.
+    pub fn explain(self, end: End) {
+        let alloc = self.rt.alloc();
+        let says = match end {
+            End::Device => self.unreadable(alloc),
+            End::Refused | End::Faults if !self.are_regular() => not_again(alloc, self.format),
+            End::Refused => self.refusal(alloc),
+            End::Faults => self.faults(alloc),
+            End::Done | End::Memory | End::CommandLine => return,
+        };
+        self.say(says);
+    }
+
+    /// Explains the warnings of a report without faults.
+    pub fn explain_warnings(self) {
+        let alloc = self.rt.alloc();
+        let says = if self.are_regular() {
+            self.faults(alloc)
+        } else {
+            not_again(alloc, self.format)
+        };
+        self.say(says);
+    }
+
+    /// Prints what was explained, if there was memory for it.
+    pub fn say(self, says: Result<String, AllocError>) {
+        if let Ok(says) = says {
+            // Where standard error is gone, the explanation is lost.
+            let _ = self.rt.eprint(says.as_str());
+        }
     }
 }

@@ -1,12 +1,20 @@
 //! The program `cedar`: `validate` checks policies against a schema, and `authorize` answers request lines.
 #![tactic(auto)]
 
+mod asking;
 mod explaining;
+mod format;
+mod lines;
+mod request_line;
+mod running;
+mod whys;
 
-use crate::explaining::explain;
-use base_lines::{StdSink, StdSource};
-use cedar_cli::{End, NamedFiles, Subcommand, Words, authorize, validate, words};
+use crate::format::format_of;
+use crate::running::{run_words, say};
+use base_places::push_shown;
+use cedar_cli::{End, words};
 use clap::error::ErrorKind;
+use std::alloc::{AllocError, Global};
 use std::process::ExitCode;
 use std::{env, io};
 
@@ -33,8 +41,27 @@ fn refuse_words(rt: &HostRuntime, error: &io::Error) -> io::Result<End> {
     Ok(End::CommandLine)
 }
 
-/// Runs the subcommand of the command line.
-fn run(rt: &HostRuntime) -> io::Result<End> {
+// What is said of a word that names no form of explanations.
+fn says_of_format(alloc: Global, word: &str) -> Result<String, AllocError> {
+    let mut says = String::from_str(alloc, "error: invalid value '")?;
+    push_shown(&mut says, word)?;
+    says.push_str("' for '--diagnostics <FORMAT>'\n  [possible values: human, json, none]\n")?;
+    Ok(says)
+}
+
+/// Says that there is no such form of explanations. The command line is then refused.
+fn refuse_format(rt: &HostRuntime, word: &str) -> io::Result<End> {
+    match says_of_format(rt.alloc(), word) {
+        Ok(says) => {
+            rt.eprint(says.as_str())?;
+            Ok(End::CommandLine)
+        }
+        Err(_) => Ok(End::Memory),
+    }
+}
+
+/// Runs the subcommand of the command line, and gives the exit status.
+fn run(rt: &HostRuntime) -> io::Result<u8> {
     let alloc = rt.alloc();
     let given = match env::args(rt) {
         Ok(given) => given,
@@ -49,44 +76,16 @@ fn run(rt: &HostRuntime) -> io::Result<End> {
         Ok(words) => words,
         Err(error) => return said(rt, tell(rt, &error)?),
     };
-    Ok(run_words(rt, words))
-}
-
-/// Runs a subcommand, and explains on standard error what it ended with, unless the words say not to.
-fn run_words(rt: &HostRuntime, words: Words<'_>) -> End {
-    let alloc = rt.alloc();
-    let settings = words.settings;
-    let files = NamedFiles::new(rt, words);
-    let mut sink = StdSink::new(io::writer(rt));
-    let end = match words.subcommand {
-        Subcommand::Validate => validate(alloc, &files, &mut sink, settings),
-        Subcommand::Authorize => {
-            let mut source = StdSource::new(rt.reader());
-            authorize(alloc, &files, &mut source, &mut sink, settings)
-        }
-    };
-    say(rt, end);
-    if !words.quiet {
-        explain(rt, &files, &words, end);
+    match format_of(&words) {
+        Ok(format) => Ok(run_words(rt, &words, format)),
+        Err(word) => said(rt, refuse_format(rt, word)?),
     }
-    end
 }
 
-/// The end of a run without words, whose line is printed.
-fn said(rt: &HostRuntime, end: End) -> io::Result<End> {
+/// The exit status of a run without words, whose line is printed.
+fn said(rt: &HostRuntime, end: End) -> io::Result<u8> {
     say(rt, end);
-    Ok(end)
-}
-
-/// Prints the line for a device that failed, or for memory that ran out.
-fn say(rt: &HostRuntime, end: End) {
-    let said = match end {
-        End::Device => rt.eprintln("cedar: device failed"),
-        End::Memory => rt.eprintln("cedar: out of memory"),
-        _ => Ok(()),
-    };
-    // Where standard error is gone, the line is lost.
-    let _ = said;
+    Ok(end.status())
 }
 
 /// How the program ends where a call of the host failed.
@@ -99,13 +98,13 @@ fn end_of(error: &io::Error) -> End {
 }
 
 fn main(rt: HostRuntime) -> ExitCode {
-    let end = match run(&rt) {
-        Ok(end) => end,
+    let status = match run(&rt) {
+        Ok(status) => status,
         Err(error) => {
             let end = end_of(&error);
             say(&rt, end);
-            end
+            end.status()
         }
     };
-    ExitCode::from(end.status())
+    ExitCode::from(status)
 }

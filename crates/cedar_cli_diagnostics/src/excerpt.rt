@@ -1,7 +1,11 @@
-//! The line of a text with a mark under a place.
+//! Lines of a text, with marks under them.
+use crate::diagnostic::Mark;
 use base_places::{Place, line_before, line_from, push_shown};
 use std::alloc::AllocError;
 use std::fmt::Write;
+
+// How many bytes of a line are shown before a place, and from it on, at the most.
+const MOST: usize = 80;
 
 /// How many columns the number of a line takes.
 fn width_of(line: usize) -> usize {
@@ -16,9 +20,6 @@ fn width_of(line: usize) -> usize {
     width
 }
 
-// How many bytes of a line are shown before a place, and from it on, at the most.
-const MOST: usize = 80;
-
 // The end of a text, of at most so many bytes and whole characters.
 fn last_of(text: &str, most: usize) -> &str {
     let start = text.len().saturating_sub(most);
@@ -31,7 +32,7 @@ fn last_of(text: &str, most: usize) -> &str {
 }
 
 /// The beginning of a text, of at most so many bytes and whole characters.
-pub fn first_of(text: &str, most: usize) -> &str {
+pub(crate) fn first_of(text: &str, most: usize) -> &str {
     let end = text.len().min(most);
     for skipped in 0..4 {
         if let Some(begin) = text.get(..end.saturating_sub(skipped)) {
@@ -41,67 +42,83 @@ pub fn first_of(text: &str, most: usize) -> &str {
     ""
 }
 
-fn push_spaces(out: &mut String, count: usize) -> Result<(), AllocError> {
+fn push_times(out: &mut String, sign: char, count: usize) -> Result<(), AllocError> {
     for _ in 0..count {
-        out.push(' ')?;
+        out.push(sign)?;
     }
     Ok(())
 }
 
-/// Appends `error[NUMBER]: REASON` and the end of the line.
-pub fn push_heading(out: &mut String, number: u16, reason: &str) -> Result<(), AllocError> {
-    write!(out, "error[{number}]: {reason}\n")
+// What is shown of the line around an offset: its number from 1, and where what is shown begins and ends, in bytes from 0.
+#[derive(Clone, Copy)]
+struct Shown {
+    line: usize,
+    start: usize,
+    end: usize,
 }
 
-/// Appends ` --> FILE` and the end of the line.
-pub fn push_file(out: &mut String, file: &str) -> Result<(), AllocError> {
-    out.push_str(" --> ")?;
-    push_shown(out, file)?;
-    out.push('\n')
-}
-
-/// Appends ` --> FILE:LINE:COLUMN`, from line 1 and column 1, and the end of the line.
-pub fn push_place(out: &mut String, file: &str, place: Place) -> Result<(), AllocError> {
-    let line = place.line.saturating_add(1);
-    let column = place.column.saturating_add(1);
-    out.push_str(" --> ")?;
-    push_shown(out, file)?;
-    write!(out, ":{line}:{column}\n")
-}
-
-/// Appends the line of a text around an offset, with a mark under the character there and what the mark says.
-pub fn push_line(
-    out: &mut String,
-    text: &str,
-    at: usize,
-    mark: char,
-    says: &str,
-) -> Result<(), AllocError> {
-    let place = Place::of(text.as_bytes(), at);
-    let line = place.line.saturating_add(1);
-    let width = width_of(line);
-    push_spaces(out, width)?;
-    out.push_str(" |\n")?;
-    write!(out, "{line} | ")?;
-    let before = last_of(line_before(text, at), MOST);
-    push_shown(out, before)?;
-    push_shown(out, first_of(line_from(text, at), MOST))?;
-    out.push('\n')?;
-    push_spaces(out, width)?;
-    out.push_str(" | ")?;
-    push_spaces(out, before.chars().count())?;
-    out.push(mark)?;
-    if !says.is_empty() {
-        out.push(' ')?;
-        out.push_str(says)?;
+impl Shown {
+    // What is shown around an offset.
+    fn around(text: &str, at: usize) -> Shown {
+        let before = last_of(line_before(text, at), MOST).len();
+        let after = first_of(line_from(text, at), MOST).len();
+        Shown {
+            line: Place::of(text.as_bytes(), at).line.saturating_add(1),
+            start: at.saturating_sub(before),
+            end: at.saturating_add(after),
+        }
     }
-    out.push('\n')
+
+    fn holds(self, at: usize) -> bool {
+        self.start <= at && at <= self.end
+    }
+
+    // Appends the line.
+    fn push_line(self, out: &mut String, text: &str) -> Result<(), AllocError> {
+        let line = self.line;
+        push_times(out, ' ', width_of(line))?;
+        out.push_str(" |\n")?;
+        write!(out, "{line} | ")?;
+        push_shown(out, text.get(self.start..self.end).unwrap_or(""))?;
+        out.push('\n')
+    }
+
+    // Appends a mark under what is shown.
+    fn push_mark(
+        self,
+        out: &mut String,
+        text: &str,
+        mark: &Mark,
+        sign: char,
+    ) -> Result<(), AllocError> {
+        push_times(out, ' ', width_of(self.line))?;
+        out.push_str(" | ")?;
+        let before = text.get(self.start..mark.start).unwrap_or("");
+        push_times(out, ' ', before.chars().count())?;
+        let marked = text.get(mark.start..mark.end.min(self.end)).unwrap_or("");
+        push_times(out, sign, marked.chars().count().max(1))?;
+        if !mark.says.is_empty() {
+            out.push(' ')?;
+            push_shown(out, mark.says.as_str())?;
+        }
+        out.push('\n')
+    }
 }
 
-/// Appends a note, `   = KIND: SAYS`, and the end of the line.
-pub fn push_note(out: &mut String, kind: &str, says: &str) -> Result<(), AllocError> {
-    out.push_str("   = ")?;
-    out.push_str(kind)?;
-    out.push_str(says)?;
-    out.push('\n')
+/// Appends the lines of a text that have marks, and under each what its marks say: the first mark as `^`, the others as `-`.
+pub(crate) fn push_marks(out: &mut String, text: &str, marks: &[Mark]) -> Result<(), AllocError> {
+    let mut last: Option<Shown> = None;
+    for mark in marks {
+        let (shown, is_there) = match last {
+            Some(shown) if shown.holds(mark.start) => (shown, true),
+            _ => (Shown::around(text, mark.start), false),
+        };
+        if !is_there {
+            shown.push_line(out, text)?;
+        }
+        let sign = if last.is_none() { '^' } else { '-' };
+        shown.push_mark(out, text, mark, sign)?;
+        last = Some(shown);
+    }
+    Ok(())
 }

@@ -1,13 +1,16 @@
-//! What is said of policies that have faults.
-use crate::excerpt::{first_of, push_file, push_heading, push_line, push_note, push_place};
-use crate::statement_place::statement_place;
-use base_places::{Place, push_shown};
-use cedar_check::Fault;
+//! What is explained of policies that have faults.
+use crate::diagnostic::{Diagnostic, Explanation, Severity};
+use crate::excerpt::first_of;
+use crate::fault_part::{Checked, push_place, push_words};
+use cedar_check::{Fault, Report};
 use std::alloc::{AllocError, Global};
 use std::fmt::Write;
 
-/// How many faults are explained at most.
+/// How many faults and warnings are explained at most.
 const MOST: usize = 20;
+
+/// The number of the warning on a policy that no request can satisfy.
+const IMPOSSIBLE: u16 = 650;
 
 /// How many bytes of an id are shown at most.
 const MOST_OF_ID: usize = 80;
@@ -77,84 +80,118 @@ fn len_of_first(faults: &[Fault]) -> usize {
     }
 }
 
-/// What is said of policies with faults: one explanation for each policy and number, at most twenty, and then how many more there
-/// are. The faults are in the order of the policies; `environments` is how many environments the schema has.
+/// What is explained of a report: one diagnostic for each policy with faults and each number, and one for each warning, at most twenty
+/// together, and then how many more there are. Faults and warnings are in the order of the policies.
 pub fn explain_faults(
     alloc: Global,
     file: &str,
-    text: &str,
-    faults: &[Fault],
-    environments: usize,
-) -> Result<String, AllocError> {
-    let mut says = String::new(alloc);
-    let mut rest = faults;
-    let mut said = 0usize;
-    let mut left = 0usize;
-    for _ in 0..faults.len() {
+    text: String,
+    checked: Checked<'_>,
+    report: &Report,
+) -> Result<Explanation, AllocError> {
+    let mut explanation = Explanation::new(alloc, file)?;
+    let mut rest = report.faults.as_slice();
+    for _ in 0..report.faults.len() {
         let (own, others) = rest.split_at(len_of_first(rest).min(rest.len()));
-        for number in NUMBERS {
-            if let Some(group) = group_of(own, number) {
-                if said < MOST {
-                    push_group(alloc, &mut says, file, text, group, environments)?;
-                    said += 1;
-                } else {
-                    left = left.saturating_add(1);
-                }
-            }
-        }
+        push_groups(alloc, &mut explanation, text.as_str(), checked, own)?;
         rest = others;
     }
-    if left > 0 {
-        write!(says, "and {left} more\n")?;
+    for policy in &report.warnings {
+        push_warning(alloc, &mut explanation, text.as_str(), policy.as_str())?;
     }
-    Ok(says)
+    explanation.text = text;
+    Ok(explanation)
 }
 
-// Appends what is said of the faults of one policy with one number.
-fn push_group(
+// Whether one more is explained; if not, it is counted.
+fn has_room(explanation: &mut Explanation) -> bool {
+    if explanation.diagnostics.len() < MOST {
+        return true;
+    }
+    explanation.more = explanation.more.saturating_add(1);
+    false
+}
+
+// Adds what is explained of a policy that no request can satisfy.
+fn push_warning(
     alloc: Global,
-    says: &mut String,
-    file: &str,
+    explanation: &mut Explanation,
     text: &str,
-    group: Group<'_>,
-    environments: usize,
+    policy: &str,
 ) -> Result<(), AllocError> {
-    let number = group.first.number();
-    let (reason, hint) = words_of(number);
-    push_heading(says, number, reason)?;
-    match statement_place(alloc, text, group.first.policy.as_str())? {
-        Some(at) => {
-            push_place(says, file, Place::of(text.as_bytes(), at))?;
-            push_line(says, text, at, '^', "in the policy that begins here")?;
-        }
-        None => push_file(says, file)?,
+    if !has_room(explanation) {
+        return Ok(());
     }
-    push_environments(says, group, environments)?;
-    push_note(says, "hint: ", hint)
+    let mut diagnostic = Diagnostic::error(alloc, IMPOSSIBLE, "no request can satisfy this policy");
+    diagnostic.severity = Severity::Warning;
+    push_place(alloc, &mut diagnostic, text, policy, None)?;
+    let id = first_of(policy, MOST_OF_ID);
+    let says = format!(in alloc; "policy `{id}` is false in each environment of the schema")?;
+    diagnostic.note(alloc, says.as_str())?;
+    diagnostic.advise(
+        alloc,
+        "compare the action and the types of its scope with `appliesTo` in the schema",
+    )?;
+    explanation.diagnostics.push(diagnostic)?;
+    Ok(())
 }
 
-// Appends the policy and the environments of its faults.
-fn push_environments(
-    says: &mut String,
+// Adds what is explained of the faults of one policy.
+fn push_groups(
+    alloc: Global,
+    explanation: &mut Explanation,
+    text: &str,
+    checked: Checked<'_>,
+    faults: &[Fault],
+) -> Result<(), AllocError> {
+    for number in NUMBERS {
+        if let Some(group) = group_of(faults, number) {
+            if has_room(explanation) {
+                let diagnostic = diagnostic_of(alloc, text, checked, group)?;
+                explanation.diagnostics.push(diagnostic)?;
+            }
+        }
+    }
+    Ok(())
+}
+
+// What is explained of the faults of one policy with one number.
+fn diagnostic_of(
+    alloc: Global,
+    text: &str,
+    checked: Checked<'_>,
+    group: Group<'_>,
+) -> Result<Diagnostic, AllocError> {
+    let (reason, hint) = words_of(group.first.number());
+    let mut diagnostic = Diagnostic::error(alloc, group.first.number(), reason);
+    let part = checked.part(alloc, group.first)?;
+    let id = group.first.policy.as_str();
+    push_place(alloc, &mut diagnostic, text, id, part.as_ref())?;
+    let environments = checked.schema.environments().len();
+    let says = says_of_environments(alloc, group, environments)?;
+    diagnostic.note(alloc, says.as_str())?;
+    match &part {
+        Some(part) => push_words(alloc, &mut diagnostic, part)?,
+        None => diagnostic.advise(alloc, hint)?,
+    }
+    Ok(diagnostic)
+}
+
+// The policy and the environments of its faults.
+fn says_of_environments(
+    alloc: Global,
     group: Group<'_>,
     environments: usize,
-) -> Result<(), AllocError> {
+) -> Result<String, AllocError> {
     let first = group.first;
-    says.push_str("   = policy `")?;
-    push_shown(says, first_of(first.policy.as_str(), MOST_OF_ID))?;
+    let policy = first_of(first.policy.as_str(), MOST_OF_ID);
     let count = group.count;
-    write!(says, "`, in {count} of {environments} environments")?;
-    if count == 1 {
-        says.push_str(": action ")?;
-    } else {
-        says.push_str(", first: action ")?;
-    }
-    push_shown(says, first.action.ty.as_str())?;
-    says.push_str("::\"")?;
-    push_shown(says, first.action.id.as_str())?;
-    says.push_str("\", principal ")?;
-    push_shown(says, first.principal.as_str())?;
-    says.push_str(", resource ")?;
-    push_shown(says, first.resource.as_str())?;
-    says.push('\n')
+    let which = if count == 1 { ":" } else { ", first:" };
+    let action = first.action.ty.as_str();
+    let id = first.action.id.as_str();
+    let principal = first.principal.as_str();
+    let resource = first.resource.as_str();
+    format!(in alloc;
+        "policy `{policy}`, in {count} of {environments} environments{which} action {action}::\"{id}\", principal {principal}, resource {resource}"
+    )
 }

@@ -1,4 +1,6 @@
 //! The faults of the policies of files.
+use crate::diagnostic::Explanation;
+use crate::fault_part::Checked;
 use crate::faults::explain_faults;
 use cedar_ast::PolicySet;
 use cedar_check::check_with;
@@ -7,14 +9,14 @@ use cedar_cli::{Files, Role, enter_links, read_policies, read_schema};
 use cedar_schema::Schema;
 use std::alloc::{AllocError, Global};
 
-/// What is said of the policies of these files where they have faults; or none if the files cannot be read again. `name` is that
+/// What is explained of the faults and the warnings of these files' policies; or none if the files cannot be read again. `name` is that
 /// of the policy file.
 pub fn explain_policy_faults<F: Files>(
     alloc: Global,
     files: &F,
     name: &str,
     settings: Settings,
-) -> Result<Option<String>, AllocError> {
+) -> Result<Option<Explanation>, AllocError> {
     let Ok(schema) = read_schema(alloc, files) else {
         return Ok(None);
     };
@@ -33,7 +35,7 @@ fn with_links<F: Files>(
     schema: &Schema,
     mut policies: PolicySet,
     settings: Settings,
-) -> Result<Option<String>, AllocError> {
+) -> Result<Option<Explanation>, AllocError> {
     let explained = match enter_links(alloc, files, &mut policies) {
         Ok(()) => over_policies(alloc, files, name, schema, &policies, settings),
         Err(_) => Ok(None),
@@ -49,15 +51,23 @@ fn over_policies<F: Files>(
     schema: &Schema,
     policies: &PolicySet,
     settings: Settings,
-) -> Result<Option<String>, AllocError> {
+) -> Result<Option<Explanation>, AllocError> {
     let Ok(Some(bytes)) = files.read(alloc, Role::Policies) else {
         return Ok(None);
     };
-    let Ok(text) = str::from_utf8(&bytes) else {
-        return Ok(None);
+    let text = match String::from_utf8(bytes) {
+        Ok(text) => text,
+        Err(fault) => {
+            drop(fault.into_bytes());
+            return Ok(None);
+        }
     };
     let report = check_with(alloc, schema, policies, settings)?;
-    let environments = schema.environments().len();
-    let says = explain_faults(alloc, name, text, &report.faults, environments)?;
-    Ok(Some(says))
+    let checked = Checked {
+        schema,
+        policies,
+        settings,
+    };
+    let explained = explain_faults(alloc, name, text, checked, &report)?;
+    Ok(Some(explained))
 }

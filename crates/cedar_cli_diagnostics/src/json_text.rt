@@ -1,9 +1,9 @@
 //! JSON files that are not JSON.
-ghost use Rattle.std.specs.Prelude.{◌≡◌, IfOk, IfSome, None};
+ghost use Rattle.std.specs.Prelude.{◌≡◌, IfNone, IfOk, IfSome, IsSome, None};
 ghost use Rattle.std.specs.Str.{IsUtf8};
 ghost use Rattle.serde_json.specs.Read.{read as read_text};
 
-use crate::excerpt::{push_heading, push_line, push_note, push_place};
+use crate::diagnostic::{Diagnostic, Explanation};
 use base_places::Place;
 use serde_json::Value;
 use std::alloc::{AllocError, Global};
@@ -11,7 +11,8 @@ use std::alloc::{AllocError, Global};
 /// Where the bytes of a file stop being JSON, as `serde_json` finds it, in bytes from 0; or none if they are JSON. Where more of the
 /// text is wanted, it is its end.
 pub fn json_offset(alloc: Global, bytes: &[u8]) -> Result<Option<usize>, AllocError>
-    ensures { IfOk result (λ o. IfSome o (λ _. IsUtf8 bytes.now → read_text bytes.now ≡ None)) }
+    ensures none { IfOk result (λ o. IfNone o (IsUtf8 bytes.now × IsSome (read_text bytes.now))) }
+    ensures fault { IfOk result (λ o. IfSome o (λ _. IsUtf8 bytes.now → read_text bytes.now ≡ None)) }
 {
     match Value::from_slice(alloc, bytes) {
         Ok(value) => {
@@ -39,31 +40,34 @@ fn offset_of(bytes: &[u8], line: usize, column: usize) -> usize {
     bytes.len()
 }
 
-/// What is said of a file that is refused since it is not JSON, 301 or 501; or none if it is JSON.
+/// What is explained of a file that is refused since it is not JSON, 301 or 501; or none if it is JSON.
 pub fn explain_json(
     alloc: Global,
     file: &str,
     number: u16,
-    bytes: &[u8],
-) -> Result<Option<String>, AllocError> {
-    let Some(at) = json_offset(alloc, bytes)? else {
+    bytes: Vec<u8>,
+) -> Result<Option<Explanation>, AllocError> {
+    let Some(at) = json_offset(alloc, &bytes)? else {
         return Ok(None);
     };
-    let mut out = String::new(alloc);
-    push_heading(&mut out, number, "the file is not JSON")?;
-    push_place(&mut out, file, Place::of(bytes, at))?;
-    match str::from_utf8(bytes) {
-        Ok(text) => {
-            push_line(&mut out, text, at, '^', "JSON cannot go on like this")?;
-            if text.starts_with('\u{FEFF}') {
-                push_note(
-                    &mut out,
-                    "hint: ",
-                    "the file begins with a byte order mark: save it without one",
-                )?;
-            }
+    let mut diagnostic = Diagnostic::error(alloc, number, "the file is not JSON");
+    diagnostic.place = Some(Place::of(&bytes, at));
+    let text = match String::from_utf8(bytes) {
+        Ok(text) => text,
+        Err(fault) => {
+            drop(fault.into_bytes());
+            diagnostic.advise(alloc, "save the file as UTF-8")?;
+            return Ok(Some(Explanation::of_one(alloc, file, diagnostic)?));
         }
-        Err(_) => push_note(&mut out, "hint: ", "save the file as UTF-8")?,
+    };
+    diagnostic.mark(alloc, at, at, "JSON cannot go on like this")?;
+    if text.starts_with('\u{FEFF}') {
+        diagnostic.advise(
+            alloc,
+            "the file begins with a byte order mark: save it without one",
+        )?;
     }
-    Ok(Some(out))
+    let mut explanation = Explanation::of_one(alloc, file, diagnostic)?;
+    explanation.text = text;
+    Ok(Some(explanation))
 }

@@ -1,10 +1,11 @@
 //! Policy files that are refused.
-ghost use Rattle.std.specs.Prelude.{◌≡◌, IfOk, IfSome, Some};
+ghost use Rattle.std.specs.Prelude.{◌≡◌, IfNone, IfOk, IfSome, Some};
 ghost use Rattle.base_places.specs.Places.{place_of};
-ghost use Rattle.cedar_parser.specs.PolicyText.{HasFault};
+ghost use Rattle.cedar_ast.specs.PolicySetTree.{PolicySetTree};
+ghost use Rattle.cedar_parser.specs.PolicyText.{HasFault, IsPolicyText};
 ghost use Rattle.cedar_parser_tokens.specs.Faults.{offset_of};
 
-use crate::excerpt::{push_heading, push_line, push_note, push_place};
+use crate::diagnostic::{Diagnostic, Explanation};
 use crate::policy_words::{hint_of, mark_of, reason_of};
 use crate::second_place::second_place;
 use crate::token_words::{meant_by_character, meant_by_word, unexpected};
@@ -27,6 +28,7 @@ pub struct PolicyPlace {
 
 /// The fault for which `cedar` refuses a policy text, with its line and column; or none if the text has policies.
 pub fn policy_place(alloc: Global, text: &str) -> Result<Option<PolicyPlace>, AllocError>
+    ensures none { IfOk result (λ o. IfNone o ((set : PolicySetTree) × IsPolicyText text.now set)) }
     ensures fault { IfOk result (λ o. IfSome o (λ found. HasFault text.now found.fault)) }
     ensures offset { IfOk result (λ o. IfSome o (λ found. offset_of found.fault ≡ Some found.offset)) }
     ensures place { IfOk result (λ o. IfSome o (λ found. found.place ≡ place_of text.now found.offset)) }
@@ -48,19 +50,35 @@ pub fn policy_place(alloc: Global, text: &str) -> Result<Option<PolicyPlace>, Al
     }
 }
 
-/// What is said of a policy file that `cedar` refuses; or none if its text has policies.
+/// What is explained of a policy file that `cedar` refuses; or none if its text has policies.
 pub fn explain_policies(
     alloc: Global,
     file: &str,
-    bytes: &[u8],
-) -> Result<Option<String>, AllocError> {
-    match str::from_utf8(bytes) {
-        Ok(text) => match policy_place(alloc, text)? {
-            Some(found) => Ok(Some(explained(alloc, file, text, found)?)),
-            None => Ok(None),
-        },
-        Err(fault) => Ok(Some(explain_bytes(alloc, file, bytes, fault.valid_up_to())?)),
+    bytes: Vec<u8>,
+) -> Result<Option<Explanation>, AllocError> {
+    match String::from_utf8(bytes) {
+        Ok(text) => explain_text(alloc, file, text),
+        Err(fault) => {
+            let bytes = fault.into_bytes();
+            Ok(Some(explain_bytes(alloc, file, &bytes)?))
+        }
     }
+}
+
+fn explain_text(
+    alloc: Global,
+    file: &str,
+    text: String,
+) -> Result<Option<Explanation>, AllocError> {
+    let Some(found) = policy_place(alloc, text.as_str())? else {
+        return Ok(None);
+    };
+    let mut explanation = Explanation::new(alloc, file)?;
+    explanation
+        .diagnostics
+        .push(diagnostic_of(alloc, text.as_str(), found)?)?;
+    explanation.text = text;
+    Ok(Some(explanation))
 }
 
 // What to do about a fault of a text, if one thing is likely.
@@ -78,39 +96,36 @@ fn hint_for(
     }
 }
 
-// What is said of a fault of a text.
-fn explained(
-    alloc: Global,
-    file: &str,
-    text: &str,
-    found: PolicyPlace,
-) -> Result<String, AllocError> {
-    let mut out = String::new(alloc);
-    push_heading(&mut out, found.fault.number(), reason_of(found.fault))?;
-    push_place(&mut out, file, found.place)?;
-    let says = match found.fault {
+// What is explained of a fault of a text.
+fn diagnostic_of(alloc: Global, text: &str, found: PolicyPlace) -> Result<Diagnostic, AllocError> {
+    let fault = found.fault;
+    let mut diagnostic = Diagnostic::error(alloc, fault.number(), reason_of(fault));
+    diagnostic.place = Some(found.place);
+    let says = match fault {
         ParseFault::Syntax(at) => unexpected(alloc, text, at)?,
         fault => String::from_str(alloc, mark_of(fault))?,
     };
-    push_line(&mut out, text, found.offset, '^', says.as_str())?;
-    if let Some(second) = second_place(alloc, text, found.fault)? {
-        push_line(&mut out, text, second.at, '-', second.says)?;
+    diagnostic.mark(alloc, found.offset, found.offset, says.as_str())?;
+    if let Some(second) = second_place(alloc, text, fault)? {
+        diagnostic.mark(alloc, second.at, second.at, second.says)?;
     }
-    if let Some(hint) = hint_for(alloc, text, found.fault)? {
-        push_note(&mut out, "hint: ", hint)?;
+    if let Some(hint) = hint_for(alloc, text, fault)? {
+        diagnostic.advise(alloc, hint)?;
     }
-    Ok(out)
+    Ok(diagnostic)
 }
 
-// What is said of a file that is not UTF-8.
-fn explain_bytes(alloc: Global, file: &str, bytes: &[u8], at: usize) -> Result<String, AllocError> {
-    let mut out = String::new(alloc);
-    push_heading(&mut out, 105, "the policy file is not UTF-8")?;
-    push_place(&mut out, file, Place::of(bytes, at))?;
-    push_note(
-        &mut out,
-        "hint: ",
+// What is explained of a file that is not UTF-8.
+fn explain_bytes(alloc: Global, file: &str, bytes: &[u8]) -> Result<Explanation, AllocError> {
+    let at = match str::from_utf8(bytes) {
+        Ok(text) => text.len(),
+        Err(fault) => fault.valid_up_to(),
+    };
+    let mut diagnostic = Diagnostic::error(alloc, 105, "the policy file is not UTF-8");
+    diagnostic.place = Some(Place::of(bytes, at));
+    diagnostic.advise(
+        alloc,
         "save the file as UTF-8: the byte there is part of no character",
     )?;
-    Ok(out)
+    Explanation::of_one(alloc, file, diagnostic)
 }

@@ -36,9 +36,23 @@ pub fn refused_file<F: Files>(
     subcommand: Subcommand,
     settings: Settings,
 ) -> Option<RefusedFile> {
+    if subcommand == Subcommand::CheckParse {
+        return policies_alone(alloc, files);
+    }
     match read_schema(alloc, files) {
         Ok(schema) => with_schema(alloc, files, schema, subcommand, settings),
         Err(unread) => refused(Role::Schema, unread),
+    }
+}
+
+// The policy file, if it is refused.
+fn policies_alone<F: Files>(alloc: Global, files: &F) -> Option<RefusedFile> {
+    match read_policies(alloc, files) {
+        Ok(policies) => {
+            drop(policies);
+            None
+        }
+        Err(unread) => refused(Role::Policies, unread),
     }
 }
 
@@ -68,8 +82,10 @@ fn with_policies<F: Files>(
 ) -> Option<RefusedFile> {
     let entered = enter_links(alloc, files, &mut policies);
     match (entered, subcommand) {
-        (Ok(()), Subcommand::Authorize) => with_all(alloc, files, schema, policies, settings),
-        (Ok(()), Subcommand::Validate) => {
+        (Ok(()), Subcommand::Authorize | Subcommand::Why | Subcommand::Ask) => {
+            with_all(alloc, files, schema, policies, settings)
+        }
+        (Ok(()), _) => {
             drop(policies);
             drop(schema);
             None

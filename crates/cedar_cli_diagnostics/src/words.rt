@@ -1,5 +1,5 @@
 //! Words for the refusals of schemas, entities and links, by their numbers.
-use crate::excerpt::{push_file, push_heading, push_note};
+use crate::diagnostic::{Diagnostic, Explanation};
 use std::alloc::{AllocError, Global};
 
 /// Why a file is refused with a number, and what to do about it. The numbers of policy texts have words of their own.
@@ -105,19 +105,17 @@ fn words_of_data(number: u16) -> Option<(&'static str, &'static str)> {
     Some(words)
 }
 
-/// What is said of a refused schema, links or entities file whose refusal has no place; or none of a number that such a file does
+/// What is explained of a refused schema, links or entities file from its number alone; or none of a number that such a file does
 /// not get.
 pub fn explain_number(
     alloc: Global,
     file: &str,
     number: u16,
-) -> Result<Option<String>, AllocError> {
+) -> Result<Option<Explanation>, AllocError> {
     let Some((reason, hint)) = words_of(number) else {
         return Ok(None);
     };
-    let mut out = String::new(alloc);
-    push_heading(&mut out, number, reason)?;
-    push_file(&mut out, file)?;
-    push_note(&mut out, "hint: ", hint)?;
-    Ok(Some(out))
+    let mut diagnostic = Diagnostic::error(alloc, number, reason);
+    diagnostic.advise(alloc, hint)?;
+    Ok(Some(Explanation::of_one(alloc, file, diagnostic)?))
 }

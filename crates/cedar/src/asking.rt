@@ -1,0 +1,142 @@
+//! `ask`: one request, from the command line.
+use crate::request_line::request_line;
+use crate::running::{ended, say};
+use base_lines::StdSink;
+use cedar_ast::Decision;
+use cedar_cli::{End, NamedFiles, Words, ask, read_schema};
+use cedar_cli_diagnostics::{
+    CountingSink, Explanation, Format, explain_json, explain_request, unreadable,
+};
+use cedar_schema::Schema;
+use serde_json::Value;
+use std::alloc::{AllocError, Global};
+use std::{fs, io};
+
+/// The exit status of a request that is denied.
+const DENIED: u8 = 5;
+
+/// The number of a context that is not JSON.
+const NOT_JSON: u16 = 501;
+
+// Prints what was explained, if there was memory for it.
+fn explain(rt: &HostRuntime, says: Result<String, AllocError>) {
+    if let Ok(says) = says {
+        // Where standard error is gone, the explanation is lost.
+        let _ = rt.eprint(says.as_str());
+    }
+}
+
+// Says that the context file cannot be read.
+fn refuse_unreadable(
+    rt: &HostRuntime,
+    format: Option<Format>,
+    name: &str,
+    error: &io::Error,
+) -> End {
+    let alloc = rt.alloc();
+    say(rt, End::Device);
+    if let Some(format) = format {
+        if let Ok(reason) = error.to_string(alloc) {
+            explain(
+                rt,
+                unreadable(alloc, format, "--context", name, reason.as_str()),
+            );
+        }
+    }
+    End::Device
+}
+
+// Says that the context file is not JSON.
+fn refuse_context(rt: &HostRuntime, format: Option<Format>, name: &str, bytes: Vec<u8>) -> End {
+    let alloc = rt.alloc();
+    if rt
+        .println("{\"file\":\"context\",\"refused\":501}")
+        .is_err()
+    {
+        return End::Device;
+    }
+    if let Some(format) = format {
+        if let Ok(Some(explained)) = explain_json(alloc, name, NOT_JSON, bytes) {
+            explain(rt, explained.to_text(alloc, format));
+        }
+    }
+    End::Refused
+}
+
+// The context of the request, if a file is named; or how the program ends where it cannot be used.
+fn read_context(
+    rt: &HostRuntime,
+    format: Option<Format>,
+    name: Option<&str>,
+) -> Result<Option<Value>, End> {
+    let Some(name) = name else {
+        return Ok(None);
+    };
+    let bytes = match fs::read(rt, name) {
+        Ok(bytes) => bytes,
+        Err(error) => return Err(refuse_unreadable(rt, format, name, &error)),
+    };
+    match Value::from_slice(rt.alloc(), &bytes) {
+        Ok(value) => Ok(Some(value)),
+        Err(error) if error.is_memory() => {
+            say(rt, End::Memory);
+            Err(End::Memory)
+        }
+        Err(_) => Err(refuse_context(rt, format, name, bytes)),
+    }
+}
+
+// What is explained of the request.
+fn text_of_request(
+    alloc: Global,
+    schema: &Schema,
+    format: Format,
+    line: &[u8],
+) -> Result<String, AllocError> {
+    match explain_request(alloc, schema, line, "")? {
+        Some(diagnostic) => {
+            Explanation::of_one(alloc, "the request", diagnostic)?.to_text(alloc, format)
+        }
+        None => Ok(String::new(alloc)),
+    }
+}
+
+// Explains why the request is refused.
+fn explain_refused(
+    rt: &HostRuntime,
+    files: &NamedFiles<'_, HostRuntime>,
+    format: Format,
+    line: &[u8],
+) {
+    let alloc = rt.alloc();
+    if let Ok(schema) = read_schema(alloc, files) {
+        explain(rt, text_of_request(alloc, &schema, format, line));
+        drop(schema);
+    }
+}
+
+/// Answers the request of a command line: the exit status is 0 for allow and 5 for deny.
+pub fn run_ask(rt: &HostRuntime, words: &Words<'_>, format: Option<Format>) -> u8 {
+    let alloc = rt.alloc();
+    let context = match read_context(rt, format, words.request.context) {
+        Ok(context) => context,
+        Err(end) => return end.status(),
+    };
+    let Ok(line) = request_line(alloc, words.request, context) else {
+        say(rt, End::Memory);
+        return End::Memory.status();
+    };
+    let files = NamedFiles::new(rt, words.files);
+    let mut sink = CountingSink::new(StdSink::new(io::writer(rt)));
+    match ask(alloc, &files, line.as_bytes(), &mut sink, words.settings) {
+        Ok(Decision::Allow) => End::Done.status(),
+        Ok(Decision::Deny) => DENIED,
+        Err(end) if sink.counts().refused > 0 => {
+            if let Some(format) = format {
+                explain_refused(rt, &files, format, line.as_bytes());
+            }
+            end.status()
+        }
+        Err(end) => ended(rt, &files, words, format, end),
+    }
+}

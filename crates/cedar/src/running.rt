@@ -1,0 +1,169 @@
+//! Runs the subcommands.
+use crate::asking::run_ask;
+use crate::explaining::Explainer;
+use crate::lines::explain_lines;
+use crate::whys::run_why;
+use base_lines::{SliceSource, StdSink, StdSource};
+use cedar_cli::{End, NamedFiles, Subcommand, Words, authorize, check_parse, validate};
+use cedar_cli_diagnostics::{CountingSink, Format, refused_lines};
+use cedar_cli_refusals::explain;
+use std::io::{self, Read};
+
+/// Prints the line for a device that failed, or for memory that ran out.
+pub fn say(rt: &HostRuntime, end: End) {
+    let said = match end {
+        End::Device => rt.eprintln("cedar: device failed"),
+        End::Memory => rt.eprintln("cedar: out of memory"),
+        _ => Ok(()),
+    };
+    // Where standard error is gone, the line is lost.
+    let _ = said;
+}
+
+/// Says how a run over files ended, explains it in a form, if one is wanted, and gives the exit status.
+pub fn ended(
+    rt: &HostRuntime,
+    files: &NamedFiles<'_, HostRuntime>,
+    words: &Words<'_>,
+    format: Option<Format>,
+    end: End,
+) -> u8 {
+    say(rt, end);
+    if let Some(format) = format {
+        let explainer = Explainer {
+            rt,
+            files,
+            words,
+            format,
+        };
+        explainer.explain(end);
+    }
+    end.status()
+}
+
+// Explains the warnings of a report without faults in a form, if one is wanted.
+fn explain_warnings(
+    rt: &HostRuntime,
+    files: &NamedFiles<'_, HostRuntime>,
+    words: &Words<'_>,
+    format: Option<Format>,
+) {
+    if let Some(format) = format {
+        let explainer = Explainer {
+            rt,
+            files,
+            words,
+            format,
+        };
+        explainer.explain_warnings();
+    }
+}
+
+// `validate`. With `--deny-warnings` a report with warnings alone ends as one with faults.
+fn run_validate(rt: &HostRuntime, words: &Words<'_>, format: Option<Format>) -> u8 {
+    let files = NamedFiles::new(rt, words.files);
+    let mut sink = CountingSink::new(StdSink::new(io::writer(rt)));
+    let end = validate(rt.alloc(), &files, &mut sink, words.settings);
+    let status = ended(rt, &files, words, format, end);
+    if end != End::Done || sink.counts().warnings == 0 {
+        return status;
+    }
+    explain_warnings(rt, &files, words, format);
+    if words.deny_warnings {
+        End::Faults.status()
+    } else {
+        status
+    }
+}
+
+// `authorize`. The lines are counted where it is to be said how many were refused.
+fn run_authorize(rt: &HostRuntime, words: &Words<'_>, format: Option<Format>) -> u8 {
+    let alloc = rt.alloc();
+    let files = NamedFiles::new(rt, words.files);
+    let mut source = StdSource::new(rt.reader());
+    let mut sink = StdSink::new(io::writer(rt));
+    let Some(form) = format else {
+        let end = authorize(alloc, &files, &mut source, &mut sink, words.settings);
+        return ended(rt, &files, words, format, end);
+    };
+    let mut counting = CountingSink::new(sink);
+    let end = authorize(alloc, &files, &mut source, &mut counting, words.settings);
+    let status = ended(rt, &files, words, format, end);
+    if end == End::Done {
+        if let Ok(says) = refused_lines(alloc, form, counting.counts()) {
+            // Where standard error is gone, the line is lost.
+            let _ = rt.eprint(says.as_str());
+        }
+    }
+    status
+}
+
+// `authorize --explain-lines`: all lines are read before the first is answered.
+fn run_kept_lines(rt: &HostRuntime, words: &Words<'_>, format: Option<Format>) -> u8 {
+    let alloc = rt.alloc();
+    let files = NamedFiles::new(rt, words.files);
+    let mut input = Vec::new(alloc);
+    let mut reader = rt.reader();
+    if let Err(error) = reader.read_to_end(&mut input) {
+        let end = if error.kind() == io::ErrorKind::OutOfMemory {
+            End::Memory
+        } else {
+            End::Device
+        };
+        return ended(rt, &files, words, format, end);
+    }
+    let mut source = SliceSource::new(&input);
+    let mut sink = StdSink::new(io::writer(rt));
+    let end = authorize(alloc, &files, &mut source, &mut sink, words.settings);
+    let status = ended(rt, &files, words, format, end);
+    if let (End::Done, Some(format)) = (end, format) {
+        let explainer = Explainer {
+            rt,
+            files: &files,
+            words,
+            format,
+        };
+        explain_lines(explainer, &input);
+    }
+    status
+}
+
+// `check-parse`.
+fn run_check_parse(rt: &HostRuntime, words: &Words<'_>, format: Option<Format>) -> u8 {
+    let files = NamedFiles::new(rt, words.files);
+    let mut sink = StdSink::new(io::writer(rt));
+    let end = check_parse(rt.alloc(), &files, &mut sink);
+    ended(rt, &files, words, format, end)
+}
+
+// `explain`.
+fn run_explain(rt: &HostRuntime, words: &Words<'_>) -> u8 {
+    let number = words.number.unwrap_or("").parse::<u16>().unwrap_or(0);
+    let end = match explain(rt.alloc(), number) {
+        Ok(Some(text)) => match rt.print(text.as_str()) {
+            Ok(()) => End::Done,
+            Err(_) => End::Device,
+        },
+        Ok(None) => {
+            // Where standard error is gone, the line is lost.
+            let _ = rt.eprintln("error: there is no such number: docs/REFUSALS.md has them all");
+            End::CommandLine
+        }
+        Err(_) => End::Memory,
+    };
+    say(rt, end);
+    end.status()
+}
+
+/// Runs the subcommand of a command line, explains in a form, if one is wanted, how it ended, and gives the exit status.
+pub fn run_words(rt: &HostRuntime, words: &Words<'_>, format: Option<Format>) -> u8 {
+    match words.subcommand {
+        Subcommand::Validate => run_validate(rt, words, format),
+        Subcommand::Authorize if words.explain_lines => run_kept_lines(rt, words, format),
+        Subcommand::Authorize => run_authorize(rt, words, format),
+        Subcommand::Why => run_why(rt, words, format),
+        Subcommand::Ask => run_ask(rt, words, format),
+        Subcommand::CheckParse => run_check_parse(rt, words, format),
+        Subcommand::Explain => run_explain(rt, words),
+    }
+}

@@ -1,0 +1,165 @@
+//! The part of a condition for which a policy has a fault, and where it is written.
+use crate::diagnostic::Diagnostic;
+use crate::statement_place::statement_place;
+use base_places::Place;
+use cedar_ast::{Policy, PolicySet};
+use cedar_check::Fault;
+use cedar_check_diagnostics::{RefusedPart, refused_part};
+use cedar_check_spec::Settings;
+use cedar_parser_places::{PartPlace, part_place};
+use cedar_schema::{Environment, Schema};
+use std::alloc::{AllocError, Global};
+
+/// The number of an entity type or an action that is not declared.
+const UNDECLARED: u16 = 601;
+
+/// How many steps lead past the scope of a condition `principal && (action && (resource && conditions))`.
+const SCOPE_STEPS: usize = 3;
+
+/// Policies that have faults, and what they were checked against.
+#[derive(Clone, Copy)]
+pub struct Checked<'c> {
+    /// The schema.
+    pub schema: &'c Schema,
+    /// The policies.
+    pub policies: &'c PolicySet,
+    /// The settings of the check.
+    pub settings: Settings,
+}
+
+impl<'c> Checked<'c> {
+    // The environment of a fault.
+    fn environment(self, fault: &Fault) -> Option<&'c Environment> {
+        self.schema.environments().iter().find(|it| it.action == fault.action
+            && it.principal == fault.principal
+            && it.resource == fault.resource)
+    }
+
+    // The policy of a fault.
+    fn policy(self, fault: &Fault) -> Option<&'c Policy> {
+        for position in 0..self.policies.count() {
+            if let Some(policy) = self.policies.policy(position) {
+                if policy.id() == &fault.policy {
+                    return Some(policy);
+                }
+            }
+        }
+        None
+    }
+
+    /// The part of the policy's condition that has the fault.
+    pub(crate) fn part(
+        self,
+        alloc: Global,
+        fault: &Fault,
+    ) -> Result<Option<RefusedPart>, AllocError> {
+        let (Some(environment), Some(policy)) = (self.environment(fault), self.policy(fault)) else {
+            return Ok(None);
+        };
+        let condition = policy.condition(alloc)?;
+        let typed = condition.with_action(alloc, &environment.action);
+        drop(condition);
+        let typed = typed?;
+        let part = refused_part(alloc, self.settings, self.schema, environment, &typed);
+        drop(typed);
+        part
+    }
+}
+
+// Where the type ends of a uid or type that is written between two offsets.
+fn type_end(text: &str, start: usize, end: usize) -> usize {
+    let written = text.get(start..end).unwrap_or("");
+    match written.split_once("::\"") {
+        Some((ty, _)) => start.saturating_add(ty.len()),
+        None => end,
+    }
+}
+
+// Marks the part and its operands.
+fn mark_part(
+    alloc: Global,
+    diagnostic: &mut Diagnostic,
+    text: &str,
+    id: &str,
+    part: &RefusedPart,
+    place: PartPlace,
+) -> Result<(), AllocError> {
+    let start = place.name.start;
+    let end = if part.number == UNDECLARED {
+        type_end(text, start, place.name.end)
+    } else {
+        place.name.end
+    };
+    diagnostic.place = Some(Place::of(text.as_bytes(), start));
+    diagnostic.mark(alloc, start, end, part.says.as_str())?;
+    for operand in &part.operands {
+        if let Some(place) = part_place(alloc, text, id, &operand.path)? {
+            diagnostic.mark(
+                alloc,
+                place.whole.start,
+                place.whole.end,
+                operand.says.as_str(),
+            )?;
+        }
+    }
+    Ok(())
+}
+
+// Marks the beginning of the statement, if the text has it.
+fn mark_statement(
+    alloc: Global,
+    diagnostic: &mut Diagnostic,
+    text: &str,
+    id: &str,
+) -> Result<(), AllocError> {
+    if let Some(at) = statement_place(alloc, text, id)? {
+        diagnostic.place = Some(Place::of(text.as_bytes(), at));
+        diagnostic.mark(alloc, at, at, "in the policy that begins here")?;
+    }
+    Ok(())
+}
+
+// The path of what is marked: that of the part, or of its first operand where the part is an `&&` between the sides of the scope and
+// the conditions, which is not written.
+fn marked_path(part: &RefusedPart) -> &[usize] {
+    match part.operands.first() {
+        Some(operand) if part.path.len() < SCOPE_STEPS && part.path.iter().all(|step| *step == 1) =>
+            { operand.path.as_slice() }
+        _ => part.path.as_slice(),
+    }
+}
+
+/// Marks the part in the text; or else the beginning of its statement, and says in a note what is wrong.
+pub(crate) fn push_place(
+    alloc: Global,
+    diagnostic: &mut Diagnostic,
+    text: &str,
+    id: &str,
+    part: Option<&RefusedPart>,
+) -> Result<(), AllocError> {
+    let Some(part) = part else {
+        return mark_statement(alloc, diagnostic, text, id);
+    };
+    match part_place(alloc, text, id, marked_path(part))? {
+        Some(place) => mark_part(alloc, diagnostic, text, id, part, place),
+        None => {
+            mark_statement(alloc, diagnostic, text, id)?;
+            diagnostic.note(alloc, part.says.as_str())
+        }
+    }
+}
+
+/// Adds what else is said of the part, and what to do about it.
+pub(crate) fn push_words(
+    alloc: Global,
+    diagnostic: &mut Diagnostic,
+    part: &RefusedPart,
+) -> Result<(), AllocError> {
+    for note in &part.notes {
+        diagnostic.note(alloc, note.as_str())?;
+    }
+    if let Some(hint) = &part.hint {
+        diagnostic.advise(alloc, hint.as_str())?;
+    }
+    Ok(())
+}

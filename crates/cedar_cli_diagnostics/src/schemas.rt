@@ -1,0 +1,27 @@
+//! Schema files that are refused: the path of the part, and what to write instead.
+use crate::diagnostic::{Diagnostic, Explanation};
+use crate::words::words_of;
+use cedar_schema_diagnostics::refused_part;
+use std::alloc::{AllocError, Global};
+
+/// What is explained of a schema file that is refused with another number than 301; or none of a number that a schema does not get.
+pub fn explain_schema(
+    alloc: Global,
+    file: &str,
+    number: u16,
+    bytes: &[u8],
+) -> Result<Option<Explanation>, AllocError> {
+    let Some((reason, hint)) = words_of(number) else {
+        return Ok(None);
+    };
+    let mut diagnostic = Diagnostic::error(alloc, number, reason);
+    diagnostic.advise(alloc, hint)?;
+    if let Some(refused) = refused_part(alloc, bytes, number)? {
+        diagnostic.part.push_str(refused.path.as_str())?;
+        diagnostic.note(alloc, refused.says.as_str())?;
+        if let Some(hint) = &refused.hint {
+            diagnostic.advise(alloc, hint.as_str())?;
+        }
+    }
+    Ok(Some(Explanation::of_one(alloc, file, diagnostic)?))
+}

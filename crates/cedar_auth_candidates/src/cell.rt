@@ -4,13 +4,13 @@ ghost use Rattle.std.specs.Prelude.{◌≡◌, IfOk};
 use crate::listing::Listing;
 use std::alloc::{AllocError, Global};
 use std::marker::Model;
-use std::rc::Rc;
+use std::sync::Arc;
 
 /// The policies whose scopes may be met in an environment, or in each of several that have the same. Contracts see their
 /// `ListingTree`.
 #[derive(Drop)]
 pub(crate) struct Cell {
-    listing: Rc<Listing>,
+    listing: Arc<Listing, Global>,
 }
 
 impl Model for Cell {
@@ -26,7 +26,7 @@ impl Cell {
     pub(crate) fn new(alloc: Global, listing: Listing) -> Result<Cell, AllocError>
         ensures { IfOk result (λ c. c ≡ listing) }
     {
-        let listing = Rc::new(alloc, listing)?;
+        let listing = Arc::new(alloc, listing)?;
         Ok(Cell { listing })
     }
 
@@ -34,7 +34,7 @@ impl Cell {
     pub(crate) fn share(&self) -> Result<Cell, AllocError>
         ensures { IfOk result (λ c. c ≡ self.now) }
     {
-        let listing = self.listing.clone()?;
+        let listing = Arc::try_clone(&self.listing)?;
         Ok(Cell { listing })
     }
 

@@ -11,7 +11,7 @@ use cedar_schema::{Action, Schema};
 use cedar_value::Name;
 use std::alloc::{AllocError, Global};
 use std::collections::{BTreeMap, BTreeSet};
-use std::rc::Rc;
+use std::sync::Arc;
 
 /// For each type of resources, the candidates.
 pub(crate) type ByResource = BTreeMap<Name, Cell>;
@@ -22,7 +22,7 @@ pub(crate) type ByPrincipal = BTreeMap<Name, ByResource>;
 /// The candidates of an action, or of several actions that leave the same policies and apply to the same types.
 #[derive(Drop)]
 pub(crate) struct Row {
-    pub(crate) cells: Rc<ByPrincipal>,
+    pub(crate) cells: Arc<ByPrincipal, Global>,
 }
 
 impl Row {
@@ -30,7 +30,7 @@ impl Row {
     pub(crate) fn new(alloc: Global, cells: ByPrincipal) -> Result<Row, AllocError>
         ensures { IfOk result (λ row. row.cells.value ≡ cells) }
     {
-        let cells = Rc::new(alloc, cells)?;
+        let cells = Arc::new(alloc, cells)?;
         Ok(Row { cells })
     }
 
@@ -38,7 +38,7 @@ impl Row {
     pub(crate) fn share(&self) -> Result<Row, AllocError>
         ensures { IfOk result (λ row. row.cells.value ≡ self.now.cells.value) }
     {
-        let cells = self.cells.clone()?;
+        let cells = Arc::try_clone(&self.cells)?;
         Ok(Row { cells })
     }
 }

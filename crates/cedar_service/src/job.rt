@@ -21,13 +21,13 @@ use cedar_service_law::runs_end_as_evaluated;
 use cedar_value::{Request, ValueKind};
 use std::alloc::{AllocError, Global};
 use std::marker::Model;
-use std::rc::Rc;
+use std::sync::Arc;
 
 /// A request that is being answered by one version: the positions of the policies that it runs, how many of them it ran, what
 /// they gave, and the current run. Contracts see it as a `JobTree`.
 #[derive(Drop)]
 pub(crate) struct Job {
-    version: Rc<Ready>,
+    version: Arc<Ready, Global>,
     request: Request,
     positions: Vec<usize>,
     done: usize,
@@ -121,7 +121,7 @@ impl Job {
     /// A job of a version for a request that fits its schema, before its first step. It runs the version's candidates.
     pub(crate) fn new(
         alloc: Global,
-        version: Rc<Ready>,
+        version: Arc<Ready, Global>,
         request: Request,
     ) -> Result<Job, AllocError>
         requires { Fits version.value.schema request }

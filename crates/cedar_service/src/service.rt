@@ -16,7 +16,7 @@ use cedar_machine::Resting;
 use std::alloc::{AllocError, Global};
 use std::collections::HashMap;
 use std::marker::Model;
-use std::rc::Rc;
+use std::sync::Arc;
 
 /// The number of a job: 0, 1, 2 and on, in the order in which they are opened. No number is used again.
 pub type JobId = u64;
@@ -27,7 +27,7 @@ pub type JobId = u64;
 #[derive(Drop)]
 pub struct Service {
     alloc: Global,
-    current: Rc<Ready>,
+    current: Arc<Ready, Global>,
     number: u64,
     next_job: JobId,
     jobs: HashMap<JobId, Job>,
@@ -48,7 +48,7 @@ impl Model for Service {
 }
 
 // Replaces a version by another one.
-fn put_version(place: &mut Rc<Ready>, version: Rc<Ready>)
+fn put_version(place: &mut Arc<Ready, Global>, version: Arc<Ready, Global>)
     ensures { place.new.value ≡ version.value }
 {
     *place = version;
@@ -74,7 +74,7 @@ impl Service {
         ensures refused { IfErr result (λ e. number_of e.fault ≡ 1) }
         ensures handed_back { IfErr result (λ e. e.ready ≡ ready) }
     {
-        match Rc::new(alloc, ready) {
+        match Arc::new(alloc, ready) {
             Ok(current) => Ok(Service {
                 alloc,
                 current,
@@ -105,7 +105,7 @@ impl Service {
                 ready,
             });
         }
-        match Rc::new(self.alloc, ready) {
+        match Arc::new(self.alloc, ready) {
             Ok(version) => {
                 put_version(&mut self.current, version);
                 self.number += 1;
@@ -136,7 +136,7 @@ impl Service {
             Ok(request) => request,
             Err(fault) => return Err(ServiceFault::from(fault)),
         };
-        let version = self.current.clone()?;
+        let version = Arc::try_clone(&self.current)?;
         let job = Job::new(self.alloc, version, request)?;
         let id = self.next_job;
         put(&mut self.jobs, id, job)?;

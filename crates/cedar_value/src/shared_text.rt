@@ -7,13 +7,13 @@ use std::alloc::{AllocError, Global};
 use std::cmp::Ordering;
 use std::hash::{Hash, Hasher};
 use std::marker::Model;
-use std::rc::Rc;
+use std::sync::Arc;
 
 /// A text that is kept once for all who hold it, for example the key of a record or the name of a type. Contracts see the list
 /// of its bytes. It has the size of one address, and sharing it takes no memory.
 #[derive(Drop)]
 pub struct SharedText {
-    content: Rc<Text>,
+    content: Arc<Text, Global>,
 }
 
 impl Model for SharedText {
@@ -30,7 +30,7 @@ impl SharedText {
         ensures { IfOk result (λ t. t ≡ content) }
     {
         Ok(SharedText {
-            content: Rc::new(alloc, content)?,
+            content: Arc::new(alloc, content)?,
         })
     }
 
@@ -57,7 +57,7 @@ impl SharedText {
         ensures { IfOk result (λ t. t ≡ self.now) }
     {
         Ok(SharedText {
-            content: self.content.clone()?,
+            content: Arc::try_clone(&self.content)?,
         })
     }
 }

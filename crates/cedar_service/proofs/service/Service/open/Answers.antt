@@ -13,7 +13,7 @@ returns-clause-ok c =
     let job : JobTree = c.in_ok-job.job in
     let read : LineDenotes s.current.schema c.args.line.now c.in-Ok.request = subst (λ (v : ReadyTree). LineDenotes v.schema c.args.line.now c.in-Ok.request) c.deref.ensures c.in-Ok.ensures.denotes in
     let denotes : LineDenotes s.current.schema c.args.line.now job.request = subst (LineDenotes s.current.schema c.args.line.now) (sym c.in_ok-job.ensures.request) read in
-    let same : c.in_ok-version.version.value ≡ s.current = c.in_ok-version.ensures.cases in
+    let same : c.in_ok-version.version.value ≡ s.current = c.in_ok-version.ensures in
     let fresh : IsFresh s.current job = subst (λ (v : ReadyTree). IsFresh v job) same c.in_ok-job.ensures.fresh in
     let below : s.next_job < greatest = omega (arith, c.if-self.false) in
     subst (λ (x : ServiceState). Opens x c.args.line.now c.self.inside.next_job new) c.self.view_is (record {

@@ -20,6 +20,8 @@
 
 mod answer;
 mod codes;
+mod crossing;
+mod deciding;
 mod not_ready;
 mod not_validated;
 mod part;
@@ -37,10 +39,12 @@ pub use base_lines::{
     StdSource, VecSink, WriteFailed,
 };
 pub use cedar_auth_law::engine_is_sound;
+pub use crossing::{policies_cross, ready_crosses};
+pub use deciding::{answer_line, append_answer, decide};
 pub use not_ready::NotReady;
 pub use not_validated::NotValidated;
 pub use ready::Ready;
 pub use response::{Erring, Response};
-pub use serving::serve;
+pub use serving::{append_fault, serve};
 pub use validated::Validated;
 pub use validation_fault::ValidationFault;

@@ -4,6 +4,7 @@ ghost use Rattle.std.specs.List.Sorted.{IsStrictlyIncreasing};
 ghost use Rattle.cedar_ast.specs.Response.{ErringTree, response};
 ghost use Rattle.cedar_conform_values.specs.declared.conform_fault.ConformFault.TheVariants.{OutOfMemory};
 ghost use Rattle.cedar_conform_entities.specs.Bytes.{BytesDenote, BytesHaveFault};
+ghost use Rattle.cedar_conform.specs.Parts.{PartsDenote, PartsHaveFault, parts_of};
 ghost use Rattle.cedar_conform.specs.Requests.{LineDenotes, LineHasFault};
 ghost use Rattle.cedar_schema_spec.specs.Conformance.{Conforms, Fits, FitsIn};
 ghost use Rattle.cedar_schema_spec.specs.WellFormed.{AreTypesApart};
@@ -29,7 +30,10 @@ use cedar_auth_law::engine_is_sound;
 use cedar_check_law::candidates_are_enough;
 use cedar_check_spec::Settings;
 use cedar_code::Code;
-use cedar_conform::{denoted_requests_fit, read_entities_owned, read_request, read_request_with};
+use cedar_conform::{
+    RequestParts, denoted_requests_fit, read_entities_owned, read_request, read_request_parts,
+    read_request_with,
+};
 use cedar_conform_values::{ConformFault, read_values_belong};
 use cedar_parser_tokens::uid_or_none;
 use cedar_schema::tests_of_schemas_decide;
@@ -183,6 +187,26 @@ impl Ready {
         ensures refused { IfErr result (λ e. e ≢ OutOfMemory → LineHasFault self.now.schema line.now e) }
     {
         read_request_with(alloc, self.validated.schema(), line, reader)
+    }
+
+    /// The request that parts denote for the schema (Cedar documentation, entities and context in JSON). The reader's buffers are
+    /// kept from request to request.
+    ///
+    /// # Errors
+    ///
+    /// 1 when out of memory, and otherwise 501 to 506 or 509 to 511 only where that fault is in the parts.
+    pub fn read_parts(
+        &self,
+        alloc: Global,
+        parts: &RequestParts<'_>,
+        reader: &mut JsonReader,
+    ) -> Result<Request, ConformFault>
+        ensures denotes { IfOk result (PartsDenote self.now.schema (parts_of parts.now)) }
+        ensures fits { IfOk result (Fits self.now.schema) }
+        ensures only { (q : RequestTree) → PartsDenote self.now.schema (parts_of parts.now) q → MatchResult result (λ found. found ≡ q) (λ e. e ≡ OutOfMemory) }
+        ensures refused { IfErr result (λ e. e ≢ OutOfMemory → PartsHaveFault self.now.schema (parts_of parts.now) e) }
+    {
+        read_request_parts(alloc, self.validated.schema(), parts, reader)
     }
 
     /// Whether a request fits the schema: its action applies to its principal and its resource, and its context belongs

@@ -25,8 +25,16 @@ struct Answering<'r> {
     ready: &'r Ready,
 }
 
-// Appends the refusal of a fault; out of memory is passed on.
-fn append_fault(alloc: Global, fault: &ConformFault, out: &mut Vec<u8>) -> Result<(), AllocError>
+/// Appends the answer to a request that is refused, `{"refused":N}` with the number of its fault. Without LF.
+///
+/// # Errors
+///
+/// Fails when out of memory, and where that is the fault. The text is then as before.
+pub fn append_fault(
+    alloc: Global,
+    fault: &ConformFault,
+    out: &mut Vec<u8>,
+) -> Result<(), AllocError>
     ensures ok { OnOk result (out.new.items ≡ out.old.items ++ compact_text (refused_data (number_of fault.now))) }
     ensures told { OnOk result (fault.now ≢ OutOfMemory) }
     ensures err { OnErr result (out.new.items ≡ out.old.items) }

@@ -1,4 +1,6 @@
 //! A response whose lists are lent.
+ghost use Rattle.std.specs.Prelude.{◌≡◌};
+
 use crate::response::Erring;
 use cedar_ast::Decision;
 use std::marker::Model;
@@ -19,4 +21,13 @@ impl<'t, 'p> Model for Told<'t, 'p> {
     ghost Value = { ResponseTree };
 
     ghost view = { λ r. record { decision = r.decision; determining = map (λ id. id.now) r.determining.now; erring = r.erring.now } };
+}
+
+impl<'t, 'p> Told<'t, 'p> {
+    /// The decision.
+    pub(crate) fn decision(&self) -> Decision
+        ensures { result ≡ self.now.decision }
+    {
+        self.decision
+    }
 }

@@ -1,6 +1,7 @@
 //! Policies that strict validation accepted.
 ghost use Rattle.std.specs.Prelude.{◌≡◌, ℕ, ◌<◌, length, Contains, IfOk, IfErr, OnOk, option_copied, slice_get};
 ghost use Rattle.cedar_ast.specs.Response.{response};
+ghost use Rattle.cedar_check_spec.specs.Reports.{AreWarningsWith};
 ghost use Rattle.cedar_check_spec.specs.Settings.{default_settings};
 ghost use Rattle.cedar_auth_spec.specs.Validation.{IsValidated, IsValidatedWith};
 ghost use Rattle.cedar_auth.specs.ValidationFaults.{HasFault, HasFaultWith};
@@ -22,7 +23,7 @@ use cedar_check_spec::Settings;
 use cedar_code::{Code, CodeFault};
 use cedar_machine::Operands;
 use cedar_schema::Schema;
-use cedar_value::{Hierarchy, Request};
+use cedar_value::{Hierarchy, Request, Text};
 use std::alloc::{AllocError, Global};
 use std::marker::Model;
 
@@ -34,6 +35,7 @@ pub struct Validated {
     policies: PolicySet,
     settings: Settings,
     compiled: Vec<Code>,
+    warnings: Vec<Text>,
 }
 
 impl Model for Validated {
@@ -49,18 +51,26 @@ impl Model for Validated {
 
     ghost view = { λ v. record { schema = v.schema; policies = v.policies; settings = v.settings } };
 
-    ghost invariant = { λ v. IsKept v.settings v.schema v.policies.policies v.compiled.items };
+    ghost invariant = { λ v. IsKept v.settings v.schema v.policies.policies v.compiled.items v.warnings.items };
 }
 
-// The codes of policies that strict validation under these settings accepts for a schema.
+// What is kept beside policies that are accepted: their codes, and the ids of those that no request can satisfy.
+#[derive(Drop)]
+struct Judged {
+    compiled: Vec<Code>,
+    warnings: Vec<Text>,
+}
+
+// The codes of policies that strict validation under these settings accepts for a schema, and their warnings.
 fn judge(
     alloc: Global,
     schema: &Schema,
     policies: &PolicySet,
     settings: Settings,
-) -> Result<Vec<Code>, ValidationFault>
+) -> Result<Judged, ValidationFault>
     ensures accepted { OnOk result (IsValidatedWith settings schema.now policies.now.policies) }
-    ensures codes { IfOk result (λ codes. AreCodes codes.items policies.now.policies) }
+    ensures codes { IfOk result (λ j. AreCodes j.compiled.items policies.now.policies) }
+    ensures warned { IfOk result (λ j. AreWarningsWith settings schema.now policies.now.policies j.warnings.items) }
     ensures refused { IfErr result (HasFaultWith settings schema.now policies.now.policies) }
 {
     // Policies have no fault exactly where each of them is accepted, and they have one report only.
@@ -72,7 +82,10 @@ fn judge(
         return Err(ValidationFault::Faults(report));
     }
     match codes_of(alloc, policies) {
-        Ok(codes) => Ok(codes),
+        Ok(compiled) => Ok(Judged {
+            compiled,
+            warnings: report.warnings,
+        }),
         Err(CodeFault::OutOfMemory) => Err(ValidationFault::OutOfMemory),
         Err(CodeFault::TooLong) => Err(ValidationFault::TooLong),
     }
@@ -118,11 +131,12 @@ impl Validated {
         ensures handed_back { IfErr result (λ e. (e.schema ≡ schema) × (e.policies ≡ policies)) }
     {
         match judge(alloc, &schema, &policies, settings) {
-            Ok(compiled) => Ok(Validated {
+            Ok(judged) => Ok(Validated {
                 schema,
                 policies,
                 settings,
-                compiled,
+                compiled: judged.compiled,
+                warnings: judged.warnings,
             }),
             Err(fault) => Err(NotValidated {
                 fault,
@@ -153,6 +167,14 @@ impl Validated {
         ensures accepted { IsValidatedWith self.now.settings self.now.schema self.now.policies.policies }
     {
         &self.policies
+    }
+
+    /// The ids of the policies that no request can satisfy, in the order of the policies: the warnings 650 of strict validation
+    /// (Cedar documentation, policy validation: impossible policies).
+    pub fn warnings(&self) -> &[Text]
+        ensures { AreWarningsWith self.now.settings self.now.schema self.now.policies.policies result.now }
+    {
+        &self.warnings
     }
 
     // The policy at a position from 0, beside its code.

@@ -1,5 +1,5 @@
 -- What an environment comes from: its action, which has its context, and applies to its types.
-use Rattle.std.proofs.Common.{◌≡◌, ℕ, inl, inr, List, [], ◌∷◌, ◌++◌, All, Contains, true, Option, Some, None, is_some, option_map, map, refl, sym, ap, subst, ◌∙◌}
+use Rattle.std.proofs.Common.{◌≡◌, ℕ, inl, inr, List, [], ◌∷◌, Contains, true, Option, Some, None, is_some, option_map, sym, ap, subst, ◌∙◌}
 use Rattle.std.proofs.lemmas.Cmp.{eq_by_cmp_equiv, nat_list_cmp_total}
 use Rattle.std.proofs.lemmas.List.Elements.{All-contains, Contains-append_cases}
 use Rattle.std.proofs.lemmas.Map.Keys.{IsDistinct-from_sorted}

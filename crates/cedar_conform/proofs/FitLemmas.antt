@@ -1,5 +1,5 @@
 -- When a request fits.
-use Rattle.std.proofs.Common.{◌≡◌, Contains, Bool, true, false, refl, sym, subst, ◌∙◌}
+use Rattle.std.proofs.Common.{◌≡◌, Contains, Bool, false, refl, sym, subst}
 use Rattle.std.specs.Prelude.{◌↔◌, IsTrue}
 use Rattle.std.specs.List.Sorted.{IsStrictlySortedBy}
 use Rattle.std.specs.Map.{keys_of}

@@ -1,4 +1,5 @@
 pub mod EnvironmentSources
 pub mod FitLemmas
 pub mod LinkLemmas
+pub mod PartsLemmas
 pub mod RequestLemmas

@@ -9,7 +9,7 @@ use Rattle.base_json.specs.JsonTree.{json_of}
 use Rattle.cedar_value.specs.declared.uid.Uid.{Uid}
 use Rattle.cedar_ast.specs.declared.link.Link.{Link}
 use Rattle.cedar_ast.specs.declared.slots.Slots.{Slots}
-use Rattle.cedar_conform_values.specs.WrittenUids.{UidAt, WritesUid, WritesOneUid}
+use Rattle.cedar_conform_values.specs.WrittenUids.{WritesUid, WritesOneUid}
 use Rattle.cedar_conform_values.specs.declared.conform_fault.ConformFault.{ConformFault}
 use Rattle.cedar_conform_values.specs.declared.conform_fault.ConformFault.TheVariants.{OutOfMemory, Json, Shape}
 use Rattle.cedar_conform.specs.Links.{IsGiven, DenotesSlots, DenotesLink, DenoteLinks, DenotesLinks, BytesDenoteLinks, LinksAreRefused}

@@ -1,5 +1,5 @@
 -- Which request a JSON denotes, and that there is but one.
-use Rattle.std.proofs.Common.{◌≡◌, ℕ, Bool, true, false, inl, inr, List, [], ◌∷◌, Contains, Option, Some, None, Result, Ok, Err, refl, sym, ap, subst, ◌∙◌}
+use Rattle.std.proofs.Common.{◌≡◌, ℕ, true, false, inl, inr, List, [], ◌∷◌, Contains, Option, Some, None, Result, Ok, Err, refl, sym, ap, subst, ◌∙◌}
 use Rattle.std.specs.Prelude.{◌≢◌, codes, IfErr, IfOk, MatchOption, MatchResult}
 use Rattle.std.specs.List.Sorted.{IsStrictlySortedBy}
 use Rattle.std.specs.Map.{keys_of}
@@ -14,8 +14,7 @@ use Rattle.cedar_value.specs.declared.uid.Uid.{Uid}
 use Rattle.cedar_schema_types.specs.Membership.{Member}
 use Rattle.cedar_schema_types.specs.Types.{TypeTree}
 use Rattle.cedar_schema_spec.specs.Conformance.{Fits}
-use Rattle.cedar_schema_spec.specs.Declarations.{IsAction}
-use Rattle.cedar_schema_spec.specs.SchemaTree.{SchemaTree, environments_of, HasEnvironment}
+use Rattle.cedar_schema_spec.specs.SchemaTree.{SchemaTree}
 use Rattle.cedar_schema_spec.specs.WellFormed.{AreListsDeclared, IsListedInOrder}
 use Rattle.cedar_conform_values.specs.Belonging.{ReadValuesBelong}
 use Rattle.cedar_conform_values.specs.Values.{value_read}
@@ -72,7 +71,7 @@ abbrev fields_in : Datum → List (List ℕ × Datum)
 fields_in (record_of fs) = pairs_of fs
 fields_in _ = []
 
-one_record : (ps qs : List (List ℕ × Datum)) → record_of (fields_of ps) ≡ record_of (fields_of qs) → ps ≡ qs
+pub one_record : (ps qs : List (List ℕ × Datum)) → record_of (fields_of ps) ≡ record_of (fields_of qs) → ps ≡ qs
 one_record ps qs e = sym (pairs_back ps) ∙ ap fields_in e ∙ pairs_back qs
 
 module _ (one : WritesOneUid) (s : SchemaTree) (up : IsStrictlySortedBy uid_cmp (keys_of s.actions)) where

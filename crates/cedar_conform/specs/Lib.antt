@@ -1,4 +1,5 @@
 pub mod Exactness
 pub mod Links
+pub mod Parts
 pub mod Private
 pub mod Requests

@@ -8,7 +8,8 @@
 //! assert!(rt; fits(&schema, &request));
 //! ```
 //!
-//! To read many lines, use [`read_request_with`], whose JSON reader is kept from line to line. Entities are read by
+//! To read many lines, use [`read_request_with`], whose JSON reader is kept from line to line. A host without lines gives the parts
+//! of a request to [`read_request_parts`]. Entities are read by
 //! cedar_conform_entities, values and uids by cedar_conform_values.
 #![tactic(auto)]
 
@@ -16,6 +17,7 @@ mod context;
 mod fitting;
 mod laws;
 mod links;
+mod parts;
 mod request;
 
 pub use cedar_conform_entities::{
@@ -29,4 +31,5 @@ pub use cedar_conform_values::{
 pub use fitting::fits;
 pub use laws::{denoted_requests_fit, one_request};
 pub use links::read_links;
+pub use parts::{RequestParts, UidParts, read_request_parts};
 pub use request::{read_request, read_request_with};

@@ -24,12 +24,12 @@ use cedar_value::{Record, Request, Uid};
 use serde_json::{Map, Value as Json};
 use std::alloc::Global;
 
-// The uids of a request.
+/// The uids of a request.
 #[derive(Drop)]
-struct RequestUids {
-    principal: Uid,
-    action: Uid,
-    resource: Uid,
+pub(crate) struct RequestUids {
+    pub(crate) principal: Uid,
+    pub(crate) action: Uid,
+    pub(crate) resource: Uid,
 }
 
 /// The request that the bytes denote for the schema: a JSON object of `principal`, `action`, `resource` and perhaps `context`
@@ -150,8 +150,11 @@ fn uid_at(alloc: Global, json: &Json, key: &str) -> Result<Uid, ConformFault>
     }
 }
 
-// The type of the context in the environment of the uids.
-fn context_type<'s>(schema: &'s Schema, uids: &RequestUids) -> Result<&'s Type, ConformFault>
+/// The type of the context in the environment of the uids.
+pub(crate) fn context_type<'s>(
+    schema: &'s Schema,
+    uids: &RequestUids,
+) -> Result<&'s Type, ConformFault>
     ensures { MatchResult result
         (λ t. HasEnvironment schema.now.actions uids.now.action uids.now.principal.ty uids.now.resource.ty t.now × IsTrue (is_record t.now))
         (HasUidsFault schema.now uids.now.principal uids.now.action uids.now.resource) }

@@ -1,4 +1,4 @@
-use Rattle.std.proofs.Common.{◌≡◌, subst}
+use Rattle.std.proofs.Common.{subst}
 use Rattle.std.specs.Prelude.{◌↔◌, IsTrue}
 use Rattle.cedar_value.specs.Datum.{record_of, fields_of}
 use Rattle.cedar_schema_types.specs.Membership.{Member}

@@ -1,6 +1,4 @@
-use Rattle.std.proofs.Common.{◌≡◌, Some, sym, ap, ◌∙◌}
 use Rattle.serde_json.specs.View.{view}
-use Rattle.base_json.specs.JsonTree.{json_of}
 use Rattle.cedar_conform.proofs.RequestLemmas.{answer_fits, answer_tells, only_of}
 use Rattle.cedar_conform.proofs.request.read_request_with.Goals as goal
 

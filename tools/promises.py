@@ -7,7 +7,7 @@ from antt import Definition, Type
 # The calls, by crate and name.
 CALLS = [
     ('cedar_auth_law', 'engine_is_sound'), ('cedar_auth', 'serve'), ('cedar_schema', 'Schema::read'), ('cedar_conform_entities', 'read_entities'),
-    ('cedar_conform', 'read_request'), ('cedar_parser', 'parse'), ('cedar_cli', 'validate'), ('cedar_cli', 'authorize'),
+    ('cedar_conform', 'read_request'), ('cedar_parser', 'parse'), ('cedar_files', 'validate'), ('cedar_cli', 'authorize'),
 ]
 
 

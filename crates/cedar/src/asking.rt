@@ -3,8 +3,9 @@ use crate::request_line::request_line;
 use crate::running::{ended, say};
 use base_lines::StdSink;
 use cedar_ast::Decision;
-use cedar_cli::{End, NamedFiles, Words, ask, read_schema};
-use cedar_cli_diagnostics::{
+use cedar_cli::{Words, ask};
+use cedar_files::{End, NamedFiles, read_schema};
+use cedar_files_diagnostics::{
     CountingSink, Explanation, Format, explain_json, explain_request, unreadable,
 };
 use cedar_schema::Schema;

@@ -1,7 +1,9 @@
 //! What is explained on standard error after the work has ended. Nothing is said when out of memory.
-use cedar_cli::{End, NamedFiles, Role, Words};
-use cedar_cli_diagnostics::{
-    Explanation, Format, explain_file, explain_policy_faults, not_again, refused_file, unreadable,
+use cedar_cli::{Subcommand, Words};
+use cedar_files::{End, NamedFiles, Role};
+use cedar_files_diagnostics::{
+    Explanation, Extent, Format, explain_file, explain_policy_faults, not_again, refused_file,
+    unreadable,
 };
 use std::alloc::{AllocError, Global};
 
@@ -15,6 +17,15 @@ fn option_of(role: Role) -> &'static str {
         Role::Policies => "--policies",
         Role::Links => "--links",
         Role::Entities => "--entities",
+    }
+}
+
+// Which files a subcommand reads.
+fn extent_of(subcommand: Subcommand) -> Extent {
+    match subcommand {
+        Subcommand::CheckParse => Extent::Policies,
+        Subcommand::Validate | Subcommand::Explain => Extent::Report,
+        Subcommand::Authorize | Subcommand::Why | Subcommand::Ask => Extent::All,
     }
 }
 
@@ -72,7 +83,7 @@ impl<'a> Explainer<'a> {
         let explained = match refused_file(
             alloc,
             self.files,
-            self.words.subcommand,
+            extent_of(self.words.subcommand),
             self.words.settings,
         ) {
             Some(refused) => {

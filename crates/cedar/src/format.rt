@@ -1,6 +1,6 @@
 //! The form in which the command line wants explanations.
 use cedar_cli::Words;
-use cedar_cli_diagnostics::Format;
+use cedar_files_diagnostics::Format;
 
 /// The form in which the words want explanations on standard error; none where they want none. The error is a word that names no
 /// form.

@@ -1,7 +1,7 @@
 //! `authorize --explain-lines`: the lines are kept, and those that are refused are explained after they were answered.
 use crate::explaining::Explainer;
-use cedar_cli::read_schema;
-use cedar_cli_diagnostics::{Explanation, explain_request};
+use cedar_files::read_schema;
+use cedar_files_diagnostics::{Explanation, explain_request};
 use cedar_schema::Schema;
 use std::alloc::{AllocError, Global};
 

@@ -7,12 +7,14 @@ mod format;
 mod lines;
 mod request_line;
 mod running;
+mod warning;
 mod whys;
 
 use crate::format::format_of;
 use crate::running::{run_words, say};
 use base_places::push_shown;
-use cedar_cli::{End, words};
+use cedar_cli::words;
+use cedar_files::End;
 use clap::error::ErrorKind;
 use std::alloc::{AllocError, Global};
 use std::process::ExitCode;

@@ -2,11 +2,13 @@
 use crate::asking::run_ask;
 use crate::explaining::Explainer;
 use crate::lines::explain_lines;
+use crate::warning::authorize_and_warn;
 use crate::whys::run_why;
 use base_lines::{SliceSource, StdSink, StdSource};
-use cedar_cli::{End, NamedFiles, Subcommand, Words, authorize, check_parse, validate};
-use cedar_cli_diagnostics::{CountingSink, Format, refused_lines};
+use cedar_cli::{Subcommand, Words, check_parse};
 use cedar_cli_refusals::explain;
+use cedar_files::{End, NamedFiles, validate};
+use cedar_files_diagnostics::{CountingSink, Format, refused_lines};
 use std::io::{self, Read};
 
 /// Prints the line for a device that failed, or for memory that ran out.
@@ -83,11 +85,11 @@ fn run_authorize(rt: &HostRuntime, words: &Words<'_>, format: Option<Format>) ->
     let mut source = StdSource::new(rt.reader());
     let mut sink = StdSink::new(io::writer(rt));
     let Some(form) = format else {
-        let end = authorize(alloc, &files, &mut source, &mut sink, words.settings);
+        let end = authorize_and_warn(rt, &files, &mut source, &mut sink, words, format);
         return ended(rt, &files, words, format, end);
     };
     let mut counting = CountingSink::new(sink);
-    let end = authorize(alloc, &files, &mut source, &mut counting, words.settings);
+    let end = authorize_and_warn(rt, &files, &mut source, &mut counting, words, format);
     let status = ended(rt, &files, words, format, end);
     if end == End::Done {
         if let Ok(says) = refused_lines(alloc, form, counting.counts()) {
@@ -114,7 +116,7 @@ fn run_kept_lines(rt: &HostRuntime, words: &Words<'_>, format: Option<Format>) -
     }
     let mut source = SliceSource::new(&input);
     let mut sink = StdSink::new(io::writer(rt));
-    let end = authorize(alloc, &files, &mut source, &mut sink, words.settings);
+    let end = authorize_and_warn(rt, &files, &mut source, &mut sink, words, format);
     let status = ended(rt, &files, words, format, end);
     if let (End::Done, Some(format)) = (end, format) {
         let explainer = Explainer {

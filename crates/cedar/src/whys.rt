@@ -1,9 +1,10 @@
 //! `why`: what each request line comes to, policy by policy.
 use crate::running::ended;
 use base_lines::{ServeFault, StdSink, StdSource};
-use cedar_cli::{End, Files, NamedFiles, Role, Words, prepare};
-use cedar_cli_diagnostics::Format;
+use cedar_cli::Words;
 use cedar_cli_why::{WhyOptions, why};
+use cedar_files::{End, Files, NamedFiles, Role, prepare};
+use cedar_files_diagnostics::Format;
 use std::alloc::Global;
 use std::io;
 

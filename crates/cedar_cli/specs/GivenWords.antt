@@ -3,7 +3,7 @@ use Rattle.std.specs.Prelude.{◌≡◌, Bool, true, false, List, codes, Option,
 use Rattle.clap.specs.Words.{Row, Text, first_of, one_of, subcommand_of}
 use Rattle.cedar_cli.specs.CommandLine.{program}
 use Rattle.cedar_cli.specs.declared.options.AskedRequest.{AskedRequest}
-use Rattle.cedar_cli.specs.declared.options.FileNames.{FileNames}
+use Rattle.cedar_files.specs.declared.file_names.FileNames.{FileNames}
 use Rattle.cedar_cli.specs.declared.options.Subcommand.{Subcommand}
 use Rattle.cedar_cli.specs.declared.options.Subcommand.TheVariants.{Validate, Authorize, Why, Ask, CheckParse, Explain}
 use Rattle.cedar_cli.specs.declared.options.Words.{Words}

@@ -1,18 +1,16 @@
 //! The subcommand `ask`.
 ghost use Rattle.std.specs.Prelude.{◌-◌, ◌<◌, ◌^◌, IfOk};
 ghost use Rattle.cedar_auth_spec.specs.Ready.{ReadyTree};
+ghost use Rattle.cedar_files.specs.Authorization.{HoldAll};
 ghost use Rattle.cedar_cli.specs.Asking.{DecidesLine};
-ghost use Rattle.cedar_cli.specs.Authorization.{HoldAll};
 
 use crate::authorizing::answer;
-use crate::ending::End;
-use crate::files::Files;
-use crate::preparing::prepare;
 use base_lines::{Sink, SliceSource};
 use cedar_ast::Decision;
 use cedar_auth::Ready;
 use cedar_check_spec::Settings;
 use cedar_conform_values::ConformFault;
+use cedar_files::{End, Files, prepare};
 use std::alloc::Global;
 
 // What the policies decide of a line; or how the program ends where the line is refused or memory ran out.

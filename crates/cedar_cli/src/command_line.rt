@@ -5,8 +5,9 @@ ghost use Rattle.cedar_cli.specs.CommandLine.{program};
 ghost use Rattle.cedar_cli.specs.GivenWords.{AreGiven, subcommand_name};
 
 use crate::command::command;
-use crate::options::{AskedRequest, FileNames, Subcommand, Words};
+use crate::options::{AskedRequest, Subcommand, Words};
 use cedar_check_spec::Settings;
+use cedar_files::FileNames;
 use clap::error::ErrorKind;
 use std::alloc::{AllocError, Global};
 

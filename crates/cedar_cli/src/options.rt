@@ -1,5 +1,6 @@
 //! What a command line says.
 use cedar_check_spec::Settings;
+use cedar_files::FileNames;
 
 /// The subcommands.
 #[derive(Clone, Copy, Debug, PartialEq, Eq)]
@@ -16,19 +17,6 @@ pub enum Subcommand {
     CheckParse,
     /// Explain a number of a refusal.
     Explain,
-}
-
-/// The names of files, each None where its option isn't used.
-#[derive(Clone, Copy, Debug)]
-pub struct FileNames<'a> {
-    /// The file of the schema, after `--schema`.
-    pub schema: Option<&'a str>,
-    /// The file of the policies, after `--policies`.
-    pub policies: Option<&'a str>,
-    /// The file of the links, after `--links`.
-    pub links: Option<&'a str>,
-    /// The file of the entities, after `--entities`.
-    pub entities: Option<&'a str>,
 }
 
 /// The request of a command line: of `ask`. A text is None where its option isn't used.

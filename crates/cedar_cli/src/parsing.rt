@@ -6,19 +6,37 @@ ghost use Rattle.base_lines.specs.AnswerText.{Writes};
 ghost use Rattle.base_lines.specs.Lines.{line_feed};
 ghost use Rattle.cedar_ast.specs.PolicySetTree.{PolicySetTree};
 ghost use Rattle.cedar_cli.specs.Parsing.{IsCountsLine, counts_data};
-ghost use Rattle.cedar_cli.specs.PolicyFile.{HoldsNoPolicies, HoldsPolicies};
-ghost use Rattle.cedar_cli.specs.Standing.{IsRefusalLine};
-ghost use Rattle.cedar_cli.specs.Private.Tokens.{data_tokens};
+ghost use Rattle.cedar_files.specs.PolicyFile.{HoldsNoPolicies, HoldsPolicies};
+ghost use Rattle.cedar_files.specs.Standing.{BeginsRefusal, IsRefusalLine};
+ghost use Rattle.cedar_files.specs.Private.Tokens.{data_tokens};
 
-use crate::ending::End;
-use crate::files::{Files, Role};
-use crate::reading::read_policies;
-use crate::refusal::FileRefusal;
-use crate::validating::stop;
 use base_lines::{Sink, flush};
 use cedar_ast::PolicySet;
+use cedar_files::{End, FileRefusal, Files, Role, Unread, read_policies, refuse};
 use json::Writer;
 use std::alloc::{AllocError, Global};
+
+// Ends the program where a file cannot be used.
+fn stop<K: Sink>(alloc: Global, role: Role, unread: Unread, sink: &mut K) -> End
+    requires { K.failed sink.old < 2 ^ 64 - 1 }
+    ensures refused { result ≡ End.Refused → (refusal : FileRefusal) × (unread ≡ Unread.Refused refusal)
+        × Writes (K.written sink.old) (K.written sink.new) (IsRefusalLine role refusal) }
+    ensures unnamed { result ≡ End.CommandLine → unread ≡ Unread.Unnamed }
+    ensures untouched { result ≡ End.CommandLine → sink.new ≡ sink.old }
+    ensures device { result ≡ End.Device → (unread ≡ Unread.Device) ⊎ (K.failed sink.old < K.failed sink.new) }
+    ensures stands { result ≡ End.Device → Keeps (K.written sink.old) (K.written sink.new)
+        ⊎ ((refusal : FileRefusal) × (unread ≡ Unread.Refused refusal)
+        × Writes (K.written sink.old) (K.written sink.new) (BeginsRefusal role refusal)) }
+    ensures stands_whole { result ≡ End.Memory → Keeps (K.written sink.old) (K.written sink.new) }
+    ensures others { (result ≡ End.Done → ⊥) × (result ≡ End.Faults → ⊥) }
+{
+    match unread {
+        Unread::Refused(refusal) => refuse(alloc, role, refusal, sink),
+        Unread::Unnamed => End::CommandLine,
+        Unread::Device => End::Device,
+        Unread::Memory => End::Memory,
+    }
+}
 
 // `{"policies":P,"templates":T}`
 fn write_counts(writer: &mut Writer, policies: usize, templates: usize) -> Result<(), AllocError>

@@ -9,7 +9,7 @@ use crate::replies::{MALFORMED, opened, published, running, stepped, taken};
 use crate::version::read_version;
 use base_lines::{Engine, ServeFault, Sink, Source, flush, serve};
 use cedar_auth::Ready;
-use cedar_cli::End;
+use cedar_files::End;
 use cedar_service::Service;
 use std::alloc::{AllocError, Global};
 

@@ -15,7 +15,7 @@ mod version;
 use crate::hosting::host;
 use crate::names::Names;
 use base_lines::{StdSink, StdSource};
-use cedar_cli::End;
+use cedar_files::End;
 use std::process::ExitCode;
 use std::{env, io};
 

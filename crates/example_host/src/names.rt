@@ -1,5 +1,5 @@
 //! The names of a version's files.
-use cedar_cli::{FileNames, NamedFiles};
+use cedar_files::{FileNames, NamedFiles};
 
 /// The names of a version's files. It has no links.
 #[derive(Clone, Copy)]

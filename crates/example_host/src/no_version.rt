@@ -1,6 +1,6 @@
 //! Why files give no version.
 use cedar_auth::ValidationFault;
-use cedar_cli::{End, FileRefusal, Role, Unread, refusal_line};
+use cedar_files::{End, FileRefusal, Role, Unread, refusal_line};
 use std::alloc::{AllocError, Global};
 
 /// 701: the code of a policy is too long.

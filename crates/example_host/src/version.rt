@@ -2,7 +2,7 @@
 use crate::no_version::NoVersion;
 use cedar_ast::PolicySet;
 use cedar_auth::{Ready, Validated};
-use cedar_cli::{Files, Role, read_policies, read_ready, read_schema};
+use cedar_files::{Files, Role, read_policies, read_ready, read_schema};
 use cedar_schema::Schema;
 use std::alloc::Global;
 

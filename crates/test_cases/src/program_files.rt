@@ -1,6 +1,6 @@
 //! The files and the settings that a run of the program is given.
 use cedar_check_spec::Settings;
-use cedar_cli::MemoryFiles;
+use cedar_files::MemoryFiles;
 use std::alloc::Global;
 use test_cases_parts::{Case, CaseFault};
 

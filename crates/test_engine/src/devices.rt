@@ -5,7 +5,8 @@ use crate::documents::{
 use crate::peer::{PeerSink, PeerSource};
 use base_lines::{PiecewiseSink, PiecewiseSource, Sink};
 use cedar_check_spec::Settings;
-use cedar_cli::{End, MemoryFiles, authorize, validate};
+use cedar_cli::authorize;
+use cedar_files::{End, MemoryFiles, validate};
 use std::alloc::Global;
 use std::cell::Cell;
 use std::process::Abort;

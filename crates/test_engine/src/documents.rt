@@ -1,5 +1,5 @@
 //! A schema of documents, entities that conform to it, and the files that hold them.
-use cedar_cli::MemoryFiles;
+use cedar_files::MemoryFiles;
 
 /// Documents with an owner. Its environments, in order: delete by a User, view by an Admin, view by a User, each of a Doc.
 pub const DOCUMENTS: &[u8] = br#"{"":{"entityTypes":{

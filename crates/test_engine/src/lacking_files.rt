@@ -1,5 +1,5 @@
 //! Files of which one is not there, or can't be read.
-use cedar_cli::{FileFault, Files, MemoryFiles, Role};
+use cedar_files::{FileFault, Files, MemoryFiles, Role};
 use std::alloc::Global;
 
 /// Files of which one is not there, or can't be read.

@@ -3,7 +3,8 @@ use crate::documents::{ALL, DELETE, with_links};
 use crate::lacking_files::LackingFiles;
 use base_lines::{Sink, SliceSource, VecSink};
 use cedar_check_spec::Settings;
-use cedar_cli::{End, FileFault, Files, Role, authorize, validate};
+use cedar_cli::authorize;
+use cedar_files::{End, FileFault, Files, Role, validate};
 use std::alloc::Global;
 use std::process::Abort;
 

@@ -4,7 +4,7 @@
 //! is the only one.
 use crate::program_files::{ProgramFiles, settings_of};
 use base_lines::VecSink;
-use cedar_cli::validate;
+use cedar_files::validate;
 use std::alloc::Global;
 use test_cases_parts::{Case, CaseFault, Outcome};
 

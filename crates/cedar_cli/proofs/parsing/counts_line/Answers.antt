@@ -1,7 +1,7 @@
 use Rattle.std.proofs.Common.{◌∙◌, ℕ, List, [], ◌∷◌, ◌++◌, ap, refl}
 use Rattle.base_lines.specs.Lines.{line_feed}
 use Rattle.cedar_cli.specs.Parsing.{counts_data}
-use Rattle.cedar_cli.proofs.Texts.{text_alone}
+use Rattle.cedar_files.proofs.Texts.{text_alone}
 use Rattle.cedar_cli.proofs.parsing.counts_line.Goals as goal
 
 pub returns : goal.returns

@@ -1,3 +1,0 @@
--- What proofs and private contracts use. No public clause uses it.
-pub mod Telling
-pub mod Tokens

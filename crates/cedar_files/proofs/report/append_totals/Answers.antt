@@ -1,0 +1,11 @@
+use Rattle.std.proofs.Common.{refl, ◌∙◌}
+use Rattle.cedar_files.specs.ReportJson.{totals_data}
+use Rattle.cedar_files.specs.ReportText.{totals_line}
+use Rattle.cedar_files.proofs.Telling.{line-behind}
+use Rattle.cedar_files.proofs.report.append_totals.Goals as goal
+
+pub returns : goal.returns
+returns c =
+    line-behind c.end_line.result (totals_line c.args.faults c.args.warnings) (totals_data c.args.faults c.args.warnings) _ _ _ _ _ refl
+    (c.in_ok-write_totals.ensures.before ∙ c.begin_line-writer.ensures.before)
+    c.begin_line-writer.ensures.tokens c.in_ok-write_totals.ensures.tokens c.end_line.ensures

@@ -1,0 +1,16 @@
+pub mod Authorization
+pub mod Ending
+pub mod EntitiesFile
+pub mod Faulty
+pub mod LinksFile
+pub mod PolicyFile
+pub mod Private
+pub mod Refusal
+pub mod ReportJson
+pub mod ReportText
+pub mod Roles
+pub mod SchemaFile
+pub mod Standing
+pub mod Unprepared
+pub mod Unread
+pub mod Validation

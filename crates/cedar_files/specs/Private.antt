@@ -1,0 +1,4 @@
+-- What proofs and private contracts use. No public clause uses it.
+pub mod Telling
+pub mod Tokens
+pub mod Unusable

@@ -1,0 +1,138 @@
+//! Reads the schema, the policies and the entities from their files.
+ghost use Rattle.std.specs.Prelude.{◌≡◌, ◌≢◌, None, Some, IfOk, IfErr, IfSome, IsErrOf};
+ghost use Rattle.cedar_conform_values.specs.Numbers.{number_of};
+ghost use Rattle.cedar_conform_values.specs.declared.conform_fault.ConformFault.TheVariants.{OutOfMemory};
+ghost use Rattle.cedar_files.specs.EntitiesFile.{HoldsNoWorld, HoldsWorld};
+ghost use Rattle.cedar_files.specs.PolicyFile.{HoldsNoPolicies, HoldsPolicies};
+ghost use Rattle.cedar_files.specs.SchemaFile.{HoldsNoSchema, HoldsSchema};
+ghost use Rattle.cedar_files.specs.Unread.{IfRefused};
+
+use crate::files::{FileFault, Files, Role};
+use crate::refusal::FileRefusal;
+use cedar_ast::PolicySet;
+use cedar_auth::{NotReady, Ready, Validated};
+use cedar_conform_values::ConformFault;
+use cedar_parser::parse;
+use cedar_schema::{Schema, SchemaFault};
+use std::alloc::Global;
+use thiserror::Error;
+
+/// 105: a policy file that is not UTF-8.
+const NO_UTF8: u16 = 105;
+
+/// 1: out of memory.
+pub(crate) const OUT_OF_MEMORY: u16 = 1;
+
+/// Why the program cannot go on after reading a file.
+#[derive(Clone, Copy, Debug, PartialEq, Eq, Error)]
+pub enum Unread {
+    /// It is refused.
+    #[error("the file is refused")]
+    Refused(FileRefusal),
+    /// The command line names none.
+    #[error("no file is named")]
+    Unnamed,
+    /// It can't be read.
+    #[error("the file cannot be read")]
+    Device,
+    /// Memory ran out.
+    #[error("out of memory")]
+    Memory,
+}
+
+// The bytes of a file.
+pub(crate) fn read_file<F: Files>(alloc: Global, files: &F, role: Role) -> Result<Vec<u8>, Unread>
+    ensures held { IfOk result (λ bytes. IfSome (F.holds files.now role) (λ held. held ≡ Some bytes.items)) }
+    ensures refused { IfErr result (λ unread. IfRefused unread (λ _. ⊥)) }
+    ensures unnamed { IsErrOf result Unread.Unnamed → IfSome (F.holds files.now role) (λ held. held ≡ None) }
+    ensures device { IsErrOf result Unread.Device → F.holds files.now role ≡ None }
+{
+    match files.read(alloc, role) {
+        Ok(Some(bytes)) => Ok(bytes),
+        Ok(None) => Err(Unread::Unnamed),
+        Err(FileFault::Device) => Err(Unread::Device),
+        Err(FileFault::Memory) => Err(Unread::Memory),
+    }
+}
+
+/// The schema of the schema file.
+///
+/// # Errors
+///
+/// `Refused` where the file's bytes write no schema: 301 to 309, with no place. Otherwise `Unnamed`, `Device` or `Memory`.
+pub fn read_schema<F: Files>(alloc: Global, files: &F) -> Result<Schema, Unread>
+    ensures found { IfOk result (λ s. IfSome (F.holds files.now Role.Schema) (λ held. HoldsSchema held s)) }
+    ensures refused { IfErr result (λ unread. IfRefused unread (λ refusal.
+        IfSome (F.holds files.now Role.Schema) (λ held. HoldsNoSchema held refusal))) }
+    ensures unnamed { IsErrOf result Unread.Unnamed → IfSome (F.holds files.now Role.Schema) (λ held. held ≡ None) }
+    ensures device { IsErrOf result Unread.Device → F.holds files.now Role.Schema ≡ None }
+{
+    let bytes = read_file(alloc, files, Role::Schema)?;
+    match Schema::read(alloc, &bytes) {
+        Ok(schema) => Ok(schema),
+        Err(SchemaFault::OutOfMemory) => Err(Unread::Memory),
+        Err(fault) => Err(Unread::Refused(FileRefusal::whole(fault.number()))),
+    }
+}
+
+/// The policies of the policy file.
+///
+/// # Errors
+///
+/// `Refused` where the file is not UTF-8 (105, with no place), or where its text has a fault (101 to 104 and 201 to 209, with
+/// its place). Otherwise `Unnamed`, `Device` or `Memory`.
+pub fn read_policies<F: Files>(alloc: Global, files: &F) -> Result<PolicySet, Unread>
+    ensures found { IfOk result (λ set. IfSome (F.holds files.now Role.Policies) (λ held. HoldsPolicies held set)) }
+    ensures refused { IfErr result (λ unread. IfRefused unread (λ refusal.
+        IfSome (F.holds files.now Role.Policies) (λ held. HoldsNoPolicies held refusal))) }
+    ensures unnamed { IsErrOf result Unread.Unnamed → IfSome (F.holds files.now Role.Policies) (λ held. held ≡ None) }
+    ensures device { IsErrOf result Unread.Device → F.holds files.now Role.Policies ≡ None }
+{
+    let bytes = read_file(alloc, files, Role::Policies)?;
+    let Ok(text) = str::from_utf8(&bytes) else {
+        return Err(Unread::Refused(FileRefusal::whole(NO_UTF8)));
+    };
+    match parse(alloc, text) {
+        Ok(policies) => Ok(policies),
+        Err(fault) => match fault.number() {
+            OUT_OF_MEMORY => Err(Unread::Memory),
+            number => {
+                let offset = fault.offset();
+                Err(Unread::Refused(FileRefusal { number, offset }))
+            }
+        },
+    }
+}
+
+// Why entities or links are refused.
+pub(crate) fn refusal_of(fault: &ConformFault) -> Unread
+    ensures refused { IfRefused result (λ refusal. (fault.now ≢ OutOfMemory) × (refusal ≡ record { number = number_of fault.now; offset = None })) }
+    ensures others { (result ≢ Unread.Unnamed) × (result ≢ Unread.Device) }
+{
+    match fault.number() {
+        OUT_OF_MEMORY => Unread::Memory,
+        number => Unread::Refused(FileRefusal::whole(number)),
+    }
+}
+
+/// The policies, ready to answer over the entities of the entities file.
+///
+/// # Errors
+///
+/// `Refused` where the file's bytes denote no entities for the schema: 401, 402, 501 to 509, with no place. Otherwise
+/// `Unnamed`, `Device` or `Memory`.
+pub fn read_ready<F: Files>(alloc: Global, files: &F, validated: Validated) -> Result<Ready, Unread>
+    ensures holds { IfOk result (λ ready. (ready.schema ≡ validated.schema) × (ready.policies ≡ validated.policies)) }
+    ensures settings { IfOk result (λ ready. ready.settings ≡ validated.settings) }
+    ensures found { IfOk result (λ ready. IfSome (F.holds files.now Role.Entities) (λ held. HoldsWorld validated.schema held ready.world)) }
+    ensures refused { IfErr result (λ unread. IfRefused unread (λ refusal.
+        IfSome (F.holds files.now Role.Entities) (λ held. HoldsNoWorld validated.schema held refusal))) }
+    ensures unnamed { IsErrOf result Unread.Unnamed → IfSome (F.holds files.now Role.Entities) (λ held. held ≡ None) }
+    ensures device { IsErrOf result Unread.Device → F.holds files.now Role.Entities ≡ None }
+{
+    let bytes = read_file(alloc, files, Role::Entities)?;
+    match Ready::new_owned(alloc, validated, bytes) {
+        Ok(ready) => Ok(ready),
+        Err(NotReady { fault, .. }) => Err(refusal_of(&fault)),
+    }
+}

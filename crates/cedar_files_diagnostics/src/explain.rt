@@ -1,0 +1,36 @@
+//! What is explained of a refused file.
+use crate::diagnostic::Explanation;
+use crate::entities::explain_entities;
+use crate::json_text::explain_json;
+use crate::links::explain_links;
+use crate::policy_text::explain_policies;
+use crate::refused::RefusedFile;
+use crate::schemas::explain_schema;
+use crate::words::explain_number;
+use cedar_files::{Files, Role};
+use std::alloc::{AllocError, Global};
+
+/// What is explained of a file that is refused, which has this name; or none if it cannot be read again.
+pub fn explain_file<F: Files>(
+    alloc: Global,
+    files: &F,
+    name: &str,
+    refused: RefusedFile,
+) -> Result<Option<Explanation>, AllocError> {
+    let Ok(Some(bytes)) = files.read(alloc, refused.role) else {
+        return Ok(None);
+    };
+    let number = refused.refusal.number;
+    let explained = match (refused.role, number) {
+        (Role::Policies, 701) => None,
+        (Role::Policies, _) => explain_policies(alloc, name, bytes)?,
+        (_, 301 | 501) => explain_json(alloc, name, number, bytes)?,
+        (Role::Schema, _) => explain_schema(alloc, name, number, &bytes)?,
+        (Role::Links, _) => explain_links(alloc, files, name, number, &bytes)?,
+        (Role::Entities, _) => explain_entities(alloc, files, name, number, bytes)?,
+    };
+    match explained {
+        Some(explained) => Ok(Some(explained)),
+        None => explain_number(alloc, name, number),
+    }
+}

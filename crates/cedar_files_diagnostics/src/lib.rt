@@ -1,0 +1,54 @@
+//! Explains to a person why a file is refused: file, line and column, the line with a mark, the reason in words, and a hint.
+//!
+//! ```rust
+//! use cedar_files_diagnostics::explain_policies;
+//!
+//! let bytes = Vec::from_slice(alloc, b"permit(principal, action, resource) when { principal.age = 18 };")?;
+//! if let Some(explained) = explain_policies(alloc, "policies.cedar", bytes)? {
+//!     assert!(rt; explained.to_lines(alloc)?.starts_with("error[101]: "));
+//! }
+//! ```
+//!
+//! The number, the line and the column are those of a fault that the file has. The words, the hints and the marks are tested. What
+//! is shown of a file has no control character and no character that changes the direction of text (`base_places`).
+#![tactic(auto)]
+
+mod counting_sink;
+mod data;
+mod diagnostic;
+mod entities;
+mod excerpt;
+mod explain;
+mod explain_all;
+mod fault_part;
+mod faults;
+mod faulty;
+mod format;
+mod human;
+mod json_lines;
+mod json_text;
+mod links;
+mod messages;
+mod policy_text;
+mod policy_words;
+mod refused;
+mod schemas;
+mod second_place;
+mod statement_place;
+mod token_words;
+mod words;
+
+pub use counting_sink::{CountingSink, FirstRefused, LineCounts};
+pub use data::explain_request;
+pub use diagnostic::{Diagnostic, Explanation, Mark, Severity};
+pub use explain::explain_file;
+pub use explain_all::explain_files;
+pub use fault_part::Checked;
+pub use faults::explain_faults;
+pub use faulty::explain_policy_faults;
+pub use format::Format;
+pub use json_text::{explain_json, json_offset};
+pub use messages::{impossible_policies, not_again, refused_lines, unreadable};
+pub use policy_text::{PolicyPlace, explain_policies, policy_place};
+pub use refused::{Extent, RefusedFile, refused_file};
+pub use words::explain_number;

@@ -124,6 +124,10 @@ def read_module(top, crate, path):
             if imported(bare):
                 module.imports.append(imported(bare))
             continue
+        # A set of lemmas or codes for a tactic defines nothing.
+        if re.match(r'(?:pub )?ruleset ', line):
+            comment, unit = [], None
+            continue
         if re.match(r'(?:abbrev |unfoldable )*mutual$', line):
             unit = Unit(module, is_mutual=True)
             module.units.append(unit)
@@ -203,7 +207,7 @@ class Source:
 
 OWNER = re.compile(r'(?:unsafe )?impl(?:<.*?>)? (?:([\w:]+)(?:<.*>)? for )?&?(?:\'\w+ )?(\w+)')
 ITEM = re.compile(r'(pub(?:\(crate\))? )?(?:struct|enum|trait|const|static) (\w+)')
-FUNCTION = re.compile(r'( *)(pub(?:\(crate\))? )?(?:const |unsafe )*fn (\w+)')
+FUNCTION = re.compile(r'( *)(pub(?:\(crate\))? )?(?:const |unsafe |extern "C" )*fn (\w+)')
 CLAUSE = re.compile(r'\s*(?:requires|ensures|ghost)\b')
 
 
@@ -309,8 +313,10 @@ class House:
         return None
 
     def exports(self, source, name, is_function=False):
-        """Whether the root of the source's crate passes the name on, and if it is a function's, that of this source."""
+        """Whether the root of the source's crate has the name, or passes it on, and if it is a function's, that of this source."""
         root = self.sources.get((source.crate, 'src/lib.rt'))
+        if source is root:
+            return True
         if not root or not passed_on(root, name):
             return False
         return not is_function or self.followed(root, 'src', name) is source

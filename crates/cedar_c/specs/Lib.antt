@@ -1,0 +1,12 @@
+pub mod Answers
+pub mod Buffers
+pub mod Deciding
+pub mod Explaining
+pub mod Handles
+pub mod Lending
+pub mod Pieces
+pub mod Publishing
+pub mod SettingBits
+pub mod Statuses
+pub mod Texts
+pub mod Validating

@@ -1,0 +1,54 @@
+-- What is published to a handle, and why nothing is.
+use Rattle.std.specs.Prelude.{◌≡◌, ℕ, List, [], Option, None, Some}
+use Rattle.cedar_ast.specs.PolicySetTree.{PolicySetTree}
+use Rattle.cedar_schema_spec.specs.SchemaTree.{SchemaTree}
+use Rattle.cedar_check_spec.specs.Reports.{AreFaultsWith}
+use Rattle.cedar_check_spec.specs.declared.settings.Settings.{Settings}
+use Rattle.cedar_files.specs.Authorization.{IsFirstRefused}
+use Rattle.cedar_files.specs.ReportText.{IsReportText}
+use Rattle.cedar_files.specs.Roles.{Holdings}
+use Rattle.cedar_files.specs.Standing.{IsRefusalLine}
+use Rattle.cedar_files.specs.Validation.{Hold}
+use Rattle.cedar_files.specs.declared.files.Role.{Role}
+use Rattle.cedar_files.specs.declared.files.Role.TheVariants.{Schema, Policies, Links, Entities}
+use Rattle.cedar_files.specs.declared.refusal.FileRefusal.{FileRefusal}
+use Rattle.cedar_c.specs.declared.refusal.Refusal.{Refusal}
+
+-- The number of a file, from 1 (own).
+abbrev pub file_number : Role → ℕ
+file_number Schema = 1
+file_number Policies = 2
+file_number Links = 3
+file_number Entities = 4
+
+-- The offset of a fault, or 2^64 - 1 where it has no place (own).
+abbrev pub offset_number : Option ℕ → ℕ
+offset_number None = 18446744073709551615
+offset_number (Some at) = at
+
+-- What is said where no file is refused (own).
+abbrev pub no_refusal : Refusal
+no_refusal = record { file = 0; number = 0; offset = 18446744073709551615 }
+
+-- This is what C is given of the refusal of the file (own).
+pub record IsRefusalOf (role : Role) (why : FileRefusal) (refusal : Refusal) : Type 0 where
+  pub file : refusal.file ≡ file_number role
+  pub number : refusal.number ≡ why.number
+  pub offset : refusal.offset ≡ offset_number why.offset
+
+-- Of these files under these settings, this one is refused first, and this is the line that says so (own).
+pub record IsRefusedFirst (settings : Settings) (holds : Holdings) (refusal : Refusal) (line : List ℕ) : Type 0 where
+  pub role : Role
+  pub why : FileRefusal
+  pub first : IsFirstRefused settings holds role why
+  pub is_refusal : IsRefusalOf role why refusal
+  pub is_line : IsRefusalLine role why line
+
+-- The files hold policies in which strict validation under these settings finds faults for their schema, and this is the report on
+-- them (Cedar documentation, policy validation).
+pub record HaveFaults (settings : Settings) (holds : Holdings) (report : List ℕ) : Type 0 where
+  pub schema : SchemaTree
+  pub policies : PolicySetTree
+  pub hold : Hold holds schema policies
+  pub some : ¬ AreFaultsWith settings schema policies.policies []
+  pub is_report : IsReportText settings schema policies.policies report

@@ -1,0 +1,80 @@
+/* Publishes the files of a folder, and answers requests. example FOLDER, for example examples/notes */
+#include "cedar.h"
+
+#include <stdio.h>
+#include <stdlib.h>
+
+/* Reads a file of the folder. A file that is not there has no bytes. */
+static cedar_bytes content(const char *folder, const char *name) {
+    char path[4096];
+    snprintf(path, sizeof path, "%s/%s", folder, name);
+    FILE *file = fopen(path, "rb");
+    if (!file) {
+        return (cedar_bytes){NULL, 0};
+    }
+    fseek(file, 0, SEEK_END);
+    size_t length = (size_t)ftell(file);
+    rewind(file);
+    char *at = malloc(length + 1);
+    if (!at || fread(at, 1, length, file) != length) {
+        exit(1);
+    }
+    fclose(file);
+    return (cedar_bytes){at, length};
+}
+
+/* Prints why the files are refused. The buffer grows until the words fit. */
+static void print_why(const cedar_files *files) {
+    cedar_buffer words = {NULL, 0, 0};
+    while (cedar_explain(files, CEDAR_WORDS, &words) == CEDAR_ROOM) {
+        words.room = words.written;
+        words.at = realloc(words.at, words.room);
+        if (!words.at) {
+            exit(1);
+        }
+    }
+    fwrite(words.at, 1, words.written, stderr);
+    free(words.at);
+}
+
+int main(int count, char **words) {
+    if (count != 2) {
+        return 4;
+    }
+    cedar_files files = {sizeof files, content(words[1], "schema.json"), content(words[1], "policies.cedar"),
+                         content(words[1], "links.json"), content(words[1], "entities.json"), 0, 0};
+    cedar_engine engine;
+    if (cedar_new(&engine) != CEDAR_OK) {
+        return 1;
+    }
+    uint32_t status = cedar_publish(&engine, &files, NULL, NULL);
+    if (status != CEDAR_OK) {
+        print_why(&files);
+        return (int)status;
+    }
+
+    /* One request by parts. Only CEDAR_OK with `allow` is an allow. */
+    cedar_request request = {sizeof request, {"User", 4}, {"ann", 3}, {"Action", 6}, {"write", 5}, {"Notebook", 8}, {"plans", 5}, {NULL, 0}};
+    cedar_decision decision = {sizeof decision, 0, 0};
+    status = cedar_decide(&engine, &request, &decision, NULL);
+    printf("%s\n", status == CEDAR_OK && decision.allow ? "allow" : "deny");
+
+    /* All request lines of the folder, as `cedar authorize` answers them. */
+    cedar_bytes lines = content(words[1], "requests.jsonl");
+    cedar_buffer answers = {NULL, 0, 0};
+    while ((status = cedar_answer(&engine, lines, &answers)) == CEDAR_ROOM) {
+        answers.room = answers.written;
+        answers.at = realloc(answers.at, answers.room);
+        if (!answers.at) {
+            return 1;
+        }
+    }
+    fwrite(answers.at, 1, answers.written, stdout);
+    free(answers.at);
+    cedar_free(&engine);
+    const cedar_bytes read[] = {files.schema, files.policies, files.links, files.entities, lines};
+    for (size_t i = 0; i < sizeof read / sizeof *read; i++) {
+        free((void *)read[i].at);
+    }
+    return (int)status;
+}

@@ -1,0 +1,43 @@
+// Publishes the files of a folder, and answers requests. example FOLDER, for example examples/notes
+#include "cedar.hpp"
+
+#include <fstream>
+#include <iostream>
+#include <iterator>
+
+static std::string content(const std::string &path) {
+    std::ifstream file(path, std::ios::binary);
+    return {std::istreambuf_iterator<char>(file), {}};
+}
+
+int main(int count, char **words) {
+    const std::string folder = count == 2 ? words[1] : "examples/notes";
+    const std::string schema = content(folder + "/schema.json"), policies = content(folder + "/policies.cedar");
+    const std::string links = content(folder + "/links.json"), entities = content(folder + "/entities.json");
+    try {
+        cedar::Engine engine({schema, policies, links, entities});
+
+        // Any number of threads may ask, also while another publishes.
+        cedar::Request request = {{"User", "ann"}, {"Action", "write"}, {"Notebook", "plans"}};
+        std::cout << (engine.decide(request) ? "allow" : "deny") << '\n';
+        for (const std::string &policy : engine.is_authorized(request).determining) {
+            std::cout << "determined by " << policy << '\n';
+        }
+
+        // All request lines of the folder, as `cedar authorize` answers them.
+        std::cout << engine.answer(content(folder + "/requests.jsonl"));
+
+        // Policies that are refused change nothing.
+        try {
+            engine.publish({schema, "permit(", links, entities});
+        } catch (const cedar::Refusal &refusal) {
+            std::cout << "refused " << refusal.number << " at " << refusal.offset.value_or(0) << '\n';
+        }
+    } catch (const cedar::Refusal &refusal) {
+        std::cerr << refusal.words;
+        return 2;
+    } catch (const cedar::Error &error) {
+        std::cerr << error.what() << '\n';
+        return 1;
+    }
+}

@@ -1,0 +1,263 @@
+// Package bobbinjade authorizes requests according to policies of the Cedar language, over the proved engine libcedar.
+//
+//	engine, err := bobbinjade.New(bobbinjade.Files{Schema: schema, Policies: policies, Entities: entities})
+//	response, err := engine.Authorize(ctx, bobbinjade.Request{
+//		Principal: bobbinjade.UID{Type: "User", ID: "ann"},
+//		Action:    bobbinjade.UID{Type: "Action", ID: "write"},
+//		Resource:  bobbinjade.UID{Type: "Notebook", ID: "plans"},
+//	})
+//
+// Any number of goroutines may use an Engine. A request takes no lock, and Publish swaps the files while requests run. Each answer is that
+// of files that were current during its call.
+package bobbinjade
+
+import (
+	"context"
+	"strings"
+	"sync"
+	"sync/atomic"
+)
+
+// Files are the contents of the files of an engine. Links is empty where there is no such file. With AnyDecimal, decimal(..) accepts any
+// string, and may fail when a request is answered.
+type Files struct {
+	Schema, Policies, Links, Entities []byte
+	AnyDecimal                        bool
+}
+
+// UID is the name of an entity: a type such as Shop::User, and an id without quotes.
+type UID struct {
+	Type, ID string
+}
+
+// ParseUID gives the uid that a text such as User::"ann" denotes. It is false where the text has another form, or an escape: an id with a
+// quote or a backslash needs UID{Type, ID}.
+func ParseUID(text string) (UID, bool) {
+	typeName, id, isCut := strings.Cut(strings.TrimSuffix(text, `"`), `::"`)
+	isQuoted := isCut && strings.HasSuffix(text, `"`) && len(text) == len(typeName)+len(id)+4
+	isOther := func(r rune) bool {
+		return r != '_' && r != ':' && (r < '0' || r > '9') && (r < 'A' || r > 'Z') && (r < 'a' || r > 'z')
+	}
+	if !isQuoted || typeName == "" || strings.IndexFunc(typeName, isOther) >= 0 || strings.ContainsAny(id, `"\`) {
+		return UID{}, false
+	}
+	return UID{Type: typeName, ID: id}, true
+}
+
+// Request says who wants to do what, on what. Context is a JSON object, or empty.
+type Request struct {
+	Principal, Action, Resource UID
+	Context                     []byte
+}
+
+// Erring is a policy that failed and was skipped, and why: overflow, missing_entity or decimal.
+type Erring struct {
+	Policy string
+	Error  string
+}
+
+// Response is an answer: the decision, the ids of the policies that determine it, and the policies that failed.
+type Response struct {
+	Allowed     bool
+	Determining []string
+	Erring      []Erring
+}
+
+// Report is a report of the validation of policies: whether they have no faults, and what `cedar validate` prints.
+type Report struct {
+	Accepted bool
+	Text     string
+}
+
+// Engine answers requests according to its files. A zero Engine is closed.
+type Engine struct {
+	lock    sync.Mutex // of publishers
+	current atomic.Pointer[version]
+}
+
+// A version of the files: the handle to which they were published, and the handles that requests use. Its handles are freed when it is
+// retired and its last request has ended.
+type version struct {
+	lock    sync.Mutex // of main
+	main    *handle
+	pool    sync.Pool
+	retired atomic.Bool
+}
+
+// New reads and validates files, and makes an engine of them. The error is *Refusal, *Faults or ErrMemory.
+func New(files Files) (*Engine, error) {
+	main, err := published(&files)
+	if err != nil {
+		return nil, err
+	}
+	engine := &Engine{}
+	engine.current.Store(&version{main: main})
+	return engine, nil
+}
+
+// Publish reads and validates files, and has all later calls answer according to them. Requests do not wait for it. The error is *Refusal,
+// *Faults, ErrMemory or ErrClosed; then nothing has changed.
+func (e *Engine) Publish(files Files) error {
+	main, err := published(&files)
+	if err != nil {
+		return err
+	}
+	e.lock.Lock()
+	old := e.current.Load()
+	if old != nil {
+		e.current.Store(&version{main: main})
+	}
+	e.lock.Unlock()
+	if old == nil {
+		main.free()
+		return ErrClosed
+	}
+	old.retire()
+	return nil
+}
+
+// Close frees all that no running call uses. Later calls give ErrClosed. Closing twice is safe. An Engine to which nothing refers is
+// freed without it.
+func (e *Engine) Close() error {
+	e.lock.Lock()
+	old := e.current.Swap(nil)
+	e.lock.Unlock()
+	if old != nil {
+		old.retire()
+	}
+	return nil
+}
+
+// Authorize answers a request. The error is *RequestRefusal where the request is refused, ErrMemory, ErrClosed, or that of ctx where ctx
+// has ended before the call.
+func (e *Engine) Authorize(ctx context.Context, request Request) (response Response, err error) {
+	err = e.with(ctx, func(h *handle) error {
+		isAllowed, text, err := h.decide(&request, true)
+		if err == nil {
+			response, err = responseOf(text, isAllowed)
+		}
+		return err
+	})
+	return response, err
+}
+
+// Decide says whether a request is allowed. It makes no text, so it is the fastest call. It gives the errors of Authorize.
+func (e *Engine) Decide(ctx context.Context, request Request) (bool, error) {
+	isAllowed := false
+	err := e.with(ctx, func(h *handle) error {
+		allowed, _, err := h.decide(&request, false)
+		isAllowed = allowed
+		return err
+	})
+	return isAllowed && err == nil, err
+}
+
+// Answer gives the answer lines to request lines, all of one version.
+func (e *Engine) Answer(lines []byte) (text []byte, err error) {
+	err = e.with(context.Background(), func(h *handle) (err error) {
+		text, err = h.answer(lines)
+		return err
+	})
+	return text, err
+}
+
+// AnswerLine gives the answer line to a request line, as `cedar authorize` writes it, without a line feed.
+func (e *Engine) AnswerLine(line []byte) (text []byte, err error) {
+	err = e.with(context.Background(), func(h *handle) (err error) {
+		text, err = h.answerLine(line)
+		return err
+	})
+	return text, err
+}
+
+// Validate validates the policies of files, of which Entities is not read. The error is *Refusal where a file is refused, or ErrMemory.
+func Validate(files Files) (Report, error) {
+	isAccepted, text, err := validated(&files)
+	if err != nil {
+		return Report{}, err
+	}
+	return Report{Accepted: isAccepted, Text: string(text)}, nil
+}
+
+// Explain says in words why files are refused or have faults. It gives an empty string where they are accepted.
+func Explain(files Files) (string, error) {
+	words, err := explained(&files, 0)
+	return string(words), err
+}
+
+// with makes a call with a handle that leads to the current version.
+func (e *Engine) with(ctx context.Context, call func(*handle) error) error {
+	if err := ctx.Err(); err != nil {
+		return err
+	}
+	for {
+		v := e.current.Load()
+		if v == nil {
+			return ErrClosed
+		}
+		h, err := v.take()
+		if err != nil {
+			return err
+		}
+		if h != nil {
+			defer v.give(h)
+			return call(h)
+		}
+	}
+}
+
+// take gives a handle of the version, or nil where the version is retired. Only where the pool is empty does it lock, to share a handle.
+func (v *version) take() (*handle, error) {
+	if h, isOne := v.pool.Get().(*handle); isOne {
+		return h, nil
+	}
+	h, err := newHandle()
+	if err != nil {
+		return nil, err
+	}
+	v.lock.Lock()
+	main := v.main
+	if main != nil {
+		err = main.share(h)
+	}
+	v.lock.Unlock()
+	if main == nil || err != nil {
+		h.free()
+		return nil, err
+	}
+	return h, nil
+}
+
+// give puts a handle back, or frees it where the version is retired.
+func (v *version) give(h *handle) {
+	if v.retired.Load() {
+		h.free()
+		return
+	}
+	v.pool.Put(h)
+	if v.retired.Load() {
+		v.drain()
+	}
+}
+
+// retire frees what no running call uses.
+func (v *version) retire() {
+	v.retired.Store(true)
+	v.lock.Lock()
+	main := v.main
+	v.main = nil
+	v.lock.Unlock()
+	main.free()
+	v.drain()
+}
+
+// drain frees the handles of the pool.
+func (v *version) drain() {
+	for {
+		h, isOne := v.pool.Get().(*handle)
+		if !isOne {
+			return
+		}
+		h.free()
+	}
+}

@@ -1,0 +1,57 @@
+// Publishes the files of a folder, and answers requests: go run ./example FOLDER, for example examples/notes.
+package main
+
+import (
+	"context"
+	"errors"
+	"fmt"
+	"log"
+	"os"
+	"path/filepath"
+
+	"bobbinjade"
+)
+
+func content(name string) []byte {
+	text, err := os.ReadFile(filepath.Join(os.Args[1], name))
+	if err != nil && !errors.Is(err, os.ErrNotExist) {
+		log.Fatal(err)
+	}
+	return text
+}
+
+func main() {
+	files := bobbinjade.Files{
+		Schema: content("schema.json"), Policies: content("policies.cedar"), Links: content("links.json"), Entities: content("entities.json"),
+	}
+	engine, err := bobbinjade.New(files)
+	if err != nil {
+		log.Fatal(err)
+	}
+	defer engine.Close()
+
+	// Any number of goroutines may ask, also while another publishes.
+	response, err := engine.Authorize(context.Background(), bobbinjade.Request{
+		Principal: bobbinjade.UID{Type: "User", ID: "ann"},
+		Action:    bobbinjade.UID{Type: "Action", ID: "write"},
+		Resource:  bobbinjade.UID{Type: "Notebook", ID: "plans"},
+	})
+	if err != nil {
+		log.Fatal(err)
+	}
+	fmt.Println(response.Allowed, "determined by", response.Determining)
+
+	// All request lines of the folder, as `cedar authorize` answers them.
+	answers, err := engine.Answer(content("requests.jsonl"))
+	if err != nil {
+		log.Fatal(err)
+	}
+	fmt.Print(string(answers))
+
+	// Policies that are refused change nothing.
+	files.Policies = []byte("permit(")
+	var refusal *bobbinjade.Refusal
+	if err := engine.Publish(files); errors.As(err, &refusal) {
+		fmt.Println("refused", refusal.Number, "at", refusal.Offset, "in line", refusal.Line)
+	}
+}

@@ -1,0 +1,3 @@
+module bobbinjade
+
+go 1.19

@@ -1,0 +1,257 @@
+package bobbinjade
+
+/*
+#cgo LDFLAGS: -lcedar
+#include <cedar.h>
+
+// The address of the bytes of a string, which is not null.
+static const void *address(_GoString_ text) { return _GoStringLen(text) ? _GoStringPtr(text) : ""; }
+
+// cedar_raw_decide with strings, since a struct that Go passes to C may have no pointers to memory of Go.
+static uint32_t decide(cedar_engine *engine, _GoString_ principal_type, _GoString_ principal_id, _GoString_ action_type,
+                       _GoString_ action_id, _GoString_ resource_type, _GoString_ resource_id, const void *context,
+                       size_t context_length, cedar_raw_decision *decision, void *text, size_t room, size_t *written) {
+    return cedar_raw_decide(engine, address(principal_type), _GoStringLen(principal_type), address(principal_id),
+                            _GoStringLen(principal_id), address(action_type), _GoStringLen(action_type), address(action_id),
+                            _GoStringLen(action_id), address(resource_type), _GoStringLen(resource_type), address(resource_id),
+                            _GoStringLen(resource_id), context, context_length, decision, text, room, written);
+}
+*/
+import "C"
+
+import (
+	"bytes"
+	"encoding/json"
+	"math"
+	"runtime"
+	"unsafe"
+)
+
+// A handle of the library, with what the calls of requests write to. One call at a time uses it.
+type handle struct {
+	engine   C.cedar_engine
+	decision C.cedar_raw_decision
+	written  C.size_t
+	text     []byte
+}
+
+// newHandle makes a handle that leads nowhere. It is freed by free, or when nothing refers to it.
+func newHandle() (*handle, error) {
+	h := &handle{text: make([]byte, 512)}
+	if status := C.cedar_new(&h.engine); status != C.CEDAR_OK {
+		return nil, failed(status)
+	}
+	runtime.SetFinalizer(h, (*handle).free)
+	return h, nil
+}
+
+// free frees the handle. Freeing twice is safe.
+func (h *handle) free() {
+	C.cedar_free(&h.engine)
+	runtime.SetFinalizer(h, nil)
+}
+
+// share has another handle lead to the engine of this one.
+func (h *handle) share(other *handle) error {
+	status := C.cedar_share(&h.engine, &other.engine)
+	runtime.KeepAlive(h)
+	runtime.KeepAlive(other)
+	if status != C.CEDAR_OK {
+		return failed(status)
+	}
+	return nil
+}
+
+// decide decides a request. With text it also gives the answer line, which is valid until the next call.
+func (h *handle) decide(request *Request, withText bool) (bool, []byte, error) {
+	context, _ := address(request.Context)
+	for {
+		at, room := address(h.text)
+		if !withText {
+			room = 0
+		}
+		h.written = 0
+		status := C.decide(&h.engine, request.Principal.Type, request.Principal.ID, request.Action.Type, request.Action.ID,
+			request.Resource.Type, request.Resource.ID, context, C.size_t(len(request.Context)), &h.decision, at, room, &h.written)
+		runtime.KeepAlive(h)
+		switch status {
+		case C.CEDAR_OK:
+			return h.decision.allow == 1, h.text[:h.written:h.written], nil
+		case C.CEDAR_NO_REQUEST:
+			return false, nil, &RequestRefusal{Number: uint32(h.decision.refused)}
+		case C.CEDAR_ROOM:
+			h.text = make([]byte, h.written)
+		default:
+			return false, nil, failed(status)
+		}
+	}
+}
+
+// answer answers request lines.
+func (h *handle) answer(lines []byte) ([]byte, error) {
+	from, length := address(lines)
+	status, text := grown(256+len(lines), func(at unsafe.Pointer, room C.size_t, written *C.size_t) C.uint32_t {
+		return C.cedar_raw_answer(&h.engine, from, length, at, room, written)
+	})
+	runtime.KeepAlive(h)
+	return done(status, text)
+}
+
+// answerLine answers one request line.
+func (h *handle) answerLine(line []byte) ([]byte, error) {
+	from, length := address(line)
+	status, text := grown(256, func(at unsafe.Pointer, room C.size_t, written *C.size_t) C.uint32_t {
+		return C.cedar_raw_answer_line(&h.engine, from, length, at, room, written)
+	})
+	runtime.KeepAlive(h)
+	return done(status, text)
+}
+
+// address gives the address of bytes, which is not null, and their length.
+func address(text []byte) (unsafe.Pointer, C.size_t) {
+	if len(text) == 0 {
+		return unsafe.Pointer(&nothing), 0
+	}
+	return unsafe.Pointer(&text[0]), C.size_t(len(text))
+}
+
+var nothing byte
+
+// grown makes a call that writes a text, in a buffer that grows until the text fits.
+func grown(room int, call func(unsafe.Pointer, C.size_t, *C.size_t) C.uint32_t) (C.uint32_t, []byte) {
+	var written C.size_t
+	for {
+		text := make([]byte, room)
+		at, length := address(text)
+		status := call(at, length, &written)
+		isShort := status == C.CEDAR_ROOM || status == C.CEDAR_REFUSED || status == C.CEDAR_FAULTS
+		if written <= length {
+			return status, text[:written]
+		}
+		if !isShort {
+			return status, nil
+		}
+		room = int(written)
+	}
+}
+
+// done gives the text of a call that has only statuses without further words.
+func done(status C.uint32_t, text []byte) ([]byte, error) {
+	if status != C.CEDAR_OK {
+		return nil, failed(status)
+	}
+	return text, nil
+}
+
+// failed gives the error of a status that needs no further words.
+func failed(status C.uint32_t) error {
+	if status == C.CEDAR_MEMORY {
+		return ErrMemory
+	}
+	return &LibraryError{Status: uint32(status)}
+}
+
+// settings gives the settings of files as the library takes them.
+func settings(files *Files) C.uint32_t {
+	if files.AnyDecimal {
+		return C.CEDAR_ANY_DECIMAL
+	}
+	return 0
+}
+
+// published makes a handle to which files are published.
+func published(files *Files) (*handle, error) {
+	if C.cedar_abi_version() != C.CEDAR_ABI_VERSION {
+		return nil, &LibraryError{Status: C.CEDAR_ARGUMENT}
+	}
+	h, err := newHandle()
+	if err != nil {
+		return nil, err
+	}
+	var why C.cedar_raw_refusal
+	schema, schemaLength := address(files.Schema)
+	policies, policiesLength := address(files.Policies)
+	links, linksLength := address(files.Links)
+	entities, entitiesLength := address(files.Entities)
+	status, text := grown(4096, func(at unsafe.Pointer, room C.size_t, written *C.size_t) C.uint32_t {
+		return C.cedar_raw_publish(&h.engine, schema, schemaLength, policies, policiesLength, links, linksLength, entities, entitiesLength,
+			settings(files), &why, at, room, written)
+	})
+	if status == C.CEDAR_OK {
+		return h, nil
+	}
+	h.free()
+	switch status {
+	case C.CEDAR_REFUSED:
+		return nil, refusal(files, &why)
+	case C.CEDAR_FAULTS:
+		words, err := explained(files, C.CEDAR_WORDS)
+		if err != nil {
+			return nil, err
+		}
+		return nil, &Faults{Report: string(text), Words: string(words)}
+	}
+	return nil, failed(status)
+}
+
+// refusal gives the error for a refused file.
+func refusal(files *Files, why *C.cedar_raw_refusal) error {
+	words, err := explained(files, C.CEDAR_WORDS)
+	if err != nil {
+		return err
+	}
+	data, err := explained(files, C.CEDAR_JSON)
+	if err != nil {
+		return err
+	}
+	var place struct{ Line int64 }
+	first, _, _ := bytes.Cut(data, []byte("\n"))
+	if err := json.Unmarshal(first, &place); err != nil {
+		place.Line = 0
+	}
+	offset := int64(-1)
+	if why.offset != math.MaxUint64 {
+		offset = int64(why.offset)
+	}
+	return &Refusal{File: File(why.file), Number: uint32(why.number), Offset: offset, Line: place.Line, Words: string(words)}
+}
+
+// explained says why files are refused or have faults, in this format.
+func explained(files *Files, format C.uint32_t) ([]byte, error) {
+	schema, schemaLength := address(files.Schema)
+	policies, policiesLength := address(files.Policies)
+	links, linksLength := address(files.Links)
+	entities, entitiesLength := address(files.Entities)
+	return done(grown(4096, func(at unsafe.Pointer, room C.size_t, written *C.size_t) C.uint32_t {
+		return C.cedar_raw_explain(schema, schemaLength, policies, policiesLength, links, linksLength, entities, entitiesLength,
+			settings(files), format, at, room, written)
+	}))
+}
+
+// validated says whether the policies of files have no faults, and gives the report.
+func validated(files *Files) (bool, []byte, error) {
+	schema, schemaLength := address(files.Schema)
+	policies, policiesLength := address(files.Policies)
+	links, linksLength := address(files.Links)
+	status, text := grown(4096, func(at unsafe.Pointer, room C.size_t, written *C.size_t) C.uint32_t {
+		return C.cedar_raw_validate(schema, schemaLength, policies, policiesLength, links, linksLength, settings(files), at, room, written)
+	})
+	switch status {
+	case C.CEDAR_OK, C.CEDAR_FAULTS:
+		return status == C.CEDAR_OK, text, nil
+	case C.CEDAR_REFUSED:
+		// Publishing says which file is refused, and why.
+		if _, err := published(files); err != nil {
+			return false, nil, err
+		}
+	}
+	return false, nil, failed(status)
+}
+
+// Version gives the version of the engine, for example 0.1.0.
+func Version() (string, error) {
+	text, err := done(grown(64, func(at unsafe.Pointer, room C.size_t, written *C.size_t) C.uint32_t {
+		return C.cedar_raw_version(at, room, written)
+	}))
+	return string(text), err
+}

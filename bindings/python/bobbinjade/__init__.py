@@ -1,0 +1,12 @@
+"""Authorization according to policies of the Cedar language, over the proved engine libcedar.
+
+    engine = Engine(schema, policies, entities)
+    if engine.authorize('User::"ann"', 'Action::"write"', 'Notebook::"plans"'):
+        ..
+
+An Engine is for any number of threads. `Engine.publish` swaps the files while requests run."""
+from .engine import Engine, Erring, Report, Response, explain, validate, version
+from .errors import Closed, Error, Faults, OutOfMemory, Refused, RequestRefused
+
+__all__ = ['Closed', 'Engine', 'Erring', 'Error', 'Faults', 'OutOfMemory', 'Refused', 'Report', 'RequestRefused', 'Response', 'explain',
+           'validate', 'version']

@@ -1,0 +1,50 @@
+"""Why a call fails. A failure is never a decision."""
+from __future__ import annotations
+
+from typing import Optional
+
+FILES = {1: 'schema', 2: 'policies', 3: 'links', 4: 'entities'}
+
+
+class Error(Exception):
+    """The base of what the calls raise."""
+
+
+class OutOfMemory(Error, MemoryError):
+    """Out of memory. Nothing was decided, and nothing has changed."""
+
+
+class Closed(Error):
+    """The engine was closed."""
+
+
+class Refused(Error):
+    """A file is refused. Nothing has changed.
+
+    `file` is 'schema', 'policies', 'links' or 'entities'; `number` is one of docs/REFUSALS.md; `offset` counts bytes from 0 and `line`
+    counts from 1, both None where the file has no place; `words` explains it to people."""
+
+    def __init__(self, file: str, number: int, offset: Optional[int], line: Optional[int], words: str) -> None:
+        super().__init__(words.rstrip('\n'))
+        self.file = file
+        self.number = number
+        self.offset = offset
+        self.line = line
+        self.words = words
+
+
+class Faults(Error):
+    """The policies have faults. Nothing has changed. `report` is what `cedar validate` prints; `words` explains it to people."""
+
+    def __init__(self, report: str, words: str) -> None:
+        super().__init__(words.rstrip('\n'))
+        self.report = report
+        self.words = words
+
+
+class RequestRefused(Error, ValueError):
+    """A request is refused, so nothing was decided. `number` is one of docs/REFUSALS.md."""
+
+    def __init__(self, number: int, words: str = '') -> None:
+        super().__init__(words or 'the request is refused: %d' % number)
+        self.number = number

@@ -1,0 +1,36 @@
+"""Publishes the files of a folder, and answers requests: python3 example.py FOLDER, for example examples/notes."""
+import os
+import sys
+
+import bobbinjade
+
+
+def content(name):
+    path = os.path.join(sys.argv[1] if len(sys.argv) > 1 else 'examples/notes', name)
+    if not os.path.exists(path):
+        return None
+    with open(path, 'rb') as file:
+        return file.read()
+
+
+def main():
+    files = [content(name) for name in ('schema.json', 'policies.cedar', 'entities.json', 'links.json')]
+    engine = bobbinjade.Engine(*files)
+
+    # Any number of threads may ask, also while another publishes.
+    response = engine.authorize('User::"ann"', 'Action::"write"', ('Notebook', 'plans'))
+    print(response.decision, 'determined by', response.determining)
+
+    # All request lines of the folder, as `cedar authorize` answers them.
+    print(engine.answer(content('requests.jsonl')), end='')
+
+    # Policies that are refused change nothing.
+    try:
+        engine.publish(files[0], 'permit(', files[2])
+    except bobbinjade.Refused as refused:
+        print('refused', refused.number, 'at', refused.offset, 'in line', refused.line)
+    engine.close()
+
+
+if __name__ == '__main__':
+    main()

@@ -1,0 +1,27 @@
+//! Publishes the files of a folder, and answers requests: `cargo run --example notes FOLDER`, for example examples/notes.
+use std::{env, error::Error, fs};
+
+use bobbinjade::{Decision, Engine, Files, Request, Uid};
+
+fn main() -> Result<(), Box<dyn Error>> {
+    let folder = env::args().nth(1).unwrap_or("examples/notes".into());
+    let content = |name: &str| fs::read(format!("{folder}/{name}"));
+    let (schema, policies, entities) = (content("schema.json")?, content("policies.cedar")?, content("entities.json")?);
+    let links = content("links.json").unwrap_or_default();
+    let files = Files { schema: &schema, policies: &policies, links: &links, entities: &entities, any_decimal: false };
+    let engine = Engine::new(&files)?;
+
+    // Any number of threads may ask, also while another publishes.
+    let request = Request::new(Uid::new("User", "ann"), Uid::new("Action", "write"), Uid::new("Notebook", "plans"));
+    println!("{}", if engine.decide(&request)? == Decision::Allow { "allow" } else { "deny" });
+    println!("determined by {:?}", engine.is_authorized(&request)?.determining);
+
+    // All request lines of the folder, as `cedar authorize` answers them.
+    print!("{}", engine.answer(content("requests.jsonl")?)?);
+
+    // Policies that are refused change nothing.
+    if let Err(error) = engine.publish(&Files { policies: b"permit(", ..files }) {
+        println!("{error}");
+    }
+    Ok(())
+}

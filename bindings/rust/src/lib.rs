@@ -1,0 +1,356 @@
+//! Authorization according to policies of the Cedar language, over the proved engine libcedar.
+//!
+//! ```no_run
+//! use bobbinjade::{Decision, Engine, Files, Request, Uid};
+//!
+//! # fn main() -> Result<(), Box<dyn std::error::Error>> {
+//! let (schema, policies, entities) = (std::fs::read("schema.json")?, std::fs::read("policies.cedar")?, std::fs::read("entities.json")?);
+//! let engine = Engine::new(&Files { schema: &schema, policies: &policies, entities: &entities, ..Files::default() })?;
+//! let request = Request::new(Uid::new("User", "ann"), Uid::new("Action", "write"), Uid::new("Notebook", "plans"));
+//! assert_eq!(engine.decide(&request)?, Decision::Allow);
+//! # Ok(())
+//! # }
+//! ```
+//!
+//! An [`Engine`] is `Send`, `Sync` and `Clone`: all clones are one engine. A request takes no lock, and [`Engine::publish`] swaps the
+//! files while requests run. Each answer is that of files that were current during its call.
+//!
+//! All `unsafe` code is in `src/raw.rs`.
+#![deny(missing_docs)]
+
+mod answer;
+mod error;
+mod pool;
+#[allow(unsafe_code)]
+mod raw;
+
+use std::borrow::Cow;
+use std::sync::Arc;
+use std::thread;
+
+pub use error::{Error, Faults, File, Refusal};
+use pool::Pool;
+use raw::{Decided, Handle, Why};
+
+/// The version of the interface that this crate is written for.
+const ABI_VERSION: u32 = 1;
+/// The stack that reading files and freeing engines may need, with room to spare.
+const STACK: usize = 8 << 20;
+
+/// The contents of the files of an engine.
+#[derive(Clone, Copy, Debug, Default)]
+pub struct Files<'f> {
+    /// The schema, as JSON.
+    pub schema: &'f [u8],
+    /// The policies.
+    pub policies: &'f [u8],
+    /// The links of templates, as JSON; empty where there is no such file.
+    pub links: &'f [u8],
+    /// The entities, as JSON.
+    pub entities: &'f [u8],
+    /// Whether `decimal(..)` accepts any string. It may then fail when a request is answered.
+    pub any_decimal: bool,
+}
+
+/// The name of an entity: a type such as `Shop::User`, and an id without quotes.
+#[derive(Clone, Copy, Debug, PartialEq, Eq, Hash)]
+pub struct Uid<'u> {
+    /// The type.
+    pub type_name: &'u str,
+    /// The id.
+    pub id: &'u str,
+}
+
+impl<'u> Uid<'u> {
+    /// The uid of a type and an id.
+    pub fn new(type_name: &'u str, id: &'u str) -> Uid<'u> {
+        Uid { type_name, id }
+    }
+
+    /// The uid that a text such as `User::"ann"` denotes. `None` where the text has another form, or an escape: use [`Uid::new`] for an
+    /// id with a quote or a backslash.
+    pub fn parse(text: &'u str) -> Option<Uid<'u>> {
+        let (type_name, id) = text.strip_suffix('"')?.split_once("::\"")?;
+        let is_name =
+            |it: &str| it.split("::").all(|part| !part.is_empty() && part.bytes().all(|b| b == b'_' || b.is_ascii_alphanumeric()));
+        (is_name(type_name) && !id.contains(['"', '\\'])).then_some(Uid { type_name, id })
+    }
+}
+
+/// A request: who wants to do what, on what.
+#[derive(Clone, Debug)]
+pub struct Request<'r> {
+    /// Who.
+    pub principal: Uid<'r>,
+    /// What is to be done.
+    pub action: Uid<'r>,
+    /// On what.
+    pub resource: Uid<'r>,
+    /// The context: a JSON object, or empty.
+    pub context: Cow<'r, str>,
+}
+
+impl<'r> Request<'r> {
+    /// A request without a context.
+    pub fn new(principal: Uid<'r>, action: Uid<'r>, resource: Uid<'r>) -> Request<'r> {
+        Request { principal, action, resource, context: Cow::Borrowed("") }
+    }
+
+    /// The request with a context: a JSON object as a text, for example that of a `serde_json::Value` by `to_string`.
+    pub fn with_context(self, context: impl Into<Cow<'r, str>>) -> Request<'r> {
+        Request { context: context.into(), ..self }
+    }
+
+    fn parts(&self) -> [&str; 7] {
+        let Request { principal, action, resource, context } = self;
+        [principal.type_name, principal.id, action.type_name, action.id, resource.type_name, resource.id, context]
+    }
+}
+
+/// What is decided of a request.
+#[derive(Clone, Copy, Debug, PartialEq, Eq)]
+pub enum Decision {
+    /// The request is allowed.
+    Allow,
+    /// The request is denied.
+    Deny,
+}
+
+/// Why a policy fails.
+#[derive(Clone, Copy, Debug, PartialEq, Eq)]
+#[non_exhaustive]
+pub enum EvalError {
+    /// A whole number leaves 64 bits.
+    Overflow,
+    /// An entity is not stored.
+    MissingEntity,
+    /// A string is not a decimal, with [`Files::any_decimal`].
+    Decimal,
+}
+
+impl EvalError {
+    fn named(name: &str) -> Option<EvalError> {
+        match name {
+            "overflow" => Some(EvalError::Overflow),
+            "missing_entity" => Some(EvalError::MissingEntity),
+            "decimal" => Some(EvalError::Decimal),
+            _ => None,
+        }
+    }
+}
+
+/// A policy that failed, and was skipped.
+#[derive(Clone, Debug, PartialEq, Eq)]
+pub struct Erring {
+    /// The id of the policy.
+    pub policy: String,
+    /// Why it failed.
+    pub error: EvalError,
+}
+
+/// The answer to a request.
+#[derive(Clone, Debug, PartialEq, Eq)]
+pub struct Response {
+    /// The decision.
+    pub decision: Decision,
+    /// The ids of the policies that determine it.
+    pub determining: Vec<String>,
+    /// The policies that failed. A service should watch them.
+    pub erring: Vec<Erring>,
+}
+
+/// A report of the validation of policies.
+#[derive(Clone, Debug, PartialEq, Eq)]
+pub struct Report {
+    /// Whether the policies have no faults.
+    pub is_accepted: bool,
+    /// The report, as `cedar validate` prints it.
+    pub text: String,
+}
+
+/// An engine, for any number of threads. Clones are the same engine.
+#[derive(Clone)]
+pub struct Engine {
+    pool: Arc<Pool>,
+}
+
+impl std::fmt::Debug for Engine {
+    fn fmt(&self, to: &mut std::fmt::Formatter<'_>) -> std::fmt::Result {
+        to.write_str("Engine")
+    }
+}
+
+impl Engine {
+    /// Reads and validates files, and makes an engine of them.
+    ///
+    /// # Errors
+    ///
+    /// [`Error::Refused`], [`Error::Faults`], [`Error::Memory`], or [`Error::Library`] where the library does not fit this crate.
+    pub fn new(files: &Files) -> Result<Engine, Error> {
+        match raw::abi_version() {
+            ABI_VERSION => on_large_stack(|| published(files)).map(|main| Engine { pool: Arc::new(Pool::new(main)) }),
+            other => Err(Error::Library(other)),
+        }
+    }
+
+    /// Reads and validates files, and has all later calls answer according to them. Requests do not wait for it: the work is done before
+    /// the swap.
+    ///
+    /// # Errors
+    ///
+    /// Those of [`Engine::new`], and [`Error::Closed`]. Nothing has changed then.
+    pub fn publish(&self, files: &Files) -> Result<(), Error> {
+        on_large_stack(|| self.pool.swap(published(files)?))
+    }
+
+    /// Whether a request is allowed. It makes no text, so it is the fastest call.
+    ///
+    /// # Errors
+    ///
+    /// [`Error::Request`] where the request is refused, [`Error::Memory`] and [`Error::Closed`].
+    pub fn decide(&self, request: &Request) -> Result<Decision, Error> {
+        self.decided(request, &mut Vec::new())
+    }
+
+    /// The answer to a request.
+    ///
+    /// # Errors
+    ///
+    /// Those of [`Engine::decide`].
+    pub fn is_authorized(&self, request: &Request) -> Result<Response, Error> {
+        let mut text = room(256)?;
+        self.decided(request, &mut text)?;
+        answer::response(&text_of(text)?).ok_or(Error::Library(raw::OK))
+    }
+
+    /// The answer line to a request line, as `cedar authorize` writes it, without a line feed.
+    ///
+    /// # Errors
+    ///
+    /// [`Error::Memory`] and [`Error::Closed`]. A line that is refused has an answer that says so.
+    pub fn answer_line(&self, line: impl AsRef<[u8]>) -> Result<String, Error> {
+        let mut text = room(256)?;
+        let status = self.pool.lease()?.call(|handle| handle.answer_line(line.as_ref(), &mut text));
+        done(status, text)
+    }
+
+    /// The answer lines to request lines, all of one engine.
+    ///
+    /// # Errors
+    ///
+    /// Those of [`Engine::answer_line`].
+    pub fn answer(&self, lines: impl AsRef<[u8]>) -> Result<String, Error> {
+        let lines = lines.as_ref();
+        let mut text = room(256 + lines.len())?;
+        let status = self.pool.lease()?.call(|handle| handle.answer(lines, &mut text));
+        done(status, text)
+    }
+
+    /// Frees all that no running call uses. Later calls fail with [`Error::Closed`]. Closing twice is safe. Dropping the last clone
+    /// frees the engine, too.
+    pub fn close(&self) {
+        self.pool.close();
+    }
+
+    fn decided(&self, request: &Request, text: &mut Vec<u8>) -> Result<Decision, Error> {
+        let mut decided = Decided::default();
+        match self.pool.lease()?.call(|handle| handle.decide(&request.parts(), &mut decided, text)) {
+            raw::OK if decided.allow == 1 => Ok(Decision::Allow),
+            raw::OK => Ok(Decision::Deny),
+            raw::NO_REQUEST => Err(Error::Request(decided.refused)),
+            status => Err(Error::of(status)),
+        }
+    }
+}
+
+/// Validates the policies of files. `entities` is not read.
+///
+/// # Errors
+///
+/// [`Error::Refused`] where a file is refused, and [`Error::Memory`].
+pub fn validate(files: &Files) -> Result<Report, Error> {
+    on_large_stack(|| {
+        let mut text = room(1024)?;
+        match raw::validate(files, &mut text) {
+            raw::OK => Ok(Report { is_accepted: true, text: text_of(text)? }),
+            raw::FAULTS => Ok(Report { is_accepted: false, text: text_of(text)? }),
+            // Publishing says which file is refused, and why.
+            raw::REFUSED => Err(published(files).err().unwrap_or(Error::Library(raw::REFUSED))),
+            status => Err(Error::of(status)),
+        }
+    })
+}
+
+/// Explains in words why files are refused or have faults. Empty where they are accepted.
+///
+/// # Errors
+///
+/// [`Error::Memory`].
+pub fn explain(files: &Files) -> Result<String, Error> {
+    on_large_stack(|| explained(files, 0))
+}
+
+/// The version of the engine, for example `0.1.0`.
+///
+/// # Errors
+///
+/// [`Error::Memory`].
+pub fn version() -> Result<String, Error> {
+    let mut text = room(16)?;
+    let status = raw::version(&mut text);
+    done(status, text)
+}
+
+/// A new handle to which these files are published.
+fn published(files: &Files) -> Result<Handle, Error> {
+    let (mut handle, mut why, mut text) = (Handle::new().map_err(Error::of)?, Why::default(), room(1024)?);
+    match handle.publish(files, &mut why, &mut text) {
+        raw::OK => Ok(handle),
+        raw::REFUSED => Err(Error::Refused(Box::new(refusal(files, &why)?))),
+        raw::FAULTS => Err(Error::Faults(Box::new(Faults { report: text_of(text)?, words: explained(files, 0)? }))),
+        status => Err(Error::of(status)),
+    }
+}
+
+fn refusal(files: &Files, why: &Why) -> Result<Refusal, Error> {
+    let file = match why.file {
+        1 => File::Schema,
+        2 => File::Policies,
+        3 => File::Links,
+        _ => File::Entities,
+    };
+    let offset = (why.offset != u64::MAX).then_some(why.offset);
+    Ok(Refusal { file, number: why.number, offset, line: answer::line_of(&explained(files, 1)?), words: explained(files, 0)? })
+}
+
+fn explained(files: &Files, format: u32) -> Result<String, Error> {
+    let mut text = room(1024)?;
+    let status = raw::explain(files, format, &mut text);
+    done(status, text)
+}
+
+/// A buffer of this many bytes.
+fn room(bytes: usize) -> Result<Vec<u8>, Error> {
+    let mut text = Vec::new();
+    text.try_reserve_exact(bytes).map_err(|_| Error::Memory)?;
+    Ok(text)
+}
+
+fn text_of(text: Vec<u8>) -> Result<String, Error> {
+    String::from_utf8(text).map_err(|_| Error::Library(raw::OK))
+}
+
+fn done(status: u32, text: Vec<u8>) -> Result<String, Error> {
+    match status {
+        raw::OK => text_of(text),
+        status => Err(Error::of(status)),
+    }
+}
+
+/// Runs work on a thread of its own, since a thread of Rust has 2 MiB of stack unless it is made with more.
+fn on_large_stack<T: Send>(work: impl FnOnce() -> Result<T, Error> + Send) -> Result<T, Error> {
+    thread::scope(|scope| match thread::Builder::new().stack_size(STACK).spawn_scoped(scope, work) {
+        Ok(worker) => worker.join().unwrap_or_else(|fault| std::panic::resume_unwind(fault)),
+        Err(_) => Err(Error::Memory),
+    })
+}

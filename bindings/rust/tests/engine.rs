@@ -1,0 +1,264 @@
+//! The binding over the examples of this repository: each answer is that of `answers.jsonl`.
+use std::fs;
+use std::path::PathBuf;
+use std::sync::atomic::{AtomicBool, AtomicU64, Ordering};
+use std::thread;
+use std::time::{Duration, Instant};
+
+use bobbinjade::{explain, validate, Decision, Engine, Error, EvalError, File, Files, Request, Uid};
+
+/// The contents of a folder of examples/.
+struct Example {
+    schema: Vec<u8>,
+    policies: Vec<u8>,
+    links: Vec<u8>,
+    entities: Vec<u8>,
+    requests: String,
+    answers: String,
+    report: String,
+}
+
+impl Example {
+    fn files(&self) -> Files<'_> {
+        Files { schema: &self.schema, policies: &self.policies, links: &self.links, entities: &self.entities, any_decimal: false }
+    }
+
+    fn engine(&self) -> Engine {
+        Engine::new(&self.files()).unwrap()
+    }
+}
+
+fn folder() -> PathBuf {
+    PathBuf::from(env!("CARGO_MANIFEST_DIR")).join("../../examples")
+}
+
+fn example(name: &str) -> Example {
+    let bytes = |file: &str| fs::read(folder().join(name).join(file)).unwrap_or_default();
+    let text = |file: &str| String::from_utf8(bytes(file)).unwrap();
+    Example {
+        schema: bytes("schema.json"),
+        policies: bytes("policies.cedar"),
+        links: bytes("links.json"),
+        entities: bytes("entities.json"),
+        requests: text("requests.jsonl"),
+        answers: text("answers.jsonl"),
+        report: text("report.jsonl"),
+    }
+}
+
+fn examples() -> Vec<Example> {
+    let names = fs::read_dir(folder()).unwrap().map(|it| it.unwrap());
+    names.filter(|it| it.path().join("answers.jsonl").exists()).map(|it| example(it.file_name().to_str().unwrap())).collect()
+}
+
+/// A request of examples/notes.
+fn asked<'a>(principal: &'a str, action: &'a str) -> Request<'a> {
+    Request::new(Uid::new("User", principal), Uid::new("Action", action), Uid::new("Notebook", "plans"))
+}
+
+/// The request that a line of the examples denotes, where its uids are strings without further escapes and its context is last.
+fn cut(line: &str) -> Option<(String, String, String, String)> {
+    let line = line.strip_prefix("{\"principal\":\"")?.strip_suffix('}')?;
+    let (principal, rest) = line.split_once("\\\"\",\"action\":\"")?;
+    let (action, rest) = rest.split_once("\\\"\",\"resource\":\"")?;
+    let (resource, context) = rest.split_once("\\\"\"")?;
+    let context = if context.is_empty() { "" } else { context.strip_prefix(",\"context\":")? };
+    let uid = |text: &str| format!("{}\"", text.replace("\\\"", "\""));
+    Some((uid(principal), uid(action), uid(resource), context.into()))
+}
+
+#[test]
+fn lines_are_answered_at_once_and_one_by_one() {
+    for it in examples() {
+        let engine = it.engine();
+        assert_eq!(engine.answer(&it.requests).unwrap(), it.answers);
+        for (line, wanted) in it.requests.lines().zip(it.answers.lines()) {
+            assert_eq!(engine.answer_line(line).unwrap(), wanted);
+        }
+    }
+}
+
+#[test]
+fn requests_are_answered_by_parts() {
+    let mut count = 0;
+    for it in examples() {
+        let engine = it.engine();
+        for (line, wanted) in it.requests.lines().zip(it.answers.lines()) {
+            let Some((principal, action, resource, context)) = cut(line) else { continue };
+            let uids = [&principal, &action, &resource].map(|it| Uid::parse(it));
+            let [Some(principal), Some(action), Some(resource)] = uids else { continue };
+            let request = Request::new(principal, action, resource).with_context(context);
+            let decided = engine.decide(&request);
+            count += 1;
+            match engine.is_authorized(&request) {
+                Err(Error::Request(number)) => {
+                    assert_eq!(format!("{{\"refused\":{number}}}"), wanted);
+                    assert_eq!(decided, Err(Error::Request(number)));
+                }
+                response => {
+                    let response = response.unwrap();
+                    assert_eq!(decided.unwrap(), response.decision);
+                    assert_eq!(written(&response), wanted);
+                }
+            }
+        }
+    }
+    assert!(count > 60, "only {count} lines were cut");
+}
+
+/// The answer line of a response; the ids of the examples need no escapes.
+fn written(response: &bobbinjade::Response) -> String {
+    let decision = if response.decision == Decision::Allow { "allow" } else { "deny" };
+    let determining: Vec<_> = response.determining.iter().map(|it| format!("\"{it}\"")).collect();
+    let name = |error| match error {
+        EvalError::Overflow => "overflow",
+        EvalError::MissingEntity => "missing_entity",
+        _ => "decimal",
+    };
+    let erring: Vec<_> =
+        response.erring.iter().map(|it| format!("{{\"error\":\"{}\",\"policy\":\"{}\"}}", name(it.error), it.policy)).collect();
+    format!("{{\"decision\":\"{decision}\",\"determining\":[{}],\"erring\":[{}]}}", determining.join(","), erring.join(","))
+}
+
+#[test]
+fn reports_are_those_of_the_program() {
+    for it in examples() {
+        let report = validate(&it.files()).unwrap();
+        assert!(report.is_accepted);
+        assert_eq!(report.text, it.report);
+        assert_eq!(explain(&it.files()).unwrap(), "");
+    }
+}
+
+#[test]
+fn refusals_have_their_words() {
+    let it = example("notes");
+    let broken = fs::read(folder().join("notes/broken_policies.cedar")).unwrap();
+    let files = Files { policies: &broken, ..it.files() };
+    let engine = it.engine();
+    for error in [Engine::new(&files).unwrap_err(), engine.publish(&files).unwrap_err(), validate(&files).unwrap_err()] {
+        let Error::Refused(why) = error else { panic!("{error}") };
+        assert_eq!((why.file, why.number, why.offset, why.line), (File::Policies, 201, Some(128), Some(4)));
+        assert!(why.words.starts_with("error[201]: a policy text cannot go on like this\n"), "{}", why.words);
+    }
+    assert_eq!(engine.answer(&it.requests).unwrap(), it.answers);
+
+    for (files, wanted) in [
+        (Files { schema: b"{", ..it.files() }, (File::Schema, 301)),
+        (Files { links: b"{}", ..it.files() }, (File::Links, 502)),
+        (Files { entities: b"{}", ..it.files() }, (File::Entities, 502)),
+    ] {
+        let Err(Error::Refused(why)) = engine.publish(&files) else { panic!("not refused") };
+        assert_eq!((why.file, why.number), wanted);
+        assert!(why.words.starts_with(&format!("error[{}]: ", wanted.1)), "{}", why.words);
+    }
+}
+
+#[test]
+fn faults_have_their_report() {
+    let it = example("notes");
+    let policies = "permit(principal, action, resource) when { principal.age > 1 };".repeat(200);
+    let files = Files { policies: policies.as_bytes(), ..it.files() };
+    let Err(Error::Faults(faults)) = Engine::new(&files) else { panic!("no faults") };
+    assert!(faults.report.ends_with("{\"faults\":600,\"warnings\":0}\n"), "{}", faults.report);
+    assert!(faults.report.len() > 4096);
+    assert!(faults.words.starts_with("error[603]: "), "{}", faults.words);
+    let report = validate(&files).unwrap();
+    assert!(!report.is_accepted);
+    assert_eq!(report.text, faults.report);
+}
+
+#[test]
+fn an_answer_of_any_length_fits() {
+    let it = example("notes");
+    let policies: String =
+        (0..400).map(|at| format!("@id(\"a long name of a policy, number {at}\") permit(principal, action, resource);")).collect();
+    let engine = Engine::new(&Files { policies: policies.as_bytes(), ..it.files() }).unwrap();
+    assert_eq!(engine.is_authorized(&asked("bob", "read")).unwrap().determining.len(), 400);
+    let line = engine.answer_line(it.requests.lines().next().unwrap()).unwrap();
+    assert!(line.len() > 10_000 && line.ends_with('}'));
+}
+
+#[test]
+fn closing_twice_is_safe() {
+    let it = example("notes");
+    let engine = it.engine();
+    let clone = engine.clone();
+    assert_eq!(clone.decide(&asked("ann", "write")), Ok(Decision::Allow));
+    engine.close();
+    engine.close();
+    assert_eq!(clone.decide(&asked("ann", "write")), Err(Error::Closed));
+    assert_eq!(clone.is_authorized(&asked("ann", "write")), Err(Error::Closed));
+    assert_eq!(clone.answer_line(""), Err(Error::Closed));
+    assert_eq!(clone.publish(&it.files()), Err(Error::Closed));
+}
+
+#[test]
+fn uids_are_parsed() {
+    assert_eq!(Uid::parse("A::B::\"c d\""), Some(Uid::new("A::B", "c d")));
+    assert_eq!(Uid::parse("A::\"\""), Some(Uid::new("A", "")));
+    for text in ["", "A", "A::", "A::\"", "::\"a\"", "A:\"a\"", "A ::\"a\"", "A::\"a\\\"b\"", "A::\"a\"b\"", "A::::\"a\""] {
+        assert_eq!(Uid::parse(text), None, "{text}");
+    }
+}
+
+#[test]
+fn a_uid_that_is_not_one_is_refused() {
+    let engine = example("notes").engine();
+    let request = Request::new(Uid::new("no name", "ann"), Uid::new("Action", "write"), Uid::new("Notebook", "plans"));
+    assert_eq!(engine.decide(&request), Err(Error::Request(502)));
+    assert_eq!(engine.decide(&asked("ann", "write").with_context("[")), Err(Error::Request(501)));
+    assert_eq!(engine.decide(&asked("ann", "write").with_context("{\"n\":1}")), Err(Error::Request(506)));
+    assert_eq!(engine.decide(&asked("ann", "fly")), Err(Error::Request(510)));
+}
+
+#[test]
+fn an_engine_crosses_threads() {
+    fn crosses<T: Send + Sync + Clone + 'static>(_: &T) {}
+    crosses(&example("notes").engine());
+}
+
+/// The policies of a version, whose id has its number. Even versions permit, and odd ones forbid.
+fn version(number: u64) -> String {
+    let effect = if number % 2 == 0 { "permit" } else { "forbid" };
+    format!("@id(\"{number}\") {effect}(principal, action, resource);")
+}
+
+/// Asks until the end, and checks that each answer is that of a version that was current during its call. Gives the count of answers.
+fn ask(engine: &Engine, begun: &AtomicU64, done: &AtomicU64, is_over: &AtomicBool) -> u64 {
+    let mut count = 0;
+    while !is_over.load(Ordering::SeqCst) {
+        let first = done.load(Ordering::SeqCst);
+        let response = engine.is_authorized(&asked("ann", "write")).unwrap();
+        let last = begun.load(Ordering::SeqCst);
+        let answered: u64 = response.determining[0].parse().unwrap();
+        assert!((first..=last).contains(&answered), "{answered} is not in {first} to {last}");
+        assert_eq!(response.decision == Decision::Allow, answered % 2 == 0);
+        count += 1;
+    }
+    count
+}
+
+#[test]
+fn versions_swap_while_requests_run() {
+    let it = example("notes");
+    let engine = Engine::new(&Files { policies: version(0).as_bytes(), ..it.files() }).unwrap();
+    let (begun, done, is_over) = (AtomicU64::new(0), AtomicU64::new(0), AtomicBool::new(false));
+    let seconds: u64 = std::env::var("BOBBINJADE_SECONDS").ok().and_then(|it| it.parse().ok()).unwrap_or(1);
+    let count: u64 = thread::scope(|scope| {
+        let asking: Vec<_> = (0..8).map(|_| scope.spawn(|| ask(&engine, &begun, &done, &is_over))).collect();
+        let began = Instant::now();
+        for number in 1.. {
+            if began.elapsed() > Duration::from_secs(seconds) {
+                break;
+            }
+            begun.store(number, Ordering::SeqCst);
+            engine.publish(&Files { policies: version(number).as_bytes(), ..it.files() }).unwrap();
+            done.store(number, Ordering::SeqCst);
+        }
+        is_over.store(true, Ordering::SeqCst);
+        asking.into_iter().map(|it| it.join().unwrap()).sum()
+    });
+    println!("{count} answers, {} versions", done.load(Ordering::SeqCst));
+    assert!(count > 8);
+}

@@ -1,0 +1,163 @@
+// What cedar.hpp promises beyond the answers: checks FOLDER, where FOLDER is examples/.
+#include "cedar.hpp"
+
+#include <cstdio>
+#include <fstream>
+#include <functional>
+#include <iterator>
+#include <thread>
+
+static int passed, failed;
+
+#define CHECK(is_right) \
+    do { \
+        (is_right) ? passed++ : failed++; \
+        if (!(is_right)) { \
+            std::printf("%s:%d: %s\n", __FILE__, __LINE__, #is_right); \
+        } \
+    } while (0)
+
+static std::string content(const std::string &path) {
+    std::ifstream file(path, std::ios::binary);
+    return {std::istreambuf_iterator<char>(file), {}};
+}
+
+template <class Fault> static std::optional<Fault> thrown(const std::function<void()> &call) {
+    try {
+        call();
+    } catch (const Fault &fault) {
+        return fault;
+    }
+    return std::nullopt;
+}
+
+static std::string schema, policies, entities, requests, answers;
+
+static cedar::Files files(std::string_view text) { return {schema, text, {}, entities}; }
+
+static cedar::Request asked(std::string_view who, std::string_view action) {
+    return {{"User", who}, {"Action", action}, {"Notebook", "plans"}};
+}
+
+static void check_refusals(const std::string &broken) {
+    cedar::Engine engine(files(policies));
+    for (auto &call : {std::function<void()>([&] { engine.publish(files(broken)); }), {[&] { cedar::Engine other(files(broken)); }},
+                       {[&] { cedar::validate(files(broken)); }}}) {
+        auto refusal = thrown<cedar::Refusal>(call);
+        CHECK(refusal && refusal->file == CEDAR_POLICIES && refusal->number == 201 && refusal->offset == 128u && refusal->line == 4u);
+        CHECK(refusal && refusal->words.rfind("error[201]: a policy text cannot go on like this\n", 0) == 0);
+        CHECK(refusal && refusal->text == "{\"file\":\"policies\",\"offset\":128,\"refused\":201}\n" && refusal->status() == CEDAR_REFUSED);
+    }
+    auto refusal = thrown<cedar::Refusal>([&] { engine.publish({schema, policies, "{}", entities}); });
+    CHECK(refusal && refusal->file == CEDAR_LINKS && refusal->number == 502 && !refusal->offset && !refusal->line);
+    refusal = thrown<cedar::Refusal>([&] { engine.publish({schema, policies, {}, "{}"}); });
+    CHECK(refusal && refusal->file == CEDAR_ENTITIES && refusal->number == 502);
+    CHECK(cedar::explain(files(policies)).empty() && cedar::explain(files(broken)).rfind("error[201]", 0) == 0);
+    CHECK(engine.answer(requests) == answers);
+}
+
+static void check_faults() {
+    std::string text;
+    for (int i = 0; i < 200; i++) {
+        text += "permit(principal, action, resource) when { principal.age > 1 };";
+    }
+    auto faults = thrown<cedar::Faults>([&] { cedar::Engine engine(files(text)); });
+    CHECK(faults && faults->report.size() > 4096 && faults->report.find("{\"faults\":600,\"warnings\":0}\n") != std::string::npos);
+    CHECK(faults && faults->words.rfind("error[603]: ", 0) == 0);
+    cedar::Report report = cedar::validate(files(text));
+    CHECK(faults && !report.accepted && report.text == faults->report);
+    report = cedar::validate(files(policies));
+    CHECK(report.accepted && report.text == "{\"faults\":0,\"warnings\":0}\n");
+}
+
+static void check_room() {
+    std::string text;
+    for (int i = 0; i < 400; i++) {
+        text += "@id(\"a long name of a policy, number " + std::to_string(i) + "\") permit(principal, action, resource);";
+    }
+    cedar::Engine engine(files(text));
+    cedar::Response response = engine.is_authorized(asked("ann", "write"));
+    CHECK(response.allow && response.determining.size() == 400 && response.determining[0] == "a long name of a policy, number 0");
+    CHECK(engine.answer_line(requests.substr(0, requests.find('\n'))).size() > 10000);
+}
+
+static void check_escapes() {
+    cedar::Engine engine(files("@id(\"a\\\"\\\\\\n\\u{1}\\u{e9}\\u{1f600}\") permit(principal, action, resource);"));
+    cedar::Response response = engine.is_authorized(asked("ann", "write"));
+    CHECK(response.determining.size() == 1 && response.determining[0] == "a\"\\\n\x01\xc3\xa9\xf0\x9f\x98\x80");
+    cedar::Response other = cedar::detail::Reader("{\"decision\":\"deny\",\"determining\":[\"\\ud83d\\ude00\\u00e9\\u20ac\"],\"erring\":"
+                                                  "[{\"error\":\"overflow\",\"policy\":\"p\"},{\"error\":\"decimal\",\"policy\":\"q\"}]}")
+                                .response();
+    CHECK(!other.allow && other.determining[0] == "\xf0\x9f\x98\x80\xc3\xa9\xe2\x82\xac");
+    CHECK(other.erring.size() == 2 && other.erring[0].error == "overflow" && other.erring[1].policy == "q");
+}
+
+static void check_requests() {
+    cedar::Engine engine(files(policies));
+    cedar::Request request = asked("ann", "write");
+    CHECK(engine.decide(request));
+    request.context = "[";
+    auto refusal = thrown<cedar::RequestRefusal>([&] { engine.decide(request); });
+    CHECK(refusal && refusal->number == 501);
+    refusal = thrown<cedar::RequestRefusal>([&] { engine.is_authorized(asked("ann", "fly")); });
+    CHECK(refusal && refusal->number == 510);
+    CHECK(engine.decide(asked("ann", "write")) && !engine.decide(asked("carol", "write")));
+}
+
+static void check_closing() {
+    cedar::Engine empty;
+    CHECK(thrown<cedar::NoEngine>([&] { empty.decide(asked("ann", "write")); }));
+    empty.publish(files(policies));
+    CHECK(empty.decide(asked("ann", "write")));
+    cedar::Engine engine(std::move(empty));
+    CHECK(engine.decide(asked("ann", "write")));
+    CHECK(thrown<cedar::Closed>([&] { empty.decide(asked("ann", "write")); }));
+    engine.close();
+    engine.close();
+    CHECK(thrown<cedar::Closed>([&] { engine.decide(asked("ann", "write")); }));
+    CHECK(thrown<cedar::Closed>([&] { engine.is_authorized(asked("ann", "write")); }));
+    CHECK(thrown<cedar::Closed>([&] { engine.answer(requests); }));
+    CHECK(thrown<cedar::Closed>([&] { engine.answer_line("{}"); }));
+    CHECK(thrown<cedar::Closed>([&] { engine.publish(files(policies)); }));
+    engine = cedar::Engine(files(policies));
+    CHECK(engine.answer(requests) == answers);
+}
+
+// More threads than places for handles, and closing while they ask.
+static void check_many_threads() {
+    cedar::Engine engine(files(policies));
+    std::vector<std::thread> threads;
+    std::atomic<int> wrong{0};
+    for (int i = 0; i < 80; i++) {
+        threads.emplace_back([&] {
+            try {
+                for (int k = 0; k < 50; k++) {
+                    wrong += !engine.decide(asked("ann", "write"));
+                }
+            } catch (const cedar::Closed &) {
+            }
+        });
+    }
+    for (std::size_t i = 0; i < threads.size(); i++) {
+        if (i == threads.size() / 2) {
+            engine.close();
+        }
+        threads[i].join();
+    }
+    CHECK(wrong == 0);
+}
+
+int main(int count, char **words) {
+    const std::string folder = std::string(count == 2 ? words[1] : "examples") + "/notes/";
+    schema = content(folder + "schema.json"), policies = content(folder + "policies.cedar"), entities = content(folder + "entities.json");
+    requests = content(folder + "requests.jsonl"), answers = content(folder + "answers.jsonl");
+    check_refusals(content(folder + "broken_policies.cedar"));
+    check_faults();
+    check_room();
+    check_escapes();
+    check_requests();
+    check_closing();
+    check_many_threads();
+    std::printf("%d passed, %d failed\n", passed, failed);
+    return failed != 0;
+}

@@ -1,0 +1,225 @@
+/* The edges of the inline functions of cedar.h: edges FOLDER, where FOLDER is examples/notes. */
+#include "files.h"
+
+#include <sys/wait.h>
+#include <unistd.h>
+
+static cedar_files files;
+static cedar_bytes lines, answers;
+
+static int answers_are_right(cedar_engine *engine) {
+    char room[4096];
+    cedar_buffer text = {room, sizeof room, 0};
+    return cedar_answer(engine, lines, &text) == CEDAR_OK && has(&text, answers);
+}
+
+static void check_null(void) {
+    cedar_engine none = {NULL};
+    cedar_engine engine;
+    cedar_decision decision = {sizeof decision, 7, 7};
+    cedar_request request = asked("write");
+    cedar_refusal refusal = {sizeof refusal, 7, 7, 7};
+    CHECK(cedar_new(NULL) == CEDAR_ARGUMENT);
+    cedar_free(NULL);
+    cedar_free(&none);
+    CHECK(cedar_publish(NULL, &files, NULL, NULL) == CEDAR_ARGUMENT);
+    CHECK(cedar_publish(&none, &files, &refusal, NULL) == CEDAR_ARGUMENT);
+    CHECK(cedar_answer(&none, lines, NULL) == CEDAR_ARGUMENT);
+    CHECK(cedar_answer(NULL, lines, NULL) == CEDAR_ARGUMENT);
+    CHECK(cedar_answer_line(&none, lines, NULL) == CEDAR_ARGUMENT);
+    CHECK(cedar_decide(&none, &request, &decision, NULL) == CEDAR_ARGUMENT && decision.allow == 0 && decision.refused == 0);
+    CHECK(cedar_new(&engine) == CEDAR_OK && engine.at);
+    CHECK(cedar_share(&engine, &none) == CEDAR_ARGUMENT && cedar_share(&none, &engine) == CEDAR_ARGUMENT);
+    CHECK(cedar_share(&engine, &engine) == CEDAR_ARGUMENT);
+    CHECK(cedar_publish(&engine, NULL, NULL, NULL) == CEDAR_ARGUMENT);
+    CHECK(cedar_validate(NULL, NULL) == CEDAR_ARGUMENT && cedar_explain(NULL, CEDAR_WORDS, NULL) == CEDAR_ARGUMENT);
+    CHECK(cedar_decide(&engine, NULL, &decision, NULL) == CEDAR_ARGUMENT);
+    CHECK(cedar_decide(&engine, &request, NULL, NULL) == CEDAR_ARGUMENT);
+    cedar_free(&engine);
+    CHECK(!engine.at);
+    cedar_free(&engine);
+}
+
+static void check_empty_handle(void) {
+    cedar_engine engine, other;
+    cedar_decision decision = {sizeof decision, 7, 7};
+    cedar_request request = asked("write");
+    CHECK(cedar_new(&engine) == CEDAR_OK && cedar_new(&other) == CEDAR_OK);
+    CHECK(cedar_answer(&engine, lines, NULL) == CEDAR_NO_ENGINE);
+    CHECK(cedar_answer_line(&engine, lines, NULL) == CEDAR_NO_ENGINE);
+    CHECK(cedar_decide(&engine, &request, &decision, NULL) == CEDAR_NO_ENGINE && decision.allow == 0);
+    CHECK(cedar_share(&engine, &other) == CEDAR_NO_ENGINE);
+    cedar_free(&engine);
+    cedar_free(&other);
+}
+
+static void check_arguments(void) {
+    cedar_engine engine;
+    cedar_decision decision = {sizeof decision, 7, 7};
+    cedar_request request = asked("write");
+    cedar_files other = files;
+    cedar_refusal refusal = {sizeof refusal - 1, 7, 7, 7};
+    CHECK(cedar_new(&engine) == CEDAR_OK);
+    CHECK(cedar_publish(&engine, &files, &refusal, NULL) == CEDAR_ARGUMENT && refusal.file == 7);
+    other.settings = 2;
+    CHECK(cedar_publish(&engine, &other, NULL, NULL) == CEDAR_ARGUMENT && cedar_validate(&other, NULL) == CEDAR_ARGUMENT);
+    CHECK(cedar_explain(&other, CEDAR_WORDS, NULL) == CEDAR_ARGUMENT && cedar_explain(&files, 2, NULL) == CEDAR_ARGUMENT);
+    other = files;
+    other.reserved = 1;
+    CHECK(cedar_publish(&engine, &other, NULL, NULL) == CEDAR_ARGUMENT);
+    other = files;
+    other.size--;
+    CHECK(cedar_publish(&engine, &other, NULL, NULL) == CEDAR_ARGUMENT && cedar_validate(&other, NULL) == CEDAR_ARGUMENT);
+    other = files;
+    other.settings = CEDAR_ANY_DECIMAL;
+    CHECK(cedar_publish(&engine, &other, NULL, NULL) == CEDAR_OK);
+    request.size++;
+    CHECK(cedar_decide(&engine, &request, &decision, NULL) == CEDAR_ARGUMENT && decision.allow == 0);
+    request.size--;
+    decision.size++;
+    CHECK(cedar_decide(&engine, &request, &decision, NULL) == CEDAR_ARGUMENT);
+    CHECK(cedar_abi_version() == CEDAR_ABI_VERSION);
+    cedar_free(&engine);
+}
+
+static void check_empty_bytes(void) {
+    cedar_engine engine;
+    cedar_buffer nothing = {NULL, 0, 9};
+    cedar_bytes none = {NULL, 0}, no_length = {NULL, 5};
+    char room[64];
+    cedar_buffer text = {room, sizeof room, 0};
+    CHECK(cedar_new(&engine) == CEDAR_OK && cedar_publish(&engine, &files, NULL, NULL) == CEDAR_OK);
+    CHECK(cedar_answer(&engine, none, &nothing) == CEDAR_OK && nothing.written == 0);
+    CHECK(cedar_answer(&engine, no_length, NULL) == CEDAR_OK);
+    CHECK(cedar_answer_line(&engine, none, &text) == CEDAR_OK && has(&text, bytes_of("{\"refused\":501}")));
+    cedar_files empty = {sizeof empty, none, none, none, none, 0, 0};
+    cedar_refusal refusal = {sizeof refusal, 0, 0, 0};
+    CHECK(cedar_publish(&engine, &empty, &refusal, &text) == CEDAR_REFUSED && refusal.file == CEDAR_SCHEMA && refusal.number == 301);
+    CHECK(refusal.offset == CEDAR_NO_OFFSET && has(&text, bytes_of("{\"file\":\"schema\",\"refused\":301}\n")));
+    CHECK(answers_are_right(&engine));
+    cedar_free(&engine);
+}
+
+static void check_room(void) {
+    cedar_engine engine;
+    cedar_request request = asked("write");
+    cedar_decision decision = {sizeof decision, 7, 7};
+    char room[4096];
+    cedar_buffer text = {room, 0, 0};
+    CHECK(cedar_new(&engine) == CEDAR_OK && cedar_publish(&engine, &files, NULL, NULL) == CEDAR_OK);
+    for (size_t length = 0; length < answers.length; length++) {
+        memset(room, '#', sizeof room);
+        text.room = length;
+        int is_right = cedar_answer(&engine, lines, &text) == CEDAR_ROOM && text.written == answers.length;
+        for (size_t i = 0; i < sizeof room; i++) {
+            is_right = is_right && room[i] == '#';
+        }
+        CHECK(is_right);
+    }
+    text.room = answers.length;
+    CHECK(cedar_answer(&engine, lines, &text) == CEDAR_OK && has(&text, answers));
+    for (text.room = 1; cedar_decide(&engine, &request, &decision, &text) == CEDAR_ROOM; text.room++) {
+        CHECK(decision.allow == 0 && text.written > text.room);
+    }
+    CHECK(decision.allow == 1 && has(&text, (cedar_bytes){answers.at, text.room}) && text.room == 58);
+    text.room = 0;
+    decision.allow = 0;
+    CHECK(cedar_decide(&engine, &request, &decision, &text) == CEDAR_OK && decision.allow == 1 && text.written == 0);
+    cedar_free(&engine);
+}
+
+/* Refused files leave a handle and those that share with it as they are; published ones leave those that share. */
+static void check_versions(void) {
+    cedar_engine engine, other;
+    cedar_files broken = files, open = files;
+    cedar_refusal refusal = {sizeof refusal, 0, 0, 0};
+    cedar_request request = asked("delete");
+    cedar_decision decision = {sizeof decision, 7, 7};
+    char room[4096];
+    cedar_buffer text = {room, sizeof room, 0};
+    broken.policies = bytes_of("permit(principal, action, resource) when { 1 };");
+    open.policies = bytes_of("permit(principal, action, resource);");
+    CHECK(cedar_new(&engine) == CEDAR_OK && cedar_new(&other) == CEDAR_OK && cedar_publish(&engine, &files, &refusal, NULL) == CEDAR_OK);
+    CHECK(refusal.file == 0 && refusal.number == 0 && refusal.offset == CEDAR_NO_OFFSET);
+    CHECK(cedar_share(&engine, &other) == CEDAR_OK && answers_are_right(&other) && answers_are_right(&engine));
+    CHECK(cedar_publish(&engine, &broken, &refusal, &text) == CEDAR_FAULTS && text.written > 20 && refusal.number == 0);
+    size_t needed = text.written;
+    text.room = needed - 1;
+    CHECK(cedar_publish(&engine, &broken, NULL, &text) == CEDAR_FAULTS && text.written == needed);
+    text.room = sizeof room;
+    CHECK(cedar_validate(&broken, &text) == CEDAR_FAULTS && text.written == needed);
+    CHECK(answers_are_right(&engine) && answers_are_right(&other));
+    broken.policies = bytes_of("permit(");
+    CHECK(cedar_publish(&engine, &broken, &refusal, &text) == CEDAR_REFUSED && refusal.file == CEDAR_POLICIES);
+    CHECK(refusal.number == 201 && refusal.offset == 7);
+    CHECK(has(&text, bytes_of("{\"file\":\"policies\",\"offset\":7,\"refused\":201}\n")));
+    CHECK(cedar_validate(&broken, &text) == CEDAR_REFUSED);
+    CHECK(has(&text, bytes_of("{\"file\":\"policies\",\"offset\":7,\"refused\":201}\n")));
+    CHECK(answers_are_right(&engine) && answers_are_right(&other));
+    CHECK(cedar_publish(&engine, &open, NULL, NULL) == CEDAR_OK && answers_are_right(&other));
+    CHECK(cedar_decide(&engine, &request, &decision, NULL) == CEDAR_OK && decision.allow == 1);
+    CHECK(cedar_decide(&other, &request, &decision, NULL) == CEDAR_OK && decision.allow == 0);
+    CHECK(cedar_share(&engine, &other) == CEDAR_OK);
+    cedar_free(&engine);
+    CHECK(cedar_decide(&other, &request, &decision, NULL) == CEDAR_OK && decision.allow == 1);
+    cedar_free(&other);
+}
+
+static void check_refused_requests(void) {
+    const struct {
+        const char *principal, *action, *context, *text;
+        uint32_t number;
+    } cases[] = {{"User", "fly", "", "{\"refused\":510}", 510},       {"no name", "write", "", "{\"refused\":502}", 502},
+                 {"", "write", "", "{\"refused\":502}", 502},          {"\xff", "write", "", "{\"refused\":502}", 502},
+                 {"User", "write", "[", "{\"refused\":501}", 501},     {"User", "write", "{\"n\":1}", "{\"refused\":506}", 506},
+                 {"Notebook", "write", "", "{\"refused\":511}", 511}, {"Ghost", "write", "", "{\"refused\":503}", 503}};
+    cedar_engine engine;
+    char room[64];
+    cedar_buffer text = {room, sizeof room, 0};
+    CHECK(cedar_new(&engine) == CEDAR_OK && cedar_publish(&engine, &files, NULL, NULL) == CEDAR_OK);
+    for (size_t i = 0; i < sizeof cases / sizeof *cases; i++) {
+        cedar_request request = asked(cases[i].action);
+        cedar_decision decision = {sizeof decision, 7, 7};
+        request.principal_type = bytes_of(cases[i].principal);
+        request.context = bytes_of(cases[i].context);
+        CHECK(cedar_decide(&engine, &request, &decision, &text) == CEDAR_NO_REQUEST);
+        CHECK(decision.refused == cases[i].number && decision.allow == 0 && has(&text, bytes_of(cases[i].text)));
+    }
+    cedar_free(&engine);
+}
+
+static void check_fork(void) {
+    cedar_engine engine;
+    CHECK(cedar_new(&engine) == CEDAR_OK && cedar_publish(&engine, &files, NULL, NULL) == CEDAR_OK);
+    pid_t child = fork();
+    if (child == 0) {
+        int is_right = answers_are_right(&engine) && cedar_publish(&engine, &files, NULL, NULL) == CEDAR_OK && answers_are_right(&engine);
+        cedar_free(&engine);
+        _exit(is_right ? 0 : 1);
+    }
+    int status = 1;
+    CHECK(waitpid(child, &status, 0) == child && status == 0);
+    CHECK(answers_are_right(&engine));
+    cedar_free(&engine);
+}
+
+int main(int count, char **words) {
+    if (count != 2) {
+        return 9;
+    }
+    files = files_of(words[1]);
+    lines = content(words[1], "requests.jsonl");
+    answers = content(words[1], "answers.jsonl");
+    check_null();
+    check_empty_handle();
+    check_arguments();
+    check_empty_bytes();
+    check_room();
+    check_versions();
+    check_refused_requests();
+    check_fork();
+    free_files(&files);
+    free((void *)lines.at);
+    free((void *)answers.at);
+    return counted();
+}

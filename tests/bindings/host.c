@@ -1,0 +1,129 @@
+/* A host in C: host FOLDER MODE, with a mode of these.
+ *
+ *   batch     answers the request lines of standard input by one call
+ *   lines     answers each of them by a call
+ *   parts     answers requests by parts: each line has seven fields, with the byte 1F between them
+ *   publish   publishes the files, prints the text of the call, and ends with its status
+ *   validate  validates the files, prints the text of the call, and ends with its status
+ *   words     explains the files in words; `json` explains them as JSON lines */
+#include "files.h"
+
+static cedar_buffer text;
+
+static int print(uint32_t status) {
+    fwrite(text.at, 1, text.written, stdout);
+    return (int)status;
+}
+
+static int print_lines(cedar_engine *engine, cedar_bytes lines) {
+    const char *at = lines.at, *end = at + lines.length;
+    while (at < end) {
+        const char *feed = memchr(at, '\n', (size_t)(end - at));
+        cedar_bytes line = {at, (size_t)((feed ? feed : end) - at)};
+        uint32_t status;
+        do {
+            status = cedar_answer_line(engine, line, &text);
+        } while (status == CEDAR_ROOM && grows(&text));
+        if (status != CEDAR_OK) {
+            return (int)status;
+        }
+        print(status);
+        putchar('\n');
+        at = feed ? feed + 1 : end;
+    }
+    return 0;
+}
+
+/* Whether a decision without a text agrees with one that has a text. */
+static int agrees(cedar_engine *engine, const cedar_request *request, uint32_t status, const cedar_decision *decision) {
+    cedar_decision alone = {sizeof alone, 9, 9};
+    return cedar_decide(engine, request, &alone, NULL) == status && alone.allow == decision->allow && alone.refused == decision->refused;
+}
+
+static int print_parts(cedar_engine *engine, cedar_bytes lines) {
+    const char *at = lines.at, *end = at + lines.length;
+    text.written = 1; /* A buffer without room would say that no text is wanted. */
+    grows(&text);
+    while (at < end) {
+        cedar_bytes fields[7];
+        for (int i = 0; i < 7; i++) {
+            const char *stop = memchr(at, i < 6 ? '\x1f' : '\n', (size_t)(end - at));
+            if (!stop) {
+                return 9;
+            }
+            fields[i] = (cedar_bytes){at, (size_t)(stop - at)};
+            at = stop + 1;
+        }
+        cedar_request request = {sizeof request, fields[0], fields[1], fields[2], fields[3], fields[4], fields[5], fields[6]};
+        cedar_decision decision = {sizeof decision, 9, 9};
+        uint32_t status;
+        do {
+            status = cedar_decide(engine, &request, &decision, &text);
+        } while (status == CEDAR_ROOM && grows(&text));
+        int is_allow = text.written > 20 && memcmp(text.at, "{\"decision\":\"allow\"", 19) == 0;
+        if ((status != CEDAR_OK && status != CEDAR_NO_REQUEST) || is_allow != (int)decision.allow ||
+            !agrees(engine, &request, status, &decision)) {
+            return 9;
+        }
+        print(status);
+        putchar('\n');
+    }
+    return 0;
+}
+
+static int answered(const cedar_files *files, const char *mode) {
+    cedar_engine engine;
+    int ended = 9;
+    if (cedar_new(&engine) != CEDAR_OK || cedar_publish(&engine, files, NULL, NULL) != CEDAR_OK) {
+        return 9;
+    }
+    cedar_bytes lines = read_all(stdin);
+    if (strcmp(mode, "batch") == 0) {
+        uint32_t status;
+        do {
+            status = cedar_answer(&engine, lines, &text);
+        } while (status == CEDAR_ROOM && grows(&text));
+        ended = print(status);
+    } else if (strcmp(mode, "lines") == 0) {
+        ended = print_lines(&engine, lines);
+    } else if (strcmp(mode, "parts") == 0) {
+        ended = print_parts(&engine, lines);
+    }
+    free((void *)lines.at);
+    cedar_free(&engine);
+    return ended;
+}
+
+static int published(const cedar_files *files) {
+    cedar_engine engine;
+    uint32_t status = cedar_new(&engine);
+    if (status == CEDAR_OK) {
+        do {
+            status = cedar_publish(&engine, files, NULL, &text);
+        } while (status != CEDAR_OK && grows(&text));
+        cedar_free(&engine);
+    }
+    return print(status);
+}
+
+static int judged(const cedar_files *files, const char *mode) {
+    uint32_t status;
+    do {
+        status = strcmp(mode, "validate") == 0 ? cedar_validate(files, &text)
+                                               : cedar_explain(files, strcmp(mode, "json") == 0 ? CEDAR_JSON : CEDAR_WORDS, &text);
+    } while (grows(&text));
+    return print(status);
+}
+
+int main(int count, char **words) {
+    if (count != 3) {
+        return 9;
+    }
+    cedar_files files = files_of(words[1]);
+    const char *mode = words[2];
+    int is_judged = strcmp(mode, "validate") == 0 || strcmp(mode, "words") == 0 || strcmp(mode, "json") == 0;
+    int ended = strcmp(mode, "publish") == 0 ? published(&files) : is_judged ? judged(&files, mode) : answered(&files, mode);
+    free_files(&files);
+    free(text.at);
+    return ended;
+}

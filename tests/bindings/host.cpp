@@ -1,0 +1,95 @@
+// A host in C++, with the modes of host.c: host FOLDER MODE.
+#include "cedar.hpp"
+
+#include <fstream>
+#include <iostream>
+#include <iterator>
+
+static std::string all(std::istream &from) { return {std::istreambuf_iterator<char>(from), {}}; }
+
+static std::string content(const std::string &path) {
+    std::ifstream file(path, std::ios::binary);
+    return all(file);
+}
+
+static std::vector<std::string_view> split(std::string_view text, char stop) {
+    std::vector<std::string_view> parts;
+    for (std::size_t end; (end = text.find(stop)) != std::string_view::npos; text.remove_prefix(end + 1)) {
+        parts.push_back(text.substr(0, end));
+    }
+    parts.push_back(text);
+    return parts;
+}
+
+// The answer line of a response; the ids of the examples need no escapes.
+static std::string line_of(const cedar::Response &response) {
+    std::string line = std::string("{\"decision\":\"") + (response.allow ? "allow" : "deny") + "\",\"determining\":[", comma;
+    for (const std::string &policy : response.determining) {
+        line += comma + "\"" + policy + "\"";
+        comma = ",";
+    }
+    line += "],\"erring\":[";
+    comma.clear();
+    for (const cedar::Erring &erring : response.erring) {
+        line += comma + "{\"error\":\"" + erring.error + "\",\"policy\":\"" + erring.policy + "\"}";
+        comma = ",";
+    }
+    return line + "]}";
+}
+
+static std::string answer_of(const cedar::Engine &engine, std::string_view fields) {
+    std::vector<std::string_view> it = split(fields, '\x1f');
+    cedar::Request request = {{it.at(0), it.at(1)}, {it.at(2), it.at(3)}, {it.at(4), it.at(5)}, it.at(6)};
+    try {
+        cedar::Response response = engine.is_authorized(request);
+        return engine.decide(request) == response.allow ? line_of(response) : "decide differs";
+    } catch (const cedar::RequestRefusal &refusal) {
+        return "{\"refused\":" + std::to_string(refusal.number) + "}";
+    }
+}
+
+static int answered(const cedar::Files &files, const std::string &mode) {
+    const std::string lines = all(std::cin);
+    cedar::Engine engine(files);
+    if (mode == "batch") {
+        std::cout << engine.answer(lines);
+        return 0;
+    }
+    std::vector<std::string_view> parts = split(lines, '\n');
+    for (std::size_t i = 0; i + 1 < parts.size(); i++) {
+        std::cout << (mode == "lines" ? engine.answer_line(parts[i]) : answer_of(engine, parts[i])) << '\n';
+    }
+    return 0;
+}
+
+int main(int count, char **words) {
+    if (count != 3) {
+        return 9;
+    }
+    const std::string folder = words[1], mode = words[2];
+    const std::string schema = content(folder + "/schema.json"), policies = content(folder + "/policies.cedar");
+    const std::string links = content(folder + "/links.json"), entities = content(folder + "/entities.json");
+    const cedar::Files files = {schema, policies, links, entities};
+    try {
+        if (mode == "validate") {
+            cedar::Report report = cedar::validate(files);
+            std::cout << report.text;
+            return report.accepted ? 0 : 3;
+        }
+        if (mode == "words") {
+            std::cout << cedar::explain(files);
+            return 0;
+        }
+        if (mode == "publish") {
+            cedar::Engine engine(files);
+            return 0;
+        }
+        return answered(files, mode);
+    } catch (const cedar::Refusal &refusal) {
+        std::cout << refusal.text;
+        return 2;
+    } catch (const cedar::Faults &faults) {
+        std::cout << faults.report;
+        return 3;
+    }
+}

@@ -1,0 +1,69 @@
+"""Refuses each growth of memory of the library in turn, in calls of the binding for Python: memory.py FOLDER, where FOLDER is
+examples/notes. The library is linked with refusing.c. The last line is 'N passed, M failed'.
+
+A call then raises OutOfMemory, or ends as with ample memory. The same call ends as usual afterwards."""
+import ctypes
+import os
+import sys
+
+import bobbinjade
+from bobbinjade.library import LIBRARY
+
+GRANTED = ctypes.c_long.in_dll(LIBRARY, 'granted_before_refusal')
+COUNTS = {True: 0, False: 0}
+
+
+def try_each(name, call):
+    """Makes a call again and again, until no request for memory is refused any more. The call gets whether one may be."""
+    for number in range(1_000_000):
+        GRANTED.value = number
+        try:
+            is_right, is_over = call(True), GRANTED.value >= 0
+        except bobbinjade.OutOfMemory:
+            is_over = GRANTED.value >= 0
+            is_right = not is_over
+        GRANTED.value = -1
+        is_right = is_right and call(False)
+        COUNTS[is_right] += 1
+        if not is_right:
+            print('%s: request %d refused' % (name, number))
+        if is_over:
+            return
+
+
+def main():
+    def content(name):
+        with open(os.path.join(sys.argv[1], name), 'rb') as file:
+            return file.read()
+
+    files = [content(name) for name in ('schema.json', 'policies.cedar', 'entities.json')]
+    requests, answers = content('requests.jsonl').decode(), content('answers.jsonl').decode()
+    uids = 'User::"ann"', 'Action::"write"', 'Notebook::"plans"'
+    engine = bobbinjade.Engine(*files)
+
+    def asks(_):
+        return (engine.decide(*uids) and engine.authorize(*uids).text == answers.split('\n', maxsplit=1)[0]
+                and engine.answer(requests) == answers and engine.answer_line(requests.splitlines()[0]) == answers.splitlines()[0])
+
+    def publishes(is_refusing):
+        engine.publish(*files)
+        return asks(is_refusing)
+
+    def refuses(is_refusing):
+        try:
+            engine.publish(files[0], b'permit(', files[2])
+        except bobbinjade.Refused as refused:
+            # Where memory is refused, words and line may be missing.
+            return (refused.number, refused.offset) == (201, 7) and (is_refusing or refused.line == 1) and asks(is_refusing)
+        return False
+
+    try_each('ask', asks)
+    try_each('publish', publishes)
+    try_each('publish what is refused', refuses)
+    try_each('validate', lambda _: bobbinjade.validate(*files[:2]).is_accepted and bobbinjade.explain(*files) == '')
+    print('%d passed, %d failed' % (COUNTS[True], COUNTS[False]))
+    return COUNTS[False] != 0
+
+
+if __name__ == '__main__':
+    sys.exit(main())

@@ -1,0 +1,86 @@
+// How fast calls are: speed FOLDER CALL THREADS COUNT. CALL is one of the names below; FOLDER is examples/notes.
+//
+// Prints the nanoseconds of processor time that a call takes, and the calls of all threads in a second.
+#include "cedar.hpp"
+
+#include <chrono>
+#include <cstdio>
+#include <ctime>
+#include <fstream>
+#include <functional>
+#include <iterator>
+#include <map>
+#include <thread>
+
+static std::string content(const std::string &path) {
+    std::ifstream file(path, std::ios::binary);
+    return {std::istreambuf_iterator<char>(file), {}};
+}
+
+static const char LINE[] = R"({"principal":"User::\"ann\"","action":"Action::\"write\"","resource":"Notebook::\"plans\""})";
+static const cedar::Request REQUEST = {{"User", "ann"}, {"Action", "write"}, {"Notebook", "plans"}};
+
+// A handle for a thread of its own, in C.
+struct Handle {
+    cedar_engine at;
+    explicit Handle(const cedar_files &files) {
+        if (cedar_new(&at) != CEDAR_OK || cedar_publish(&at, &files, nullptr, nullptr) != CEDAR_OK) {
+            std::exit(9);
+        }
+    }
+    ~Handle() { cedar_free(&at); }
+};
+
+static bool decide(Handle &handle, bool with_text) {
+    char room[512];
+    cedar_buffer text = {room, with_text ? sizeof room : 0, 0};
+    cedar_request request = {sizeof request, {"User", 4},     {"ann", 3},   {"Action", 6},
+                             {"write", 5},   {"Notebook", 8}, {"plans", 5}, {nullptr, 0}};
+    cedar_decision decision = {sizeof decision, 0, 0};
+    return cedar_decide(&handle.at, &request, &decision, &text) == CEDAR_OK && decision.allow == 1;
+}
+
+static bool answer_line(Handle &handle) {
+    char room[512];
+    cedar_buffer text = {room, sizeof room, 0};
+    return cedar_answer_line(&handle.at, {LINE, sizeof LINE - 1}, &text) == CEDAR_OK;
+}
+
+int main(int count, char **words) {
+    if (count != 5) {
+        return 9;
+    }
+    const std::string folder = words[1], schema = content(folder + "/schema.json"), policies = content(folder + "/policies.cedar");
+    const std::string entities = content(folder + "/entities.json");
+    const long threads = std::atol(words[3]), calls = std::atol(words[4]);
+    const cedar::Files files = {schema, policies, {}, entities};
+    const cedar_files raw = cedar::detail::raw(files);
+    cedar::Engine engine(files);
+    const std::map<std::string, std::function<bool(Handle &)>> kinds = {
+        {"c-decide", [](Handle &handle) { return decide(handle, false); }},
+        {"c-decide-text", [](Handle &handle) { return decide(handle, true); }},
+        {"c-answer-line", answer_line},
+        {"c++-decide", [&](Handle &) { return engine.decide(REQUEST); }},
+        {"c++-authorize", [&](Handle &) { return engine.is_authorized(REQUEST).allow; }},
+        {"c++-answer-line", [&](Handle &) { return engine.answer_line(LINE).size() > 20; }}};
+    const auto &call = kinds.at(words[2]);
+    std::vector<std::thread> all;
+    std::atomic<long> wrong{0};
+    std::clock_t spent = std::clock();
+    auto began = std::chrono::steady_clock::now();
+    for (long i = 0; i < threads; i++) {
+        all.emplace_back([&] {
+            Handle handle(raw);
+            for (long k = 0; k < calls; k++) {
+                wrong += !call(handle);
+            }
+        });
+    }
+    for (std::thread &thread : all) {
+        thread.join();
+    }
+    double seconds = std::chrono::duration<double>(std::chrono::steady_clock::now() - began).count();
+    double total = static_cast<double>(threads * calls);
+    std::printf("%.0f %.0f\n", static_cast<double>(std::clock() - spent) / CLOCKS_PER_SEC / total * 1e9, total / seconds);
+    return wrong != 0;
+}

@@ -6,7 +6,7 @@
 extern long granted_before_refusal; /* of refusing.c */
 static int has_refused; /* whether a request for memory is refused in the call */
 static cedar_files files, other_files;
-static cedar_bytes lines, line, answers, answer;
+static cedar_bytes lines, line, answers, answer, report;
 static cedar_engine engine, other;
 static cedar_request request;
 static char room[1 << 16];
@@ -43,7 +43,7 @@ static outcome publishes_faults(void) {
 static outcome validates(void) {
     cedar_buffer text = text_buffer();
     uint32_t status = cedar_validate(&files, &text);
-    return (outcome){status, status != CEDAR_OK || text.written > 20};
+    return (outcome){status, status != CEDAR_OK || has(&text, report)};
 }
 
 static outcome explains(void) {
@@ -123,6 +123,7 @@ int main(int count, char **words) {
     other_files.links = (cedar_bytes){NULL, 0};
     lines = content(words[1], "requests.jsonl");
     answers = content(words[1], "answers.jsonl");
+    report = content(words[1], "report.jsonl");
     line = first_line(lines);
     answer = first_line(answers);
     /* An action that is declared by none of the examples would be refused 510, whatever the types are. */
@@ -148,5 +149,6 @@ int main(int count, char **words) {
     free_files(&files);
     free((void *)lines.at);
     free((void *)answers.at);
+    free((void *)report.at);
     return counted();
 }

@@ -130,43 +130,50 @@ func (e *Engine) Close() error {
 
 // Authorize answers a request. The error is *RequestRefusal where the request is refused, ErrMemory, ErrClosed, or that of ctx where ctx
 // has ended before the call.
-func (e *Engine) Authorize(ctx context.Context, request Request) (response Response, err error) {
-	err = e.with(ctx, func(h *handle) error {
-		isAllowed, text, err := h.decide(&request, true)
-		if err == nil {
-			response, err = responseOf(text, isAllowed)
-		}
-		return err
-	})
+func (e *Engine) Authorize(ctx context.Context, request Request) (Response, error) {
+	v, h, err := e.take(ctx)
+	if err != nil {
+		return Response{}, err
+	}
+	isAllowed, text, err := h.authorize(&request)
+	response := Response{}
+	if err == nil {
+		response, err = responseOf(text, isAllowed)
+	}
+	v.give(h)
 	return response, err
 }
 
 // Decide says whether a request is allowed. It makes no text, so it is the fastest call. It gives the errors of Authorize.
 func (e *Engine) Decide(ctx context.Context, request Request) (bool, error) {
-	isAllowed := false
-	err := e.with(ctx, func(h *handle) error {
-		allowed, _, err := h.decide(&request, false)
-		isAllowed = allowed
-		return err
-	})
+	v, h, err := e.take(ctx)
+	if err != nil {
+		return false, err
+	}
+	isAllowed, err := h.decide(&request)
+	v.give(h)
 	return isAllowed && err == nil, err
 }
 
 // Answer gives the answer lines to request lines, all of one version.
-func (e *Engine) Answer(lines []byte) (text []byte, err error) {
-	err = e.with(context.Background(), func(h *handle) (err error) {
-		text, err = h.answer(lines)
-		return err
-	})
+func (e *Engine) Answer(lines []byte) ([]byte, error) {
+	v, h, err := e.take(context.Background())
+	if err != nil {
+		return nil, err
+	}
+	text, err := h.answer(lines)
+	v.give(h)
 	return text, err
 }
 
 // AnswerLine gives the answer line to a request line, as `cedar authorize` writes it, without a line feed.
-func (e *Engine) AnswerLine(line []byte) (text []byte, err error) {
-	err = e.with(context.Background(), func(h *handle) (err error) {
-		text, err = h.answerLine(line)
-		return err
-	})
+func (e *Engine) AnswerLine(line []byte) ([]byte, error) {
+	v, h, err := e.take(context.Background())
+	if err != nil {
+		return nil, err
+	}
+	text, err := h.answerLine(line)
+	v.give(h)
 	return text, err
 }
 
@@ -185,23 +192,18 @@ func Explain(files Files) (string, error) {
 	return string(words), err
 }
 
-// with makes a call with a handle that leads to the current version.
-func (e *Engine) with(ctx context.Context, call func(*handle) error) error {
+// take gives the current version, and a handle that leads to it, which the caller gives back.
+func (e *Engine) take(ctx context.Context) (*version, *handle, error) {
 	if err := ctx.Err(); err != nil {
-		return err
+		return nil, nil, err
 	}
 	for {
 		v := e.current.Load()
 		if v == nil {
-			return ErrClosed
+			return nil, nil, ErrClosed
 		}
-		h, err := v.take()
-		if err != nil {
-			return err
-		}
-		if h != nil {
-			defer v.give(h)
-			return call(h)
+		if h, err := v.take(); h != nil || err != nil {
+			return v, h, err
 		}
 	}
 }

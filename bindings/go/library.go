@@ -4,17 +4,58 @@ package bobbinjade
 #cgo LDFLAGS: -lcedar
 #include <cedar.h>
 
+#include <stdlib.h>
+
+// What the calls of requests read and write. It is memory of C, so that no call has to test pointers to memory of Go.
+typedef struct slot {
+    cedar_engine engine;
+    cedar_raw_decision decision;
+    void *text;
+    size_t room, written;
+} slot;
+
+static uint32_t slot_new(slot **made) {
+    slot *it = calloc(1, sizeof *it);
+    void *text = malloc(512);
+    uint32_t status = it && text ? cedar_new(&it->engine) : CEDAR_MEMORY;
+    if (status != CEDAR_OK) {
+        free(text);
+        free(it);
+        return status;
+    }
+    it->text = text;
+    it->room = 512;
+    *made = it;
+    return CEDAR_OK;
+}
+
+static void slot_free(slot *it) {
+    if (it) {
+        cedar_free(&it->engine);
+        free(it->text);
+        free(it);
+    }
+}
+
 // The address of the bytes of a string, which is not null.
 static const void *address(_GoString_ text) { return _GoStringLen(text) ? _GoStringPtr(text) : ""; }
 
 // cedar_raw_decide with strings, since a struct that Go passes to C may have no pointers to memory of Go.
-static uint32_t decide(cedar_engine *engine, _GoString_ principal_type, _GoString_ principal_id, _GoString_ action_type,
-                       _GoString_ action_id, _GoString_ resource_type, _GoString_ resource_id, const void *context,
-                       size_t context_length, cedar_raw_decision *decision, void *text, size_t room, size_t *written) {
-    return cedar_raw_decide(engine, address(principal_type), _GoStringLen(principal_type), address(principal_id),
-                            _GoStringLen(principal_id), address(action_type), _GoStringLen(action_type), address(action_id),
-                            _GoStringLen(action_id), address(resource_type), _GoStringLen(resource_type), address(resource_id),
-                            _GoStringLen(resource_id), context, context_length, decision, text, room, written);
+static uint32_t decide(slot *it, int with_text, _GoString_ principal_type, _GoString_ principal_id, _GoString_ action_type,
+                       _GoString_ action_id, _GoString_ resource_type, _GoString_ resource_id, _GoString_ context) {
+    for (;;) {
+        uint32_t status = cedar_raw_decide(
+            &it->engine, address(principal_type), _GoStringLen(principal_type), address(principal_id), _GoStringLen(principal_id),
+            address(action_type), _GoStringLen(action_type), address(action_id), _GoStringLen(action_id), address(resource_type),
+            _GoStringLen(resource_type), address(resource_id), _GoStringLen(resource_id), address(context), _GoStringLen(context),
+            &it->decision, it->text, with_text ? it->room : 0, &it->written);
+        void *larger = status == CEDAR_ROOM ? realloc(it->text, it->written) : NULL;
+        if (!larger) {
+            return status == CEDAR_ROOM ? CEDAR_MEMORY : status;
+        }
+        it->text = larger;
+        it->room = it->written;
+    }
 }
 */
 import "C"
@@ -29,16 +70,13 @@ import (
 
 // A handle of the library, with what the calls of requests write to. One call at a time uses it.
 type handle struct {
-	engine   C.cedar_engine
-	decision C.cedar_raw_decision
-	written  C.size_t
-	text     []byte
+	slot *C.slot
 }
 
 // newHandle makes a handle that leads nowhere. It is freed by free, or when nothing refers to it.
 func newHandle() (*handle, error) {
-	h := &handle{text: make([]byte, 512)}
-	if status := C.cedar_new(&h.engine); status != C.CEDAR_OK {
+	h := &handle{}
+	if status := C.slot_new(&h.slot); status != C.CEDAR_OK {
 		return nil, failed(status)
 	}
 	runtime.SetFinalizer(h, (*handle).free)
@@ -47,13 +85,14 @@ func newHandle() (*handle, error) {
 
 // free frees the handle. Freeing twice is safe.
 func (h *handle) free() {
-	C.cedar_free(&h.engine)
+	C.slot_free(h.slot)
+	h.slot = nil
 	runtime.SetFinalizer(h, nil)
 }
 
 // share has another handle lead to the engine of this one.
 func (h *handle) share(other *handle) error {
-	status := C.cedar_share(&h.engine, &other.engine)
+	status := C.cedar_share(&h.slot.engine, &other.slot.engine)
 	runtime.KeepAlive(h)
 	runtime.KeepAlive(other)
 	if status != C.CEDAR_OK {
@@ -62,28 +101,32 @@ func (h *handle) share(other *handle) error {
 	return nil
 }
 
-// decide decides a request. With text it also gives the answer line, which is valid until the next call.
-func (h *handle) decide(request *Request, withText bool) (bool, []byte, error) {
-	context, _ := address(request.Context)
-	for {
-		at, room := address(h.text)
-		if !withText {
-			room = 0
-		}
-		h.written = 0
-		status := C.decide(&h.engine, request.Principal.Type, request.Principal.ID, request.Action.Type, request.Action.ID,
-			request.Resource.Type, request.Resource.ID, context, C.size_t(len(request.Context)), &h.decision, at, room, &h.written)
-		runtime.KeepAlive(h)
-		switch status {
-		case C.CEDAR_OK:
-			return h.decision.allow == 1, h.text[:h.written:h.written], nil
-		case C.CEDAR_NO_REQUEST:
-			return false, nil, &RequestRefusal{Number: uint32(h.decision.refused)}
-		case C.CEDAR_ROOM:
-			h.text = make([]byte, h.written)
-		default:
-			return false, nil, failed(status)
-		}
+// decide decides a request.
+func (h *handle) decide(request *Request) (bool, error) {
+	return h.decided(request, 0)
+}
+
+// authorize decides a request, and gives the answer line, which is valid until the next call.
+func (h *handle) authorize(request *Request) (bool, []byte, error) {
+	isAllowed, err := h.decided(request, 1)
+	if err != nil {
+		return false, nil, err
+	}
+	return isAllowed, unsafe.Slice((*byte)(h.slot.text), int(h.slot.written)), nil
+}
+
+func (h *handle) decided(request *Request, withText C.int) (bool, error) {
+	context := *(*string)(unsafe.Pointer(&request.Context))
+	status := C.decide(h.slot, withText, request.Principal.Type, request.Principal.ID, request.Action.Type, request.Action.ID,
+		request.Resource.Type, request.Resource.ID, context)
+	runtime.KeepAlive(h)
+	switch status {
+	case C.CEDAR_OK:
+		return h.slot.decision.allow == 1, nil
+	case C.CEDAR_NO_REQUEST:
+		return false, &RequestRefusal{Number: uint32(h.slot.decision.refused)}
+	default:
+		return false, failed(status)
 	}
 }
 
@@ -91,7 +134,7 @@ func (h *handle) decide(request *Request, withText bool) (bool, []byte, error) {
 func (h *handle) answer(lines []byte) ([]byte, error) {
 	from, length := address(lines)
 	status, text := grown(256+len(lines), func(at unsafe.Pointer, room C.size_t, written *C.size_t) C.uint32_t {
-		return C.cedar_raw_answer(&h.engine, from, length, at, room, written)
+		return C.cedar_raw_answer(&h.slot.engine, from, length, at, room, written)
 	})
 	runtime.KeepAlive(h)
 	return done(status, text)
@@ -101,7 +144,7 @@ func (h *handle) answer(lines []byte) ([]byte, error) {
 func (h *handle) answerLine(line []byte) ([]byte, error) {
 	from, length := address(line)
 	status, text := grown(256, func(at unsafe.Pointer, room C.size_t, written *C.size_t) C.uint32_t {
-		return C.cedar_raw_answer_line(&h.engine, from, length, at, room, written)
+		return C.cedar_raw_answer_line(&h.slot.engine, from, length, at, room, written)
 	})
 	runtime.KeepAlive(h)
 	return done(status, text)
@@ -174,7 +217,7 @@ func published(files *Files) (*handle, error) {
 	links, linksLength := address(files.Links)
 	entities, entitiesLength := address(files.Entities)
 	status, text := grown(4096, func(at unsafe.Pointer, room C.size_t, written *C.size_t) C.uint32_t {
-		return C.cedar_raw_publish(&h.engine, schema, schemaLength, policies, policiesLength, links, linksLength, entities, entitiesLength,
+		return C.cedar_raw_publish(&h.slot.engine, schema, schemaLength, policies, policiesLength, links, linksLength, entities, entitiesLength,
 			settings(files), &why, at, room, written)
 	})
 	if status == C.CEDAR_OK {

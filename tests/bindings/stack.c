@@ -1,105 +1,229 @@
-/* Makes the calls on threads with the stacks that cedar.h promises are enough: stack FOLDER, where FOLDER is examples/notes. */
+/* Makes the calls on threads with the stacks that cedar.h promises are enough, over the highest and the deepest texts that are accepted.
+ *
+ *   stack FOLDER         FOLDER is examples/notes. Ends with the counts of what passed and failed
+ *   stack FOLDER least   prints the least stack of each call, in KiB, instead */
 #include "files.h"
 
 #include <pthread.h>
+#include <sys/wait.h>
+#include <unistd.h>
 
 #define READING_STACK ((size_t)4 << 20)
 #define ASKING_STACK ((size_t)256 << 10)
+#define COUNT(list) (sizeof(list) / sizeof *(list))
+
+/* A text: its beginning, what opens `depth` times, its middle, what closes as often, and its end. */
+typedef struct form {
+    const char *name, *begin, *open;
+    size_t depth;
+    const char *middle, *close, *end;
+} form;
+
+#define HEAD "permit(principal, action, resource) when { "
 /* What is after the id of the principal in a request line. */
-#define END "\\\"\",\"action\":\"Action::\\\"write\\\"\",\"resource\":\"Notebook::\\\"plans\\\"\"}"
+#define ASKED "\",\"action\":\"Action::\\\"write\\\"\",\"resource\":\"Notebook::\\\"plans\\\"\""
+#define ANN "{\"principal\":\"User::\\\"ann\\\"" ASKED
+
+/* The height of a condition is at most 2,000, that of the scope with it, and 100 brackets are open at most. */
+static const form policies[] = {
+    {"a sum of height 100", HEAD "1", " + 1", 100, "", "", " > 0 };"},
+    {"a sum of height 1,990", HEAD "1", " + 1", 1990, "", "", " > 0 };"},
+    {"`&&`, 1,990 high", HEAD "true", " && true", 1990, "", "", " };"},
+    {"`||`, 1,990 high", HEAD "true", " || false", 1990, "", "", " };"},
+    {"attributes of attributes, 1,990 high", HEAD "context", ".a", 1990, "", "", " };"},
+    {"`has` of a path, 300 long", HEAD "context has a", ".a", 300, "", "", " };"},
+    {"methods, 900 high", HEAD "[1]", ".contains(1)", 900, "", "", " };"},
+    {"brackets and `!`, 98 deep", HEAD, "!!!!(", 98, "true", ")", " };"},
+    {"brackets and `-`, 98 deep", HEAD "1 == ", "----(", 98, "1", ")", " };"},
+    {"brackets and chains, 98 deep", HEAD, "true && true && true && true && true && (!!!!", 98, "true", ")", " };"},
+    {"all levels, 98 deep", HEAD "true", " || true && 1 < 1 + 1 * ----(1", 98, "", ")", " };"},
+    {"`if` in `if`, 98 deep", HEAD, "if true then true else ", 98, "true", "", " };"},
+    {"`if` in a condition, 98 deep", HEAD, "if ", 98, "true", " then true else true", " };"},
+    {"sets in sets, 98 deep", HEAD "[1] == ", "[", 98, "1", "]", " };"},
+    {"records in records, 98 deep", HEAD "true || 1 == ", "{a: ", 98, "1", "}", " };"},
+    {"arguments in arguments, 98 deep", HEAD, "[true].contains(", 98, "true", ")", " };"},
+    {"`is` and `in`, 6 deep", HEAD, "resource is User in (", 6, "resource", ")", " };"},
+    {"a set of 99,990", HEAD "[1", ", 1", 99990, "", "", "].contains(1) };"},
+};
+
+/* JSON nests at most 126 deep. */
+static const form lines[] = {
+    {"a line", ANN, "", 0, "}", "", ""},
+    {"nothing", "", "", 0, "", "", ""},
+    {"open arrays", "", "[", 100000, "", "", ""},
+    {"open objects", "", "{\"a\":", 100000, "", "", ""},
+    {"an id of 60,000 bytes", "{\"principal\":\"User::\\\"", "a", 60000, "\\\"" ASKED "}", "", ""},
+    {"a type of 20,000 words", "{\"principal\":\"User", "::A", 20000, "::\\\"ann\\\"" ASKED "}", "", ""},
+    {"a context of 125 objects", ANN ",\"context\":", "{\"a\":", 125, "1", "}", "}"},
+    {"a context of 124 arrays", ANN ",\"context\":{\"a\":", "[", 124, "1", "]", "}}"},
+};
 
 static cedar_files files;
 static cedar_engine engine;
+static cedar_bytes asked_line;
 static char room[1 << 16];
 
-/* A text of a beginning, a part that is repeated, and an end. */
-static cedar_bytes repeated(const char *begin, const char *part, size_t count, const char *end) {
-    char *at = malloc(strlen(begin) + strlen(part) * count + strlen(end) + 1), *to = at;
+static cedar_bytes text_of(const form *form) {
+    size_t each = strlen(form->open) + strlen(form->close);
+    size_t length = strlen(form->begin) + each * form->depth + strlen(form->middle) + strlen(form->end);
+    char *at = malloc(length + 1), *to = at;
     if (!at) {
         exit(9);
     }
-    to = stpcpy(to, begin);
-    for (size_t i = 0; i < count; i++) {
-        to = stpcpy(to, part);
+    to = stpcpy(to, form->begin);
+    for (size_t i = 0; i < form->depth; i++) {
+        to = stpcpy(to, form->open);
     }
-    to = stpcpy(to, end);
-    return (cedar_bytes){at, (size_t)(to - at)};
+    to = stpcpy(to, form->middle);
+    for (size_t i = 0; i < form->depth; i++) {
+        to = stpcpy(to, form->close);
+    }
+    stpcpy(to, form->end);
+    return (cedar_bytes){at, length};
 }
 
-static void *publishes(void *published) {
-    *(uint32_t *)published = cedar_publish(&engine, &files, NULL, NULL);
-    return NULL;
+/* The calls. Each sets whether its status is one that these texts may have. */
+static int is_right;
+
+static void *publishes(void *none) {
+    uint32_t status = cedar_publish(&engine, &files, NULL, NULL);
+    is_right = status == CEDAR_OK || status == CEDAR_FAULTS;
+    return none;
 }
 
-static void *validates(void *validated) {
+static void *validates(void *none) {
     cedar_buffer text = {room, sizeof room, 0};
-    *(uint32_t *)validated = cedar_validate(&files, &text) + cedar_explain(&files, CEDAR_WORDS, &text);
-    return NULL;
+    uint32_t status = cedar_validate(&files, &text);
+    is_right = status == CEDAR_OK || status == CEDAR_FAULTS;
+    return none;
 }
 
-static void *frees(void *freed) {
+static void *explains(void *none) {
+    cedar_buffer text = {room, sizeof room, 0};
+    is_right = cedar_explain(&files, CEDAR_WORDS, &text) == CEDAR_OK;
+    return none;
+}
+
+static void *frees(void *none) {
     cedar_free(&engine);
-    *(uint32_t *)freed = CEDAR_OK;
-    return NULL;
+    is_right = 1;
+    return none;
 }
 
-static void *answers(void *answered) {
-    cedar_bytes line = *(cedar_bytes *)answered;
+static void *answers(void *none) {
     cedar_buffer text = {room, sizeof room, 0};
     cedar_request request = asked("write");
     cedar_decision decision = {sizeof decision, 7, 7};
-    request.context = line;
-    uint32_t status = cedar_answer(&engine, line, &text) + cedar_answer_line(&engine, line, &text);
+    request.context = asked_line;
+    uint32_t status = cedar_answer(&engine, asked_line, &text) + cedar_answer_line(&engine, asked_line, &text);
     uint32_t decided = cedar_decide(&engine, &request, &decision, NULL);
-    ((cedar_bytes *)answered)->length = status == CEDAR_OK && (decided == CEDAR_OK || decided == CEDAR_NO_REQUEST);
-    return NULL;
+    is_right = status == CEDAR_OK && (decided == CEDAR_OK || decided == CEDAR_NO_REQUEST);
+    return none;
 }
 
-static void on_a_stack(size_t size, void *(*call)(void *), void *argument) {
+static void on_a_stack(size_t size, void *(*call)(void *)) {
     pthread_attr_t attributes;
     pthread_t thread;
-    CHECK(pthread_attr_init(&attributes) == 0 && pthread_attr_setstacksize(&attributes, size) == 0);
-    int is_begun = pthread_create(&thread, &attributes, call, argument) == 0;
-    CHECK(is_begun && pthread_join(thread, NULL) == 0);
+    is_right = 0;
+    if (pthread_attr_init(&attributes) || pthread_attr_setstacksize(&attributes, size) || pthread_create(&thread, &attributes, call, NULL)) {
+        exit(9);
+    }
+    pthread_join(thread, NULL);
     pthread_attr_destroy(&attributes);
 }
 
-static void check(cedar_bytes policies) {
-    const cedar_bytes lines[] = {
-        repeated("", "", 0, ""), repeated("", "[", 100000, ""), repeated("", "{\"a\":", 100000, ""),
-        repeated("{\"principal\":\"User::\\\"", "a", 60000, END),
-        repeated("{\"principal\":\"User", "::A", 20000, "::\\\"ann" END),
-        repeated("{\"principal\":\"User::\\\"", "ann", 1, END)};
-    uint32_t status = 9;
-    files.policies = policies;
-    CHECK(cedar_new(&engine) == CEDAR_OK);
-    on_a_stack(READING_STACK, publishes, &status);
-    CHECK(status == CEDAR_OK);
-    status = 9;
-    on_a_stack(READING_STACK, validates, &status);
-    CHECK(status == CEDAR_OK);
-    for (size_t i = 0; i < sizeof lines / sizeof *lines; i++) {
-        cedar_bytes line = lines[i];
-        on_a_stack(ASKING_STACK, answers, &line);
-        CHECK(line.length == 1);
-        free((void *)lines[i].at);
+/* Whether a call ends on a stack of this size, tried in a process of its own. */
+static int ends(size_t size, void *(*call)(void *)) {
+    int status;
+    pid_t child = fork();
+    if (child == 0) {
+        on_a_stack(size, call);
+        _exit(!is_right);
     }
-    on_a_stack(READING_STACK, frees, &status);
-    free((void *)policies.at);
+    return child > 0 && waitpid(child, &status, 0) == child && WIFEXITED(status) && WEXITSTATUS(status) == 0;
+}
+
+/* The least stack of a call, in KiB, in steps of 4. */
+static size_t least(void *(*call)(void *)) {
+    size_t low = 12, high = 16 << 10;
+    while (high - low > 4) {
+        size_t middle = (low + high) / 8 * 4;
+        if (ends(middle << 10, call)) {
+            high = middle;
+        } else {
+            low = middle;
+        }
+    }
+    return high;
+}
+
+static void open_engine(const form *form) {
+    files.policies = text_of(form);
+    if (cedar_new(&engine) != CEDAR_OK) {
+        exit(9);
+    }
+}
+
+static void close_engine(void) {
+    cedar_free(&engine);
+    free((void *)files.policies.at);
+}
+
+static void print_least(void) {
+    printf("| Policies | publish | validate | explain | free |\n|---|---|---|---|---|\n");
+    for (size_t i = 0; i < COUNT(policies); i++) {
+        open_engine(&policies[i]);
+        printf("| %s | %zu | %zu | %zu |", policies[i].name, least(publishes), least(validates), least(explains));
+        fflush(stdout);
+        on_a_stack(64 << 20, publishes);
+        printf(" %zu |\n", least(frees));
+        close_engine();
+    }
+    printf("\n| Lines | answer |\n|---|---|\n");
+    open_engine(&policies[0]);
+    on_a_stack(64 << 20, publishes);
+    for (size_t i = 0; i < COUNT(lines); i++) {
+        asked_line = text_of(&lines[i]);
+        printf("| %s | %zu |\n", lines[i].name, least(answers));
+        free((void *)asked_line.at);
+    }
+    close_engine();
+}
+
+static void check(const form *form) {
+    open_engine(form);
+    void *(*calls[])(void *) = {publishes, validates, explains};
+    for (size_t i = 0; i < COUNT(calls); i++) {
+        on_a_stack(READING_STACK, calls[i]);
+        CHECK(is_right);
+    }
+    for (size_t i = 0; i < COUNT(lines); i++) {
+        asked_line = text_of(&lines[i]);
+        cedar_buffer text = {room, sizeof room, 0};
+        if (cedar_answer(&engine, asked_line, &text) != CEDAR_NO_ENGINE) {
+            on_a_stack(ASKING_STACK, answers);
+            CHECK(is_right);
+        }
+        free((void *)asked_line.at);
+    }
+    on_a_stack(READING_STACK, frees);
+    CHECK(is_right);
+    close_engine();
 }
 
 int main(int count, char **words) {
-    if (count != 2) {
+    if (count != 2 && !(count == 3 && strcmp(words[2], "least") == 0)) {
         return 9;
     }
     files = files_of(words[1]);
-    check(files.policies);
-    const char *begin = "permit(principal, action, resource) when { 1";
-    check(repeated(begin, " + 1", 100, " > 0 };"));
-    check(repeated(begin, " + 1", 1990, " > 0 };"));
-    check(repeated("permit(principal, action, resource) when { true", " && true", 1990, " };"));
-    check(repeated("permit(principal, action, resource) when { true", " || false", 1990, " };"));
-    check(repeated("permit(principal, action, resource) when { [1", ", 1", 99990, "].contains(1) };"));
+    free((void *)files.policies.at);
+    if (count == 3) {
+        print_least();
+        return 0;
+    }
+    for (size_t i = 0; i < COUNT(policies); i++) {
+        check(&policies[i]);
+    }
     files.policies = (cedar_bytes){NULL, 0};
     free_files(&files);
     return counted();

@@ -1,5 +1,5 @@
 //! The uid of a text in the plain form, `Path::"letters"`, read without its tokens.
-ghost use Rattle.std.specs.Prelude.{◌≡◌, IfOk, IfSome};
+ghost use Rattle.std.specs.Prelude.{◌≡◌, ◌++◌, ◌∷◌, [], IfOk, IfSome, codes};
 ghost use Rattle.std.specs.List.{list_all};
 ghost use Rattle.cedar_parser_tokens.specs.UidText.{IsUidText};
 ghost use Rattle.cedar_parser_tokens.specs.Private.PlainUid.{IsPlainText, is_plain_byte};
@@ -22,16 +22,38 @@ pub(crate) fn plain_uid(alloc: Global, source: &str) -> Result<Option<Uid>, Allo
     Ok(Some(Uid { ty, id }))
 }
 
-// The text before the first `::"`, and the text after it up to the quote that ends the source.
+// The text before the `::` of the first quote, and the text after this quote up to the one that ends the source.
 fn plain_parts(source: &str) -> Option<(&str, &str)>
     ensures { IfSome result (λ parts. IsPlainText source.now parts.0.now parts.1.now) }
 {
-    let (path, quoted) = source.split_once("::\"")?;
-    let id = quoted.strip_suffix('"')?;
+    let (before, quoted) = around_quote(source)?;
+    let path = before_colons(before)?;
+    let id = before_quote(quoted)?;
     if !are_plain_bytes(id.as_bytes()) {
         return None;
     }
     Some((path, id))
+}
+
+// The text before the first quote, and the text after it.
+fn around_quote(text: &str) -> Option<(&str, &str)>
+    ensures { IfSome result (λ parts. text.now ≡ parts.0.now ++ 34 ∷ parts.1.now) }
+{
+    text.split_once('"')
+}
+
+// The text without the `::` that ends it.
+fn before_colons(text: &str) -> Option<&str>
+    ensures { IfSome result (λ path. text.now ≡ path.now ++ codes "::") }
+{
+    text.strip_suffix("::")
+}
+
+// The text without the quote that ends it.
+fn before_quote(text: &str) -> Option<&str>
+    ensures { IfSome result (λ id. text.now ≡ id.now ++ 34 ∷ []) }
+{
+    text.strip_suffix('"')
 }
 
 fn are_plain_bytes(bytes: &[u8]) -> bool

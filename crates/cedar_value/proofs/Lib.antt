@@ -1,6 +1,7 @@
 pub mod AscendingLists
 pub mod ByKeys
 mod Empty
+pub mod FirstWord
 pub mod Keys
 pub mod Lighter
 pub mod Made

@@ -10,3 +10,4 @@ pub mod Lists
 pub mod Parents
 pub mod Same
 pub mod Weight
+pub mod Words

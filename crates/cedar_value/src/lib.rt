@@ -19,6 +19,7 @@ mod laws;
 mod name;
 mod no_entities;
 mod order;
+mod path;
 mod request;
 mod shared_text;
 mod text;

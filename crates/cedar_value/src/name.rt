@@ -1,9 +1,9 @@
 //! Names of entity types.
 ghost use Rattle.std.specs.Prelude.{◌≡◌, ◌↔◌, IfOk, IfSome, IsSome, IsTrue};
-ghost use Rattle.std.specs.List.{list_all};
-ghost use Rattle.cedar_value.specs.Names.{IsName, is_identifier, is_reserved, is_word, is_word_byte, is_word_start};
+ghost use Rattle.cedar_value.specs.Names.{IsName};
 ghost use Rattle.std.specs.Str.{bytes_eq};
 
+use crate::path::is_path;
 use crate::shared_text::SharedText;
 use crate::text::Text;
 use base_reach::Key;
@@ -66,65 +66,6 @@ impl Name {
             path: self.path.share()?,
         })
     }
-}
-
-// The words that are not identifiers.
-const RESERVED: [&str; 9] = [
-    "true", "false", "if", "then", "else", "in", "is", "like", "has",
-];
-
-// Whether the text is one or more identifiers with `::` between them.
-fn is_path(text: &str) -> bool
-    ensures { IsTrue result ↔ IsName text.now }
-{
-    let mut rest = text;
-    'walk: while let Some((word, others)) = rest.split_once("::") {
-        if !is_identifier(word) {
-            return false;
-        }
-        rest = others;
-    }
-    is_identifier(rest)
-}
-
-// Whether the word is an identifier that is not reserved.
-fn is_identifier(word: &str) -> bool
-    ensures { result ≡ is_identifier word.now }
-{
-    is_word(word.as_bytes()) && !is_reserved(word)
-}
-
-fn is_reserved(word: &str) -> bool
-    ensures { result ≡ is_reserved word.now }
-{
-    RESERVED.contains(&word)
-}
-
-fn is_word(bytes: &[u8]) -> bool
-    ensures { result ≡ is_word bytes.now }
-{
-    match bytes.split_first() {
-        Some((first, later)) => is_word_start(*first) && are_word_bytes(later),
-        None => false,
-    }
-}
-
-fn are_word_bytes(bytes: &[u8]) -> bool
-    ensures { result ≡ list_all is_word_byte bytes.now }
-{
-    bytes.iter().all(|byte| is_word_byte(*byte))
-}
-
-fn is_word_start(byte: u8) -> bool
-    ensures { result ≡ is_word_start byte }
-{
-    byte.is_ascii_alphabetic() || byte == b'_'
-}
-
-fn is_word_byte(byte: u8) -> bool
-    ensures { result ≡ is_word_byte byte }
-{
-    is_word_start(byte) || byte.is_ascii_digit()
 }
 
 impl Key for Name {

@@ -3,7 +3,7 @@ ghost use Rattle.std.specs.Prelude.{◌≡◌, ◌≢◌, IfErr, IfOk, IsTrue, M
 ghost use Rattle.serde_json.specs.View.{members_view, view};
 ghost use Rattle.cedar_schema_spec.specs.Conformance.{Fits};
 ghost use Rattle.cedar_schema_types.specs.Types.{is_record};
-ghost use Rattle.cedar_schema_spec.specs.SchemaTree.{HasEnvironment};
+ghost use Rattle.cedar_schema_spec.specs.SchemaTree.{HasEnvironment, HasNoEnvironment};
 ghost use Rattle.cedar_value.specs.declared.request.Request.{Request as RequestTree};
 ghost use Rattle.cedar_conform_values.specs.Objects.{are_only, has_only};
 ghost use Rattle.cedar_conform_values.specs.Reads.{ReadsRecord};
@@ -159,21 +159,29 @@ pub(crate) fn context_type<'s>(
         (λ t. HasEnvironment schema.now.actions uids.now.action uids.now.principal.ty uids.now.resource.ty t.now × IsTrue (is_record t.now))
         (HasUidsFault schema.now uids.now.principal uids.now.action uids.now.resource) }
 {
-    if schema.attributes(&uids.principal.ty).is_none() {
-        return Err(ConformFault::UnknownType);
-    }
-    if schema.attributes(&uids.resource.ty).is_none() {
-        return Err(ConformFault::UnknownType);
-    }
-    if !schema.has_action(&uids.action) {
-        return Err(ConformFault::NoSuchAction);
-    }
     // The context of each environment of a schema is a record type.
     schema.well_formedness();
     match schema.context(&uids.action, &uids.principal.ty, &uids.resource.ty) {
         Some(ty) => Ok(ty),
-        None => Err(ConformFault::ActionDoesNotApply),
+        None => Err(uids_fault(schema, uids)),
     }
+}
+
+// Why the uids have no environment.
+fn uids_fault(schema: &Schema, uids: &RequestUids) -> ConformFault
+    requires { HasNoEnvironment schema.now.actions uids.now.action uids.now.principal.ty uids.now.resource.ty }
+    ensures { HasUidsFault schema.now uids.now.principal uids.now.action uids.now.resource result }
+{
+    if schema.attributes(&uids.principal.ty).is_none() {
+        return ConformFault::UnknownType;
+    }
+    if schema.attributes(&uids.resource.ty).is_none() {
+        return ConformFault::UnknownType;
+    }
+    if !schema.has_action(&uids.action) {
+        return ConformFault::NoSuchAction;
+    }
+    ConformFault::ActionDoesNotApply
 }
 
 // The context, read as a value of its type.

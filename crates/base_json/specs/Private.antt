@@ -1,3 +1,4 @@
 -- What proofs and contracts within the crate cite, and nobody needs to believe.
 pub mod Trees
 pub mod Modes
+pub mod Steps

@@ -49,6 +49,8 @@ mod number;
 mod object_end;
 mod objects;
 mod reader;
+mod scalars;
+mod step;
 mod tree;
 mod tree_fault;
 

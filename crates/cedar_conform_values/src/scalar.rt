@@ -1,4 +1,4 @@
-//! Values of types without parts.
+//! Values of types without parts. What reads them is not inlined, so that a level of nesting takes little of the call stack.
 ghost use Rattle.std.specs.Prelude.{◌≡◌, IfOk, option_map};
 ghost use Rattle.serde_json.specs.Find.{as_bool, as_number, as_str};
 ghost use Rattle.serde_json.specs.View.{view};
@@ -16,6 +16,7 @@ use serde_json::Value as Json;
 use std::alloc::{AllocError, Global};
 
 /// A Boolean, as far as what is known of it allows.
+#[inline(never)]
 pub(crate) fn read_truth(truth: Truth, json: &Json) -> Result<Value, ConformFault>
     ensures { Reads result (truth_read truth (as_bool (view json.now))) }
 {
@@ -30,6 +31,7 @@ pub(crate) fn read_truth(truth: Truth, json: &Json) -> Result<Value, ConformFaul
 }
 
 /// A whole number of 64 bits.
+#[inline(never)]
 pub(crate) fn read_long(json: &Json) -> Result<Value, ConformFault>
     ensures { Reads result (long_read (as_number (view json.now))) }
 {
@@ -43,6 +45,7 @@ pub(crate) fn read_long(json: &Json) -> Result<Value, ConformFault>
 }
 
 /// A string.
+#[inline(never)]
 pub(crate) fn read_text(alloc: Global, json: &Json) -> Result<Value, ConformFault>
     ensures { Reads result (text_read (as_str (view json.now))) }
 {
@@ -53,6 +56,7 @@ pub(crate) fn read_text(alloc: Global, json: &Json) -> Result<Value, ConformFaul
 }
 
 /// A uid of the type.
+#[inline(never)]
 pub(crate) fn read_entity(alloc: Global, name: &Name, json: &Json) -> Result<Value, ConformFault>
     ensures { Reads result (entity_read name.now (uid_object (view json.now))) }
 {
@@ -76,6 +80,7 @@ fn uid_of(alloc: Global, name: &Name, id: &str) -> Result<Uid, AllocError>
 }
 
 /// A decimal.
+#[inline(never)]
 pub(crate) fn read_decimal(json: &Json) -> Result<Value, ConformFault>
     ensures { Reads result (decimal_read (decimal_text (view json.now))) }
 {

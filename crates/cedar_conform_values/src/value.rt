@@ -1,5 +1,5 @@
 //! Values, read for a type.
-ghost use Rattle.std.specs.Prelude.{◌≡◌, [], MatchResult, option_map};
+ghost use Rattle.std.specs.Prelude.{◌≡◌, ◌∷◌, ◌++◌, [], MatchResult, OnOk, option_map};
 ghost use Rattle.serde_json.specs.Find.{as_array, get};
 ghost use Rattle.serde_json.specs.View.{items_view, members_view, view};
 ghost use Rattle.cedar_schema_types.specs.TypeKind.{attributes_of};
@@ -14,14 +14,16 @@ use crate::scalar::{read_decimal, read_entity, read_long, read_text, read_truth}
 use cedar_schema_types::{Attribute, RecordType, Type, TypeKind};
 use cedar_value::{Record, SharedText, Value, ValueSet};
 use serde_json::{Map, Value as Json};
-use std::alloc::Global;
+use std::alloc::{AllocError, Global};
 
 /// The value of the type that the JSON denotes (Cedar documentation, entities and context in JSON).
 ///
 /// # Errors
 ///
 /// 1 when out of memory, and otherwise 504, 505, 506 or 509 only where that fault is in the JSON.
+// It is inlined, so that a level of nesting takes one frame of the call stack: that of `read_set` or of `read_nested`.
 #[cycle(read)]
+#[inline(always)]
 pub fn read_value(alloc: Global, json: &Json, ty: &Type) -> Result<Value, ConformFault>
     ensures reads { Reads result (value_read ty.now (view json.now)) }
 {
@@ -31,12 +33,13 @@ pub fn read_value(alloc: Global, json: &Json, ty: &Type) -> Result<Value, Confor
         TypeKind::String => read_text(alloc, json),
         TypeKind::Entity(name) => read_entity(alloc, name, json),
         TypeKind::Set(member) => read_set(alloc, member, json),
-        TypeKind::Record(attributes) => Ok(Value::record(read_record(alloc, attributes, json)?)),
+        TypeKind::Record(attributes) => read_nested(alloc, attributes, json),
         TypeKind::Decimal => read_decimal(json),
     }
 }
 
 #[cycle(read)]
+#[inline(never)]
 fn read_set(alloc: Global, member: &Type, json: &Json) -> Result<Value, ConformFault>
     ensures { Reads result (set_read (value_read member.now) (as_array (view json.now))) }
 {
@@ -70,13 +73,30 @@ fn read_members(alloc: Global, member: &Type, items: &[Json]) -> Result<Vec<Valu
 /// # Errors
 ///
 /// Those of `read_value`.
-#[cycle(read)]
+#[inline(never)]
 pub fn read_record(
     alloc: Global,
     attributes: &RecordType,
     json: &Json,
 ) -> Result<Record, ConformFault>
     ensures reads { ReadsRecord result (value_read (record_of attributes.now) (view json.now)) }
+{
+    record_at(alloc, attributes, json)
+}
+
+// A record in a value.
+#[cycle(read)]
+#[inline(never)]
+fn read_nested(alloc: Global, attributes: &RecordType, json: &Json) -> Result<Value, ConformFault>
+    ensures { Reads result (value_read (record_of attributes.now) (view json.now)) }
+{
+    Ok(Value::record(record_at(alloc, attributes, json)?))
+}
+
+#[cycle(read)]
+#[inline(always)]
+fn record_at(alloc: Global, attributes: &RecordType, json: &Json) -> Result<Record, ConformFault>
+    ensures { ReadsRecord result (value_read (record_of attributes.now) (view json.now)) }
 {
     match json.as_object() {
         Some(members) => {
@@ -89,6 +109,7 @@ pub fn read_record(
 }
 
 // Refuses a key that is not declared.
+#[inline(never)]
 fn check_keys(attributes: &RecordType, members: &Map<String, Json>) -> Result<(), ConformFault>
     ensures { MatchResult result
         (λ _. extra_faults (names_of attributes.now) (members_view members.now.entries) ≡ [])
@@ -143,8 +164,7 @@ fn add_field(
     match json.get(attribute.name.as_str()) {
         Some(found) => {
             let value = read_value(alloc, found, &attribute.ty)?;
-            let key = attribute.name.share()?;
-            pairs.push((key, value))?;
+            push_pair(pairs, &attribute.name, value)?;
             Ok(())
         }
         None => {
@@ -155,4 +175,18 @@ fn add_field(
             }
         }
     }
+}
+
+// Adds the pair of a key and a value.
+#[inline(never)]
+fn push_pair(
+    pairs: &mut Vec<(SharedText, Value)>,
+    name: &SharedText,
+    value: Value,
+) -> Result<(), AllocError>
+    ensures { OnOk result (pairs.new.items ≡ pairs.old.items ++ (name.now, value) ∷ []) }
+{
+    let key = name.share()?;
+    pairs.push((key, value))?;
+    Ok(())
 }

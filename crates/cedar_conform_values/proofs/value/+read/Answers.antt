@@ -1,11 +1,11 @@
-use Rattle.std.proofs.Common.{◌≡◌, arith, sym, ap, ◌∙◌, subst}
+use Rattle.std.proofs.Common.{◌≡◌, arith, sym, ap, ◌∙◌}
 use Rattle.std.proofs.lemmas.Result.{err_from_is_err_and}
 use Rattle.serde_json.specs.View.{items_view, members_view, view}
 use Rattle.cedar_schema_types.specs.Types as kind
 use Rattle.cedar_schema_types.specs.TypeKind.{attributes_of, type_of}
 use Rattle.cedar_conform_values.specs.Values.{value_read, fields_read, all_read}
 use Rattle.cedar_conform_values.proofs.FieldLemmas.{fields_more, fields_refused, fields_end, record_key_refused, record_field_refused, record_refused, record_is, read_pairs_ascend}
-use Rattle.cedar_conform_values.proofs.TypeHeights.{height_set, height_record, height_first}
+use Rattle.cedar_conform_values.proofs.TypeHeights.{height_first}
 use Rattle.cedar_conform_values.proofs.KindLemmas.{reads_boolean, reads_long, reads_string, reads_entity, reads_set, reads_decimal, items_more, items_refused, items_end}
 use Rattle.cedar_conform_values.proofs.value.+read.Goals as goal
 
@@ -44,18 +44,18 @@ pub read_members-returns : goal.read_members-returns
 read_members-returns t c =
     items_end (value_read c.args.member.now) c.walk.members.items c.walk.rest.now (all_read (value_read c.args.member.now) (items_view c.args.items.now)) c.in_default.ensures.cases c.walk.invariant.values c.walk.invariant.faults
 
-pub read_record-returns-in_err-check_keys-in-Some : goal.read_record-returns-in_err-check_keys-in-Some
-read_record-returns-in_err-check_keys-in-Some t c =
+pub record_at-returns-in_err-check_keys-in-Some : goal.record_at-returns-in_err-check_keys-in-Some
+record_at-returns-in_err-check_keys-in-Some t c =
     let p = err_from_is_err_and c.from_residual.result c.from_residual.ensures.1 in
-    record { reads = rw (p.1, p.2) (record_key_refused (view c.args.json.now) c.args.attributes.now (members_view c.in-Some.members.now.entries) _ c.in-Some.ensures c.in_err-check_keys-in-Some.ensures) }
+    rw (p.1, p.2) (record_key_refused (view c.args.json.now) c.args.attributes.now (members_view c.in-Some.members.now.entries) _ c.in-Some.ensures c.in_err-check_keys-in-Some.ensures)
 
-pub read_record-returns-in_err-pairs-in-Some : goal.read_record-returns-in_err-pairs-in-Some
-read_record-returns-in_err-pairs-in-Some t c =
+pub record_at-returns-in_err-pairs-in-Some : goal.record_at-returns-in_err-pairs-in-Some
+record_at-returns-in_err-pairs-in-Some t c =
     let p = err_from_is_err_and c.from_residual-in_err-pairs-in-Some.result c.from_residual-in_err-pairs-in-Some.ensures.1 in
-    record { reads = rw (p.1, p.2) (record_field_refused (view c.args.json.now) c.args.attributes.now (members_view c.in-Some.members.now.entries) _ c.in-Some.ensures (rw c.attributes.ensures.attributes at c.in_err-pairs-in-Some.ensures)) }
+    rw (p.1, p.2) (record_field_refused (view c.args.json.now) c.args.attributes.now (members_view c.in-Some.members.now.entries) _ c.in-Some.ensures (rw c.attributes.ensures.attributes at c.in_err-pairs-in-Some.ensures))
 
-pub read_record-returns-in-None : goal.read_record-returns-in-None
-read_record-returns-in-None t c = record { reads = record_refused (view c.args.json.now) c.args.attributes.now c.in-None.ensures }
+pub record_at-returns-in-None : goal.record_at-returns-in-None
+record_at-returns-in-None t c = record_refused (view c.args.json.now) c.args.attributes.now c.in-None.ensures
 
 pub read_value-returns-in-Boolean : goal.read_value-returns-in-Boolean
 read_value-returns-in-Boolean t c = record { reads = reads_boolean _ _ _ _ (ap type_of (sym c.in-Boolean.is) ∙ c.kind.ensures) c.read_truth.ensures }
@@ -79,13 +79,11 @@ read_value-returns-in-Set t c =
 pub read_value-returns-in-Decimal : goal.read_value-returns-in-Decimal
 read_value-returns-in-Decimal t c = record { reads = reads_decimal _ _ _ (ap type_of (sym c.in-Decimal.is) ∙ c.kind.ensures) c.read_decimal.ensures }
 
-pub read_record-from_ascending-requires : goal.read_record-from_ascending-requires
-read_record-from_ascending-requires t c =
+pub record_at-from_ascending-requires : goal.record_at-from_ascending-requires
+record_at-from_ascending-requires t c =
     read_pairs_ascend c.attributes.result.now (view c.args.json.now) c.in_ok-pairs-in-Some.pairs.items c.attributes.ensures.ascending c.in_ok-pairs-in-Some.ensures.1
 
-pub read_record-returns-in_ok-pairs-in-Some : goal.read_record-returns-in_ok-pairs-in-Some
-read_record-returns-in_ok-pairs-in-Some t c =
-    record {
-      reads = record_is (view c.args.json.now) c.args.attributes.now (members_view c.in-Some.members.now.entries) c.from_ascending.result
-          c.in-Some.ensures c.in_ok-check_keys-in-Some.ensures (rw c.attributes.ensures.attributes at c.in_ok-pairs-in-Some.ensures.0) (c.from_ascending.ensures ∙ (rw c.attributes.ensures.attributes at c.in_ok-pairs-in-Some.ensures.1));
-    }
+pub record_at-returns-in_ok-pairs-in-Some : goal.record_at-returns-in_ok-pairs-in-Some
+record_at-returns-in_ok-pairs-in-Some t c =
+    record_is (view c.args.json.now) c.args.attributes.now (members_view c.in-Some.members.now.entries) c.from_ascending.result
+    c.in-Some.ensures c.in_ok-check_keys-in-Some.ensures (rw c.attributes.ensures.attributes at c.in_ok-pairs-in-Some.ensures.0) (c.from_ascending.ensures ∙ (rw c.attributes.ensures.attributes at c.in_ok-pairs-in-Some.ensures.1))

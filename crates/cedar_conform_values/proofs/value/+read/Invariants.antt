@@ -6,22 +6,25 @@ use Rattle.cedar_conform_values.proofs.TypeHeights.{height, attributes_height}
 use Rattle.cedar_conform_values.proofs.value.+read.Given as goal
 
 abbrev pub decreases-read_value : goal.decreases-read_value
-decreases-read_value l = 5 * height l.ty.now
+decreases-read_value l = 7 * height l.ty.now
 
 abbrev pub decreases-read_set : goal.decreases-read_set
-decreases-read_set l = 5 * height l.member.now + 4
+decreases-read_set l = 7 * height l.member.now + 4
 
 abbrev pub decreases-read_members : goal.decreases-read_members
-decreases-read_members l = 5 * height l.member.now + 3
+decreases-read_members l = 7 * height l.member.now + 3
 
-abbrev pub decreases-read_record : goal.decreases-read_record
-decreases-read_record l = 5 * attributes_height l.attributes.now + 4
+abbrev pub decreases-read_nested : goal.decreases-read_nested
+decreases-read_nested l = 7 * attributes_height l.attributes.now + 6
+
+abbrev pub decreases-record_at : goal.decreases-record_at
+decreases-record_at l = 7 * attributes_height l.attributes.now + 5
 
 abbrev pub decreases-read_fields : goal.decreases-read_fields
-decreases-read_fields l = 5 * attributes_height (attributes_of l.attributes.now) + 3
+decreases-read_fields l = 7 * attributes_height (attributes_of l.attributes.now) + 3
 
 abbrev pub decreases-add_field : goal.decreases-add_field
-decreases-add_field l = 5 * height l.attribute.now.ty + 2
+decreases-add_field l = 7 * height l.attribute.now.ty + 2
 
 -- what was read, before what is left to read, is all
 abbrev pub invariant-read_members-walk : goal.invariant-read_members-walk

@@ -3,6 +3,7 @@ ghost use Rattle.std.specs.Prelude.{◌≡◌, ◌↔◌, IfOk, IfErr, IsTrue, m
 ghost use Rattle.cedar_ast_expressions.specs.Keys.{AreDistinct, keys_of};
 ghost use Rattle.cedar_ast_expressions.specs.RecordFault.{number_of, refused};
 
+use crate::copying::clone_pairs;
 use crate::expression::Expr;
 use crate::keys::{Keys, first_repeated};
 use crate::record_fault::RecordFault;
@@ -96,7 +97,6 @@ impl Entries {
     /// # Errors
     ///
     /// Fails only when out of memory.
-    #[cycle(copy)]
     pub fn try_clone(&self, alloc: Global) -> Result<Self, AllocError>
         ensures { IfOk result (λ r. r ≡ self.now) }
     {
@@ -104,20 +104,6 @@ impl Entries {
             pairs: clone_pairs(alloc, &self.pairs)?,
         })
     }
-}
-
-#[cycle(copy)]
-fn clone_pairs(
-    alloc: Global,
-    pairs: &[(SharedText, Expr)],
-) -> Result<Vec<(SharedText, Expr)>, AllocError>
-    ensures { IfOk result (λ v. v.items ≡ pairs.now) }
-{
-    let mut copies = Vec::new(alloc);
-    for pair in pairs {
-        copies.push((pair.0.share()?, pair.1.try_clone(alloc)?))?;
-    }
-    Ok(copies)
 }
 
 // The keys of the pairs.

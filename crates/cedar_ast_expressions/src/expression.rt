@@ -6,6 +6,7 @@ ghost use Rattle.cedar_ast_expressions.specs.Keys.{AreDistinct, keys_of};
 ghost use Rattle.cedar_ast_expressions.specs.RecordFault.{number_of, refused};
 ghost use Rattle.cedar_ast_expressions.specs.Replacement.{replace};
 
+use crate::copying::clone_part;
 use crate::entries::Entries;
 use crate::operator::{BinaryOperator, UnaryOperator};
 use crate::record_fault::RecordFault;
@@ -206,38 +207,10 @@ impl Expr {
     /// # Errors
     ///
     /// Fails only when out of memory.
-    #[cycle(copy)]
     pub fn try_clone(&self, alloc: Global) -> Result<Self, AllocError>
         ensures { IfOk result (λ e. e ≡ self.now) }
     {
-        let kind = match &self.kind {
-            ExprKind::Literal(value) => ExprKind::Literal(value.try_clone(alloc)?),
-            ExprKind::Variable(name) => ExprKind::Variable(*name),
-            ExprKind::And(left, right) => {
-                let left = clone_part(alloc, left)?;
-                ExprKind::And(left, clone_part(alloc, right)?)
-            }
-            ExprKind::Or(left, right) => {
-                let left = clone_part(alloc, left)?;
-                ExprKind::Or(left, clone_part(alloc, right)?)
-            }
-            ExprKind::If(condition, if_true, if_false) => {
-                let condition = clone_part(alloc, condition)?;
-                let if_true = clone_part(alloc, if_true)?;
-                ExprKind::If(condition, if_true, clone_part(alloc, if_false)?)
-            }
-            ExprKind::Unary(operator, operand) => {
-                let operator = operator.try_clone(alloc)?;
-                ExprKind::Unary(operator, clone_part(alloc, operand)?)
-            }
-            ExprKind::Binary(operator, left, right) => {
-                let left = clone_part(alloc, left)?;
-                ExprKind::Binary(*operator, left, clone_part(alloc, right)?)
-            }
-            ExprKind::Set(members) => ExprKind::Set(clone_members(alloc, members)?),
-            ExprKind::Record(entries) => ExprKind::Record(entries.try_clone(alloc)?),
-        };
-        Ok(Expr::new(kind))
+        Ok(Box::into_inner(clone_part(alloc, self)?))
     }
 }
 
@@ -253,25 +226,4 @@ fn boxed(alloc: Global, left: Expr, right: Expr) -> Result<(Box<Expr>, Box<Expr>
             Err(refused.into())
         }
     }
-}
-
-// A copy of a part. It is a separate function, so that each level of a high expression needs little of the call stack.
-#[cycle(copy)]
-#[inline(never)]
-fn clone_part(alloc: Global, part: &Expr) -> Result<Box<Expr>, AllocError>
-    ensures { IfOk result (λ b. b.value ≡ part.now) }
-{
-    let copy = part.try_clone(alloc)?;
-    Ok(Box::new(alloc, copy)?)
-}
-
-#[cycle(copy)]
-fn clone_members(alloc: Global, members: &[Expr]) -> Result<Vec<Expr>, AllocError>
-    ensures { IfOk result (λ v. v.items ≡ members.now) }
-{
-    let mut copies = Vec::new(alloc);
-    for member in members {
-        copies.push(member.try_clone(alloc)?)?;
-    }
-    Ok(copies)
 }

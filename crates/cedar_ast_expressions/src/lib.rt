@@ -12,6 +12,8 @@
 //! The definitions of expressions and of their evaluation are in `specs/`.
 #![tactic(auto)]
 
+mod boxed;
+mod copying;
 mod entries;
 mod equality;
 mod error;

@@ -1,14 +1,17 @@
 //! The compiler.
-ghost use Rattle.std.specs.Prelude.{◌≡◌, ◌+◌, ◌<◌, ◌≤◌, min, [], ◌∷◌, ◌++◌, length, IfOk, IfErr, OnOk, slice_set};
-ghost use Rattle.cedar_ast_expressions.specs.Expression.{expressions_of, entries_of};
+ghost use Rattle.std.specs.Prelude.{◌≡◌, ◌<◌, ◌≤◌, min, ◌++◌, length, IfOk, OnOk};
+ghost use Rattle.cedar_ast_expressions.specs.Expression.{and, or, if_else, unary, binary, set_with, record_with, expressions_of, entries_of};
 ghost use Rattle.cedar_code.specs.Code.{code_at, code_all, code_entries, code_of, height_of, height_all, height_entries, size, size_all, size_entries, most_instructions};
 
 use crate::code::Code;
 use crate::fault::CodeFault;
 use crate::instruction::Instruction;
-use crate::literal::Literal;
 use crate::literal_set::literal_sets;
-use cedar_ast_expressions::{Expr, ExprKind};
+use crate::writing::{
+    end_and, end_if, end_or, put, put_binary, put_literal, put_record, put_test, put_unary,
+    put_variable,
+};
+use cedar_ast_expressions::{BinaryOperator, Entries, Expr, ExprKind, UnaryOperator};
 use cedar_value::SharedText;
 use std::alloc::{AllocError, Global};
 
@@ -141,66 +144,140 @@ fn entries_height(pairs: &[(SharedText, Expr)]) -> usize
     height
 }
 
-// Appends the code of an expression.
+// Appends the code of an expression. Each form has a function of its own, which is not inlined and holds no instruction while it
+// goes down. So a level of a high expression needs little of the call stack.
 #[cycle(emit)]
+#[inline(never)]
 fn emit(alloc: Global, code: &mut Vec<Instruction>, expression: &Expr) -> Result<(), AllocError>
     ensures { OnOk result (code.new.items ≡ code.old.items ++ code_at (length code.old.items) expression.now) }
 {
     match expression.kind() {
-        ExprKind::Literal(value) => put(code, Instruction::Push(Literal::new(alloc, value)?)),
-        ExprKind::Variable(variable) => put(code, Instruction::Var(*variable)),
-        ExprKind::Unary(operator, operand) => {
-            emit(alloc, code, operand)?;
-            put(code, Instruction::Unary(operator.try_clone(alloc)?))
-        }
-        ExprKind::Binary(operator, left, right) => {
-            emit(alloc, code, left)?;
-            emit(alloc, code, right)?;
-            put(code, Instruction::Binary(*operator))
-        }
-        ExprKind::And(left, right) => {
-            emit(alloc, code, left)?;
-            let jump = code.len();
-            put(code, Instruction::And(0))?;
-            emit(alloc, code, right)?;
-            put(code, Instruction::Test)?;
-            let end = code.len();
-            write_jump(code, jump, Instruction::And(end));
-            Ok(())
-        }
-        ExprKind::Or(left, right) => {
-            emit(alloc, code, left)?;
-            let jump = code.len();
-            put(code, Instruction::Or(0))?;
-            emit(alloc, code, right)?;
-            put(code, Instruction::Test)?;
-            let end = code.len();
-            write_jump(code, jump, Instruction::Or(end));
-            Ok(())
-        }
-        ExprKind::If(condition, first, second) => {
-            emit(alloc, code, condition)?;
-            let branch = code.len();
-            put(code, Instruction::Branch(0))?;
-            emit(alloc, code, first)?;
-            let jump = code.len();
-            put(code, Instruction::Jump(0))?;
-            let other = code.len();
-            emit(alloc, code, second)?;
-            let end = code.len();
-            write_jump(code, branch, Instruction::Branch(other));
-            write_jump(code, jump, Instruction::Jump(end));
-            Ok(())
-        }
-        ExprKind::Set(members) => {
-            emit_members(alloc, code, members)?;
-            put(code, Instruction::Set(members.len()))
-        }
-        ExprKind::Record(entries) => {
-            emit_entries(alloc, code, entries.pairs())?;
-            put(code, Instruction::Record(entries.keys(alloc)?))
-        }
+        ExprKind::Literal(value) => put_literal(alloc, code, value),
+        ExprKind::Variable(variable) => put_variable(code, *variable),
+        ExprKind::Unary(operator, operand) => emit_unary(alloc, code, operator, operand),
+        ExprKind::Binary(operator, left, right) => emit_binary(alloc, code, *operator, left, right),
+        ExprKind::And(left, right) => emit_and(alloc, code, left, right),
+        ExprKind::Or(left, right) => emit_or(alloc, code, left, right),
+        ExprKind::If(condition, first, second) => emit_if(alloc, code, condition, first, second),
+        ExprKind::Set(members) => emit_set(alloc, code, members),
+        ExprKind::Record(entries) => emit_record(alloc, code, entries),
     }
+}
+
+// Appends the code of an operator on one operand.
+#[cycle(emit)]
+#[inline(never)]
+fn emit_unary(
+    alloc: Global,
+    code: &mut Vec<Instruction>,
+    operator: &UnaryOperator,
+    operand: &Expr,
+) -> Result<(), AllocError>
+    ensures { OnOk result (code.new.items ≡ code.old.items ++ code_at (length code.old.items) (unary operator.now operand.now)) }
+{
+    emit(alloc, code, operand)?;
+    put_unary(alloc, code, operator)
+}
+
+// Appends the code of an operator on two operands.
+#[cycle(emit)]
+#[inline(never)]
+fn emit_binary(
+    alloc: Global,
+    code: &mut Vec<Instruction>,
+    operator: BinaryOperator,
+    left: &Expr,
+    right: &Expr,
+) -> Result<(), AllocError>
+    ensures { OnOk result (code.new.items ≡ code.old.items ++ code_at (length code.old.items) (binary operator left.now right.now)) }
+{
+    emit(alloc, code, left)?;
+    emit(alloc, code, right)?;
+    put_binary(code, operator)
+}
+
+// Appends the code of `&&`.
+#[cycle(emit)]
+#[inline(never)]
+fn emit_and(
+    alloc: Global,
+    code: &mut Vec<Instruction>,
+    left: &Expr,
+    right: &Expr,
+) -> Result<(), AllocError>
+    ensures { OnOk result (code.new.items ≡ code.old.items ++ code_at (length code.old.items) (and left.now right.now)) }
+{
+    emit(alloc, code, left)?;
+    let jump = code.len();
+    put_test(code)?;
+    emit(alloc, code, right)?;
+    end_and(code, jump)
+}
+
+// Appends the code of `||`.
+#[cycle(emit)]
+#[inline(never)]
+fn emit_or(
+    alloc: Global,
+    code: &mut Vec<Instruction>,
+    left: &Expr,
+    right: &Expr,
+) -> Result<(), AllocError>
+    ensures { OnOk result (code.new.items ≡ code.old.items ++ code_at (length code.old.items) (or left.now right.now)) }
+{
+    emit(alloc, code, left)?;
+    let jump = code.len();
+    put_test(code)?;
+    emit(alloc, code, right)?;
+    end_or(code, jump)
+}
+
+// Appends the code of `if`.
+#[cycle(emit)]
+#[inline(never)]
+fn emit_if(
+    alloc: Global,
+    code: &mut Vec<Instruction>,
+    condition: &Expr,
+    first: &Expr,
+    second: &Expr,
+) -> Result<(), AllocError>
+    ensures { OnOk result (code.new.items ≡ code.old.items ++ code_at (length code.old.items) (if_else condition.now first.now second.now)) }
+{
+    emit(alloc, code, condition)?;
+    let branch = code.len();
+    put_test(code)?;
+    emit(alloc, code, first)?;
+    let jump = code.len();
+    put_test(code)?;
+    let other = code.len();
+    emit(alloc, code, second)?;
+    end_if(code, branch, jump, other);
+    Ok(())
+}
+
+// Appends the code of a set.
+#[cycle(emit)]
+#[inline(never)]
+fn emit_set(alloc: Global, code: &mut Vec<Instruction>, members: &[Expr]) -> Result<(), AllocError>
+    ensures { OnOk result (code.new.items ≡ code.old.items ++ code_at (length code.old.items) (set_with (expressions_of members.now))) }
+{
+    emit_members(alloc, code, members)?;
+    put(code, Instruction::Set(members.len()))
+}
+
+// Appends the code of a record.
+#[cycle(emit)]
+#[inline(never)]
+fn emit_record(
+    alloc: Global,
+    code: &mut Vec<Instruction>,
+    entries: &Entries,
+) -> Result<(), AllocError>
+    ensures { OnOk result (code.new.items ≡ code.old.items ++ code_at (length code.old.items) (record_with (entries_of entries.now))) }
+{
+    emit_entries(alloc, code, entries.pairs())?;
+    put_record(alloc, code, entries)
 }
 
 // Appends the code of the members of a set, one after another.
@@ -231,20 +308,4 @@ fn emit_entries(
         emit(alloc, code, &pair.1)?;
     }
     Ok(())
-}
-
-// One more instruction.
-fn put(code: &mut Vec<Instruction>, instruction: Instruction) -> Result<(), AllocError>
-    ensures { OnOk result (code.new.items ≡ code.old.items ++ instruction ∷ []) }
-{
-    code.push(instruction)?;
-    Ok(())
-}
-
-// Another instruction at a place.
-fn write_jump(code: &mut Vec<Instruction>, place: usize, instruction: Instruction)
-    requires { place < length code.old.items }
-    ensures { code.new.items ≡ slice_set code.old.items place instruction }
-{
-    code[place] = instruction;
 }

@@ -19,6 +19,7 @@ mod law;
 mod literal;
 mod literal_set;
 mod outcome;
+mod writing;
 
 pub use code::Code;
 pub use compiler::{MOST_INSTRUCTIONS, compile};

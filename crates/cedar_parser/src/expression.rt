@@ -14,16 +14,18 @@ ghost use Rattle.cedar_parser_tokens.specs.Content.{text_of};
 ghost use Rattle.cedar_parser_limits.specs.Limits.{Keeps, KeepMembers, KeepFields, arity_of};
 ghost use Rattle.cedar_parser_limits.specs.Private.Parts.{KeepLink, behind, pairs_of};
 
+use crate::boxes::{
+    and, binary, boolean, boxed, literal, long, negate, not, push, push_pair, set, unary, variable,
+};
 use crate::has::to_has;
-use cedar_ast_expressions::{BinaryOperator, Expr, RecordFault, UnaryOperator};
+use cedar_ast_expressions::{BinaryOperator, Expr, ExprKind, RecordFault, UnaryOperator};
 use cedar_parser_limits::{Method, function_of, method_of};
-use cedar_parser_tokens::Content;
+use cedar_parser_tokens::{Content, WrittenUid};
 use cedar_parser_tree::{ChainSign, Field, Link, RelationSign, Written, WrittenKind};
 use cedar_value::{Name, SharedText, Value};
 use std::alloc::{AllocError, Global};
 
 /// The expression that is written: the meaning of its form.
-#[cycle(expression)]
 pub fn to_expression(alloc: Global, written: &Written) -> Result<Expr, AllocError>
     requires numbers { Keeps Numbers written.now }
     requires keys { Keeps Keys written.now }
@@ -33,24 +35,46 @@ pub fn to_expression(alloc: Global, written: &Written) -> Result<Expr, AllocErro
     requires slots { Keeps Slots written.now }
     ensures { IfOk result (λ e. e ≡ to_expression written.now) }
 {
+    let expression = to_boxed(alloc, written)?;
+    Ok(Box::into_inner(expression))
+}
+
+// The meaning of an expression, in a box. The parts of its form are made by separate functions, so that each level of a high
+// expression needs little of the call stack.
+#[cycle(expression)]
+fn to_boxed(alloc: Global, written: &Written) -> Result<Box<Expr>, AllocError>
+    requires numbers { Keeps Numbers written.now }
+    requires keys { Keeps Keys written.now }
+    requires strings { Keeps Strings written.now }
+    requires names { Keeps Names written.now }
+    requires counts { Keeps Counts written.now }
+    requires slots { Keeps Slots written.now }
+    ensures { IfOk result (λ b. b.value ≡ to_expression written.now) }
+{
     match written.kind() {
-        WrittenKind::Truth(truth) => Ok(Expr::literal(Value::boolean(*truth))),
-        WrittenKind::Number(_, number) => Ok(Expr::literal(Value::long(*number as i64))),
-        WrittenKind::Negative(_, number) => Ok(Expr::literal(Value::long(negative(*number)))),
-        WrittenKind::Text(content) => Ok(Expr::literal(Value::string(content.to_text(alloc)?))),
-        WrittenKind::Entity(uid) => Ok(Expr::literal(Value::uid(alloc, uid.to_uid(alloc)?)?)),
-        WrittenKind::Variable(name) => Ok(Expr::variable(*name)),
+        WrittenKind::Truth(truth) => boolean(alloc, *truth),
+        WrittenKind::Number(_, number) => long(alloc, *number as i64),
+        WrittenKind::Negative(_, number) => long(alloc, negative(*number)),
+        WrittenKind::Text(content) => to_string(alloc, content),
+        WrittenKind::Entity(uid) => to_entity(alloc, uid),
+        WrittenKind::Variable(name) => variable(alloc, *name),
         WrittenKind::Slot(_, _) => unreachable!(),
-        WrittenKind::Group(inside) => to_expression(alloc, inside),
-        WrittenKind::Not(operand) => to_unary(alloc, UnaryOperator::Not, operand),
-        WrittenKind::Negated(operand) => to_unary(alloc, UnaryOperator::Negate, operand),
+        WrittenKind::Group(inside) => to_boxed(alloc, inside),
+        WrittenKind::Not(operand) => {
+            let operand = to_boxed(alloc, operand)?;
+            not(alloc, operand)
+        }
+        WrittenKind::Negated(operand) => {
+            let operand = to_boxed(alloc, operand)?;
+            negate(alloc, operand)
+        }
         WrittenKind::Relation(sign, left, right) => {
-            let left = to_expression(alloc, left)?;
-            let right = to_expression(alloc, right)?;
+            let left = to_boxed(alloc, left)?;
+            let right = to_boxed(alloc, right)?;
             relation_operation(alloc, *sign, left, right)
         }
         WrittenKind::Has(operand, path) => {
-            let operand = to_expression(alloc, operand)?;
+            let operand = to_boxed(alloc, operand)?;
             to_has(alloc, operand, path)
         }
         WrittenKind::Like(operand, pattern) => {
@@ -66,7 +90,10 @@ pub fn to_expression(alloc: Global, written: &Written) -> Result<Expr, AllocErro
         WrittenKind::If(condition, if_true, if_false) => {
             to_if_else(alloc, condition, if_true, if_false)
         }
-        WrittenKind::Set(members) => Ok(Expr::set(to_expressions(alloc, members.items())?)),
+        WrittenKind::Set(members) => {
+            let members = to_expressions(alloc, members.items())?;
+            set(alloc, members)
+        }
         WrittenKind::Record(fields) => to_record(alloc, fields),
         WrittenKind::Call(_, name, arguments) => {
             let arguments = to_expressions(alloc, arguments.items())?;
@@ -77,83 +104,119 @@ pub fn to_expression(alloc: Global, written: &Written) -> Result<Expr, AllocErro
 
 // An operator on its operand.
 #[cycle(expression)]
-fn to_unary(alloc: Global, operator: UnaryOperator, operand: &Written) -> Result<Expr, AllocError>
+#[inline(never)]
+fn to_unary(
+    alloc: Global,
+    operator: UnaryOperator,
+    operand: &Written,
+) -> Result<Box<Expr>, AllocError>
     requires numbers { Keeps Numbers operand.now }
     requires keys { Keeps Keys operand.now }
     requires strings { Keeps Strings operand.now }
     requires names { Keeps Names operand.now }
     requires counts { Keeps Counts operand.now }
     requires slots { Keeps Slots operand.now }
-    ensures { IfOk result (λ e. e ≡ unary operator (to_expression operand.now)) }
+    ensures { IfOk result (λ b. b.value ≡ unary operator (to_expression operand.now)) }
 {
-    let operand = to_expression(alloc, operand)?;
-    Expr::unary(alloc, operator, operand)
+    let operand = to_boxed(alloc, operand)?;
+    unary(alloc, operator, operand)
 }
 
+// The text of a string.
+#[inline(never)]
+fn to_string(alloc: Global, content: &Content) -> Result<Box<Expr>, AllocError>
+    ensures { IfOk result (λ b. b.value ≡ to_expression (tree.text content.now)) }
+{
+    literal(alloc, Value::string(content.to_text(alloc)?))
+}
+
+#[inline(never)]
+fn to_entity(alloc: Global, uid: &WrittenUid) -> Result<Box<Expr>, AllocError>
+    ensures { IfOk result (λ b. b.value ≡ to_expression (tree.entity uid.now)) }
+{
+    literal(alloc, Value::uid(alloc, uid.to_uid(alloc)?)?)
+}
+
+#[inline(never)]
+fn make_is(alloc: Global, operand: Box<Expr>, ty: &Name) -> Result<Box<Expr>, AllocError>
+    ensures { IfOk result (λ b. b.value ≡ unary (Is ty.now) operand.value) }
+{
+    let operator = UnaryOperator::Is(ty.try_clone(alloc)?);
+    unary(alloc, operator, operand)
+}
+
+// The left operand is made twice, once for each test.
 #[cycle(expression)]
-fn to_is_in(alloc: Global, left: &Written, ty: &Name, right: &Written) -> Result<Expr, AllocError>
+#[inline(never)]
+fn to_is_in(
+    alloc: Global,
+    left: &Written,
+    ty: &Name,
+    right: &Written,
+) -> Result<Box<Expr>, AllocError>
     requires numbers { Keeps Numbers (tree.is_in left.now ty.now right.now) }
     requires keys { Keeps Keys (tree.is_in left.now ty.now right.now) }
     requires strings { Keeps Strings (tree.is_in left.now ty.now right.now) }
     requires names { Keeps Names (tree.is_in left.now ty.now right.now) }
     requires counts { Keeps Counts (tree.is_in left.now ty.now right.now) }
     requires slots { Keeps Slots (tree.is_in left.now ty.now right.now) }
-    ensures { IfOk result (λ e. e ≡ to_expression (tree.is_in left.now ty.now right.now)) }
+    ensures { IfOk result (λ b. b.value ≡ to_expression (tree.is_in left.now ty.now right.now)) }
 {
-    let asked = make_is(alloc, to_expression(alloc, left)?, ty)?;
-    let left = to_expression(alloc, left)?;
-    let right = to_expression(alloc, right)?;
+    let asked = make_is(alloc, to_boxed(alloc, left)?, ty)?;
+    let left = to_boxed(alloc, left)?;
+    let right = to_boxed(alloc, right)?;
     and_in(alloc, asked, left, right)
 }
 
-fn make_is(alloc: Global, operand: Expr, ty: &Name) -> Result<Expr, AllocError>
-    ensures { IfOk result (λ e. e ≡ unary (Is ty.now) operand) }
-{
-    let operator = UnaryOperator::Is(ty.try_clone(alloc)?);
-    Expr::unary(alloc, operator, operand)
-}
-
 // The first test, and whether the left operand is in the right one.
-fn and_in(alloc: Global, asked: Expr, left: Expr, right: Expr) -> Result<Expr, AllocError>
-    ensures { IfOk result (λ e. e ≡ and asked (binary In left right)) }
+#[inline(never)]
+fn and_in(
+    alloc: Global,
+    asked: Box<Expr>,
+    left: Box<Expr>,
+    right: Box<Expr>,
+) -> Result<Box<Expr>, AllocError>
+    ensures { IfOk result (λ b. b.value ≡ and asked.value (binary In left.value right.value)) }
 {
-    let within = Expr::binary(alloc, BinaryOperator::In, left, right)?;
-    Expr::and(alloc, asked, within)
+    let within = binary(alloc, BinaryOperator::In, left, right)?;
+    and(alloc, asked, within)
 }
 
 #[cycle(expression)]
+#[inline(never)]
 fn to_if_else(
     alloc: Global,
     condition: &Written,
     if_true: &Written,
     if_false: &Written,
-) -> Result<Expr, AllocError>
+) -> Result<Box<Expr>, AllocError>
     requires numbers { Keeps Numbers (tree.choice condition.now if_true.now if_false.now) }
     requires keys { Keeps Keys (tree.choice condition.now if_true.now if_false.now) }
     requires strings { Keeps Strings (tree.choice condition.now if_true.now if_false.now) }
     requires names { Keeps Names (tree.choice condition.now if_true.now if_false.now) }
     requires counts { Keeps Counts (tree.choice condition.now if_true.now if_false.now) }
     requires slots { Keeps Slots (tree.choice condition.now if_true.now if_false.now) }
-    ensures { IfOk result (λ e. e ≡ to_expression (tree.choice condition.now if_true.now if_false.now)) }
+    ensures { IfOk result (λ b. b.value ≡ to_expression (tree.choice condition.now if_true.now if_false.now)) }
 {
-    let condition = to_expression(alloc, condition)?;
-    let if_true = to_expression(alloc, if_true)?;
-    let if_false = to_expression(alloc, if_false)?;
-    Expr::if_else(alloc, condition, if_true, if_false)
+    let condition = to_boxed(alloc, condition)?;
+    let if_true = to_boxed(alloc, if_true)?;
+    let if_false = to_boxed(alloc, if_false)?;
+    boxed(alloc, ExprKind::If(condition, if_true, if_false))
 }
 
 // The operands of a chain, grouped to the left.
 #[cycle(expression)]
-fn to_chain(alloc: Global, first: &Written, links: &[Link]) -> Result<Expr, AllocError>
+#[inline(never)]
+fn to_chain(alloc: Global, first: &Written, links: &[Link]) -> Result<Box<Expr>, AllocError>
     requires numbers { Keeps Numbers (chain first.now (links_of links.now)) }
     requires keys { Keeps Keys (chain first.now (links_of links.now)) }
     requires strings { Keeps Strings (chain first.now (links_of links.now)) }
     requires names { Keeps Names (chain first.now (links_of links.now)) }
     requires counts { Keeps Counts (chain first.now (links_of links.now)) }
     requires slots { Keeps Slots (chain first.now (links_of links.now)) }
-    ensures { IfOk result (λ e. e ≡ to_expression (chain first.now (links_of links.now))) }
+    ensures { IfOk result (λ b. b.value ≡ to_expression (chain first.now (links_of links.now))) }
 {
-    let mut left = to_expression(alloc, first)?;
+    let mut left = to_boxed(alloc, first)?;
     for link in links {
         left = append_link(alloc, left, link)?;
     }
@@ -162,18 +225,18 @@ fn to_chain(alloc: Global, first: &Written, links: &[Link]) -> Result<Expr, Allo
 
 // The expression to the left with the link after it.
 #[cycle(expression)]
-fn append_link(alloc: Global, left: Expr, link: &Link) -> Result<Expr, AllocError>
+fn append_link(alloc: Global, left: Box<Expr>, link: &Link) -> Result<Box<Expr>, AllocError>
     requires numbers { KeepLink Numbers link.now }
     requires keys { KeepLink Keys link.now }
     requires strings { KeepLink Strings link.now }
     requires names { KeepLink Names link.now }
     requires counts { KeepLink Counts link.now }
     requires slots { KeepLink Slots link.now }
-    ensures { IfOk result (λ e. e ≡ behind left link.now) }
+    ensures { IfOk result (λ b. b.value ≡ behind left.value link.now) }
 {
     match link {
         Link::Operand(sign, operand) => {
-            let right = to_expression(alloc, operand)?;
+            let right = to_boxed(alloc, operand)?;
             chain_operation(alloc, *sign, left, right)
         }
         Link::Attribute(key) => attribute(alloc, left, key),
@@ -187,14 +250,16 @@ fn append_link(alloc: Global, left: Expr, link: &Link) -> Result<Expr, AllocErro
     }
 }
 
-fn attribute(alloc: Global, left: Expr, key: &Content) -> Result<Expr, AllocError>
-    ensures { IfOk result (λ e. e ≡ unary (Get (text_of key.now)) left) }
+#[inline(never)]
+fn attribute(alloc: Global, left: Box<Expr>, key: &Content) -> Result<Box<Expr>, AllocError>
+    ensures { IfOk result (λ b. b.value ≡ unary (Get (text_of key.now)) left.value) }
 {
     let key = key.to_text(alloc)?;
-    Expr::unary(alloc, UnaryOperator::Get(key), left)
+    unary(alloc, UnaryOperator::Get(key), left)
 }
 
 #[cycle(expression)]
+#[inline(never)]
 fn to_expressions(alloc: Global, members: &[Written]) -> Result<Vec<Expr>, AllocError>
     requires numbers { KeepMembers Numbers (members_of members.now) }
     requires keys { KeepMembers Keys (members_of members.now) }
@@ -206,29 +271,22 @@ fn to_expressions(alloc: Global, members: &[Written]) -> Result<Vec<Expr>, Alloc
 {
     let mut found = Vec::new(alloc);
     for member in members {
-        let item = to_expression(alloc, member)?;
+        let item = to_boxed(alloc, member)?;
         push(&mut found, item)?;
     }
     Ok(found)
 }
 
-// Appends an expression.
-fn push(items: &mut Vec<Expr>, item: Expr) -> Result<(), AllocError>
-    ensures { OnOk result (items.new.items ≡ items.old.items ++ item ∷ []) }
-{
-    items.push(item)?;
-    Ok(())
-}
-
 #[cycle(expression)]
-fn to_record(alloc: Global, fields: &[Field]) -> Result<Expr, AllocError>
+#[inline(never)]
+fn to_record(alloc: Global, fields: &[Field]) -> Result<Box<Expr>, AllocError>
     requires numbers { Keeps Numbers (tree.record_of (fields_of fields.now)) }
     requires keys { Keeps Keys (tree.record_of (fields_of fields.now)) }
     requires strings { Keeps Strings (tree.record_of (fields_of fields.now)) }
     requires names { Keeps Names (tree.record_of (fields_of fields.now)) }
     requires counts { Keeps Counts (tree.record_of (fields_of fields.now)) }
     requires slots { Keeps Slots (tree.record_of (fields_of fields.now)) }
-    ensures { IfOk result (λ e. e ≡ to_expression (tree.record_of (fields_of fields.now))) }
+    ensures { IfOk result (λ b. b.value ≡ to_expression (tree.record_of (fields_of fields.now))) }
 {
     let pairs = to_pairs(alloc, fields)?;
     record(alloc, pairs)
@@ -247,20 +305,22 @@ fn to_pairs(alloc: Global, fields: &[Field]) -> Result<Vec<(SharedText, Expr)>, 
     let mut found = Vec::new(alloc);
     for field in fields {
         let key = SharedText::new(alloc, field.key.to_text(alloc)?)?;
-        found.push((key, to_expression(alloc, &field.value)?))?;
+        let value = to_boxed(alloc, &field.value)?;
+        push_pair(&mut found, key, value)?;
     }
     Ok(found)
 }
 
 // A method on the operand before it and as many arguments as it takes.
+#[inline(never)]
 fn method_call(
     alloc: Global,
     method: Method,
-    left: Expr,
+    left: Box<Expr>,
     arguments: Vec<Expr>,
-) -> Result<Expr, AllocError>
+) -> Result<Box<Expr>, AllocError>
     requires { length arguments.items ≡ arity_of method }
-    ensures { IfOk result (λ e. e ≡ applied (Some method) left (expressions_of arguments.items)) }
+    ensures { IfOk result (λ b. b.value ≡ applied (Some method) left.value (expressions_of arguments.items)) }
 {
     match method {
         Method::IsEmpty => is_empty_call(alloc, left, arguments),
@@ -270,59 +330,65 @@ fn method_call(
 
 // Whether a set has no members; there are no arguments.
 #[tactic(auto, using(cedar_parser_limits::proofs::PartLemmas::empty_all))]
-fn is_empty_call(alloc: Global, left: Expr, arguments: Vec<Expr>) -> Result<Expr, AllocError>
+fn is_empty_call(
+    alloc: Global,
+    left: Box<Expr>,
+    arguments: Vec<Expr>,
+) -> Result<Box<Expr>, AllocError>
     requires { length arguments.items ≡ 0 }
-    ensures { IfOk result (λ e. e ≡ applied (Some IsEmpty) left (expressions_of arguments.items)) }
+    ensures { IfOk result (λ b. b.value ≡ applied (Some IsEmpty) left.value (expressions_of arguments.items)) }
 {
     drop(arguments);
-    Expr::unary(alloc, UnaryOperator::IsEmpty, left)
+    unary(alloc, UnaryOperator::IsEmpty, left)
 }
 
 // A method of one argument.
 fn binary_method_call(
     alloc: Global,
     operator: BinaryOperator,
-    left: Expr,
+    left: Box<Expr>,
     arguments: Vec<Expr>,
-) -> Result<Expr, AllocError>
+) -> Result<Box<Expr>, AllocError>
     requires { length arguments.items ≡ 1 }
-    ensures { IfOk result (λ e. e ≡ applied (Some (Binary operator)) left (expressions_of arguments.items)) }
+    ensures { IfOk result (λ b. b.value ≡ applied (Some (Binary operator)) left.value (expressions_of arguments.items)) }
 {
-    let argument = sole_argument(arguments);
-    Expr::binary(alloc, operator, left, argument)
+    let argument = sole_argument(alloc, arguments)?;
+    binary(alloc, operator, left, argument)
 }
 
 // A function of one argument.
-fn function_call(alloc: Global, name: &str, arguments: Vec<Expr>) -> Result<Expr, AllocError>
+#[inline(never)]
+fn function_call(alloc: Global, name: &str, arguments: Vec<Expr>) -> Result<Box<Expr>, AllocError>
     requires known { IsSome (function_of name.now) }
     requires argument { length arguments.items ≡ 1 }
-    ensures { IfOk result (λ e. e ≡ called (function_of name.now) (expressions_of arguments.items)) }
+    ensures { IfOk result (λ b. b.value ≡ called (function_of name.now) (expressions_of arguments.items)) }
 {
     let Some(operator) = function_of(name) else {
         unreachable!()
     };
-    let argument = sole_argument(arguments);
-    Expr::unary(alloc, operator, argument)
+    let argument = sole_argument(alloc, arguments)?;
+    unary(alloc, operator, argument)
 }
 
 // The one argument.
-fn sole_argument(mut arguments: Vec<Expr>) -> Expr
+fn sole_argument(alloc: Global, mut arguments: Vec<Expr>) -> Result<Box<Expr>, AllocError>
     requires { length arguments.items ≡ 1 }
-    ensures { arguments.items ≡ result ∷ [] }
+    ensures { IfOk result (λ b. arguments.items ≡ b.value ∷ []) }
 {
     let Some(argument) = arguments.pop() else {
         unreachable!()
     };
-    argument
+    Ok(Box::new(alloc, argument)?)
 }
 
 // The record of these pairs.
-fn record(alloc: Global, pairs: Vec<(SharedText, Expr)>) -> Result<Expr, AllocError>
+#[inline(never)]
+fn record(alloc: Global, pairs: Vec<(SharedText, Expr)>) -> Result<Box<Expr>, AllocError>
     requires { AreDistinct (keys_of pairs.items) }
-    ensures { IfOk result (λ e. e ≡ record_with (entries_of pairs.items)) }
+    ensures { IfOk result (λ b. b.value ≡ record_with (entries_of pairs.items)) }
 {
     match Expr::record(alloc, pairs) {
-        Ok(record) => Ok(record),
+        Ok(record) => Ok(Box::new(alloc, record)?),
         Err(RecordFault::OutOfMemory(_)) => Err(AllocError),
         Err(RecordFault::DuplicateKey(_)) => unreachable!(),
     }
@@ -339,39 +405,41 @@ fn negative(number: u64) -> i64
     -((number - 1) as i64) - 1
 }
 
+#[inline(never)]
 fn chain_operation(
     alloc: Global,
     sign: ChainSign,
-    left: Expr,
-    right: Expr,
-) -> Result<Expr, AllocError>
-    ensures { IfOk result (λ e. e ≡ linked sign left right) }
+    left: Box<Expr>,
+    right: Box<Expr>,
+) -> Result<Box<Expr>, AllocError>
+    ensures { IfOk result (λ b. b.value ≡ linked sign left.value right.value) }
 {
     match sign {
-        ChainSign::Or => Expr::or(alloc, left, right),
-        ChainSign::And => Expr::and(alloc, left, right),
-        ChainSign::Plus => Expr::binary(alloc, BinaryOperator::Add, left, right),
-        ChainSign::Minus => Expr::binary(alloc, BinaryOperator::Subtract, left, right),
-        ChainSign::Times => Expr::binary(alloc, BinaryOperator::Multiply, left, right),
+        ChainSign::Or => boxed(alloc, ExprKind::Or(left, right)),
+        ChainSign::And => and(alloc, left, right),
+        ChainSign::Plus => binary(alloc, BinaryOperator::Add, left, right),
+        ChainSign::Minus => binary(alloc, BinaryOperator::Subtract, left, right),
+        ChainSign::Times => binary(alloc, BinaryOperator::Multiply, left, right),
     }
 }
 
+#[inline(never)]
 fn relation_operation(
     alloc: Global,
     sign: RelationSign,
-    left: Expr,
-    right: Expr,
-) -> Result<Expr, AllocError>
-    ensures { IfOk result (λ e. e ≡ related sign left right) }
+    left: Box<Expr>,
+    right: Box<Expr>,
+) -> Result<Box<Expr>, AllocError>
+    ensures { IfOk result (λ b. b.value ≡ related sign left.value right.value) }
 {
     match sign {
-        RelationSign::Less => Expr::binary(alloc, BinaryOperator::Less, left, right),
-        RelationSign::LessEqual => Expr::binary(alloc, BinaryOperator::LessEqual, left, right),
+        RelationSign::Less => binary(alloc, BinaryOperator::Less, left, right),
+        RelationSign::LessEqual => binary(alloc, BinaryOperator::LessEqual, left, right),
         RelationSign::Greater => negated_operation(alloc, BinaryOperator::LessEqual, left, right),
         RelationSign::GreaterEqual => negated_operation(alloc, BinaryOperator::Less, left, right),
-        RelationSign::Equal => Expr::binary(alloc, BinaryOperator::Equal, left, right),
+        RelationSign::Equal => binary(alloc, BinaryOperator::Equal, left, right),
         RelationSign::NotEqual => negated_operation(alloc, BinaryOperator::Equal, left, right),
-        RelationSign::In => Expr::binary(alloc, BinaryOperator::In, left, right),
+        RelationSign::In => binary(alloc, BinaryOperator::In, left, right),
     }
 }
 
@@ -379,11 +447,11 @@ fn relation_operation(
 fn negated_operation(
     alloc: Global,
     operator: BinaryOperator,
-    left: Expr,
-    right: Expr,
-) -> Result<Expr, AllocError>
-    ensures { IfOk result (λ e. e ≡ unary Not (binary operator left right)) }
+    left: Box<Expr>,
+    right: Box<Expr>,
+) -> Result<Box<Expr>, AllocError>
+    ensures { IfOk result (λ b. b.value ≡ unary Not (binary operator left.value right.value)) }
 {
-    let pair = Expr::binary(alloc, operator, left, right)?;
-    Expr::unary(alloc, UnaryOperator::Not, pair)
+    let pair = binary(alloc, operator, left, right)?;
+    unary(alloc, UnaryOperator::Not, pair)
 }

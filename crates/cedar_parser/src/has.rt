@@ -5,6 +5,7 @@ ghost use Rattle.cedar_ast_expressions.specs.declared.operator.UnaryOperator.The
 ghost use Rattle.cedar_parser_tokens.specs.Content.{text_of};
 ghost use Rattle.cedar_parser_limits.specs.Meaning.{asked_of};
 
+use crate::boxes::{and, unary};
 use cedar_ast_expressions::{Expr, UnaryOperator};
 use cedar_parser_tree::AttributePath;
 use cedar_value::Text;
@@ -12,8 +13,13 @@ use std::alloc::{AllocError, Global};
 
 /// Whether an operand has the attribute, whether that one has the next, and so on to the end of the path (Cedar language
 /// reference, operators: has).
-pub fn to_has(alloc: Global, operand: Expr, path: &AttributePath) -> Result<Expr, AllocError>
-    ensures { IfOk result (λ e. e ≡ asked_of operand (text_of path.now.0) path.now.1) }
+#[inline(never)]
+pub fn to_has(
+    alloc: Global,
+    operand: Box<Expr>,
+    path: &AttributePath,
+) -> Result<Box<Expr>, AllocError>
+    ensures { IfOk result (λ b. b.value ≡ asked_of operand.value (text_of path.now.0) path.now.1) }
 {
     let first = path.first().as_str();
     match path.more() {
@@ -23,8 +29,13 @@ pub fn to_has(alloc: Global, operand: Expr, path: &AttributePath) -> Result<Expr
 }
 
 // The attributes after the first one are tested on copies of the path before them.
-fn to_has_path(alloc: Global, operand: Expr, first: &str, more: &[Text]) -> Result<Expr, AllocError>
-    ensures { IfOk result (λ e. e ≡ asked_of operand first.now more.now) }
+fn to_has_path(
+    alloc: Global,
+    operand: Box<Expr>,
+    first: &str,
+    more: &[Text],
+) -> Result<Box<Expr>, AllocError>
+    ensures { IfOk result (λ b. b.value ≡ asked_of operand.value first.now more.now) }
 {
     let mut asked = has_copy(alloc, &operand, first)?;
     let mut place = attribute(alloc, operand, first)?;
@@ -38,36 +49,41 @@ fn to_has_path(alloc: Global, operand: Expr, first: &str, more: &[Text]) -> Resu
 }
 
 // The tests so far, and whether the place has the attribute.
-fn and_has(alloc: Global, asked: Expr, place: &Expr, name: &Text) -> Result<Expr, AllocError>
-    ensures { IfOk result (λ e. e ≡ and asked (unary (Has name.now) place.now)) }
+fn and_has(
+    alloc: Global,
+    asked: Box<Expr>,
+    place: &Expr,
+    name: &Text,
+) -> Result<Box<Expr>, AllocError>
+    ensures { IfOk result (λ b. b.value ≡ and asked.value (unary (Has name.now) place.now)) }
 {
     let further = has_copy(alloc, place, name.as_str())?;
-    Expr::and(alloc, asked, further)
+    and(alloc, asked, further)
 }
 
-fn has_copy(alloc: Global, operand: &Expr, name: &str) -> Result<Expr, AllocError>
-    ensures { IfOk result (λ e. e ≡ unary (Has name.now) operand.now) }
+fn has_copy(alloc: Global, operand: &Expr, name: &str) -> Result<Box<Expr>, AllocError>
+    ensures { IfOk result (λ b. b.value ≡ unary (Has name.now) operand.now) }
 {
-    let operand = operand.try_clone(alloc)?;
+    let operand = Box::new(alloc, operand.try_clone(alloc)?)?;
     has(alloc, operand, name)
 }
 
-fn has(alloc: Global, operand: Expr, name: &str) -> Result<Expr, AllocError>
-    ensures { IfOk result (λ e. e ≡ unary (Has name.now) operand) }
+fn has(alloc: Global, operand: Box<Expr>, name: &str) -> Result<Box<Expr>, AllocError>
+    ensures { IfOk result (λ b. b.value ≡ unary (Has name.now) operand.value) }
 {
     let name = Text::read(alloc, name)?;
-    Expr::unary(alloc, UnaryOperator::Has(name), operand)
+    unary(alloc, UnaryOperator::Has(name), operand)
 }
 
-fn attribute_of(alloc: Global, operand: Expr, name: &Text) -> Result<Expr, AllocError>
-    ensures { IfOk result (λ e. e ≡ unary (Get name.now) operand) }
+fn attribute_of(alloc: Global, operand: Box<Expr>, name: &Text) -> Result<Box<Expr>, AllocError>
+    ensures { IfOk result (λ b. b.value ≡ unary (Get name.now) operand.value) }
 {
     attribute(alloc, operand, name.as_str())
 }
 
-fn attribute(alloc: Global, operand: Expr, name: &str) -> Result<Expr, AllocError>
-    ensures { IfOk result (λ e. e ≡ unary (Get name.now) operand) }
+fn attribute(alloc: Global, operand: Box<Expr>, name: &str) -> Result<Box<Expr>, AllocError>
+    ensures { IfOk result (λ b. b.value ≡ unary (Get name.now) operand.value) }
 {
     let name = Text::read(alloc, name)?;
-    Expr::unary(alloc, UnaryOperator::Get(name), operand)
+    unary(alloc, UnaryOperator::Get(name), operand)
 }

@@ -12,6 +12,7 @@
 //! in `specs/PolicyText.antt`.
 #![tactic(auto)]
 
+mod boxes;
 mod expression;
 mod has;
 mod parser;

@@ -3,21 +3,25 @@
 ghost use Rattle.std.specs.Prelude.{◌≡◌};
 ghost use Rattle.cedar_parser_expressions.specs.Reading as spec;
 ghost use Rattle.cedar_parser_tokens.specs.Contract.{Reads, ReadsItems};
+ghost use Rattle.cedar_parser_expressions.specs.Private.Boxed.{ReadsBoxed, ReadsField};
 ghost use Rattle.cedar_parser_expressions.specs.Private.Nests.{Nests};
 ghost use Rattle.cedar_parser_expressions.specs.Private.Operands.{Operands};
+ghost use Rattle.cedar_parser_expressions.specs.Private.Plain.{plain, of_uid};
 
 use crate::attribute_path::parse_attribute_path;
 use crate::chain::finish_chain;
 use crate::chain_level::ChainLevel;
+use crate::constructors::{
+    BoxedField, boxed, call, group, has, if_else, is, is_in, like, minus, not, push_field,
+    push_item, push_operand, record, relation, set,
+};
 use crate::lookup::{chain_sign, relation_sign, slot_of, variable_of};
 use cedar_ext::Pattern;
 use cedar_parser_tokens::{
-    Content, Cursor, ParseFault, Word, parse_entity_of_type, parse_key, parse_path, parse_string,
+    Content, Cursor, ParseFault, Spelled, Word, parse_entity_of_type, parse_key, parse_path,
+    parse_string,
 };
-use cedar_parser_tree::{
-    Field, Link, Series, Span, Written, WrittenKind, group, has, if_else, is, is_in, like, minus,
-    not, push_field, push_item, push_link, relation,
-};
+use cedar_parser_tree::{Field, Link, Series, Span, Written, WrittenKind, push_link};
 use cedar_text::TokenKind;
 use cedar_value::{Name, Text};
 use std::alloc::Global;
@@ -31,11 +35,11 @@ pub struct ExpressionParser<F> {
     inner: F,
 }
 
-impl<F: Fn(Global, &mut Cursor<'_>, u8) -> Result<Written, ParseFault>> ExpressionParser<F> {
+impl<F: Fn(Global, &mut Cursor<'_>, u8) -> Result<Box<Written>, ParseFault>> ExpressionParser<F> {
     // Parses an expression in brackets.
-    fn parse_nested_expression(&self, tokens: &mut Cursor<'_>) -> Result<Written, ParseFault>
+    fn parse_nested_expression(&self, tokens: &mut Cursor<'_>) -> Result<Box<Written>, ParseFault>
         requires { Nests self.now.depth (F.pre self.now.inner) (F.post self.now.inner) }
-        ensures { Reads (spec.nested self.now.depth tokens.old) result tokens.new }
+        ensures { ReadsBoxed (spec.nested self.now.depth tokens.old) result tokens.new }
     {
         (self.inner)(self.alloc, tokens, self.depth)
     }
@@ -58,20 +62,16 @@ impl<F: Fn(Global, &mut Cursor<'_>, u8) -> Result<Written, ParseFault>> Expressi
         tokens: &mut Cursor<'_>,
         level: ChainLevel,
         operand: P,
-    ) -> Result<Written, ParseFault>
+    ) -> Result<Box<Written>, ParseFault>
     where
-        P: Fn(&ExpressionParser<F>, &mut Cursor<'_>) -> Result<Written, ParseFault> + Copy,
+        P: Fn(&ExpressionParser<F>, &mut Cursor<'_>) -> Result<Box<Written>, ParseFault> + Copy,
         requires { Operands self.now.depth level (P.pre operand self) (P.post operand self) }
-        ensures { Reads (spec.chain_of self.now.depth (spec.nested self.now.depth) level tokens.old) result tokens.new }
+        ensures { ReadsBoxed (spec.chain_of self.now.depth (spec.nested self.now.depth) level tokens.old) result tokens.new }
     {
         let start = tokens.start();
         let first = operand(self, tokens)?;
         let links = self.parse_links(tokens, level, operand);
-        spanning(
-            finish_chain(self.alloc, first, links),
-            start,
-            tokens.taken(),
-        )
+        finish_chain(self.alloc, first, links, span_from(start, tokens))
     }
 
     // Parses signs, each with the operand after it.
@@ -82,7 +82,7 @@ impl<F: Fn(Global, &mut Cursor<'_>, u8) -> Result<Written, ParseFault>> Expressi
         operand: P,
     ) -> Result<Vec<Link>, ParseFault>
     where
-        P: Fn(&ExpressionParser<F>, &mut Cursor<'_>) -> Result<Written, ParseFault> + Copy,
+        P: Fn(&ExpressionParser<F>, &mut Cursor<'_>) -> Result<Box<Written>, ParseFault> + Copy,
         requires { Operands self.now.depth level (P.pre operand self) (P.post operand self) }
         ensures { ReadsItems (spec.links_of self.now.depth (spec.nested self.now.depth) level tokens.old) result tokens.new }
     {
@@ -93,36 +93,35 @@ impl<F: Fn(Global, &mut Cursor<'_>, u8) -> Result<Written, ParseFault>> Expressi
             };
             tokens.skip();
             let operand = operand(self, tokens)?;
-            push_link(&mut found, Link::Operand(sign, operand))?;
+            push_operand(&mut found, sign, operand)?;
         }
         Ok(found)
     }
 
     #[tactic(auto, unfolding(crate::specs::Reading::or))]
-    fn parse_or(&self, tokens: &mut Cursor<'_>) -> Result<Written, ParseFault>
+    fn parse_or(&self, tokens: &mut Cursor<'_>) -> Result<Box<Written>, ParseFault>
         requires { Nests self.now.depth (F.pre self.now.inner) (F.post self.now.inner) }
-        ensures { Reads (spec.or self.now.depth (spec.nested self.now.depth) tokens.old) result tokens.new }
+        ensures { ReadsBoxed (spec.or self.now.depth (spec.nested self.now.depth) tokens.old) result tokens.new }
     {
         self.parse_chain(tokens, ChainLevel::Or, ExpressionParser::parse_and)
     }
 
     #[tactic(auto, unfolding(crate::specs::Reading::and))]
-    fn parse_and(&self, tokens: &mut Cursor<'_>) -> Result<Written, ParseFault>
+    fn parse_and(&self, tokens: &mut Cursor<'_>) -> Result<Box<Written>, ParseFault>
         requires { Nests self.now.depth (F.pre self.now.inner) (F.post self.now.inner) }
-        ensures { Reads (spec.and self.now.depth (spec.nested self.now.depth) tokens.old) result tokens.new }
+        ensures { ReadsBoxed (spec.and self.now.depth (spec.nested self.now.depth) tokens.old) result tokens.new }
     {
         self.parse_chain(tokens, ChainLevel::And, ExpressionParser::parse_relation)
     }
 
     #[tactic(auto, unfolding(crate::specs::Reading::relation))]
-    fn parse_relation(&self, tokens: &mut Cursor<'_>) -> Result<Written, ParseFault>
+    fn parse_relation(&self, tokens: &mut Cursor<'_>) -> Result<Box<Written>, ParseFault>
         requires { Nests self.now.depth (F.pre self.now.inner) (F.post self.now.inner) }
-        ensures { Reads (spec.relation self.now.depth (spec.nested self.now.depth) tokens.old) result tokens.new }
+        ensures { ReadsBoxed (spec.relation self.now.depth (spec.nested self.now.depth) tokens.old) result tokens.new }
     {
         let start = tokens.start();
         let left = self.parse_add(tokens)?;
-        let read = self.parse_relation_tail(tokens, left);
-        spanning(read, start, tokens.taken())
+        self.parse_relation_tail(tokens, start, left)
     }
 
     // Parses what follows the left operand of a relation.
@@ -130,34 +129,40 @@ impl<F: Fn(Global, &mut Cursor<'_>, u8) -> Result<Written, ParseFault>> Expressi
     fn parse_relation_tail(
         &self,
         tokens: &mut Cursor<'_>,
-        left: Written,
-    ) -> Result<Written, ParseFault>
+        start: usize,
+        left: Box<Written>,
+    ) -> Result<Box<Written>, ParseFault>
         requires { Nests self.now.depth (F.pre self.now.inner) (F.post self.now.inner) }
-        ensures { Reads (spec.relation_from self.now.depth (spec.nested self.now.depth) left tokens.old) result tokens.new }
+        ensures { ReadsBoxed (spec.relation_from self.now.depth (spec.nested self.now.depth) left.value tokens.old) result tokens.new }
     {
         if tokens.sees(TokenKind::Has) {
             tokens.skip();
-            return parse_has(self.alloc, tokens, left);
+            return parse_has(self.alloc, tokens, start, left);
         }
         if tokens.sees(TokenKind::Like) {
             tokens.skip();
-            return parse_like(self.alloc, tokens, left);
+            return parse_like(self.alloc, tokens, start, left);
         }
         if tokens.sees(TokenKind::Is) {
             tokens.skip();
-            return self.parse_is(tokens, left);
+            return self.parse_is(tokens, start, left);
         }
-        self.parse_binary_relation(tokens, left)
+        self.parse_binary_relation(tokens, start, left)
     }
 
     // Parses what follows `is`: a type, and perhaps `in` with an operand.
     #[tactic(auto, unfolding(crate::specs::Reading::typed))]
-    fn parse_is(&self, tokens: &mut Cursor<'_>, left: Written) -> Result<Written, ParseFault>
+    fn parse_is(
+        &self,
+        tokens: &mut Cursor<'_>,
+        start: usize,
+        left: Box<Written>,
+    ) -> Result<Box<Written>, ParseFault>
         requires { Nests self.now.depth (F.pre self.now.inner) (F.post self.now.inner) }
-        ensures { Reads (spec.typed self.now.depth (spec.nested self.now.depth) left tokens.old) result tokens.new }
+        ensures { ReadsBoxed (spec.typed self.now.depth (spec.nested self.now.depth) left.value tokens.old) result tokens.new }
     {
         match parse_path(self.alloc, tokens) {
-            Ok(ty) => self.parse_is_in(tokens, left, ty),
+            Ok(ty) => self.parse_is_in(tokens, start, left, ty),
             Err(fault) => {
                 drop(left);
                 Err(fault)
@@ -170,19 +175,23 @@ impl<F: Fn(Global, &mut Cursor<'_>, u8) -> Result<Written, ParseFault>> Expressi
     fn parse_is_in(
         &self,
         tokens: &mut Cursor<'_>,
-        left: Written,
+        start: usize,
+        left: Box<Written>,
         ty: Name,
-    ) -> Result<Written, ParseFault>
+    ) -> Result<Box<Written>, ParseFault>
         requires { Nests self.now.depth (F.pre self.now.inner) (F.post self.now.inner) }
-        ensures { Reads (spec.of_type self.now.depth (spec.nested self.now.depth) left ty tokens.old) result tokens.new }
+        ensures { ReadsBoxed (spec.of_type self.now.depth (spec.nested self.now.depth) left.value ty tokens.old) result tokens.new }
     {
         tokens.pass_colons();
         if !tokens.sees(TokenKind::In) {
-            return Ok(is(self.alloc, left, ty)?);
+            return Ok(is(self.alloc, left, ty, span_from(start, tokens))?);
         }
         tokens.skip();
         match self.parse_add(tokens) {
-            Ok(right) => Ok(is_in(self.alloc, left, ty, right)?),
+            Ok(right) => {
+                let span = span_from(start, tokens);
+                Ok(is_in(self.alloc, left, ty, right, span)?)
+            }
             Err(fault) => {
                 drop(left);
                 Err(fault)
@@ -195,17 +204,21 @@ impl<F: Fn(Global, &mut Cursor<'_>, u8) -> Result<Written, ParseFault>> Expressi
     fn parse_binary_relation(
         &self,
         tokens: &mut Cursor<'_>,
-        left: Written,
-    ) -> Result<Written, ParseFault>
+        start: usize,
+        left: Box<Written>,
+    ) -> Result<Box<Written>, ParseFault>
         requires { Nests self.now.depth (F.pre self.now.inner) (F.post self.now.inner) }
-        ensures { Reads (spec.related self.now.depth (spec.nested self.now.depth) left tokens.old) result tokens.new }
+        ensures { ReadsBoxed (spec.related self.now.depth (spec.nested self.now.depth) left.value tokens.old) result tokens.new }
     {
         let Some(sign) = relation_sign(tokens.kind()) else {
             return Ok(left);
         };
         tokens.skip();
         match self.parse_add(tokens) {
-            Ok(right) => Ok(relation(self.alloc, sign, left, right)?),
+            Ok(right) => {
+                let span = span_from(start, tokens);
+                Ok(relation(self.alloc, sign, left, right, span)?)
+            }
             Err(fault) => {
                 drop(left);
                 Err(fault)
@@ -214,40 +227,37 @@ impl<F: Fn(Global, &mut Cursor<'_>, u8) -> Result<Written, ParseFault>> Expressi
     }
 
     #[tactic(auto, unfolding(crate::specs::Reading::add))]
-    fn parse_add(&self, tokens: &mut Cursor<'_>) -> Result<Written, ParseFault>
+    fn parse_add(&self, tokens: &mut Cursor<'_>) -> Result<Box<Written>, ParseFault>
         requires { Nests self.now.depth (F.pre self.now.inner) (F.post self.now.inner) }
-        ensures { Reads (spec.add self.now.depth (spec.nested self.now.depth) tokens.old) result tokens.new }
+        ensures { ReadsBoxed (spec.add self.now.depth (spec.nested self.now.depth) tokens.old) result tokens.new }
     {
         self.parse_chain(tokens, ChainLevel::Add, ExpressionParser::parse_mult)
     }
 
     #[tactic(auto, unfolding(crate::specs::Reading::mult))]
-    fn parse_mult(&self, tokens: &mut Cursor<'_>) -> Result<Written, ParseFault>
+    fn parse_mult(&self, tokens: &mut Cursor<'_>) -> Result<Box<Written>, ParseFault>
         requires { Nests self.now.depth (F.pre self.now.inner) (F.post self.now.inner) }
-        ensures { Reads (spec.mult self.now.depth (spec.nested self.now.depth) tokens.old) result tokens.new }
+        ensures { ReadsBoxed (spec.mult self.now.depth (spec.nested self.now.depth) tokens.old) result tokens.new }
     {
         self.parse_chain(tokens, ChainLevel::Mult, ExpressionParser::parse_unary)
     }
 
     #[tactic(auto, unfolding(crate::specs::Reading::unary))]
-    fn parse_unary(&self, tokens: &mut Cursor<'_>) -> Result<Written, ParseFault>
+    fn parse_unary(&self, tokens: &mut Cursor<'_>) -> Result<Box<Written>, ParseFault>
         requires { Nests self.now.depth (F.pre self.now.inner) (F.post self.now.inner) }
-        ensures { Reads (spec.unary self.now.depth (spec.nested self.now.depth) tokens.old) result tokens.new }
+        ensures { ReadsBoxed (spec.unary self.now.depth (spec.nested self.now.depth) tokens.old) result tokens.new }
     {
-        let start = tokens.start();
         if tokens.sees(TokenKind::Minus) {
-            let read = self.parse_minuses(tokens, 4);
-            return spanning(read, start, tokens.taken());
+            return self.parse_minuses(tokens, 4);
         }
-        let read = self.parse_nots(tokens, 4);
-        spanning(read, start, tokens.taken())
+        self.parse_nots(tokens, 4)
     }
 
     // Parses up to `most` of `!`, and then a member.
     #[tactic(auto, unfolding(crate::specs::Reading::nots))]
-    fn parse_nots(&self, tokens: &mut Cursor<'_>, most: u8) -> Result<Written, ParseFault>
+    fn parse_nots(&self, tokens: &mut Cursor<'_>, most: u8) -> Result<Box<Written>, ParseFault>
         requires { Nests self.now.depth (F.pre self.now.inner) (F.post self.now.inner) }
-        ensures { Reads (spec.nots self.now.depth (spec.nested self.now.depth) most tokens.old) result tokens.new }
+        ensures { ReadsBoxed (spec.nots self.now.depth (spec.nested self.now.depth) most tokens.old) result tokens.new }
     {
         if most == 0 {
             return self.parse_member(tokens);
@@ -255,16 +265,17 @@ impl<F: Fn(Global, &mut Cursor<'_>, u8) -> Result<Written, ParseFault>> Expressi
         if !tokens.sees(TokenKind::Not) {
             return self.parse_member(tokens);
         }
+        let start = tokens.start();
         tokens.skip();
         let operand = self.parse_nots(tokens, most - 1)?;
-        Ok(not(self.alloc, operand)?)
+        Ok(not(self.alloc, operand, span_from(start, tokens))?)
     }
 
     // Parses up to `most` of `-`, and then a member.
     #[tactic(auto, unfolding(crate::specs::Reading::minuses))]
-    fn parse_minuses(&self, tokens: &mut Cursor<'_>, most: u8) -> Result<Written, ParseFault>
+    fn parse_minuses(&self, tokens: &mut Cursor<'_>, most: u8) -> Result<Box<Written>, ParseFault>
         requires { Nests self.now.depth (F.pre self.now.inner) (F.post self.now.inner) }
-        ensures { Reads (spec.minuses self.now.depth (spec.nested self.now.depth) most tokens.old) result tokens.new }
+        ensures { ReadsBoxed (spec.minuses self.now.depth (spec.nested self.now.depth) most tokens.old) result tokens.new }
     {
         if most == 0 {
             return self.parse_member(tokens);
@@ -272,26 +283,26 @@ impl<F: Fn(Global, &mut Cursor<'_>, u8) -> Result<Written, ParseFault>> Expressi
         if !tokens.sees(TokenKind::Minus) {
             return self.parse_member(tokens);
         }
+        let start = tokens.start();
         tokens.skip();
         let operand = self.parse_minuses(tokens, most - 1)?;
-        Ok(minus(self.alloc, operand)?)
+        Ok(minus(self.alloc, operand, span_from(start, tokens))?)
     }
 
     #[tactic(auto, unfolding(crate::specs::Reading::member))]
-    fn parse_member(&self, tokens: &mut Cursor<'_>) -> Result<Written, ParseFault>
+    fn parse_member(&self, tokens: &mut Cursor<'_>) -> Result<Box<Written>, ParseFault>
         requires { Nests self.now.depth (F.pre self.now.inner) (F.post self.now.inner) }
-        ensures { Reads (spec.member self.now.depth (spec.nested self.now.depth) tokens.old) result tokens.new }
+        ensures { ReadsBoxed (spec.member self.now.depth (spec.nested self.now.depth) tokens.old) result tokens.new }
     {
         let start = tokens.start();
         let first = self.parse_primary(tokens)?;
         let links = self.parse_accesses(tokens);
-        spanning(
-            finish_chain(self.alloc, first, links),
-            start,
-            tokens.taken(),
-        )
+        finish_chain(self.alloc, first, links, span_from(start, tokens))
     }
 
+    // Parses accesses to the member before them. It is never inlined, so that a bracket without accesses needs little of the call
+    // stack.
+    #[inline(never)]
     fn parse_accesses(&self, tokens: &mut Cursor<'_>) -> Result<Vec<Link>, ParseFault>
         requires { Nests self.now.depth (F.pre self.now.inner) (F.post self.now.inner) }
         ensures { ReadsItems (spec.suffixes self.now.depth (spec.nested self.now.depth) tokens.old) result tokens.new }
@@ -357,66 +368,45 @@ impl<F: Fn(Global, &mut Cursor<'_>, u8) -> Result<Written, ParseFault>> Expressi
         }
     }
 
-    #[tactic(auto, unfolding(crate::specs::Reading::primary, cedar_parser_tokens::specs::Reading::first))]
-    fn parse_primary(&self, tokens: &mut Cursor<'_>) -> Result<Written, ParseFault>
+    #[tactic(auto, unfolding(crate::specs::Reading::primary, crate::specs::Private::Plain::plain, cedar_parser_tokens::specs::Reading::first, cedar_parser_tokens::specs::Reading::kind_at))]
+    fn parse_primary(&self, tokens: &mut Cursor<'_>) -> Result<Box<Written>, ParseFault>
         requires { Nests self.now.depth (F.pre self.now.inner) (F.post self.now.inner) }
-        ensures { Reads (spec.primary self.now.depth (spec.nested self.now.depth) tokens.old) result tokens.new }
+        ensures { ReadsBoxed (spec.primary self.now.depth (spec.nested self.now.depth) tokens.old) result tokens.new }
     {
-        let Some(token) = tokens.peek() else {
-            return Err(ParseFault::Syntax(tokens.offset()));
-        };
-        match token.kind() {
-            TokenKind::True => {
-                tokens.skip();
-                Ok(Written::new(WrittenKind::Truth(true)))
-            }
-            TokenKind::False => {
-                tokens.skip();
-                Ok(Written::new(WrittenKind::Truth(false)))
-            }
-            TokenKind::Number => {
-                tokens.skip();
-                Ok(Written::new(WrittenKind::Number(token.start(), token.number())))
-            }
-            TokenKind::String => {
-                let content = parse_string(self.alloc, tokens)?;
-                Ok(Written::new(WrittenKind::Text(content)))
-            }
-            TokenKind::Identifier => self.parse_path_or_variable(tokens),
-            TokenKind::Slot => parse_slot(tokens),
-            TokenKind::LeftParen => self.parse_group(tokens),
-            TokenKind::LeftBracket => self.parse_set(tokens),
-            TokenKind::LeftBrace => self.parse_record(tokens),
-            _ => Err(ParseFault::Syntax(token.start())),
+        match tokens.kind() {
+            Some(TokenKind::Identifier) => self.parse_path_or_variable(tokens),
+            Some(TokenKind::LeftParen) => self.parse_group(tokens),
+            Some(TokenKind::LeftBracket) => self.parse_set(tokens),
+            Some(TokenKind::LeftBrace) => self.parse_record(tokens),
+            _ => parse_plain(self.alloc, tokens),
         }
     }
 
     // Parses a call, a uid, or a variable.
     #[tactic(auto, unfolding(crate::specs::Reading::named))]
-    fn parse_path_or_variable(&self, tokens: &mut Cursor<'_>) -> Result<Written, ParseFault>
+    fn parse_path_or_variable(&self, tokens: &mut Cursor<'_>) -> Result<Box<Written>, ParseFault>
         requires { Nests self.now.depth (F.pre self.now.inner) (F.post self.now.inner) }
-        ensures { Reads (spec.named self.now.depth (spec.nested self.now.depth) tokens.old) result tokens.new }
+        ensures { ReadsBoxed (spec.named self.now.depth (spec.nested self.now.depth) tokens.old) result tokens.new }
     {
         if begins_path(tokens) {
             return self.parse_call_or_entity(tokens);
         }
-        parse_variable(tokens)
+        parse_variable(self.alloc, tokens)
     }
 
     // Parses a call or a uid.
-    #[tactic(auto, unfolding(crate::specs::Reading::with_path))]
-    fn parse_call_or_entity(&self, tokens: &mut Cursor<'_>) -> Result<Written, ParseFault>
+    #[tactic(auto, unfolding(crate::specs::Reading::with_path, crate::specs::Private::Plain::of_uid))]
+    fn parse_call_or_entity(&self, tokens: &mut Cursor<'_>) -> Result<Box<Written>, ParseFault>
         requires { Nests self.now.depth (F.pre self.now.inner) (F.post self.now.inner) }
-        ensures { Reads (spec.with_path self.now.depth (spec.nested self.now.depth) tokens.old) result tokens.new }
+        ensures { ReadsBoxed (spec.with_path self.now.depth (spec.nested self.now.depth) tokens.old) result tokens.new }
     {
-        let start = tokens.offset();
+        let start = tokens.start();
         let path = parse_path(self.alloc, tokens)?;
         if tokens.sees(TokenKind::LeftParen) {
             let arguments = self.parse_call_arguments(tokens)?;
-            return Ok(Written::new(WrittenKind::Call(start, path, Series::new(arguments))));
+            return Ok(call(self.alloc, path, arguments, span_from(start, tokens))?);
         }
-        let uid = parse_entity_of_type(self.alloc, path, tokens)?;
-        Ok(Written::new(WrittenKind::Entity(uid)))
+        parse_entity(self.alloc, tokens, start, path)
     }
 
     // Parses the arguments after a name.
@@ -430,14 +420,15 @@ impl<F: Fn(Global, &mut Cursor<'_>, u8) -> Result<Written, ParseFault>> Expressi
     }
 
     #[tactic(auto, unfolding(crate::specs::Reading::group))]
-    fn parse_group(&self, tokens: &mut Cursor<'_>) -> Result<Written, ParseFault>
+    fn parse_group(&self, tokens: &mut Cursor<'_>) -> Result<Box<Written>, ParseFault>
         requires { Nests self.now.depth (F.pre self.now.inner) (F.post self.now.inner) }
-        ensures { Reads (spec.group self.now.depth (spec.nested self.now.depth) tokens.old) result tokens.new }
+        ensures { ReadsBoxed (spec.group self.now.depth (spec.nested self.now.depth) tokens.old) result tokens.new }
     {
+        let start = tokens.start();
         self.enter_nesting(tokens)?;
         let inside = self.parse_nested_expression(tokens)?;
         match tokens.expect(TokenKind::RightParen) {
-            Ok(_) => Ok(group(self.alloc, inside)?),
+            Ok(_) => Ok(group(self.alloc, inside, span_from(start, tokens))?),
             Err(fault) => {
                 drop(inside);
                 Err(fault)
@@ -446,23 +437,25 @@ impl<F: Fn(Global, &mut Cursor<'_>, u8) -> Result<Written, ParseFault>> Expressi
     }
 
     #[tactic(auto, unfolding(crate::specs::Reading::set))]
-    fn parse_set(&self, tokens: &mut Cursor<'_>) -> Result<Written, ParseFault>
+    fn parse_set(&self, tokens: &mut Cursor<'_>) -> Result<Box<Written>, ParseFault>
         requires { Nests self.now.depth (F.pre self.now.inner) (F.post self.now.inner) }
-        ensures { Reads (spec.set self.now.depth (spec.nested self.now.depth) tokens.old) result tokens.new }
+        ensures { ReadsBoxed (spec.set self.now.depth (spec.nested self.now.depth) tokens.old) result tokens.new }
     {
+        let start = tokens.start();
         self.enter_nesting(tokens)?;
         let members = self.parse_expression_list(tokens, TokenKind::RightBracket)?;
-        Ok(Written::new(WrittenKind::Set(Series::new(members))))
+        Ok(set(self.alloc, members, span_from(start, tokens))?)
     }
 
     #[tactic(auto, unfolding(crate::specs::Reading::record_of))]
-    fn parse_record(&self, tokens: &mut Cursor<'_>) -> Result<Written, ParseFault>
+    fn parse_record(&self, tokens: &mut Cursor<'_>) -> Result<Box<Written>, ParseFault>
         requires { Nests self.now.depth (F.pre self.now.inner) (F.post self.now.inner) }
-        ensures { Reads (spec.record_of self.now.depth (spec.nested self.now.depth) tokens.old) result tokens.new }
+        ensures { ReadsBoxed (spec.record_of self.now.depth (spec.nested self.now.depth) tokens.old) result tokens.new }
     {
+        let start = tokens.start();
         self.enter_nesting(tokens)?;
         let fields = self.parse_field_list(tokens)?;
-        Ok(Written::new(WrittenKind::Record(fields)))
+        Ok(record(self.alloc, fields, span_from(start, tokens))?)
     }
 
     // Parses expressions with commas between them, and the sign that closes them.
@@ -536,20 +529,20 @@ impl<F: Fn(Global, &mut Cursor<'_>, u8) -> Result<Written, ParseFault>> Expressi
     }
 
     #[tactic(auto, unfolding(crate::specs::Reading::entry))]
-    fn parse_field(&self, tokens: &mut Cursor<'_>) -> Result<Field, ParseFault>
+    fn parse_field(&self, tokens: &mut Cursor<'_>) -> Result<BoxedField, ParseFault>
         requires { Nests self.now.depth (F.pre self.now.inner) (F.post self.now.inner) }
-        ensures { Reads (spec.entry (spec.nested self.now.depth) tokens.old) result tokens.new }
+        ensures { ReadsField (spec.entry (spec.nested self.now.depth) tokens.old) result tokens.new }
     {
         let key = parse_key(self.alloc, tokens)?;
         tokens.expect(TokenKind::Colon)?;
         let value = self.parse_nested_expression(tokens)?;
-        Ok(Field { key, value })
+        Ok(BoxedField { key, value })
     }
 
     #[tactic(auto, unfolding(crate::specs::Reading::choice))]
-    fn parse_if(&self, tokens: &mut Cursor<'_>) -> Result<Written, ParseFault>
+    fn parse_if(&self, tokens: &mut Cursor<'_>) -> Result<Box<Written>, ParseFault>
         requires { Nests self.now.depth (F.pre self.now.inner) (F.post self.now.inner) }
-        ensures { Reads (spec.choice self.now.depth (spec.nested self.now.depth) tokens.old) result tokens.new }
+        ensures { ReadsBoxed (spec.choice self.now.depth (spec.nested self.now.depth) tokens.old) result tokens.new }
     {
         self.enter_nesting(tokens)?;
         let condition = self.parse_nested_expression(tokens)?;
@@ -567,10 +560,10 @@ impl<F: Fn(Global, &mut Cursor<'_>, u8) -> Result<Written, ParseFault>> Expressi
     fn parse_branches(
         &self,
         tokens: &mut Cursor<'_>,
-        condition: Written,
-    ) -> Result<Written, ParseFault>
+        condition: Box<Written>,
+    ) -> Result<Box<Written>, ParseFault>
         requires { Nests self.now.depth (F.pre self.now.inner) (F.post self.now.inner) }
-        ensures { Reads (spec.branches self.now.depth (spec.nested self.now.depth) condition tokens.old) result tokens.new }
+        ensures { ReadsBoxed (spec.branches self.now.depth (spec.nested self.now.depth) condition.value tokens.old) result tokens.new }
     {
         match self.parse_then_branch(tokens) {
             Ok(if_true) => self.parse_else_branch(tokens, condition, if_true),
@@ -583,9 +576,9 @@ impl<F: Fn(Global, &mut Cursor<'_>, u8) -> Result<Written, ParseFault>> Expressi
 
     // Parses the branch before `else`, and takes `else`.
     #[tactic(auto, unfolding(crate::specs::Reading::before_else))]
-    fn parse_then_branch(&self, tokens: &mut Cursor<'_>) -> Result<Written, ParseFault>
+    fn parse_then_branch(&self, tokens: &mut Cursor<'_>) -> Result<Box<Written>, ParseFault>
         requires { Nests self.now.depth (F.pre self.now.inner) (F.post self.now.inner) }
-        ensures { Reads (spec.before_else self.now.depth (spec.nested self.now.depth) tokens.old) result tokens.new }
+        ensures { ReadsBoxed (spec.before_else self.now.depth (spec.nested self.now.depth) tokens.old) result tokens.new }
     {
         let if_true = self.parse_nested_expression(tokens)?;
         match tokens.expect(TokenKind::Else) {
@@ -602,11 +595,11 @@ impl<F: Fn(Global, &mut Cursor<'_>, u8) -> Result<Written, ParseFault>> Expressi
     fn parse_else_branch(
         &self,
         tokens: &mut Cursor<'_>,
-        condition: Written,
-        if_true: Written,
-    ) -> Result<Written, ParseFault>
+        condition: Box<Written>,
+        if_true: Box<Written>,
+    ) -> Result<Box<Written>, ParseFault>
         requires { Nests self.now.depth (F.pre self.now.inner) (F.post self.now.inner) }
-        ensures { Reads (spec.behind_else self.now.depth (spec.nested self.now.depth) condition if_true tokens.old) result tokens.new }
+        ensures { ReadsBoxed (spec.behind_else self.now.depth (spec.nested self.now.depth) condition.value if_true.value tokens.old) result tokens.new }
     {
         match self.parse_nested_expression(tokens) {
             Ok(if_false) => Ok(if_else(self.alloc, condition, if_true, if_false)?),
@@ -619,9 +612,9 @@ impl<F: Fn(Global, &mut Cursor<'_>, u8) -> Result<Written, ParseFault>> Expressi
     }
 
     #[tactic(auto, unfolding(crate::specs::Reading::expression))]
-    fn parse_expression(&self, tokens: &mut Cursor<'_>) -> Result<Written, ParseFault>
+    fn parse_expression(&self, tokens: &mut Cursor<'_>) -> Result<Box<Written>, ParseFault>
         requires { Nests self.now.depth (F.pre self.now.inner) (F.post self.now.inner) }
-        ensures { Reads (spec.expression self.now.depth (spec.nested self.now.depth) tokens.old) result tokens.new }
+        ensures { ReadsBoxed (spec.expression self.now.depth (spec.nested self.now.depth) tokens.old) result tokens.new }
     {
         if tokens.sees(TokenKind::If) {
             return self.parse_if(tokens);
@@ -632,11 +625,17 @@ impl<F: Fn(Global, &mut Cursor<'_>, u8) -> Result<Written, ParseFault>> Expressi
 
 // Parses what follows `has`.
 #[tactic(auto, unfolding(crate::specs::Reading::asked))]
-fn parse_has(alloc: Global, tokens: &mut Cursor<'_>, left: Written) -> Result<Written, ParseFault>
-    ensures { Reads (spec.asked left tokens.old) result tokens.new }
+#[inline(never)]
+fn parse_has(
+    alloc: Global,
+    tokens: &mut Cursor<'_>,
+    start: usize,
+    left: Box<Written>,
+) -> Result<Box<Written>, ParseFault>
+    ensures { ReadsBoxed (spec.asked left.value tokens.old) result tokens.new }
 {
     match parse_attribute_path(alloc, tokens) {
-        Ok(path) => Ok(has(alloc, left, path)?),
+        Ok(path) => Ok(has(alloc, left, path, span_from(start, tokens))?),
         Err(fault) => {
             drop(left);
             Err(fault)
@@ -646,11 +645,17 @@ fn parse_has(alloc: Global, tokens: &mut Cursor<'_>, left: Written) -> Result<Wr
 
 // Parses what follows `like`.
 #[tactic(auto, unfolding(crate::specs::Reading::matched))]
-fn parse_like(alloc: Global, tokens: &mut Cursor<'_>, left: Written) -> Result<Written, ParseFault>
-    ensures { Reads (spec.matched left tokens.old) result tokens.new }
+#[inline(never)]
+fn parse_like(
+    alloc: Global,
+    tokens: &mut Cursor<'_>,
+    start: usize,
+    left: Box<Written>,
+) -> Result<Box<Written>, ParseFault>
+    ensures { ReadsBoxed (spec.matched left.value tokens.old) result tokens.new }
 {
     match parse_pattern(alloc, tokens) {
-        Ok(pattern) => Ok(like(alloc, left, pattern)?),
+        Ok(pattern) => Ok(like(alloc, left, pattern, span_from(start, tokens))?),
         Err(fault) => {
             drop(left);
             Err(fault)
@@ -681,28 +686,77 @@ fn begins_path(tokens: &Cursor<'_>) -> bool
     tokens.sees_second(TokenKind::DoubleColon) || tokens.sees_second(TokenKind::LeftParen)
 }
 
+// Parses a uid after its type.
+#[tactic(auto, unfolding(crate::specs::Private::Plain::of_uid))]
+#[inline(never)]
+fn parse_entity(
+    alloc: Global,
+    tokens: &mut Cursor<'_>,
+    start: usize,
+    ty: Name,
+) -> Result<Box<Written>, ParseFault>
+    ensures { ReadsBoxed (of_uid ty tokens.old) result tokens.new }
+{
+    let uid = parse_entity_of_type(alloc, ty, tokens)?;
+    Ok(boxed(alloc, WrittenKind::Entity(uid), span_from(start, tokens))?)
+}
+
 // Parses a word that names a part of the request. Another word may begin a path, so the fault is after it.
 #[tactic(auto, unfolding(crate::specs::Reading::variable))]
-fn parse_variable(tokens: &mut Cursor<'_>) -> Result<Written, ParseFault>
-    ensures { Reads (spec.variable tokens.old) result tokens.new }
+#[inline(never)]
+fn parse_variable(alloc: Global, tokens: &mut Cursor<'_>) -> Result<Box<Written>, ParseFault>
+    ensures { ReadsBoxed (spec.variable tokens.old) result tokens.new }
 {
     let word = tokens.expect(TokenKind::Identifier)?;
     let Some(name) = variable_of(word.text()) else {
         return Err(ParseFault::Syntax(tokens.offset()));
     };
-    Ok(Written::new(WrittenKind::Variable(name)))
+    Ok(boxed(alloc, WrittenKind::Variable(name), at(word))?)
+}
+
+// Parses a truth, a number, a string or a slot.
+#[tactic(auto, unfolding(crate::specs::Private::Plain::plain, cedar_parser_tokens::specs::Reading::first))]
+#[inline(never)]
+fn parse_plain(alloc: Global, tokens: &mut Cursor<'_>) -> Result<Box<Written>, ParseFault>
+    ensures { ReadsBoxed (plain tokens.old) result tokens.new }
+{
+    let Some(token) = tokens.peek() else {
+        return Err(ParseFault::Syntax(tokens.offset()));
+    };
+    match token.kind() {
+        TokenKind::True => {
+            tokens.skip();
+            Ok(boxed(alloc, WrittenKind::Truth(true), at(token))?)
+        }
+        TokenKind::False => {
+            tokens.skip();
+            Ok(boxed(alloc, WrittenKind::Truth(false), at(token))?)
+        }
+        TokenKind::Number => {
+            tokens.skip();
+            let kind = WrittenKind::Number(token.start(), token.number());
+            Ok(boxed(alloc, kind, at(token))?)
+        }
+        TokenKind::String => {
+            let content = parse_string(alloc, tokens)?;
+            Ok(boxed(alloc, WrittenKind::Text(content), at(token))?)
+        }
+        TokenKind::Slot => parse_slot(alloc, tokens),
+        _ => Err(ParseFault::Syntax(token.start())),
+    }
 }
 
 // Parses `?principal` or `?resource`.
 #[tactic(auto, unfolding(crate::specs::Reading::slot))]
-fn parse_slot(tokens: &mut Cursor<'_>) -> Result<Written, ParseFault>
-    ensures { Reads (spec.slot tokens.old) result tokens.new }
+fn parse_slot(alloc: Global, tokens: &mut Cursor<'_>) -> Result<Box<Written>, ParseFault>
+    ensures { ReadsBoxed (spec.slot tokens.old) result tokens.new }
 {
     let token = tokens.expect(TokenKind::Slot)?;
     let Some(name) = slot_of(token.text()) else {
         return Err(ParseFault::Syntax(token.start()));
     };
-    Ok(Written::new(WrittenKind::Slot(token.start(), name)))
+    let kind = WrittenKind::Slot(token.start(), name);
+    Ok(boxed(alloc, kind, at(token))?)
 }
 
 /// Parses an expression with fewer than `depth` brackets and `if`s open at one place.
@@ -717,27 +771,41 @@ pub fn parse_expression(
 ) -> Result<Written, ParseFault>
     ensures { Reads (spec.nested depth tokens.old) result tokens.new }
 {
+    let written = parse_nested(alloc, tokens, depth)?;
+    Ok(Box::into_inner(written))
+}
+
+// Parses an expression, as `parse_expression` does, into a box.
+fn parse_nested(
+    alloc: Global,
+    tokens: &mut Cursor<'_>,
+    depth: u8,
+) -> Result<Box<Written>, ParseFault>
+    ensures { ReadsBoxed (spec.nested depth tokens.old) result tokens.new }
+{
     if depth == 0 {
         return Err(ParseFault::TooDeep(tokens.taken()));
     }
     ExpressionParser {
         alloc,
         depth: depth - 1,
-        inner: parse_expression,
+        inner: parse_nested,
     }
     .parse_expression(tokens)
 }
 
-// What was read, with its place: where its first token begins, and where its last token begins.
-fn spanning(
-    read: Result<Written, ParseFault>,
-    start: usize,
-    last: usize,
-) -> Result<Written, ParseFault>
-    ensures { result ≡ read }
-{
-    match read {
-        Ok(written) => Ok(written.spanning(Span { start, last })),
-        Err(fault) => Err(fault),
+// The place of what begins there and ends with the token that was taken last.
+fn span_from(start: usize, tokens: &Cursor<'_>) -> Span {
+    Span {
+        start,
+        last: tokens.taken(),
+    }
+}
+
+// The place of one token.
+fn at(token: Spelled<'_>) -> Span {
+    Span {
+        start: token.start(),
+        last: token.start(),
     }
 }

@@ -17,6 +17,7 @@
 mod attribute_path;
 mod chain;
 mod chain_level;
+mod constructors;
 mod expression_parser;
 mod lookup;
 

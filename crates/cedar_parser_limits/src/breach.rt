@@ -37,12 +37,7 @@ pub fn expression_breach(
         WrittenKind::Group(inside) => expression_breach(alloc, condition, inside),
         WrittenKind::Not(operand) => expression_breach(alloc, condition, operand),
         WrittenKind::Negated(operand) => expression_breach(alloc, condition, operand),
-        WrittenKind::Relation(_, left, right) => {
-            if let Some(at) = expression_breach(alloc, condition, left)? {
-                return Ok(Some(at));
-            }
-            expression_breach(alloc, condition, right)
-        }
+        WrittenKind::Relation(_, left, right) => pair_breach(alloc, condition, left, right),
         WrittenKind::Has(operand, path) => {
             if let Some(at) = expression_breach(alloc, condition, operand)? {
                 return Ok(Some(at));
@@ -51,12 +46,7 @@ pub fn expression_breach(
         }
         WrittenKind::Like(operand, _) => expression_breach(alloc, condition, operand),
         WrittenKind::Is(operand, _) => expression_breach(alloc, condition, operand),
-        WrittenKind::IsIn(left, _, right) => {
-            if let Some(at) = expression_breach(alloc, condition, left)? {
-                return Ok(Some(at));
-            }
-            expression_breach(alloc, condition, right)
-        }
+        WrittenKind::IsIn(left, _, right) => pair_breach(alloc, condition, left, right),
         WrittenKind::Chain(first, links) => {
             if let Some(at) = expression_breach(alloc, condition, first)? {
                 return Ok(Some(at));
@@ -67,10 +57,7 @@ pub fn expression_breach(
             if let Some(at) = expression_breach(alloc, condition, test)? {
                 return Ok(Some(at));
             }
-            if let Some(at) = expression_breach(alloc, condition, if_true)? {
-                return Ok(Some(at));
-            }
-            expression_breach(alloc, condition, if_false)
+            pair_breach(alloc, condition, if_true, if_false)
         }
         WrittenKind::Set(members) => members_breach(alloc, condition, members.items()),
         WrittenKind::Record(fields) => {
@@ -90,6 +77,24 @@ pub fn expression_breach(
             members_breach(alloc, condition, arguments.items())
         }
     }
+}
+
+// The place in the first of two parts, or else in the second. It is a separate function, so that each level of a high expression
+// needs little of the call stack.
+#[cycle(breach)]
+#[inline(never)]
+fn pair_breach(
+    alloc: Global,
+    condition: SideCondition,
+    first: &Written,
+    second: &Written,
+) -> Result<Option<usize>, AllocError>
+    ensures { IfOk result (λ o. MatchOption o (Keeps condition first.now × Keeps condition second.now) (λ at. Keeps Strings first.now × Keeps Strings second.now → Keeps condition first.now × Keeps condition second.now → ⊥)) }
+{
+    if let Some(at) = expression_breach(alloc, condition, first)? {
+        return Ok(Some(at));
+    }
+    expression_breach(alloc, condition, second)
 }
 
 #[cycle(breach)]
@@ -281,7 +286,9 @@ fn arity_breach(
     }
 }
 
+// It is a separate function, so that each level of a high expression needs little of the call stack.
 #[tactic(auto, using(crate::proofs::PartLemmas::keys_map, crate::proofs::PartLemmas::distinct_keys))]
+#[inline(never)]
 fn keys_breach(
     alloc: Global,
     condition: SideCondition,

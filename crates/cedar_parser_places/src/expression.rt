@@ -16,8 +16,7 @@ pub fn marked_in_expression(
 }
 
 /// The position of the first token of an expression, which is not the first operand of a chain of attributes and methods. An `if` has
-/// no span, and neither has what is between two signs, such as the second `!` of `!!e`. They begin one token before their first
-/// part.
+/// no span. It begins one token before its first part, and so does what begins with `!` or `-`.
 pub fn first_token(tokens: &TokenList<'_>, written: &Written) -> Option<usize> {
     match written.kind() {
         WrittenKind::If(condition, _, _) => first_token(tokens, condition)?.checked_sub(1),

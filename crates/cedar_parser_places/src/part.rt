@@ -34,7 +34,7 @@ pub struct Chain<'w> {
     pub links: &'w [Link],
 }
 
-/// The first operand of a chain of attributes and methods, such as `x` of `x.a`. It has no span of its own.
+/// The first operand of a chain of attributes and methods, such as `x` of `x.a`. Its place is found from that of the chain.
 #[derive(Clone, Copy)]
 pub struct First<'w> {
     /// Where the chain begins, in bytes from 0.

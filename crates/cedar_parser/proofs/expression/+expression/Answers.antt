@@ -1,5 +1,6 @@
 use Rattle.std.proofs.Common.{◌≡◌, List, sym, ap, subst, ◌∙◌, ◌<◌, length, arith}
 use Rattle.std.specs.Prelude.{IfOk}
+use Rattle.std.specs.Global.{Box}
 use Rattle.cedar_ast_expressions.specs.Expression.{Expression, Entries, expressions_of, entries_of, record_with}
 use Rattle.cedar_ast_expressions.specs.Keys.{AreDistinct, keys_of}
 use Rattle.cedar_parser_limits.specs.declared.side_condition.SideCondition.TheVariants.{Strings, Numbers, Keys, Names, Counts, Slots}
@@ -23,8 +24,8 @@ to_chain-append_link-requires t c =
 pub to_chain-returns : goal.to_chain-returns
 to_chain-returns t c = c.loop-link.invariant.done ∙ behind_all (to_expression c.args.first.now) c.args.links.now c.loop-link.link-index c.loop-link-test.false
 
-pub to_expressions-to_expression-requires : goal.to_expressions-to_expression-requires
-to_expressions-to_expression-requires t c =
+pub to_expressions-to_boxed-requires : goal.to_expressions-to_boxed-requires
+to_expressions-to_boxed-requires t c =
     let within : c.loop-member.member-index < length c.args.members.now = omega arith in (
       omega (arith, member_lighter c.args.members.now c.loop-member.member-index c.member-item.result within c.member-item.is, c.decreases),
       ((members_here Numbers c.args.members.now c.loop-member.member-index c.member-item.result within c.member-item.is c.loop-member.invariant.numbers).0, ((members_here Keys c.args.members.now c.loop-member.member-index c.member-item.result within c.member-item.is c.loop-member.invariant.keys).0, ((members_here Strings c.args.members.now c.loop-member.member-index c.member-item.result within c.member-item.is c.loop-member.invariant.strings).0, ((members_here Names c.args.members.now c.loop-member.member-index c.member-item.result within c.member-item.is c.loop-member.invariant.names).0, ((members_here Counts c.args.members.now c.loop-member.member-index c.member-item.result within c.member-item.is c.loop-member.invariant.counts).0, (members_here Slots c.args.members.now c.loop-member.member-index c.member-item.result within c.member-item.is c.loop-member.invariant.slots).0))))),
@@ -35,7 +36,7 @@ to_expressions-loop-member-preserved t c =
     let within : c.loop-member.member-index < length c.args.members.now = omega arith in
     record {
       done = ap expressions_of c.in_ok-push.ensures
-          ∙ expressions_next c.loop-member.found.items c.in_ok-item.item c.args.members.now c.loop-member.member-index c.member-item.result within c.member-item.is c.loop-member.invariant.done c.in_ok-item.ensures;
+          ∙ expressions_next c.loop-member.found.items c.in_ok-item.item.value c.args.members.now c.loop-member.member-index c.member-item.result within c.member-item.is c.loop-member.invariant.done c.in_ok-item.ensures;
       numbers = (members_here Numbers c.args.members.now c.loop-member.member-index c.member-item.result within c.member-item.is c.loop-member.invariant.numbers).1;
       keys = (members_here Keys c.args.members.now c.loop-member.member-index c.member-item.result within c.member-item.is c.loop-member.invariant.keys).1;
       strings = (members_here Strings c.args.members.now c.loop-member.member-index c.member-item.result within c.member-item.is c.loop-member.invariant.strings).1;
@@ -44,8 +45,8 @@ to_expressions-loop-member-preserved t c =
       slots = (members_here Slots c.args.members.now c.loop-member.member-index c.member-item.result within c.member-item.is c.loop-member.invariant.slots).1;
     }
 
-pub to_pairs-to_expression-requires : goal.to_pairs-to_expression-requires
-to_pairs-to_expression-requires t c =
+pub to_pairs-to_boxed-requires : goal.to_pairs-to_boxed-requires
+to_pairs-to_boxed-requires t c =
     let within : c.loop-field.field-index < length c.args.fields.now = omega arith in (
       omega (arith, field_lighter c.args.fields.now c.loop-field.field-index c.field-item.result within c.field-item.is, c.decreases),
       ((fields_here Numbers c.args.fields.now c.loop-field.field-index c.field-item.result within c.field-item.is c.loop-field.invariant.numbers).0.1, ((fields_here Keys c.args.fields.now c.loop-field.field-index c.field-item.result within c.field-item.is c.loop-field.invariant.keys).0.1, ((fields_here Strings c.args.fields.now c.loop-field.field-index c.field-item.result within c.field-item.is c.loop-field.invariant.strings).0.1, ((fields_here Names c.args.fields.now c.loop-field.field-index c.field-item.result within c.field-item.is c.loop-field.invariant.names).0.1, ((fields_here Counts c.args.fields.now c.loop-field.field-index c.field-item.result within c.field-item.is c.loop-field.invariant.counts).0.1, (fields_here Slots c.args.fields.now c.loop-field.field-index c.field-item.result within c.field-item.is c.loop-field.invariant.slots).0.1))))),
@@ -57,7 +58,7 @@ to_record-record-requires t c =
 
 pub to_record-returns : goal.to_record-returns
 to_record-returns t c =
-    subst (λ (es : Entries). IfOk c.record.result (λ (x : Expression). x ≡ record_with es)) (ap entries_of c.in_ok-pairs.ensures ∙ entries_of_pairs c.args.fields.now) c.record.ensures
+    subst (λ (es : Entries). IfOk c.record.result (λ (b : Box Expression). b.value ≡ record_with es)) (ap entries_of c.in_ok-pairs.ensures ∙ entries_of_pairs c.args.fields.now) c.record.ensures
 
 pub append_link-method_call-requires : goal.append_link-method_call-requires
 append_link-method_call-requires t c =
@@ -66,8 +67,8 @@ append_link-method_call-requires t c =
     (subst (KeepLink Counts) c.in-Method.is c.requires.counts).1
     (c.in_ok-arguments-in-Method.ensures ∙ ap (λ (xs : List Written). to_expressions (members_of xs)) c.items.ensures)
 
-pub to_expression-function_call-requires-clause-argument : goal.to_expression-function_call-requires-clause-argument
-to_expression-function_call-requires-clause-argument t c =
+pub to_boxed-function_call-requires-clause-argument : goal.to_boxed-function_call-requires-clause-argument
+to_boxed-function_call-requires-clause-argument t c =
     function_argument (function_of c.in-Call.name) (members_of c.in-Call.arguments) c.in_ok-arguments-in-Call.arguments.items
     (subst (λ (k : WrittenKind). Keeps Names (written_of k)) c.in-Call.is (subst (Keeps Names) (sym c.kind.ensures) c.requires.names)).0
     (subst (λ (k : WrittenKind). Keeps Counts (written_of k)) c.in-Call.is (subst (Keeps Counts) (sym c.kind.ensures) c.requires.counts)).1

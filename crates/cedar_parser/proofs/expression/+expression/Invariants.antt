@@ -9,8 +9,8 @@ use Rattle.cedar_parser_limits.specs.Private.Parts.{behind, pairs_of}
 use Rattle.cedar_parser_limits.proofs.PartLemmas.{link_weight}
 use Rattle.cedar_parser.proofs.expression.+expression.Given as goal
 
-abbrev pub decreases-to_expression : goal.decreases-to_expression
-decreases-to_expression l = 2 * parts l.written.now
+abbrev pub decreases-to_boxed : goal.decreases-to_boxed
+decreases-to_boxed l = 2 * parts l.written.now
 
 abbrev pub decreases-to_chain : goal.decreases-to_chain
 decreases-to_chain l = suc (2 * (parts l.first.now + link_parts (links_of l.links.now)))
@@ -38,7 +38,7 @@ decreases-to_pairs l = 2 * field_parts (fields_of l.fields.now)
 
 abbrev pub invariant-to_chain-loop-link : goal.invariant-to_chain-loop-link
 invariant-to_chain-loop-link l = record {
-  done : l.left ≡ fold behind (to_expression l.first) (take l.link-index l.links);
+  done : l.left.value ≡ fold behind (to_expression l.first) (take l.link-index l.links);
   numbers : KeepLinks Numbers (links_of (drop l.link-index l.links));
   keys : KeepLinks Keys (links_of (drop l.link-index l.links));
   strings : KeepLinks Strings (links_of (drop l.link-index l.links));

@@ -1,4 +1,4 @@
-use Rattle.std.proofs.Common.{suc, ◌*◌, drop}
+use Rattle.std.proofs.Common.{suc, ◌+◌, ◌*◌, drop}
 use Rattle.cedar_parser_tree.specs.WrittenKind.{links_of, fields_of}
 use Rattle.cedar_parser_tree.specs.Written.{parts, link_parts, member_parts, field_parts, members_of}
 use Rattle.cedar_parser_limits.specs.declared.side_condition.SideCondition.TheVariants.{Strings}
@@ -8,6 +8,9 @@ use Rattle.cedar_parser_limits.proofs.breach.+breach.Given as goal
 
 abbrev pub decreases-expression_breach : goal.decreases-expression_breach
 decreases-expression_breach l = 2 * parts l.written.now
+
+abbrev pub decreases-pair_breach : goal.decreases-pair_breach
+decreases-pair_breach l = suc (2 * (parts l.first.now + parts l.second.now))
 
 abbrev pub decreases-links_breach : goal.decreases-links_breach
 decreases-links_breach l = suc (2 * link_parts (links_of l.links.now))

@@ -1,7 +1,7 @@
 use Rattle.std.proofs.Common.{arith}
 use Rattle.cedar_parser_expressions.specs.Reading as spec
 use Rattle.cedar_parser_tokens.proofs.Turns.{deeper, none_deep}
-use Rattle.cedar_parser_expressions.proofs.expression_parser.+parse_expression.Goals as goal
+use Rattle.cedar_parser_expressions.proofs.expression_parser.+parse_nested.Goals as goal
 
 pub returns-then-depth-eq0 : goal.returns-then-depth-eq0
 unfolding spec.nested

@@ -7,3 +7,4 @@ pub mod Numbers
 pub mod Policies
 pub mod Typings
 pub mod Unmentioned
+pub mod Ways

@@ -2,4 +2,5 @@
 pub mod Condition
 pub mod Mention
 pub mod Signatures
+pub mod Spine
 pub mod View

@@ -10,6 +10,7 @@ use std::alloc::{AllocError, Global};
 
 /// The first branch, after a condition that is known true: it gains what the condition gains too. It takes memory where both
 /// gain.
+#[inline(never)]
 pub(crate) fn if_known<'a>(
     gained: Vec<Capability<'a>>,
     first: Typing<'a>,
@@ -43,6 +44,7 @@ fn joined<'a>(
 }
 
 /// The two branches, after a condition of which nothing is known: their types join, and they gain what both of them gain.
+#[inline(never)]
 pub(crate) fn if_joined<'a>(
     alloc: Global,
     gained: &[Capability<'a>],

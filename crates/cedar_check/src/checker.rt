@@ -1,16 +1,18 @@
 //! The typing of an expression, one method for each form.
-ghost use Rattle.std.specs.Prelude.{◌≡◌, ◌++◌, [], IfOk};
-ghost use Rattle.cedar_ast_expressions.specs.Expression.{and, entries_of, expressions_of, if_else, or, record_with, set_with, unary, binary};
+ghost use Rattle.std.specs.Prelude.{◌≡◌, ◌++◌, [], IfOk, Some};
+ghost use Rattle.cedar_ast_expressions.specs.Expression.{and, entries_of, expressions_of, record_with, set_with};
 ghost use Rattle.cedar_ast_expressions.specs.Keys.{AreDistinct, keys_of};
-ghost use Rattle.cedar_check_spec.specs.Private.Checking.{type_of_with, types_onto};
+ghost use Rattle.cedar_check_spec.specs.Rows.{binary_type};
+ghost use Rattle.cedar_check_spec.specs.Private.Checking.{and_type, if_type, on_boolean, on_two, or_type, type_of_with, types_onto};
 ghost use Rattle.cedar_check_operators.specs.View.{element_view, held_view, tree_of, typing_view};
+ghost use Rattle.cedar_check.specs.Private.Spine.{left_of, row_from};
 
 use crate::branches::{if_joined, if_known};
-use crate::rows::{and_right, boolean_alone, literal_type, or_right, unary_fault, variable_type};
-use cedar_ast_expressions::{BinaryOperator, Expr, ExprKind, UnaryOperator};
+use crate::rows::{and_right, binary_row, literal_type, or_right, unary_row, variable_type};
+use crate::spine::Spine;
+use cedar_ast_expressions::{BinaryOperator, Expr, ExprKind};
 use cedar_check_operators::{
-    Capability, LentType, TypeFault, Typing, add_attribute, binary_type, extended, join_types,
-    set_type, unary_type,
+    Capability, LentType, TypeFault, Typing, add_attribute, extended, join_types, set_type,
 };
 use cedar_check_spec::Settings;
 use cedar_schema::{Environment, RecordType, Schema, Truth, Type, TypeKind};
@@ -32,14 +34,37 @@ pub(crate) struct Checker<'a> {
 
 impl<'a> Checker<'a> {
     /// The type of an expression under these settings, in an environment where these capabilities are held, and
-    /// what it gains, or why it has no type (Cedar documentation, strict validation).
+    /// what it gains, or why it has no type (Cedar documentation, strict validation). A high expression is mostly high on its
+    /// left side, so that side is typed in a loop, from its end upwards.
     #[cycle(check)]
+    #[inline(never)]
     pub(crate) fn check(
-        self,
+        &self,
         held: &[Capability<'a>],
         expression: &'a Expr,
     ) -> Result<Typing<'a>, AllocError>
-        ensures { IfOk result (λ t. typing_view t ≡ type_of_with self.entry.settings self.entry.schema.now self.entry.environment.now (held_view held.now) expression.now) }
+        ensures { IfOk result (λ t. typing_view t ≡ type_of_with self.now.settings self.now.schema.now self.now.environment.now (held_view held.now) expression.now) }
+    {
+        let spine = Spine::new(expression);
+        let mut typing = self.check_last(held, spine.last)?;
+        let passed = &spine.passed[..spine.count];
+        let mut count = passed.len();
+        'up: while count > 0 {
+            count -= 1;
+            typing = self.check_row(held, passed[count], typing)?;
+        }
+        Ok(typing)
+    }
+
+    // The type of the last part of a spine. Mostly it has no left part.
+    #[cycle(check)]
+    #[inline(never)]
+    fn check_last(
+        &self,
+        held: &[Capability<'a>],
+        expression: &'a Expr,
+    ) -> Result<Typing<'a>, AllocError>
+        ensures { IfOk result (λ t. typing_view t ≡ type_of_with self.now.settings self.now.schema.now self.now.environment.now (held_view held.now) expression.now) }
     {
         match expression.kind() {
             ExprKind::Literal(value) => Ok(literal_type(self.alloc, self.schema, value)),
@@ -48,17 +73,60 @@ impl<'a> Checker<'a> {
                 self.environment,
                 *variable,
             )),
-            ExprKind::And(left, right) => self.check_and(held, left, right),
-            ExprKind::Or(left, right) => self.check_or(held, left, right),
-            ExprKind::If(condition, first, second) => {
-                self.check_if(held, condition, first, second)
-            }
-            ExprKind::Unary(operator, operand) => { self.check_unary(held, operator, operand) }
-            ExprKind::Binary(operator, left, right) => {
-                self.check_binary(held, *operator, left, right)
-            }
+            ExprKind::And(left, _) => self.check_above(held, expression, left),
+            ExprKind::Or(left, _) => self.check_above(held, expression, left),
+            ExprKind::If(condition, _, _) => self.check_above(held, expression, condition),
+            ExprKind::Unary(_, operand) => self.check_above(held, expression, operand),
+            ExprKind::Binary(_, left, _) => self.check_above(held, expression, left),
             ExprKind::Set(members) => self.check_set(held, members),
-            ExprKind::Record(entries) => { self.check_record(held, entries.pairs()) }
+            ExprKind::Record(entries) => self.check_record(held, entries.pairs()),
+        }
+    }
+
+    // The type of an expression with this left part.
+    #[cycle(check)]
+    #[inline(never)]
+    fn check_above(
+        &self,
+        held: &[Capability<'a>],
+        expression: &'a Expr,
+        left: &'a Expr,
+    ) -> Result<Typing<'a>, AllocError>
+        requires { left_of expression.now ≡ Some left.now }
+        ensures { IfOk result (λ t. typing_view t ≡ type_of_with self.now.settings self.now.schema.now self.now.environment.now (held_view held.now) expression.now) }
+    {
+        let typing = self.check(held, left)?;
+        self.check_row(held, expression, typing)
+    }
+
+    // The row of an expression, from the typing of its left part.
+    #[cycle(check)]
+    fn check_row(
+        &self,
+        held: &[Capability<'a>],
+        expression: &'a Expr,
+        left: Typing<'a>,
+    ) -> Result<Typing<'a>, AllocError>
+        ensures { IfOk result (λ t. typing_view t ≡ row_from self.now.settings self.now.schema.now self.now.environment.now (held_view held.now) expression.now (typing_view left.entry)) }
+    {
+        match expression.kind() {
+            ExprKind::And(_, right) => self.check_and(held, left, right),
+            ExprKind::Or(_, right) => self.check_or(held, left, right),
+            ExprKind::If(_, first, second) => self.check_if(held, left, first, second),
+            ExprKind::Unary(operator, operand) => unary_row(
+                self.alloc,
+                self.settings,
+                self.schema,
+                held,
+                operator,
+                operand,
+                left,
+            ),
+            ExprKind::Binary(operator, operand, right) => {
+                self.check_binary(held, *operator, left, operand, right)
+            }
+            ExprKind::Literal(_) | ExprKind::Variable(_) | ExprKind::Set(_) | ExprKind::Record(_) =>
+                Ok(left),
         }
     }
 
@@ -67,12 +135,12 @@ impl<'a> Checker<'a> {
     #[cycle(check)]
     #[inline(never)]
     fn check_holding(
-        self,
+        &self,
         held: &[Capability<'a>],
         gained: &[Capability<'a>],
         expression: &'a Expr,
     ) -> Result<Typing<'a>, AllocError>
-        ensures { IfOk result (λ t. typing_view t ≡ type_of_with self.entry.settings self.entry.schema.now self.entry.environment.now (held_view held.now ++ held_view gained.now) expression.now) }
+        ensures { IfOk result (λ t. typing_view t ≡ type_of_with self.now.settings self.now.schema.now self.now.environment.now (held_view held.now ++ held_view gained.now) expression.now) }
     {
         if gained.is_empty() {
             return self.check(held, expression);
@@ -84,18 +152,39 @@ impl<'a> Checker<'a> {
         self.check(&more, expression)
     }
 
-    // `left && right`.
+    // The row of `left && right`. Where the right side is itself a chain of `&&`, its parts are typed from the left to the
+    // right: `a && (b && c)` has the type of `(a && b) && c`.
     #[cycle(check)]
     #[inline(never)]
     fn check_and(
-        self,
+        &self,
         held: &[Capability<'a>],
-        left: &'a Expr,
+        left: Typing<'a>,
         right: &'a Expr,
     ) -> Result<Typing<'a>, AllocError>
-        ensures { IfOk result (λ t. typing_view t ≡ type_of_with self.entry.settings self.entry.schema.now self.entry.environment.now (held_view held.now) (and left.now right.now)) }
+        ensures { IfOk result (λ t. typing_view t ≡ on_boolean (typing_view left.entry) (and_type (held_view held.now) (λ k. type_of_with self.now.settings self.now.schema.now self.now.environment.now k right.now))) }
     {
-        let x = match self.check(held, left)? {
+        let mut typing = left;
+        let mut rest = right;
+        'parts: while let ExprKind::And(first, others) = rest.kind() {
+            typing = self.check_part(held, typing, first)?;
+            rest = others;
+        }
+        self.check_part(held, typing, rest)
+    }
+
+    // The row of `left && right`.
+    #[cycle(check)]
+    #[inline(never)]
+    fn check_part(
+        &self,
+        held: &[Capability<'a>],
+        left: Typing<'a>,
+        right: &'a Expr,
+    ) -> Result<Typing<'a>, AllocError>
+        ensures { IfOk result (λ t. typing_view t ≡ on_boolean (typing_view left.entry) (and_type (held_view held.now) (λ k. type_of_with self.now.settings self.now.schema.now self.now.environment.now k right.now))) }
+    {
+        let x = match left {
             Typing::Typed(x) => x,
             Typing::Refused(fault) => return Ok(Typing::Refused(fault)),
         };
@@ -114,71 +203,58 @@ impl<'a> Checker<'a> {
     /// The type of `principal && (action && rest)`, where nothing is held. Where `principal` is known false, the
     /// rest is not looked at.
     pub(crate) fn check_scoped(
-        self,
+        &self,
         principal: &'a Expr,
         action: &'a Expr,
         rest: &'a Expr,
     ) -> Result<Typing<'a>, AllocError>
-        ensures { IfOk result (λ t. typing_view t ≡ type_of_with self.entry.settings self.entry.schema.now self.entry.environment.now [] (and principal.now (and action.now rest.now))) }
+        ensures { IfOk result (λ t. typing_view t ≡ type_of_with self.now.settings self.now.schema.now self.now.environment.now [] (and principal.now (and action.now rest.now))) }
     {
-        let x = match self.check(&[], principal)? {
-            Typing::Typed(x) => x,
-            Typing::Refused(fault) => return Ok(Typing::Refused(fault)),
-        };
-        let Some(truth) = x.ty.truth() else {
-            return Ok(Typing::Refused(TypeFault::OperandKind));
-        };
-        if truth == Truth::False {
-            return Ok(Typing::plain(self.alloc, LentType::Boolean(Truth::False)));
-        }
-        let right = self.check_and(&x.gained, action, rest)?;
-        and_right(self.alloc, truth, x.gained, right)
+        let typing = self.check(&[], principal)?;
+        let typing = self.check_part(&[], typing, action)?;
+        self.check_and(&[], typing, rest)
     }
 
-    // `left || right`.
+    // The row of `left || right`.
     #[cycle(check)]
     #[inline(never)]
     fn check_or(
-        self,
+        &self,
         held: &[Capability<'a>],
-        left: &'a Expr,
+        left: Typing<'a>,
         right: &'a Expr,
     ) -> Result<Typing<'a>, AllocError>
-        ensures { IfOk result (λ t. typing_view t ≡ type_of_with self.entry.settings self.entry.schema.now self.entry.environment.now (held_view held.now) (or left.now right.now)) }
+        ensures { IfOk result (λ t. typing_view t ≡ on_boolean (typing_view left.entry) (or_type (type_of_with self.now.settings self.now.schema.now self.now.environment.now (held_view held.now) right.now))) }
     {
-        let x = match self.check(held, left)? {
+        let x = match left {
             Typing::Typed(x) => x,
             Typing::Refused(fault) => return Ok(Typing::Refused(fault)),
         };
         let known = x.ty.truth();
         drop(x.ty);
-        match known {
-            None => Ok(Typing::Refused(TypeFault::OperandKind)),
-            Some(Truth::True) => Ok(Typing::plain(self.alloc, LentType::Boolean(Truth::True))),
-            Some(Truth::False) => {
-                let right = self.check(held, right)?;
-                Ok(boolean_alone(right))
-            }
-            Some(Truth::Any) => {
-                let right = self.check(held, right)?;
-                or_right(self.alloc, x.gained, right)
-            }
+        let Some(truth) = known else {
+            return Ok(Typing::Refused(TypeFault::OperandKind));
+        };
+        if truth == Truth::True {
+            return Ok(Typing::plain(self.alloc, LentType::Boolean(Truth::True)));
         }
+        let right = self.check(held, right)?;
+        or_right(self.alloc, truth, x.gained, right)
     }
 
-    // `if condition then first else second`.
+    // The row of `if condition then first else second`, from the typing of the condition.
     #[cycle(check)]
     #[inline(never)]
     fn check_if(
-        self,
+        &self,
         held: &[Capability<'a>],
-        condition: &'a Expr,
+        condition: Typing<'a>,
         first: &'a Expr,
         second: &'a Expr,
     ) -> Result<Typing<'a>, AllocError>
-        ensures { IfOk result (λ t. typing_view t ≡ type_of_with self.entry.settings self.entry.schema.now self.entry.environment.now (held_view held.now) (if_else condition.now first.now second.now)) }
+        ensures { IfOk result (λ t. typing_view t ≡ on_boolean (typing_view condition.entry) (if_type (λ g. type_of_with self.now.settings self.now.schema.now self.now.environment.now (held_view held.now ++ g) first.now) (type_of_with self.now.settings self.now.schema.now self.now.environment.now (held_view held.now) second.now))) }
     {
-        let x = match self.check(held, condition)? {
+        let x = match condition {
             Typing::Typed(x) => x,
             Typing::Refused(fault) => return Ok(Typing::Refused(fault)),
         };
@@ -199,69 +275,44 @@ impl<'a> Checker<'a> {
         }
     }
 
-    // An operator on its operand.
-    #[tactic(auto, using(crate::proofs::Kept::unary_given))]
-    #[cycle(check)]
-    #[inline(never)]
-    fn check_unary(
-        self,
-        held: &[Capability<'a>],
-        operator: &'a UnaryOperator,
-        operand: &'a Expr,
-    ) -> Result<Typing<'a>, AllocError>
-        ensures { IfOk result (λ t. typing_view t ≡ type_of_with self.entry.settings self.entry.schema.now self.entry.environment.now (held_view held.now) (unary operator.now operand.now)) }
-    {
-        match self.check(held, operand)? {
-            Typing::Typed(typed) => unary_type(
-                self.alloc,
-                self.settings,
-                self.schema,
-                held,
-                operator,
-                operand,
-                &typed,
-            ),
-            Typing::Refused(fault) => Ok(Typing::Refused(unary_fault(
-                self.settings,
-                operator,
-                fault,
-            ))),
-        }
-    }
-
-    // An operator on its operands.
+    // The row of an operator on two operands, from the typing of the left one.
     #[cycle(check)]
     #[inline(never)]
     fn check_binary(
-        self,
+        &self,
         held: &[Capability<'a>],
         operator: BinaryOperator,
+        typing: Typing<'a>,
         left: &'a Expr,
         right: &'a Expr,
     ) -> Result<Typing<'a>, AllocError>
-        ensures { IfOk result (λ t. typing_view t ≡ type_of_with self.entry.settings self.entry.schema.now self.entry.environment.now (held_view held.now) (binary operator left.now right.now)) }
+        ensures { IfOk result (λ t. typing_view t ≡ on_two (typing_view typing.entry) (type_of_with self.now.settings self.now.schema.now self.now.environment.now (held_view held.now) right.now) (binary_type self.now.schema.now operator left.now right.now)) }
     {
-        let x = match self.check(held, left)? {
-            Typing::Typed(x) => x,
-            Typing::Refused(fault) => return Ok(Typing::Refused(fault)),
-        };
-        let y = match self.check(held, right)? {
-            Typing::Typed(y) => y,
-            Typing::Refused(fault) => return Ok(Typing::Refused(fault)),
-        };
-        Ok(binary_type(self.alloc, self.schema, operator, left, right, &x.ty, &y.ty))
+        if let Typing::Refused(fault) = &typing {
+            return Ok(Typing::Refused(*fault));
+        }
+        let other = self.check(held, right)?;
+        Ok(binary_row(
+            self.alloc,
+            self.schema,
+            operator,
+            left,
+            right,
+            typing,
+            other,
+        ))
     }
 
     // What the first type and those of the members join to.
     #[cycle(check)]
     #[inline(never)]
     fn check_members(
-        self,
+        &self,
         held: &[Capability<'a>],
         first: LentType<'a>,
         others: &'a [Expr],
     ) -> Result<Typing<'a>, AllocError>
-        ensures { IfOk result (λ t. element_view t ≡ types_onto self.entry.settings self.entry.schema.now self.entry.environment.now (held_view held.now) (tree_of first.entry) (expressions_of others.now)) }
+        ensures { IfOk result (λ t. element_view t ≡ types_onto self.now.settings self.now.schema.now self.now.environment.now (held_view held.now) (tree_of first.entry) (expressions_of others.now)) }
     {
         let mut joined = first;
         for member in others {
@@ -281,11 +332,11 @@ impl<'a> Checker<'a> {
     #[cycle(check)]
     #[inline(never)]
     fn check_set(
-        self,
+        &self,
         held: &[Capability<'a>],
         members: &'a [Expr],
     ) -> Result<Typing<'a>, AllocError>
-        ensures { IfOk result (λ t. typing_view t ≡ type_of_with self.entry.settings self.entry.schema.now self.entry.environment.now (held_view held.now) (set_with (expressions_of members.now))) }
+        ensures { IfOk result (λ t. typing_view t ≡ type_of_with self.now.settings self.now.schema.now self.now.environment.now (held_view held.now) (set_with (expressions_of members.now))) }
     {
         let Some((first, others)) = members.split_first() else {
             return Ok(Typing::Refused(TypeFault::EmptySet));
@@ -302,12 +353,12 @@ impl<'a> Checker<'a> {
     #[cycle(check)]
     #[inline(never)]
     fn check_record(
-        self,
+        &self,
         held: &[Capability<'a>],
         pairs: &'a [(SharedText, Expr)],
     ) -> Result<Typing<'a>, AllocError>
         requires { AreDistinct (keys_of pairs.now) }
-        ensures { IfOk result (λ t. typing_view t ≡ type_of_with self.entry.settings self.entry.schema.now self.entry.environment.now (held_view held.now) (record_with (entries_of pairs.now))) }
+        ensures { IfOk result (λ t. typing_view t ≡ type_of_with self.now.settings self.now.schema.now self.now.environment.now (held_view held.now) (record_with (entries_of pairs.now))) }
     {
         let mut attributes = RecordType::new(self.alloc);
         for pair in pairs {

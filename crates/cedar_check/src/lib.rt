@@ -30,6 +30,7 @@ mod prepared;
 mod report;
 mod rows;
 mod signatures;
+mod spine;
 mod type_order;
 mod typing;
 

@@ -1,14 +1,15 @@
 //! The rows of strict typing for expressions whose parts are typed already, or that have none.
-ghost use Rattle.std.specs.Prelude.{◌≡◌, IfOk};
+ghost use Rattle.std.specs.Prelude.{◌≡◌, IfOk, option_and_then};
 ghost use Rattle.cedar_schema_types.specs.Types.{boolean};
 ghost use Rattle.cedar_value.specs.Datum.{uid as uid_datum};
-ghost use Rattle.cedar_check_spec.specs.Rows.{gaining};
-ghost use Rattle.cedar_check_spec.specs.Private.Checking.{and_right, literal_type, on_boolean, or_right, variable_type};
+ghost use Rattle.cedar_check_spec.specs.Rows.{binary_type, gaining};
+ghost use Rattle.cedar_check_spec.specs.Private.Checking.{and_right, literal_type, on_boolean, on_two, or_right, or_type, unary_type, variable_type};
 ghost use Rattle.cedar_check_operators.specs.View.{held_view, typing_view};
 
-use cedar_ast_expressions::{UnaryOperator, Variable};
+use cedar_ast_expressions::{BinaryOperator, Expr, UnaryOperator, Variable};
 use cedar_check_operators::{
-    Capability, LentType, TypeFault, Typed, Typing, common, is_action, together,
+    Capability, LentType, TypeFault, Typed, Typing, binary_type, common, is_action, together,
+    unary_type,
 };
 use cedar_check_spec::Settings;
 use cedar_schema::{Environment, Schema, Truth};
@@ -27,6 +28,7 @@ fn uid_type<'a>(alloc: Global, schema: &Schema, uid: &'a Uid) -> Typing<'a>
 }
 
 /// The row of literals.
+#[inline(never)]
 pub(crate) fn literal_type<'a>(alloc: Global, schema: &Schema, value: &'a Value) -> Typing<'a>
     ensures { typing_view result ≡ literal_type schema.now value.now }
 {
@@ -43,6 +45,7 @@ pub(crate) fn literal_type<'a>(alloc: Global, schema: &Schema, value: &'a Value)
 }
 
 /// The row of variables. `action` has none, since the environment's action replaces it.
+#[inline(never)]
 pub(crate) fn variable_type<'a>(
     alloc: Global,
     environment: &'a Environment,
@@ -59,6 +62,7 @@ pub(crate) fn variable_type<'a>(
 }
 
 /// The row of `&&` where the left side is not known false: what the right side gives. It takes memory where both sides gain.
+#[inline(never)]
 pub(crate) fn and_right<'a>(
     alloc: Global,
     truth: Truth,
@@ -85,9 +89,26 @@ pub(crate) fn and_right<'a>(
     }
 }
 
-/// The row of `||` where nothing is known of the left side: what the right side gives.
+// A Boolean with what it gains. Another type is refused.
+fn boolean_alone<'a>(typing: Typing<'a>) -> Typing<'a>
+    ensures { typing_view result ≡ on_boolean (typing_view typing.entry) (λ f g. gaining (boolean f) g) }
+{
+    let x = match typing {
+        Typing::Typed(x) => x,
+        Typing::Refused(fault) => return Typing::Refused(fault),
+    };
+    match x.ty.truth() {
+        None => Typing::Refused(TypeFault::OperandKind),
+        Some(truth) => Typing::Typed(Typed {
+            ty: LentType::Boolean(truth),
+            gained: x.gained,
+        }),
+    }
+}
+
+// The row of `||` where nothing is known of the left side: what the right side gives.
 #[tactic(auto, using(crate::proofs::Kept::kept_in))]
-pub(crate) fn or_right<'a>(
+fn or_any<'a>(
     alloc: Global,
     gained: Vec<Capability<'a>>,
     right: Typing<'a>,
@@ -112,30 +133,27 @@ pub(crate) fn or_right<'a>(
     }
 }
 
-/// A Boolean with what it gains. Another type is refused.
-pub(crate) fn boolean_alone<'a>(typing: Typing<'a>) -> Typing<'a>
-    ensures { typing_view result ≡ on_boolean (typing_view typing.entry) (λ f g. gaining (boolean f) g) }
+/// The row of `||`: what the right side gives where the left side is not known true.
+#[tactic(auto, using(crate::proofs::Kept::kept_in))]
+#[inline(never)]
+pub(crate) fn or_right<'a>(
+    alloc: Global,
+    truth: Truth,
+    gained: Vec<Capability<'a>>,
+    right: Typing<'a>,
+) -> Result<Typing<'a>, AllocError>
+    ensures { IfOk result (λ t. typing_view t ≡ or_type (typing_view right.entry) truth (held_view gained.entry.items)) }
 {
-    let x = match typing {
-        Typing::Typed(x) => x,
-        Typing::Refused(fault) => return Typing::Refused(fault),
-    };
-    match x.ty.truth() {
-        None => Typing::Refused(TypeFault::OperandKind),
-        Some(truth) => Typing::Typed(Typed {
-            ty: LentType::Boolean(truth),
-            gained: x.gained,
-        }),
+    match truth {
+        Truth::True => Ok(Typing::plain(alloc, LentType::Boolean(Truth::True))),
+        Truth::False => Ok(boolean_alone(right)),
+        Truth::Any => or_any(alloc, gained, right),
     }
 }
 
-/// Why an operator on a refused operand has no type. Where `decimal` takes literals alone, an operand that is not a literal is
-/// itself the fault.
-pub(crate) fn unary_fault(
-    settings: Settings,
-    operator: &UnaryOperator,
-    fault: TypeFault,
-) -> TypeFault {
+// Why an operator on a refused operand has no type. Where `decimal` takes literals alone, an operand that is not a literal is
+// itself the fault.
+fn unary_fault(settings: Settings, operator: &UnaryOperator, fault: TypeFault) -> TypeFault {
     match operator {
         UnaryOperator::Decimal => {
             if settings.any_decimal {
@@ -146,4 +164,50 @@ pub(crate) fn unary_fault(
         }
         _ => fault,
     }
+}
+
+/// The row of an operator on its operand. The operand may have no type.
+#[tactic(auto, using(crate::proofs::Kept::unary_given))]
+#[inline(never)]
+pub(crate) fn unary_row<'a>(
+    alloc: Global,
+    settings: Settings,
+    schema: &'a Schema,
+    held: &[Capability<'a>],
+    operator: &'a UnaryOperator,
+    operand: &'a Expr,
+    typing: Typing<'a>,
+) -> Result<Typing<'a>, AllocError>
+    ensures { IfOk result (λ t. typing_view t ≡ option_and_then (unary_type settings schema.now (held_view held.now) operator.now operand.now) (typing_view typing.entry)) }
+{
+    match typing {
+        Typing::Typed(typed) => {
+            unary_type(alloc, settings, schema, held, operator, operand, &typed)
+        }
+        Typing::Refused(fault) => Ok(Typing::Refused(unary_fault(settings, operator, fault))),
+    }
+}
+
+/// The row of an operator on two operands. Either of them may have no type.
+#[inline(never)]
+pub(crate) fn binary_row<'a>(
+    alloc: Global,
+    schema: &Schema,
+    operator: BinaryOperator,
+    left: &Expr,
+    right: &Expr,
+    one: Typing<'a>,
+    two: Typing<'a>,
+) -> Typing<'a>
+    ensures { typing_view result ≡ on_two (typing_view one.entry) (typing_view two.entry) (binary_type schema.now operator left.now right.now) }
+{
+    let x = match one {
+        Typing::Typed(x) => x,
+        Typing::Refused(fault) => return Typing::Refused(fault),
+    };
+    let y = match two {
+        Typing::Typed(y) => y,
+        Typing::Refused(fault) => return Typing::Refused(fault),
+    };
+    binary_type(alloc, schema, operator, left, right, &x.ty, &y.ty)
 }

@@ -2,6 +2,7 @@ pub mod Answerable
 pub mod CodesBeside
 pub mod PoliciesAt
 pub mod Reached
+pub mod ReadyCrossing
 pub mod Responses
 pub mod Selected
 pub mod Taken

@@ -39,7 +39,7 @@ pub use base_lines::{
     StdSource, VecSink, WriteFailed,
 };
 pub use cedar_auth_law::engine_is_sound;
-pub use crossing::{policies_cross, ready_crosses};
+pub use crossing::{ready_crosses, validated_crosses};
 pub use deciding::{answer_line, append_answer, decide};
 pub use not_ready::NotReady;
 pub use not_validated::NotValidated;

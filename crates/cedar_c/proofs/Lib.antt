@@ -1,2 +1,3 @@
 mod OneReport
 mod Stored
+mod SlotCrossing

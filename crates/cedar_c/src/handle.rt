@@ -23,6 +23,9 @@ impl Model for Handle {
     ghost also_owns = { λ h. slot_owns h.alloc h.at h.value };
 }
 
+// The slot may go to another thread, and so may the right to free it: `proofs/handle/Handle/TheSendSync/Send.antt`.
+unsafe impl Send for Handle {}
+
 impl Handle {
     ghost use Rattle.cedar_c.specs.Lending.{LendsSlot};
 

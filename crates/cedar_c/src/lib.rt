@@ -21,6 +21,7 @@ ghost use Rattle.cedar_files.specs.Authorization.{HoldAll};
 
 mod answering;
 mod buffer;
+mod crossing;
 mod decided;
 mod deciding;
 mod engine;
@@ -39,6 +40,7 @@ mod version;
 
 use base_loose::Loose;
 use buffer::give;
+pub use crossing::handle_crosses;
 use decided::Decided;
 use explaining::{explanation, format_of};
 use handle::Handle;

@@ -1,0 +1,160 @@
+-- What is ready may cross threads: `Send` and `Sync` of its parts, and of the whole. Each part whole, since a `search` that goes down through all of them runs out of steps.
+--     validated-send, validated-sync      of policies that are accepted
+--     ready-send, ready-sync      of what is ready
+use denote.RattleType.{RattleType}
+use denote.Param.Send.{IsSend, IsSync, sendable}
+use Rattle.std.proofs.Crossing.{crosses, frees, send, sync}
+use Rattle.std.proofs.MapsCrossing.{crosses as maps}
+use Rattle.std.proofs.MapsCrossingOver.{BTreeSet-send, BTreeSet-sync}
+use Rattle.std.specs.contracts.hash.BuildHasherDefault as default
+use Rattle.std.specs.contracts.hash.FoldHasher as fold
+use Rattle.indexmap.proofs.map.IndexMap.TheSendSync as map
+use Rattle.base_search.proofs.row.Row.TheSendSync as row
+use Rattle.cedar_ext.proofs.decimal.Decimal.TheSendSync as decimal
+use Rattle.cedar_value.proofs.name.Name.TheSendSync as name
+use Rattle.cedar_value.proofs.text.Text.TheSendSync as text
+use Rattle.cedar_value.proofs.uid.Uid.TheSendSync as uid
+use Rattle.cedar_value.proofs.shared_text.SharedText.TheSendSync as shared
+use Rattle.cedar_value.proofs.value.Value.TheLaws.TheKnot as value
+use Rattle.cedar_value.specs.contracts.value.Value as Value
+use Rattle.cedar_value.specs.contracts.value_record.Record as Record
+use Rattle.cedar_value.specs.contracts.value_set.ValueSet as ValueSet
+use Rattle.cedar_schema_types.specs.contracts.types.Type as TypeRow
+use Rattle.cedar_schema_types.proofs.record_type.RecordType.TheLaws.TheKnot as types
+use Rattle.cedar_schema_types.proofs.truth.Truth.TheSendSync as truth
+use Rattle.cedar_auth_candidates.proofs.candidates.Candidates.TheSendSync as candidates
+use Rattle.cedar_check_spec.proofs.settings.Settings.TheSendSync as settings
+use Rattle.cedar_store.proofs.uid_hashing.UidHashing.TheSendSync as hashing
+use Rattle.cedar_ast_expressions.specs.contracts.expression.Expr as Expr
+use Rattle.cedar_ast_expressions.proofs.entries.Entries.TheLaws.TheKnot as expr
+use Rattle.cedar_ast_expressions.proofs.operator.UnaryOperator.TheSendSync as unary
+use Rattle.cedar_ast_expressions.proofs.operator.BinaryOperator.TheSendSync as binary
+use Rattle.cedar_ast_expressions.proofs.variable.Variable.TheSendSync as variable
+use Rattle.cedar_ast_expressions.proofs.keys.Keys.TheSendSync as keys
+use Rattle.cedar_ast.proofs.annotation.Annotation.TheSendSync as annotation
+use Rattle.cedar_ast.proofs.scope.Scope.TheSendSync as scope
+use Rattle.cedar_ast.proofs.template_scope.TemplateScope.TheSendSync as template
+use Rattle.cedar_ast.specs.contracts.policy_set.PolicySet as PolicySet
+use Rattle.cedar_ast.specs.contracts.policy.PolicyOver as Over
+use Rattle.cedar_ast.specs.contracts.scope.Scope as Scope
+use Rattle.cedar_ast.specs.contracts.template_scope.TemplateScope as TemplateScope
+use Rattle.cedar_schema.specs.contracts.schema.Schema as Schema
+use Rattle.cedar_store.specs.contracts.store.Store as Store
+use Rattle.cedar_code.specs.contracts.code.Code as Code
+use Rattle.cedar_auth.specs.contracts.ready.Ready as Ready
+use Rattle.cedar_auth.specs.contracts.validated.Validated as Validated
+
+-- strings, names and uids
+ruleset names = (text.the_send, text.the_sync, shared.the_send, shared.the_sync, name.the_send, name.the_sync, uid.the_send, uid.the_sync, uid.the_field_send, uid.the_field_sync)
+
+-- what stands in an expression or a code beside values
+ruleset words = (unary.the_send, unary.the_sync, unary.the_field_send, unary.the_field_sync, binary.the_send, binary.the_sync, binary.the_field_send, binary.the_field_sync, variable.the_send, variable.the_sync, variable.the_field_send, variable.the_field_sync, keys.the_send, keys.the_sync, decimal.the_send, decimal.the_sync)
+
+value-send : IsSend Value.the_row
+value-send = search (value.send-Value, names, sendable, crosses) depth 40
+
+value-sync : IsSync Value.the_row
+value-sync = search (value.sync-Value, names, sendable, crosses) depth 40
+
+record-send : IsSend Record.the_row
+record-send = search (value.send-Record, names, sendable, crosses) depth 40
+
+record-sync : IsSync Record.the_row
+record-sync = search (value.sync-Record, names, sendable, crosses) depth 40
+
+members-send : IsSend ValueSet.the_row
+members-send = search (value.send-ValueSet, names, sendable, crosses) depth 40
+
+members-sync : IsSync ValueSet.the_row
+members-sync = search (value.sync-ValueSet, names, sendable, crosses) depth 40
+
+expr-send : IsSend Expr.the_row
+expr-send = let v = value-send in search (expr.send-Expr, names, words, sendable, crosses) depth 40
+
+expr-sync : IsSync Expr.the_row
+expr-sync = let v = value-sync in search (expr.sync-Expr, names, words, sendable, crosses) depth 40
+
+module _ (S : RattleType) where
+  policy-send : IsSend S → IsSend (Over.the_row S)
+  policy-send s = let e = expr-send in search (annotation.the_send, names, sendable, crosses) depth 40
+
+  policy-sync : IsSync S → IsSync (Over.the_row S)
+  policy-sync s = let e = expr-sync in search (annotation.the_sync, names, sendable, crosses) depth 40
+
+set-send : IsSend PolicySet.the_row
+set-send =
+    let p = policy-send Scope.the_row scope.the_send in
+    let t = policy-send TemplateScope.the_row template.the_send in
+    let h : IsSend (default.the_row fold.the_row) = search sendable depth 20 in
+    search (map.the_send, maps, frees, send, sendable) depth 20
+
+set-sync : IsSync PolicySet.the_row
+set-sync =
+    let p = policy-sync Scope.the_row scope.the_sync in
+    let t = policy-sync TemplateScope.the_row template.the_sync in
+    let h : IsSync (default.the_row fold.the_row) = search sendable depth 20 in
+    search (map.the_sync, maps, sync, sendable) depth 20
+
+type-send : IsSend TypeRow.the_row
+type-send = search (types.send-Type, truth.the_send, names, sendable, crosses) depth 40
+
+type-sync : IsSync TypeRow.the_row
+type-sync = search (types.sync-Type, truth.the_sync, names, sendable, crosses) depth 40
+
+schema-send : IsSend Schema.the_row
+schema-send =
+    let t = type-send in
+    search (row.the_send, names, sendable, crosses, maps, BTreeSet-send, send) depth 40
+
+schema-sync : IsSync Schema.the_row
+schema-sync =
+    let t = type-sync in
+    search (row.the_sync, names, sendable, crosses, maps, BTreeSet-sync, sync) depth 40
+
+store-send : IsSend Store.the_row
+store-send =
+    let r = record-send in
+    search (map.the_send, hashing.the_send, row.the_send, names, sendable, crosses, send) depth 40
+
+store-sync : IsSync Store.the_row
+store-sync =
+    let r = record-sync in
+    search (map.the_sync, hashing.the_sync, row.the_sync, names, sendable, crosses, sync) depth 40
+
+code-send : IsSend Code.the_row
+code-send =
+    let v = value-send in
+    let m = members-send in
+    search (names, words, sendable, crosses) depth 40
+
+code-sync : IsSync Code.the_row
+code-sync =
+    let v = value-sync in
+    let m = members-sync in
+    search (names, words, sendable, crosses) depth 40
+
+pub validated-send : IsSend Validated.the_row
+validated-send =
+    let s = schema-send in
+    let p = set-send in
+    let c = code-send in
+    search (settings.the_field_send, text.the_send, sendable, crosses) depth 20
+
+pub validated-sync : IsSync Validated.the_row
+validated-sync =
+    let s = schema-sync in
+    let p = set-sync in
+    let c = code-sync in
+    search (settings.the_field_sync, text.the_sync, sendable, crosses) depth 20
+
+pub ready-send : IsSend Ready.the_row
+ready-send =
+    let v = validated-send in
+    let s = store-send in
+    search (candidates.the_send, sendable) depth 20
+
+pub ready-sync : IsSync Ready.the_row
+ready-sync =
+    let v = validated-sync in
+    let s = store-sync in
+    search (candidates.the_sync, sendable) depth 20

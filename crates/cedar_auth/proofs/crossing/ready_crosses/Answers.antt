@@ -1,0 +1,9 @@
+use denote.Param.Send.{sendable}
+use Rattle.cedar_auth.proofs.ReadyCrossing.{ready-send, ready-sync}
+use Rattle.cedar_auth.proofs.crossing.ready_crosses.Goals as goal
+
+pub crosses-requires-send-T : goal.crosses-requires-send-T
+crosses-requires-send-T c κs = search (ready-send, sendable)
+
+pub crosses-requires-sync-T : goal.crosses-requires-sync-T
+crosses-requires-sync-T c κs = search (ready-sync, sendable)

@@ -1,5 +1,5 @@
 //! What a schema declares that is nearest to a name that it does not declare.
-use crate::nearest::{NOT_MEANT, cost_in};
+use base_names::Nearest;
 use cedar_schema::Schema;
 use cedar_schema_types::{Type, TypeKind};
 use cedar_value::{Name, Uid};
@@ -72,24 +72,28 @@ pub(crate) fn known_types(alloc: Global, schema: &Schema) -> Result<BTreeSet<Nam
     Ok(known)
 }
 
-// The nearest of the names, if one is near.
-fn nearest_of<'n>(
-    alloc: Global,
-    wanted: &str,
-    names: &'n BTreeSet<Name>,
-) -> Result<Option<&'n Name>, AllocError> {
+// The name whose last part is the nearest. Of two that are equally near, it is the one in the same namespace.
+fn nearest_of<'n>(wanted: &str, names: &'n BTreeSet<Name>) -> Option<&'n Name> {
     let (namespace, last) = parts_of(wanted);
-    let mut least = NOT_MEANT;
-    let mut nearest = None;
+    let nearest = nearest_in(Nearest::new(last), names, namespace, true);
+    nearest_in(nearest, names, namespace, false).name()
+}
+
+// The search with the last parts of the names that are in a namespace, or of those that are not.
+fn nearest_in<'w, 'n>(
+    before: Nearest<'w, &'n Name>,
+    names: &'n BTreeSet<Name>,
+    namespace: &str,
+    is_in: bool,
+) -> Nearest<'w, &'n Name> {
+    let mut nearest = before;
     for name in names.iter() {
         let (other, word) = parts_of(name.as_str());
-        let cost = cost_in(alloc, namespace, last, other, word)?;
-        if cost < least {
-            least = cost;
-            nearest = Some(name);
+        if (other == namespace) == is_in {
+            nearest = nearest.compare(word, name);
         }
     }
-    Ok(nearest)
+    nearest
 }
 
 // The name of a last part in a namespace.
@@ -139,33 +143,31 @@ pub(crate) fn meant_type(
     wanted: &str,
 ) -> Result<Option<String>, AllocError> {
     let known = known_types(alloc, schema)?;
-    match nearest_of(alloc, wanted, &known)? {
+    match nearest_of(wanted, &known) {
         Some(name) => Ok(Some(String::from_str(alloc, name.as_str())?)),
         None => type_in_namespace(alloc, schema, wanted),
     }
 }
 
-/// The declared action that is likely meant by an undeclared one: the same id with another type, or an id that differs in one or two
-/// letters.
-pub(crate) fn meant_action<'s>(
-    alloc: Global,
+/// The declared action that is likely meant by an undeclared one: the one with the nearest id. Of two that are equally near, it is the one
+/// with the same type.
+pub(crate) fn meant_action<'s>(schema: &'s Schema, wanted: &Uid) -> Option<&'s Uid> {
+    let nearest = nearest_action(Nearest::new(wanted.id.as_str()), schema, &wanted.ty, true);
+    nearest_action(nearest, schema, &wanted.ty, false).name()
+}
+
+// The search with the ids of the actions that have a type, or of those that have another.
+fn nearest_action<'w, 's>(
+    before: Nearest<'w, &'s Uid>,
     schema: &'s Schema,
-    wanted: &Uid,
-) -> Result<Option<&'s Uid>, AllocError> {
-    let mut least = NOT_MEANT;
-    let mut meant = None;
+    ty: &Name,
+    is_of: bool,
+) -> Nearest<'w, &'s Uid> {
+    let mut nearest = before;
     for (uid, _) in schema.actions() {
-        let cost = cost_in(
-            alloc,
-            wanted.ty.as_str(),
-            wanted.id.as_str(),
-            uid.ty.as_str(),
-            uid.id.as_str(),
-        )?;
-        if cost < least {
-            least = cost;
-            meant = Some(uid);
+        if (uid.ty == *ty) == is_of {
+            nearest = nearest.compare(uid.id.as_str(), uid);
         }
     }
-    Ok(meant)
+    nearest
 }

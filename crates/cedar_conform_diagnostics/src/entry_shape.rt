@@ -1,6 +1,6 @@
 //! Words for an entry of another shape, 502.
 use crate::found::kind_words;
-use crate::nearest::{meant_hint, meant_of};
+use crate::meant::{meant_hint, meant_of};
 use crate::shown::{item_path, path_of};
 use crate::uid_words::{is_uid_object, uid_object_words};
 use crate::words::{Words, hinted_words, plain_words};
@@ -33,10 +33,10 @@ pub(crate) fn unknown_key_words(
     alloc: Global,
     path: String,
     key: &str,
-    known: &[&str],
+    known: &[&'static str],
     says: &str,
 ) -> Result<Words, AllocError> {
-    let meant = meant_of(alloc, key, known)?;
+    let meant = meant_of(key, known);
     Ok(Words {
         path,
         says: String::from_str(alloc, says)?,

@@ -20,7 +20,7 @@ mod entry_shape;
 mod entry_words;
 mod found;
 mod links;
-mod nearest;
+mod meant;
 mod owner;
 mod positions;
 mod request;

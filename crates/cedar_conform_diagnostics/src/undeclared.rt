@@ -1,6 +1,6 @@
 //! Words for entity types and actions that a schema does not declare.
 use crate::declared::{meant_action, meant_type};
-use crate::nearest::meant_hint;
+use crate::meant::meant_hint;
 use crate::shown::{push_uid, uid_text};
 use crate::words::Words;
 use cedar_schema::Schema;
@@ -33,7 +33,7 @@ pub(crate) fn action_words(
 ) -> Result<Words, AllocError> {
     let mut says = uid_text(alloc, uid)?;
     says.push_str(" is not declared")?;
-    let hint = match meant_action(alloc, schema, uid)? {
+    let hint = match meant_action(schema, uid) {
         Some(meant) => {
             let mut hint = String::from_str(alloc, "is ")?;
             push_uid(&mut hint, meant)?;

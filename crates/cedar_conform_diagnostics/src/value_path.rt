@@ -1,5 +1,5 @@
 //! The smallest part of a JSON that is refused as a value of its type.
-use crate::nearest::{meant_attribute, meant_hint};
+use crate::meant::{meant_attribute, meant_hint};
 use crate::owner::Owner;
 use crate::shown::{push_key, push_position};
 use crate::wanted::{value_hint, value_says};
@@ -67,7 +67,7 @@ fn undeclared_fault<'p>(
     key: &str,
 ) -> Result<Fault<'p>, AllocError> {
     let says = owner.undeclared_says(alloc, attributes)?;
-    let meant = meant_attribute(alloc, key, attributes)?;
+    let meant = meant_attribute(key, attributes);
     Ok(Fault::Here(Reason {
         says,
         hint: meant_hint(alloc, meant)?,

@@ -1,5 +1,5 @@
 //! Built-in types.
-use crate::near::is_near;
+use base_names::Nearest;
 
 /// The names of the built-in types.
 const BUILT_IN: [&str; 7] = [
@@ -35,10 +35,11 @@ pub(crate) fn meant_built_in(text: &str) -> Option<&'static str> {
 
 // `Set` has so few letters that only its case may differ.
 fn near_built_in(text: &str) -> Option<&'static str> {
+    let mut nearest = Nearest::new(text);
     for name in BUILT_IN {
-        if is_near(text, name) && (name != "Set" || text.eq_ignore_ascii_case(name)) {
-            return Some(name);
+        if name != "Set" || text.eq_ignore_ascii_case(name) {
+            nearest = nearest.compare(name, name);
         }
     }
-    None
+    nearest.name()
 }

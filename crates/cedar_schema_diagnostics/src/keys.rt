@@ -1,10 +1,10 @@
 //! The keys that parts may have.
 use crate::kinds::kind_of;
 use crate::left_out::left_out_key;
-use crate::near::is_near;
 use crate::part::{RefusedPart, at, part_of, part_saying};
 use crate::step::Step;
 use crate::text::{is_plain, push_all, shown};
+use base_names::Nearest;
 use cedar_schema_json::Part;
 use serde_json::Value;
 use std::alloc::{AllocError, Global};
@@ -112,10 +112,22 @@ pub(crate) fn unknown_key(
     }
 }
 
-// The key that is likely meant: a near one, or one of which the other is the beginning.
+// The key that is likely meant: the nearest one, or else one of which the other is the beginning.
 fn nearest_key(key: &str, keys: &[&'static str]) -> Option<&'static str> {
+    let mut nearest = Nearest::new(key);
     for known in keys {
-        if is_near(key, *known) || is_beginning(key, *known) || is_beginning(*known, key) {
+        nearest = nearest.compare(*known, *known);
+    }
+    match nearest.name() {
+        Some(known) => Some(known),
+        None => begun_key(key, keys),
+    }
+}
+
+// The first key that begins with the other, or of which the other begins.
+fn begun_key(key: &str, keys: &[&'static str]) -> Option<&'static str> {
+    for known in keys {
+        if is_beginning(key, *known) || is_beginning(*known, key) {
             return Some(*known);
         }
     }

@@ -26,7 +26,6 @@ mod kinds;
 mod left_out;
 mod members;
 mod naming;
-mod near;
 mod part;
 mod records;
 mod sections;

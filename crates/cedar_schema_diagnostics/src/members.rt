@@ -2,15 +2,17 @@
 use crate::keys::{refused_keys, refused_text};
 use crate::kinds::kind_of;
 use crate::naming::refused_name;
-use crate::near::is_near;
 use crate::part::{RefusedPart, at, part_of, part_with};
 use crate::setting::Setting;
 use crate::step::Step;
 use crate::text::{is_plain, joined, push_all, shown};
 use crate::undeclared::{push_namespace, push_namespaces};
+use base_names::Nearest;
 use cedar_schema_json::{Part, has_colon, qualified, text_at};
+use cedar_value::Uid;
 use serde_json::Value;
 use std::alloc::{AllocError, Global};
+use std::collections::BTreeMap;
 
 /// The part of a `memberOf` that is refused, or none.
 pub(crate) fn refused_members(
@@ -124,7 +126,7 @@ fn says_of(
     Ok(says)
 }
 
-// The action that is likely meant: one with the same id, or else one of the namespace with a near id.
+// The action that is likely meant: one with the same id, or else the one of the namespace with the nearest id.
 fn hint_of(
     alloc: Global,
     setting: Setting<'_>,
@@ -147,7 +149,7 @@ fn hint_of(
     near_action(alloc, setting, ty.unwrap_or(own.as_str()), own.as_str(), id)
 }
 
-// The first action with a near id whose type is one of two.
+// The action with the nearest id whose type is one of two.
 fn near_action(
     alloc: Global,
     setting: Setting<'_>,
@@ -155,11 +157,26 @@ fn near_action(
     own: &str,
     id: &str,
 ) -> Result<Option<String>, AllocError> {
-    for (uid, _) in setting.declared.actions.iter() {
+    let actions = &setting.declared.actions;
+    match nearest_action(Nearest::new(id), actions, ty, own).name() {
+        Some(meant) => Ok(Some(joined(alloc, &["is `", meant, "` meant?"])?)),
+        None => Ok(None),
+    }
+}
+
+// The search with the ids of the actions whose type is one of two.
+fn nearest_action<'w, 'd>(
+    before: Nearest<'w, &'d str>,
+    actions: &'d BTreeMap<Uid, usize>,
+    ty: &str,
+    own: &str,
+) -> Nearest<'w, &'d str> {
+    let mut nearest = before;
+    for (uid, _) in actions.iter() {
         let name = uid.ty.as_str();
-        if (name == ty || name == own) && is_near(id, uid.id.as_str()) {
-            return Ok(Some(joined(alloc, &["is `", uid.id.as_str(), "` meant?"])?));
+        if name == ty || name == own {
+            nearest = nearest.compare(uid.id.as_str(), uid.id.as_str());
         }
     }
-    Ok(None)
+    nearest
 }

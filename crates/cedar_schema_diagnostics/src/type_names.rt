@@ -3,12 +3,12 @@ use crate::built_in::{is_built_in, meant_built_in};
 use crate::declared::is_declared;
 use crate::left_out::{entity_or_common, left_out_extension};
 use crate::naming::refused_name;
-use crate::near::is_near;
 use crate::part::{RefusedPart, at, part_of, part_with};
 use crate::setting::Setting;
 use crate::step::Step;
 use crate::text::{joined, push_all, shown};
 use crate::undeclared::{last_word, meant_hint, meant_name, push_nowhere};
+use base_names::apart;
 use std::alloc::{AllocError, Global};
 
 /// Why the name of an entity type is refused (302, 303, 306), or none. `is_type` says whether it is in a type, and not in a list.
@@ -210,7 +210,7 @@ fn undeclared_extension(alloc: Global, text: &str) -> Result<Option<RefusedPart>
         shown(text),
         "`: `decimal` is the only one",
     ];
-    if is_near(text, "decimal") {
+    if apart(text, "decimal").is_some() {
         return part_of(alloc, &says, &["is `decimal` meant?"]);
     }
     part_of(alloc, &says, &[])

@@ -1,7 +1,7 @@
 //! Names that are not declared: where they were looked for, and which names are likely meant.
-use crate::near::is_near;
 use crate::text::{push_all, shown};
-use cedar_schema_json::{has_colon, qualified};
+use base_names::Nearest;
+use cedar_schema_json::has_colon;
 use cedar_value::Name;
 use std::alloc::{AllocError, Global};
 use std::collections::BTreeSet;
@@ -40,44 +40,54 @@ pub(crate) fn push_namespace(says: &mut String, namespace: &str) -> Result<(), A
     }
 }
 
-/// The name that is likely meant by a text that is written in a namespace, or none: the same name with its namespace or without it,
-/// or else one that is near.
+/// The name that is likely meant by a text that is written in a namespace, or none: the one whose last word is the nearest. Of two that
+/// are equally near, it is the one in the namespace of the text.
 pub(crate) fn meant_name(
     alloc: Global,
     names: &BTreeSet<Name>,
     namespace: &str,
     text: &str,
 ) -> Result<Option<Name>, AllocError> {
-    for name in names.iter() {
-        if last_word(name.as_str()) == text || last_word(text) == name.as_str() {
-            return Ok(Some(name.try_clone(alloc)?));
-        }
+    let (own, word) = match text.rsplit_once("::") {
+        Some(parts) => parts,
+        None => (namespace, text),
+    };
+    let nearest = nearest_in(Nearest::new(word), names, own, true);
+    match nearest_in(nearest, names, own, false).name() {
+        Some(name) => Ok(Some(name.try_clone(alloc)?)),
+        None => Ok(None),
     }
-    let whole = qualified(alloc, namespace, text)?;
-    near_name(alloc, names, whole.as_str(), text)
 }
 
-// The first name that is near one of two texts.
-fn near_name(
-    alloc: Global,
-    names: &BTreeSet<Name>,
-    whole: &str,
-    text: &str,
-) -> Result<Option<Name>, AllocError> {
+// The search with the last words of the names that are in a namespace, or of those that are not.
+fn nearest_in<'w, 'n>(
+    before: Nearest<'w, &'n Name>,
+    names: &'n BTreeSet<Name>,
+    namespace: &str,
+    is_in: bool,
+) -> Nearest<'w, &'n Name> {
+    let mut nearest = before;
     for name in names.iter() {
-        if is_near(whole, name.as_str()) || is_near(text, name.as_str()) {
-            return Ok(Some(name.try_clone(alloc)?));
+        let (space, word) = parts_of(name.as_str());
+        if (space == namespace) == is_in {
+            nearest = nearest.compare(word, name);
         }
     }
-    Ok(None)
+    nearest
+}
+
+// The namespace of a name, which may be empty, and what is after its last `::`.
+fn parts_of(name: &str) -> (&str, &str) {
+    match name.rsplit_once("::") {
+        Some(parts) => parts,
+        None => ("", name),
+    }
 }
 
 /// What is after the last `::` of a name.
 pub(crate) fn last_word(name: &str) -> &str {
-    match name.rsplit_once("::") {
-        Some((_, word)) => word,
-        None => name,
-    }
+    let (_, word) = parts_of(name);
+    word
 }
 
 /// What offers a name: the name between two texts.

@@ -1,2 +1,4 @@
+pub mod Looking
 pub mod Paths
+pub mod Private
 pub mod Refusals

@@ -11,6 +11,7 @@ use Rattle.cedar_check_spec.specs.Capabilities.{Capabilities}
 use Rattle.cedar_check_spec.specs.Rows.{truth_in}
 use Rattle.cedar_check_spec.specs.Typing.{TypesWith}
 use Rattle.cedar_check_spec.specs.declared.settings.Settings.{Settings}
+use Rattle.cedar_check_diagnostics.specs.Looking.{HasTypedParts}
 use Rattle.cedar_check_diagnostics.specs.Paths.{LeadsTo}
 
 -- The condition is a Boolean where nothing is held (Cedar documentation, policy validation).
@@ -26,15 +27,16 @@ pub record IsOfOtherType (settings : Settings) (s : SchemaTree) (env : Environme
   pub typed : TypesWith settings s env [] e ty gained
   pub other : truth_in ty ≡ None
 
--- The path leads to a part of the condition that has no type where what is held there is held (Cedar documentation, strict
--- validation).
+-- The path leads to a smallest part of the condition that has no type: where what is held there is held, the part has none, and each
+-- of its own parts that the checker looks at has one (Cedar documentation, strict validation).
 pub record IsUntypedAt (settings : Settings) (s : SchemaTree) (env : Environment) (e : Expression) (path : List ℕ) : Type 0 where
   pub held : Capabilities
   pub part : Expression
   pub leads : LeadsTo settings s env [] e path held part
   pub untyped : IsTypingOf settings s env held part None
+  pub smallest : HasTypedParts settings s env held part
 
--- The condition is not accepted because of the part at the path: it has no type, or it is the condition and no Boolean (Cedar
--- documentation, policy validation).
+-- The condition is not accepted because of the part at the path: it is a smallest part without a type, or it is the condition and no
+-- Boolean (Cedar documentation, policy validation).
 abbrev pub IsRefusedAt : Settings → SchemaTree → Environment → Expression → List ℕ → Type 0
 IsRefusedAt settings s env e path = IsUntypedAt settings s env e path ⊎ ((path ≡ []) × IsOfOtherType settings s env e)

@@ -1,13 +1,13 @@
 //! Attributes that are not declared, and attributes that may be absent.
 use crate::listing::{push_listed, push_more};
-use crate::near::Nearest;
 use crate::spot::Spot;
 use crate::type_words::entity_of;
 use crate::words::Words;
 use crate::written::{has_opposite, written, written_guard};
+use base_names::Nearest;
 use cedar_ast_expressions::{Expr, ExprKind, UnaryOperator};
 use cedar_check_operators::LentType;
-use cedar_schema::{RecordType, Schema, Type, TypeKind};
+use cedar_schema::{Attribute, RecordType, Schema, Type, TypeKind};
 use cedar_value::{Name, Text};
 use std::alloc::{AllocError, Global};
 
@@ -101,6 +101,16 @@ fn with_no_attributes(alloc: Global, words: Words, owner: &str) -> Result<Words,
     words.with_note(note)
 }
 
+// The name of the attribute that a search finds the nearest one.
+fn nearest_in<'a>(search: Nearest<'_, &'a str>, declared: &'a [Attribute]) -> Option<&'a str> {
+    let mut nearest = search;
+    for attribute in declared {
+        let name = attribute.name.as_str();
+        nearest = nearest.compare(name, name);
+    }
+    nearest.name()
+}
+
 // The words with a note of the attributes that there are, and the nearest one as a hint.
 fn with_attributes(
     alloc: Global,
@@ -114,15 +124,12 @@ fn with_attributes(
         return with_no_attributes(alloc, words, owner);
     }
     let mut note = format!(in alloc; "{owner} has: ")?;
-    let mut nearest = Nearest::new(key);
     for (position, attribute) in declared.iter().enumerate() {
-        let name = attribute.name.as_str();
-        push_listed(&mut note, position, name)?;
-        nearest = nearest.compare(name, name);
+        push_listed(&mut note, position, attribute.name.as_str())?;
     }
     push_more(&mut note, declared.len())?;
     let words = words.with_note(note)?;
-    match nearest.name() {
+    match nearest_in(Nearest::new(key), declared) {
         Some(meant) => Ok(words.with_hint(Some(format!(in alloc; "is `{meant}` meant?")?))),
         None => Ok(words),
     }

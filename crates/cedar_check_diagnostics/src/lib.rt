@@ -11,7 +11,8 @@
 //! ```
 //!
 //! The part is given by a path from the condition: which operand, branch, member or entry at each step. That it has no type where
-//! the path leads to it is proved; the words are tested. Read `specs/Paths.antt`, and then `specs/Refusals.antt`.
+//! the path leads to it, and that each of its own parts that the checker looks at has one, is proved; the words are tested. Read
+//! `specs/Paths.antt`, `specs/Looking.antt`, and then `specs/Refusals.antt`.
 #![tactic(auto)]
 
 mod attributes;
@@ -21,10 +22,11 @@ mod joins;
 mod kinds;
 mod listing;
 mod literals;
-mod near;
+mod looking;
 mod parts;
 mod refusal;
 mod search;
+mod smallest;
 mod spot;
 mod type_words;
 mod undeclared;

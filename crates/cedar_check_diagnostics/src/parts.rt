@@ -1,6 +1,7 @@
 //! The parts of an expression, by their numbers.
-ghost use Rattle.std.specs.Prelude.{◌≡◌, option_copied, slice_get};
+ghost use Rattle.std.specs.Prelude.{◌≡◌, ◌≤◌, ℕ, None, option_copied, slice_get};
 ghost use Rattle.cedar_ast_expressions.specs.Expression.{entries_of, expressions_of};
+ghost use Rattle.cedar_check_diagnostics.specs.Looking.{denied_of};
 ghost use Rattle.cedar_check_diagnostics.specs.Paths.{guard_of, members_of, one_of_three, one_of_two, only_one, part_of, values_of};
 
 use cedar_ast_expressions::{Expr, ExprKind};
@@ -103,6 +104,48 @@ pub(crate) fn guard_of(expression: &Expr, number: usize) -> Option<&Expr>
         ExprKind::And(left, _) => { if number == 1 { Some(left) } else { None } }
         ExprKind::If(condition, _, _) => { if number == 1 { Some(condition) } else { None } }
         _ => None,
+    }
+}
+
+/// The part that is false wherever the part of this number is evaluated. Takes no memory.
+pub(crate) fn denied_of(expression: &Expr, number: usize) -> Option<&Expr>
+    ensures { option_copied result ≡ denied_of expression.now number }
+{
+    match expression.kind() {
+        ExprKind::Or(left, _) => { if number == 1 { Some(left) } else { None } }
+        ExprKind::If(condition, _, _) => { if number == 2 { Some(condition) } else { None } }
+        _ => None,
+    }
+}
+
+// How many members a set has.
+fn member_count(members: &[Expr]) -> usize
+    ensures { (n : ℕ) → result ≤ n → slice_get (members_of (expressions_of members.now)) n ≡ None }
+{
+    members.len()
+}
+
+// How many entries a record has.
+fn entry_count(pairs: &[(SharedText, Expr)]) -> usize
+    ensures { (n : ℕ) → result ≤ n → slice_get (values_of (entries_of pairs.now)) n ≡ None }
+{
+    pairs.len()
+}
+
+/// How many parts an expression has. Takes no memory.
+pub(crate) fn count_of(expression: &Expr) -> usize
+    ensures { (n : ℕ) → result ≤ n → part_of expression.now n ≡ None }
+{
+    match expression.kind() {
+        ExprKind::Literal(_) => 0,
+        ExprKind::Variable(_) => 0,
+        ExprKind::And(_, _) => 2,
+        ExprKind::Or(_, _) => 2,
+        ExprKind::If(_, _, _) => 3,
+        ExprKind::Unary(_, _) => 1,
+        ExprKind::Binary(_, _, _) => 2,
+        ExprKind::Set(members) => member_count(members),
+        ExprKind::Record(entries) => entry_count(entries.pairs()),
     }
 }
 

@@ -1,14 +1,17 @@
 //! The part of a condition that has no type.
 ghost use Rattle.std.specs.Prelude.{◌≡◌, IfNone, IfOk, IfSome, [], None};
 ghost use Rattle.cedar_check.specs.Typings.{IsTypingOf};
+ghost use Rattle.cedar_check_operators.specs.View.{held_view};
+ghost use Rattle.cedar_check_diagnostics.specs.Paths.{LeadsTo};
 ghost use Rattle.cedar_check_diagnostics.specs.Refusals.{IsCondition, IsRefusedAt, IsUntypedAt};
 
 use crate::checking::Checking;
 use crate::kinds::other_condition;
 use crate::parts::around;
 use crate::search::untyped_path;
+use crate::smallest::smallest;
 use crate::spot::Spot;
-use crate::walk::{Reached, Untyped, untyped_at};
+use crate::walk::{Untyped, untyped_at};
 use crate::words::{Words, words_of};
 use cedar_ast_expressions::Expr;
 use cedar_check_operators::{TypeFault, Typing};
@@ -16,7 +19,7 @@ use cedar_check_spec::Settings;
 use cedar_schema::{Environment, Schema};
 use std::alloc::{AllocError, Global};
 
-/// The part of a condition that has no type although each of its own parts has one.
+/// The part of a condition that has no type although each of its own parts that the checker looks at has one.
 #[derive(Drop)]
 pub struct RefusedPart {
     /// From the condition to the part, the number of the child at each step, from 0: of operators the operands from the left, of
@@ -45,7 +48,8 @@ pub struct Operand {
 
 /// Why a condition has no type in an environment, or is not a Boolean there; none where it is accepted. `condition` is the whole
 /// condition of a policy, with the environment's action in place of the variable (`Expr::with_action`). The part is the first one
-/// in the order in which the checker looks at parts. It takes about the time of two more typings.
+/// in the order in which the checker looks at parts, and each of its own parts that the checker looks at has a type. It takes about the
+/// time of three more typings.
 ///
 /// # Errors
 ///
@@ -103,28 +107,57 @@ fn with_words(path: Vec<usize>, number: u16, words: Words) -> RefusedPart
     }
 }
 
-// The part at a path that has no type, with its words.
+// A part that has no type, with its words.
 fn explained<'a>(
     checking: Checking<'a>,
     condition: &'a Expr,
-    path: Vec<usize>,
-    untyped: &Untyped<'a>,
+    untyped: Untyped<'a>,
 ) -> Result<RefusedPart, AllocError>
-    ensures { IfOk result (λ r. r.path.items ≡ path.items) }
+    ensures { IfOk result (λ r. r.path.items ≡ untyped.entry.path.items) }
 {
+    let Untyped {
+        path,
+        held,
+        part,
+        fault,
+    } = untyped;
     let above = around(checking.alloc, condition, &path)?;
     let spot = Spot {
         checking,
-        held: &untyped.reached.held,
-        part: untyped.reached.part,
+        held: &held,
+        part,
         above: &above,
         path: &path,
     };
-    let words = words_of(spot, untyped.fault)?;
-    Ok(with_words(path, untyped.fault.number(), words))
+    let words = words_of(spot, fault)?;
+    Ok(with_words(path, fault.number(), words))
 }
 
-// The part of a condition that has no type, where the condition has none for this reason: the whole one where the search finds none.
+// A part of a condition that has no type, where the condition has none for this reason: the one that the search finds, or the whole
+// condition.
+fn found_part<'a>(
+    checking: Checking<'a>,
+    condition: &'a Expr,
+    fault: TypeFault,
+) -> Result<Untyped<'a>, AllocError>
+    requires { IsTypingOf checking.settings checking.schema.now checking.environment.now [] condition.now None }
+    ensures leads { IfOk result (λ u. LeadsTo checking.entry.settings checking.entry.schema.now checking.entry.environment.now [] condition.now u.path.items (held_view u.held.items) u.part.now) }
+    ensures untyped { IfOk result (λ u. IsTypingOf checking.entry.settings checking.entry.schema.now checking.entry.environment.now (held_view u.held.items) u.part.now None) }
+{
+    let path = untyped_path(checking, condition)?;
+    let found = untyped_at(checking, condition, path)?;
+    match found {
+        Some(untyped) => Ok(untyped),
+        None => Ok(Untyped {
+            path: Vec::new(checking.alloc),
+            held: Vec::new(checking.alloc),
+            part: condition,
+            fault,
+        }),
+    }
+}
+
+// The smallest part of a condition that has no type, where the condition has none for this reason.
 fn untyped_part<'a>(
     checking: Checking<'a>,
     condition: &'a Expr,
@@ -133,16 +166,7 @@ fn untyped_part<'a>(
     requires { IsTypingOf checking.settings checking.schema.now checking.environment.now [] condition.now None }
     ensures { IfOk result (λ r. IsUntypedAt checking.entry.settings checking.entry.schema.now checking.entry.environment.now condition.now r.path.items) }
 {
-    let path = untyped_path(checking, condition)?;
-    if let Some(untyped) = untyped_at(checking, condition, &path)? {
-        return explained(checking, condition, path, &untyped);
-    }
-    let whole = Untyped {
-        reached: Reached {
-            held: Vec::new(checking.alloc),
-            part: condition,
-        },
-        fault,
-    };
-    explained(checking, condition, Vec::new(checking.alloc), &whole)
+    let found = found_part(checking, condition, fault)?;
+    let untyped = smallest(checking, found)?;
+    explained(checking, condition, untyped)
 }

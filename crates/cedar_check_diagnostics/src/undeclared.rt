@@ -1,9 +1,9 @@
 //! Entity types and actions that are not declared.
 use crate::listing::{push_listed, push_more};
-use crate::near::{Nearest, apart};
 use crate::spot::Spot;
 use crate::words::Words;
 use crate::written::uid_words;
+use base_names::Nearest;
 use cedar_ast_expressions::{ExprKind, UnaryOperator};
 use cedar_schema::Schema;
 use cedar_value::{Name, Uid, ValueKind};
@@ -106,23 +106,17 @@ fn words_of_action(spot: Spot<'_>, uid: &Uid) -> Result<Words, AllocError> {
     let wanted = uid_words(alloc, uid)?;
     let says = format!(in alloc; "there is no action `{wanted}`")?;
     let mut note = String::from_str(alloc, "declared actions: ")?;
-    let mut nearest: Option<&Uid> = None;
-    let mut least = usize::MAX;
+    let mut nearest = Nearest::new(uid.id.as_str());
     let mut count = 0usize;
     for (declared, _) in spot.checking.schema.actions() {
         let name = uid_words(alloc, declared)?;
         push_listed(&mut note, count, name.as_str())?;
         count = count.saturating_add(1);
-        if let Some(differs) = apart(uid.id.as_str(), declared.id.as_str()) {
-            if differs < least {
-                least = differs;
-                nearest = Some(declared);
-            }
-        }
+        nearest = nearest.compare(declared.id.as_str(), declared);
     }
     push_more(&mut note, count)?;
     let words = Words::new(alloc, says).with_note(note)?;
-    match nearest {
+    match nearest.name() {
         Some(meant) => {
             let meant = uid_words(alloc, meant)?;
             Ok(words.with_hint(Some(format!(in alloc; "is `{meant}` meant?")?)))

@@ -1,8 +1,11 @@
 //! The walk from a condition to one of its parts, with what is held on the way.
-ghost use Rattle.std.specs.Prelude.{IfOk, IfSome, []};
+ghost use Rattle.std.specs.Prelude.{◌≡◌, IfNone, IfOk, IfSome, [], None};
+ghost use Rattle.cedar_ast_expressions.specs.Expression.{Expression};
+ghost use Rattle.cedar_check.specs.Typings.{IsTypingOf};
+ghost use Rattle.cedar_check_spec.specs.Capabilities.{Capabilities};
 ghost use Rattle.cedar_check_operators.specs.View.{held_view};
 ghost use Rattle.cedar_check_diagnostics.specs.Paths.{Gains, IsStep, LeadsTo};
-ghost use Rattle.cedar_check_diagnostics.specs.Refusals.{IsUntypedAt};
+ghost use Rattle.cedar_check_diagnostics.specs.Private.Truths.{may_hold};
 
 use crate::checking::Checking;
 use crate::parts::{guard_of, part_of};
@@ -20,22 +23,36 @@ pub(crate) struct Step<'a> {
     pub(crate) part: &'a Expr,
 }
 
-/// A part of a condition, and what is held there.
+// A part of a condition, and what is held there.
 #[derive(Drop)]
-pub(crate) struct Reached<'a> {
-    /// What is held.
-    pub(crate) held: Vec<Capability<'a>>,
-    /// The part.
-    pub(crate) part: &'a Expr,
+struct Reached<'a> {
+    held: Vec<Capability<'a>>,
+    part: &'a Expr,
 }
 
 /// A part of a condition that has no type.
 #[derive(Drop)]
 pub(crate) struct Untyped<'a> {
-    /// The part, and what is held there.
-    pub(crate) reached: Reached<'a>,
+    /// From the condition to the part, the number of the child at each step.
+    pub(crate) path: Vec<usize>,
+    /// What is held at the part.
+    pub(crate) held: Vec<Capability<'a>>,
+    /// The part.
+    pub(crate) part: &'a Expr,
     /// Why it has no type.
     pub(crate) fault: TypeFault,
+}
+
+// Whether it is a Boolean that is not known to be false.
+fn may_hold(truth: Option<Truth>) -> bool
+    ensures { result ≡ may_hold truth }
+{
+    match truth {
+        Some(Truth::True) => true,
+        Some(Truth::Any) => true,
+        Some(Truth::False) => false,
+        None => false,
+    }
 }
 
 // What a guard gains where it is true; none where it has no type, or is never true.
@@ -44,16 +61,19 @@ fn gained_by<'a>(
     held: &[Capability<'a>],
     guard: &'a Expr,
 ) -> Result<Option<Vec<Capability<'a>>>, AllocError>
-    ensures { IfOk result (λ o. IfSome o (λ g. Gains checking.entry.settings checking.entry.schema.now checking.entry.environment.now (held_view held.now) guard.now (held_view g.items))) }
+    ensures some { IfOk result (λ o. IfSome o (λ g. Gains checking.entry.settings checking.entry.schema.now checking.entry.environment.now (held_view held.now) guard.now (held_view g.items))) }
+    ensures none { IfOk result (λ o. IfNone o ((g : Capabilities) → ¬ Gains checking.entry.settings checking.entry.schema.now checking.entry.environment.now (held_view held.now) guard.now g)) }
 {
     let typing = checking.typing(held, guard)?;
     match typing {
         Typing::Refused(_) => Ok(None),
-        Typing::Typed(x) => match x.ty.truth() {
-            Some(Truth::True) => Ok(Some(x.gained)),
-            Some(Truth::Any) => Ok(Some(x.gained)),
-            _ => Ok(None),
-        },
+        Typing::Typed(x) => {
+            if may_hold(x.ty.truth()) {
+                Ok(Some(x.gained))
+            } else {
+                Ok(None)
+            }
+        }
     }
 }
 
@@ -65,7 +85,8 @@ pub(crate) fn step_to<'a>(
     expression: &'a Expr,
     number: usize,
 ) -> Result<Option<Step<'a>>, AllocError>
-    ensures { IfOk result (λ o. IfSome o (λ x. IsStep checking.entry.settings checking.entry.schema.now checking.entry.environment.now (held_view held.now) expression.now number (held_view x.gained.items) x.part.now)) }
+    ensures some { IfOk result (λ o. IfSome o (λ x. IsStep checking.entry.settings checking.entry.schema.now checking.entry.environment.now (held_view held.now) expression.now number (held_view x.gained.items) x.part.now)) }
+    ensures none { IfOk result (λ o. IfNone o ((g : Capabilities) (p : Expression) → ¬ IsStep checking.entry.settings checking.entry.schema.now checking.entry.environment.now (held_view held.now) expression.now number g p)) }
 {
     let Some(part) = part_of(expression, number) else {
         return Ok(None);
@@ -109,17 +130,24 @@ fn reach<'a>(
 pub(crate) fn untyped_at<'a>(
     checking: Checking<'a>,
     condition: &'a Expr,
-    path: &[usize],
+    path: Vec<usize>,
 ) -> Result<Option<Untyped<'a>>, AllocError>
-    ensures { IfOk result (λ o. IfSome o (λ _. IsUntypedAt checking.entry.settings checking.entry.schema.now checking.entry.environment.now condition.now path.now)) }
+    ensures leads { IfOk result (λ o. IfSome o (λ u. LeadsTo checking.entry.settings checking.entry.schema.now checking.entry.environment.now [] condition.now u.path.items (held_view u.held.items) u.part.now)) }
+    ensures untyped { IfOk result (λ o. IfSome o (λ u. IsTypingOf checking.entry.settings checking.entry.schema.now checking.entry.environment.now (held_view u.held.items) u.part.now None)) }
 {
-    let found = reach(checking, condition, path)?;
+    let found = reach(checking, condition, &path)?;
     let Some(reached) = found else {
         return Ok(None);
     };
-    let typing = checking.typing(&reached.held, reached.part)?;
+    let Reached { held, part } = reached;
+    let typing = checking.typing(&held, part)?;
     match typing {
         Typing::Typed(_) => Ok(None),
-        Typing::Refused(fault) => Ok(Some(Untyped { reached, fault })),
+        Typing::Refused(fault) => Ok(Some(Untyped {
+            path,
+            held,
+            part,
+            fault,
+        })),
     }
 }

@@ -1,0 +1,2 @@
+-- What only proofs and private contracts use.
+pub mod Truths

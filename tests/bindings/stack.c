@@ -8,8 +8,9 @@
 #include <sys/wait.h>
 #include <unistd.h>
 
-#define READING_STACK ((size_t)4 << 20)
-#define ASKING_STACK ((size_t)256 << 10)
+#define EXPLAINING_STACK ((size_t)4 << 20)
+#define READING_STACK ((size_t)1 << 20)
+#define ASKING_STACK ((size_t)128 << 10)
 #define COUNT(list) (sizeof(list) / sizeof *(list))
 
 /* A text: its beginning, what opens `depth` times, its middle, what closes as often, and its end. */
@@ -192,11 +193,12 @@ static void print_least(void) {
 
 static void check(const form *form) {
     open_engine(form);
-    void *(*calls[])(void *) = {publishes, validates, explains};
-    for (size_t i = 0; i < COUNT(calls); i++) {
-        on_a_stack(READING_STACK, calls[i]);
-        CHECK(is_right);
-    }
+    on_a_stack(READING_STACK, publishes);
+    CHECK(is_right);
+    on_a_stack(READING_STACK, validates);
+    CHECK(is_right);
+    on_a_stack(EXPLAINING_STACK, explains);
+    CHECK(is_right);
     for (size_t i = 0; i < COUNT(lines); i++) {
         asked_line = text_of(&lines[i]);
         cedar_buffer text = {room, sizeof room, 0};

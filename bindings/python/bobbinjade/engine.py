@@ -19,6 +19,7 @@ UID = re.compile(r'([A-Za-z_][A-Za-z0-9_]*(?:::[A-Za-z_][A-Za-z0-9_]*)*)::"([^"\
 Uid = Union[str, 'tuple[str, str]']
 Context = Union[None, str, bytes, Mapping[str, Any]]
 
+ANSWER_LINE = SHORT.cedar_raw_answer_line
 DECIDE = SHORT.cedar_raw_decide
 JSON = json.JSONEncoder(separators=(',', ':'), allow_nan=False).encode
 NONE = SIZES[0]
@@ -183,18 +184,27 @@ class Engine:
 
     def answer_line(self, line: Text) -> str:
         """The answer line to a request line, as `cedar authorize` writes it, without a line feed."""
-        return self._text(SHORT.cedar_raw_answer_line, encoded(line), 256)
+        given = encoded(line)
+        length = size(len(given))
+        handle = self._taken()
+        try:
+            while True:
+                status = ANSWER_LINE(handle.at, given, length, handle.buffer_at, handle.room, handle.written_at)
+                if status == OK:
+                    return str(handle.view[:handle.written.value], 'utf-8')
+                if status != ROOM:
+                    raise failed(status)
+                handle.grow(handle.written.value)
+        finally:
+            self._give(handle)
 
     def answer(self, lines: Text) -> str:
         """The answer lines to request lines, all of one engine."""
         given = encoded(lines)
-        return self._text(LIBRARY.cedar_raw_answer, given, 256 + len(given))
-
-    def _text(self, call: Any, given: bytes, most: int) -> str:
+        length = size(len(given))
         handle = self._taken()
         try:
-            length = size(len(given))
-            status, text = grown(most, lambda *room: call(handle.at, given, length, *room))
+            status, text = grown(256 + len(given), lambda *room: LIBRARY.cedar_raw_answer(handle.at, given, length, *room))
         finally:
             self._give(handle)
         if status != OK:

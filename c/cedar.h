@@ -211,8 +211,8 @@ static inline uint32_t cedar_validate(const cedar_files *files, cedar_buffer *te
     return cedar_written(status, text, used);
 }
 
-/* Says in words why the files are refused or have faults. The text has no bytes where they are accepted, and may have none where
- * memory runs out while the files are read once more. */
+/* Says in words why the files are refused or have faults. The text has no bytes where they are accepted. Where memory runs out it has
+ * none either, and the status is CEDAR_MEMORY: the words are never cut short. */
 static inline uint32_t cedar_explain(const cedar_files *files, uint32_t format, cedar_buffer *text) {
     char no_room = 0;
     cedar_buffer spare, *used = cedar_usable(text, &spare, &no_room);

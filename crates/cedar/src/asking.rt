@@ -138,6 +138,9 @@ pub fn run_ask(rt: &HostRuntime, words: &Words<'_>, format: Option<Format>) -> u
             }
             end.status()
         }
-        Err(end) => ended(rt, &files, words, format, end),
+        Err(end) => {
+            let refused = sink.counts().refused_file;
+            ended(rt, &files, words, format, end, refused)
+        }
     }
 }

@@ -1,9 +1,8 @@
 //! What is explained on standard error after the work has ended. Nothing is said when out of memory.
-use cedar_cli::{Subcommand, Words};
+use cedar_cli::Words;
 use cedar_files::{End, NamedFiles, Role};
 use cedar_files_diagnostics::{
-    Explanation, Extent, Format, explain_file, explain_policy_faults, not_again, refused_file,
-    unreadable,
+    Explanation, Format, RefusedFile, explain_file, explain_policy_faults, not_again, unreadable,
 };
 use std::alloc::{AllocError, Global};
 
@@ -17,15 +16,6 @@ fn option_of(role: Role) -> &'static str {
         Role::Policies => "--policies",
         Role::Links => "--links",
         Role::Entities => "--entities",
-    }
-}
-
-// Which files a subcommand reads.
-fn extent_of(subcommand: Subcommand) -> Extent {
-    match subcommand {
-        Subcommand::CheckParse => Extent::Policies,
-        Subcommand::Validate | Subcommand::Explain => Extent::Report,
-        Subcommand::Authorize | Subcommand::Why | Subcommand::Ask => Extent::All,
     }
 }
 
@@ -79,19 +69,9 @@ impl<'a> Explainer<'a> {
     }
 
     // Why a file is refused.
-    fn refusal(self, alloc: Global) -> Result<String, AllocError> {
-        let explained = match refused_file(
-            alloc,
-            self.files,
-            extent_of(self.words.subcommand),
-            self.words.settings,
-        ) {
-            Some(refused) => {
-                let name = self.files.name(refused.role).unwrap_or("");
-                explain_file(alloc, self.files, name, refused)?
-            }
-            None => None,
-        };
+    fn refusal(self, alloc: Global, refused: RefusedFile) -> Result<String, AllocError> {
+        let name = self.files.name(refused.role).unwrap_or("");
+        let explained = explain_file(alloc, self.files, name, refused)?;
         self.text_of(alloc, explained)
     }
 
@@ -108,14 +88,18 @@ impl<'a> Explainer<'a> {
     }
 
     /// Explains why a run ended as it did: which file cannot be read, why a file is refused, or which faults the policies have.
-    pub fn explain(self, end: End) {
+    /// `refused` is the file that standard output says is refused.
+    pub fn explain(self, end: End, refused: Option<RefusedFile>) {
         let alloc = self.rt.alloc();
-        let says = match end {
-            End::Device => self.unreadable(alloc),
-            End::Refused | End::Faults if !self.are_regular() => not_again(alloc, self.format),
-            End::Refused => self.refusal(alloc),
-            End::Faults => self.faults(alloc),
-            End::Done | End::Memory | End::CommandLine => return,
+        let says = match (end, refused) {
+            (End::Device, _) => self.unreadable(alloc),
+            (End::Refused | End::Faults, _) if !self.are_regular() => {
+                not_again(alloc, self.format)
+            }
+            (End::Refused, Some(refused)) => self.refusal(alloc, refused),
+            (End::Refused, None) => not_again(alloc, self.format),
+            (End::Faults, _) => self.faults(alloc),
+            (End::Done | End::Memory | End::CommandLine, _) => return,
         };
         self.say(says);
     }

@@ -8,7 +8,7 @@ use base_lines::{SliceSource, StdSink, StdSource};
 use cedar_cli::{Subcommand, Words, check_parse};
 use cedar_cli_refusals::explain;
 use cedar_files::{End, NamedFiles, validate};
-use cedar_files_diagnostics::{CountingSink, Format, refused_lines};
+use cedar_files_diagnostics::{CountingSink, Format, RefusedFile, refused_lines};
 use std::io::{self, Read};
 
 /// Prints the line for a device that failed, or for memory that ran out.
@@ -22,13 +22,15 @@ pub fn say(rt: &HostRuntime, end: End) {
     let _ = said;
 }
 
-/// Says how a run over files ended, explains it in a form, if one is wanted, and gives the exit status.
+/// Says how a run over files ended, explains it in a form, if one is wanted, and gives the exit status. `refused` is the file that
+/// standard output says is refused.
 pub fn ended(
     rt: &HostRuntime,
     files: &NamedFiles<'_, HostRuntime>,
     words: &Words<'_>,
     format: Option<Format>,
     end: End,
+    refused: Option<RefusedFile>,
 ) -> u8 {
     say(rt, end);
     if let Some(format) = format {
@@ -38,7 +40,7 @@ pub fn ended(
             words,
             format,
         };
-        explainer.explain(end);
+        explainer.explain(end, refused);
     }
     end.status()
 }
@@ -66,7 +68,8 @@ fn run_validate(rt: &HostRuntime, words: &Words<'_>, format: Option<Format>) -> 
     let files = NamedFiles::new(rt, words.files);
     let mut sink = CountingSink::new(StdSink::new(io::writer(rt)));
     let end = validate(rt.alloc(), &files, &mut sink, words.settings);
-    let status = ended(rt, &files, words, format, end);
+    let refused = sink.counts().refused_file;
+    let status = ended(rt, &files, words, format, end, refused);
     if end != End::Done || sink.counts().warnings == 0 {
         return status;
     }
@@ -86,11 +89,12 @@ fn run_authorize(rt: &HostRuntime, words: &Words<'_>, format: Option<Format>) ->
     let mut sink = StdSink::new(io::writer(rt));
     let Some(form) = format else {
         let end = authorize_and_warn(rt, &files, &mut source, &mut sink, words, format);
-        return ended(rt, &files, words, format, end);
+        return ended(rt, &files, words, format, end, None);
     };
     let mut counting = CountingSink::new(sink);
     let end = authorize_and_warn(rt, &files, &mut source, &mut counting, words, format);
-    let status = ended(rt, &files, words, format, end);
+    let refused = counting.counts().refused_file;
+    let status = ended(rt, &files, words, format, end, refused);
     if end == End::Done {
         if let Ok(says) = refused_lines(alloc, form, counting.counts()) {
             // Where standard error is gone, the line is lost.
@@ -112,12 +116,13 @@ fn run_kept_lines(rt: &HostRuntime, words: &Words<'_>, format: Option<Format>) -
         } else {
             End::Device
         };
-        return ended(rt, &files, words, format, end);
+        return ended(rt, &files, words, format, end, None);
     }
     let mut source = SliceSource::new(&input);
-    let mut sink = StdSink::new(io::writer(rt));
+    let mut sink = CountingSink::new(StdSink::new(io::writer(rt)));
     let end = authorize_and_warn(rt, &files, &mut source, &mut sink, words, format);
-    let status = ended(rt, &files, words, format, end);
+    let refused = sink.counts().refused_file;
+    let status = ended(rt, &files, words, format, end, refused);
     if let (End::Done, Some(format)) = (end, format) {
         let explainer = Explainer {
             rt,
@@ -133,9 +138,10 @@ fn run_kept_lines(rt: &HostRuntime, words: &Words<'_>, format: Option<Format>) -
 // `check-parse`.
 fn run_check_parse(rt: &HostRuntime, words: &Words<'_>, format: Option<Format>) -> u8 {
     let files = NamedFiles::new(rt, words.files);
-    let mut sink = StdSink::new(io::writer(rt));
+    let mut sink = CountingSink::new(StdSink::new(io::writer(rt)));
     let end = check_parse(rt.alloc(), &files, &mut sink);
-    ended(rt, &files, words, format, end)
+    let refused = sink.counts().refused_file;
+    ended(rt, &files, words, format, end, refused)
 }
 
 // `explain`.

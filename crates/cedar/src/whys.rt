@@ -4,7 +4,7 @@ use base_lines::{ServeFault, StdSink, StdSource};
 use cedar_cli::Words;
 use cedar_cli_why::{WhyOptions, why};
 use cedar_files::{End, Files, NamedFiles, Role, prepare};
-use cedar_files_diagnostics::Format;
+use cedar_files_diagnostics::{CountingSink, Format};
 use std::alloc::Global;
 use std::io;
 
@@ -26,10 +26,13 @@ fn policy_text(alloc: Global, files: &NamedFiles<'_, HostRuntime>) -> String {
 pub fn run_why(rt: &HostRuntime, words: &Words<'_>, format: Option<Format>) -> u8 {
     let alloc = rt.alloc();
     let files = NamedFiles::new(rt, words.files);
-    let mut sink = StdSink::new(io::writer(rt));
+    let mut sink = CountingSink::new(StdSink::new(io::writer(rt)));
     let ready = match prepare(alloc, &files, &mut sink, words.settings) {
         Ok(ready) => ready,
-        Err(end) => return ended(rt, &files, words, format, end),
+        Err(end) => {
+            let refused = sink.counts().refused_file;
+            return ended(rt, &files, words, format, end, refused);
+        }
     };
     let options = WhyOptions {
         all: words.all,
@@ -51,5 +54,5 @@ pub fn run_why(rt: &HostRuntime, words: &Words<'_>, format: Option<Format>) -> u
     };
     drop(text);
     drop(ready);
-    ended(rt, &files, words, format, end)
+    ended(rt, &files, words, format, end, None)
 }

@@ -1,6 +1,7 @@
 //! A sink that counts what the lines say that go through it.
 ghost use Rattle.std.specs.Prelude.{◌≡◌};
 
+use crate::refused::{RefusedFile, number_of, refused_file};
 use base_lines::{Sink, WriteFailed};
 use std::marker::Model;
 
@@ -10,8 +11,8 @@ const REFUSED: &[u8] = b"{\"refused\":";
 /// How the last line of a report without faults begins.
 const TOTALS: &[u8] = b"{\"faults\":0,\"warnings\":";
 
-/// How many bytes of a line are looked at.
-const LOOKED_AT: usize = 32;
+/// How many bytes of a line are looked at: as many as the longest line may have that says which file is refused.
+const LOOKED_AT: usize = 80;
 
 /// The first line that is refused: its number from 1, and that of its refusal.
 #[derive(Clone, Copy, Debug, PartialEq, Eq)]
@@ -33,19 +34,8 @@ pub struct LineCounts {
     pub first: Option<FirstRefused>,
     /// How many warnings a report without faults has.
     pub warnings: usize,
-}
-
-// The number in digits with which some bytes begin.
-fn number_of(digits: &[u8]) -> usize {
-    let mut number = 0usize;
-    for byte in digits {
-        if !byte.is_ascii_digit() {
-            break;
-        }
-        number = number.saturating_mul(10);
-        number = number.saturating_add(usize::from(byte.saturating_sub(b'0')));
-    }
-    number
+    /// The file that is refused, if the first line says so.
+    pub refused_file: Option<RefusedFile>,
 }
 
 // The number after a beginning, if a line begins so.
@@ -64,12 +54,16 @@ impl LineCounts {
             refused: 0,
             first: None,
             warnings: 0,
+            refused_file: None,
         }
     }
 
     // Counts a line that begins with these bytes.
     fn count(&mut self, line: &[u8]) {
         self.lines = self.lines.saturating_add(1);
+        if self.lines == 1 {
+            self.refused_file = refused_file(line);
+        }
         if let Some(number) = number_after(line, REFUSED) {
             self.refused = self.refused.saturating_add(1);
             if self.first.is_none() {

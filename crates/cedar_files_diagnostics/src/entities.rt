@@ -1,15 +1,23 @@
 //! Entities files that are refused: the entry, its uid and the path of the attribute.
+use crate::again::{bytes_again, schema_again};
 use crate::data::{push_fault, reason_of};
 use crate::diagnostic::{Diagnostic, Explanation};
+use crate::item_place::item_place;
 use crate::words::words_of;
-use cedar_conform::read_entities;
+use cedar_conform::read_entities_owned;
 use cedar_conform_diagnostics::{CircleEntry, circle_through, entries_of_uid, refused_entry};
 use cedar_conform_values::ConformFault;
-use cedar_files::{Files, read_schema};
+use cedar_files::{Files, Role};
 use cedar_schema::Schema;
 use cedar_value::Uid;
 use std::alloc::{AllocError, Global};
 use std::fmt::Write;
+
+/// The number of a uid that two entities have.
+const DUPLICATE: u16 = 401;
+
+/// The number of an entity that is below itself.
+const CIRCLE: u16 = 402;
 
 // A uid as a policy writes it.
 fn text_of(alloc: Global, uid: &Uid) -> Result<String, AllocError> {
@@ -19,15 +27,18 @@ fn text_of(alloc: Global, uid: &Uid) -> Result<String, AllocError> {
 }
 
 // Adds the two entries of a uid that is written twice.
-fn push_duplicate(
+fn push_duplicate<F: Files>(
     alloc: Global,
     diagnostic: &mut Diagnostic,
-    bytes: Vec<u8>,
+    files: &F,
     uid: &Uid,
 ) -> Result<(), AllocError> {
     let uid_text = text_of(alloc, uid)?;
     let uid_text = uid_text.as_str();
-    let positions = entries_of_uid(alloc, bytes, uid, 2)?;
+    let positions = match bytes_again(alloc, files, Role::Entities)? {
+        Some(bytes) => entries_of_uid(alloc, bytes, uid, 2)?,
+        None => Vec::new(alloc),
+    };
     match (positions.first(), positions.get(1)) {
         (Some(first), Some(second)) => {
             let says = format!(in alloc;
@@ -67,13 +78,16 @@ fn says_of_circle(alloc: Global, circle: &[CircleEntry]) -> Result<String, Alloc
 }
 
 // Adds the circle of parents through a uid.
-fn push_circle(
+fn push_circle<F: Files>(
     alloc: Global,
     diagnostic: &mut Diagnostic,
-    bytes: Vec<u8>,
+    files: &F,
     uid: &Uid,
 ) -> Result<(), AllocError> {
-    let circle = circle_through(alloc, bytes, uid)?;
+    let circle = match bytes_again(alloc, files, Role::Entities)? {
+        Some(bytes) => circle_through(alloc, bytes, uid)?,
+        None => Vec::new(alloc),
+    };
     let says = if circle.is_empty() {
         let uid_text = text_of(alloc, uid)?;
         let uid_text = uid_text.as_str();
@@ -84,18 +98,26 @@ fn push_circle(
     diagnostic.note(alloc, says.as_str())
 }
 
-// Adds the first entry that is refused, and why.
-fn push_entry(
+// Adds the first entry that is refused, and why, if it is refused with this number. Its place is looked for in bytes of their own,
+// since those that were read for the reason are freed by then.
+fn push_entry<F: Files>(
     alloc: Global,
     diagnostic: &mut Diagnostic,
+    files: &F,
     schema: &Schema,
     bytes: Vec<u8>,
 ) -> Result<(), AllocError> {
     let Some(refused) = refused_entry(alloc, schema, bytes)? else {
         return Ok(());
     };
+    if refused.fault.number != diagnostic.number {
+        return Ok(());
+    }
     let position = refused.position;
     write!(diagnostic.part, "entry {position} (from 0)")?;
+    if let Some(bytes) = bytes_again(alloc, files, Role::Entities)? {
+        diagnostic.place = item_place(&bytes, position);
+    }
     if let Some(uid) = &refused.uid {
         diagnostic.part.push_str(", ")?;
         diagnostic.part.push_str(uid.as_str())?;
@@ -103,31 +125,36 @@ fn push_entry(
     push_fault(alloc, diagnostic, &refused.fault)
 }
 
-// Adds what the bytes are refused for.
-fn push_refusal(
+// Adds which entries do not make a store together. Their uid is found first, in bytes that are freed as they are read.
+fn push_store_fault<F: Files>(
     alloc: Global,
     diagnostic: &mut Diagnostic,
+    files: &F,
     schema: &Schema,
     bytes: Vec<u8>,
 ) -> Result<(), AllocError> {
-    let fault = match read_entities(alloc, schema, &bytes) {
+    let fault = match read_entities_owned(alloc, schema, bytes) {
         Ok(store) => {
             drop(store);
             return Ok(());
         }
         Err(fault) => fault,
     };
+    let number = diagnostic.number;
     let pushed = match &fault {
-        ConformFault::DuplicateEntity(uid) => push_duplicate(alloc, diagnostic, bytes, uid),
-        ConformFault::Cycle(uid) => push_circle(alloc, diagnostic, bytes, uid),
-        _ => push_entry(alloc, diagnostic, schema, bytes),
+        ConformFault::OutOfMemory => Err(AllocError),
+        ConformFault::DuplicateEntity(uid) if number == DUPLICATE => {
+            push_duplicate(alloc, diagnostic, files, uid)
+        }
+        ConformFault::Cycle(uid) if number == CIRCLE => push_circle(alloc, diagnostic, files, uid),
+        _ => Ok(()),
     };
     drop(fault);
     pushed
 }
 
 /// What is explained of an entities file that is refused with another number than 501: the entry, its uid and the path of the
-/// attribute. None if the schema cannot be read again.
+/// attribute. None if the schema cannot be read again. The bytes are read once; for 401 and 402 once more, for the entries of the uid.
 pub fn explain_entities<F: Files>(
     alloc: Global,
     files: &F,
@@ -140,13 +167,15 @@ pub fn explain_entities<F: Files>(
     };
     let mut diagnostic = Diagnostic::error(alloc, number, reason);
     diagnostic.advise(alloc, hint)?;
-    match read_schema(alloc, files) {
-        Ok(schema) => {
-            let pushed = push_refusal(alloc, &mut diagnostic, &schema, bytes);
-            drop(schema);
-            pushed?;
-        }
-        Err(_) => return Ok(None),
-    }
+    let Some(schema) = schema_again(alloc, files)? else {
+        return Ok(None);
+    };
+    let pushed = if number == DUPLICATE || number == CIRCLE {
+        push_store_fault(alloc, &mut diagnostic, files, &schema, bytes)
+    } else {
+        push_entry(alloc, &mut diagnostic, files, &schema, bytes)
+    };
+    drop(schema);
+    pushed?;
     Ok(Some(Explanation::of_one(alloc, file, diagnostic)?))
 }

@@ -1,4 +1,5 @@
 //! What is explained of a refused file.
+use crate::again::bytes_again;
 use crate::diagnostic::Explanation;
 use crate::entities::explain_entities;
 use crate::json_text::explain_json;
@@ -11,13 +12,17 @@ use cedar_files::{Files, Role};
 use std::alloc::{AllocError, Global};
 
 /// What is explained of a file that is refused, which has this name; or none if it cannot be read again.
+///
+/// # Errors
+///
+/// Fails only when out of memory. It never explains less since memory ran out.
 pub fn explain_file<F: Files>(
     alloc: Global,
     files: &F,
     name: &str,
     refused: RefusedFile,
 ) -> Result<Option<Explanation>, AllocError> {
-    let Ok(Some(bytes)) = files.read(alloc, refused.role) else {
+    let Some(bytes) = bytes_again(alloc, files, refused.role)? else {
         return Ok(None);
     };
     let number = refused.refusal.number;

@@ -1,12 +1,12 @@
 //! The part of a condition for which a policy has a fault, and where it is written.
 use crate::diagnostic::Diagnostic;
-use crate::statement_place::statement_place;
+use crate::own_statement::OwnStatement;
 use base_places::Place;
-use cedar_ast::{Policy, PolicySet};
+use cedar_ast::{Link, Policy, PolicySet};
 use cedar_check::Fault;
 use cedar_check_diagnostics::{RefusedPart, refused_part};
 use cedar_check_spec::Settings;
-use cedar_parser_places::{PartPlace, part_place};
+use cedar_parser_places::PartPlace;
 use cedar_schema::{Environment, Schema};
 use std::alloc::{AllocError, Global};
 
@@ -21,8 +21,10 @@ const SCOPE_STEPS: usize = 3;
 pub struct Checked<'c> {
     /// The schema.
     pub schema: &'c Schema,
-    /// The policies.
+    /// The policies, and after them those that the links give.
     pub policies: &'c PolicySet,
+    /// The links. A policy that is linked is written as its template is.
+    pub links: &'c [Link],
     /// The settings of the check.
     pub settings: Settings,
 }
@@ -45,6 +47,12 @@ impl<'c> Checked<'c> {
             }
         }
         None
+    }
+
+    /// The id of the template from which the policy of an id is linked, if it is.
+    pub(crate) fn template_of(self, id: &str) -> Option<&'c str> {
+        let link = self.links.iter().find(|link| link.id.as_str() == id)?;
+        Some(link.template.as_str())
     }
 
     /// The part of the policy's condition that has the fault.
@@ -79,11 +87,11 @@ fn type_end(text: &str, start: usize, end: usize) -> usize {
 fn mark_part(
     alloc: Global,
     diagnostic: &mut Diagnostic,
-    text: &str,
-    id: &str,
+    statement: OwnStatement<'_>,
     part: &RefusedPart,
     place: PartPlace,
 ) -> Result<(), AllocError> {
+    let text = statement.text();
     let start = place.name.start;
     let end = if part.number == UNDECLARED {
         type_end(text, start, place.name.end)
@@ -93,7 +101,7 @@ fn mark_part(
     diagnostic.place = Some(Place::of(text.as_bytes(), start));
     diagnostic.mark(alloc, start, end, part.says.as_str())?;
     for operand in &part.operands {
-        if let Some(place) = part_place(alloc, text, id, &operand.path)? {
+        if let Some(place) = statement.part(alloc, &operand.path)? {
             diagnostic.mark(
                 alloc,
                 place.whole.start,
@@ -109,12 +117,11 @@ fn mark_part(
 fn mark_statement(
     alloc: Global,
     diagnostic: &mut Diagnostic,
-    text: &str,
-    id: &str,
+    statement: OwnStatement<'_>,
 ) -> Result<(), AllocError> {
-    if let Some(at) = statement_place(alloc, text, id)? {
-        diagnostic.place = Some(Place::of(text.as_bytes(), at));
-        diagnostic.mark(alloc, at, at, "in the policy that begins here")?;
+    if let Some(at) = statement.start() {
+        diagnostic.place = Some(Place::of(statement.text().as_bytes(), at));
+        diagnostic.mark(alloc, at, at, statement.says_of_beginning())?;
     }
     Ok(())
 }
@@ -129,21 +136,20 @@ fn marked_path(part: &RefusedPart) -> &[usize] {
     }
 }
 
-/// Marks the part in the text; or else the beginning of its statement, and says in a note what is wrong.
+/// Marks the part in its statement; or else the beginning of the statement, and says in a note what is wrong.
 pub(crate) fn push_place(
     alloc: Global,
     diagnostic: &mut Diagnostic,
-    text: &str,
-    id: &str,
+    statement: OwnStatement<'_>,
     part: Option<&RefusedPart>,
 ) -> Result<(), AllocError> {
     let Some(part) = part else {
-        return mark_statement(alloc, diagnostic, text, id);
+        return mark_statement(alloc, diagnostic, statement);
     };
-    match part_place(alloc, text, id, marked_path(part))? {
-        Some(place) => mark_part(alloc, diagnostic, text, id, part, place),
+    match statement.part(alloc, marked_path(part))? {
+        Some(place) => mark_part(alloc, diagnostic, statement, part, place),
         None => {
-            mark_statement(alloc, diagnostic, text, id)?;
+            mark_statement(alloc, diagnostic, statement)?;
             diagnostic.note(alloc, part.says.as_str())
         }
     }

@@ -2,6 +2,8 @@
 use crate::diagnostic::{Diagnostic, Explanation, Severity};
 use crate::excerpt::first_of;
 use crate::fault_part::{Checked, push_place, push_words};
+use crate::own_statement::{MOST_OF_ID, OwnStatement};
+use crate::statement_places::StatementPlaces;
 use cedar_check::{Fault, Report};
 use std::alloc::{AllocError, Global};
 use std::fmt::Write;
@@ -11,9 +13,6 @@ const MOST: usize = 20;
 
 /// The number of the warning on a policy that no request can satisfy.
 const IMPOSSIBLE: u16 = 650;
-
-/// How many bytes of an id are shown at most.
-const MOST_OF_ID: usize = 80;
 
 /// The numbers of faults of policies.
 const NUMBERS: [u16; 7] = [601, 602, 603, 604, 605, 606, 607];
@@ -90,17 +89,33 @@ pub fn explain_faults(
     report: &Report,
 ) -> Result<Explanation, AllocError> {
     let mut explanation = Explanation::new(alloc, file)?;
+    let statements = StatementPlaces::of(alloc, text.as_str())?;
+    let pushed = push_report(alloc, &mut explanation, &statements, checked, report);
+    drop(statements);
+    pushed?;
+    explanation.text = text;
+    Ok(explanation)
+}
+
+// Adds what is explained of the faults and the warnings of a report.
+fn push_report<'s>(
+    alloc: Global,
+    explanation: &mut Explanation,
+    statements: &'s StatementPlaces<'s>,
+    checked: Checked<'s>,
+    report: &'s Report,
+) -> Result<(), AllocError> {
     let mut rest = report.faults.as_slice();
     for _ in 0..report.faults.len() {
         let (own, others) = rest.split_at(len_of_first(rest).min(rest.len()));
-        push_groups(alloc, &mut explanation, text.as_str(), checked, own)?;
+        push_groups(alloc, explanation, statements, checked, own)?;
         rest = others;
     }
     for policy in &report.warnings {
-        push_warning(alloc, &mut explanation, text.as_str(), policy.as_str())?;
+        let statement = OwnStatement::new(statements, checked, policy.as_str());
+        push_warning(alloc, explanation, statement, policy.as_str())?;
     }
-    explanation.text = text;
-    Ok(explanation)
+    Ok(())
 }
 
 // Whether one more is explained; if not, it is counted.
@@ -116,7 +131,7 @@ fn has_room(explanation: &mut Explanation) -> bool {
 fn push_warning(
     alloc: Global,
     explanation: &mut Explanation,
-    text: &str,
+    statement: OwnStatement<'_>,
     policy: &str,
 ) -> Result<(), AllocError> {
     if !has_room(explanation) {
@@ -124,10 +139,11 @@ fn push_warning(
     }
     let mut diagnostic = Diagnostic::error(alloc, IMPOSSIBLE, "no request can satisfy this policy");
     diagnostic.severity = Severity::Warning;
-    push_place(alloc, &mut diagnostic, text, policy, None)?;
+    push_place(alloc, &mut diagnostic, statement, None)?;
     let id = first_of(policy, MOST_OF_ID);
     let says = format!(in alloc; "policy `{id}` is false in each environment of the schema")?;
     diagnostic.note(alloc, says.as_str())?;
+    statement.push_link(alloc, &mut diagnostic)?;
     diagnostic.advise(
         alloc,
         "compare the action and the types of its scope with `appliesTo` in the schema",
@@ -137,17 +153,17 @@ fn push_warning(
 }
 
 // Adds what is explained of the faults of one policy.
-fn push_groups(
+fn push_groups<'s>(
     alloc: Global,
     explanation: &mut Explanation,
-    text: &str,
-    checked: Checked<'_>,
-    faults: &[Fault],
+    statements: &'s StatementPlaces<'s>,
+    checked: Checked<'s>,
+    faults: &'s [Fault],
 ) -> Result<(), AllocError> {
     for number in NUMBERS {
         if let Some(group) = group_of(faults, number) {
             if has_room(explanation) {
-                let diagnostic = diagnostic_of(alloc, text, checked, group)?;
+                let diagnostic = diagnostic_of(alloc, statements, checked, group)?;
                 explanation.diagnostics.push(diagnostic)?;
             }
         }
@@ -156,20 +172,21 @@ fn push_groups(
 }
 
 // What is explained of the faults of one policy with one number.
-fn diagnostic_of(
+fn diagnostic_of<'s>(
     alloc: Global,
-    text: &str,
-    checked: Checked<'_>,
-    group: Group<'_>,
+    statements: &'s StatementPlaces<'s>,
+    checked: Checked<'s>,
+    group: Group<'s>,
 ) -> Result<Diagnostic, AllocError> {
     let (reason, hint) = words_of(group.first.number());
     let mut diagnostic = Diagnostic::error(alloc, group.first.number(), reason);
     let part = checked.part(alloc, group.first)?;
-    let id = group.first.policy.as_str();
-    push_place(alloc, &mut diagnostic, text, id, part.as_ref())?;
+    let statement = OwnStatement::new(statements, checked, group.first.policy.as_str());
+    push_place(alloc, &mut diagnostic, statement, part.as_ref())?;
     let environments = checked.schema.environments().len();
     let says = says_of_environments(alloc, group, environments)?;
     diagnostic.note(alloc, says.as_str())?;
+    statement.push_link(alloc, &mut diagnostic)?;
     match &part {
         Some(part) => push_words(alloc, &mut diagnostic, part)?,
         None => diagnostic.advise(alloc, hint)?,

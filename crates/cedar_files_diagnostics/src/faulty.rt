@@ -1,58 +1,89 @@
 //! The faults of the policies of files.
+use crate::again::{bytes_again, links_again, policies_again, schema_again};
 use crate::diagnostic::Explanation;
 use crate::fault_part::Checked;
 use crate::faults::explain_faults;
+use crate::links::first_refused;
 use cedar_ast::PolicySet;
 use cedar_check::check_with;
 use cedar_check_spec::Settings;
-use cedar_files::{Files, Role, enter_links, read_policies, read_schema};
+use cedar_files::{Files, Role};
 use cedar_schema::Schema;
 use std::alloc::{AllocError, Global};
 
 /// What is explained of the faults and the warnings of these files' policies; or none if the files cannot be read again. `name` is that
 /// of the policy file.
+///
+/// # Errors
+///
+/// Fails only when out of memory.
 pub fn explain_policy_faults<F: Files>(
     alloc: Global,
     files: &F,
     name: &str,
     settings: Settings,
 ) -> Result<Option<Explanation>, AllocError> {
-    let Ok(schema) = read_schema(alloc, files) else {
+    let Some(schema) = schema_again(alloc, files)? else {
         return Ok(None);
     };
-    let explained = match read_policies(alloc, files) {
-        Ok(policies) => with_links(alloc, files, name, &schema, policies, settings),
-        Err(_) => Ok(None),
-    };
+    let explained = with_schema(alloc, files, name, &schema, settings);
     drop(schema);
     explained
 }
 
-fn with_links<F: Files>(
+// The same for the policies of the files, with this schema.
+fn with_schema<F: Files>(
     alloc: Global,
     files: &F,
     name: &str,
     schema: &Schema,
-    mut policies: PolicySet,
     settings: Settings,
 ) -> Result<Option<Explanation>, AllocError> {
-    let explained = match enter_links(alloc, files, &mut policies) {
-        Ok(()) => over_policies(alloc, files, name, schema, &policies, settings),
-        Err(_) => Ok(None),
+    let Some(mut policies) = policies_again(alloc, files)? else {
+        return Ok(None);
     };
+    let explained = with_policies(alloc, files, name, schema, &mut policies, settings);
     drop(policies);
     explained
 }
 
-fn over_policies<F: Files>(
+// The same, once the links are entered after the policies.
+fn with_policies<F: Files>(
     alloc: Global,
     files: &F,
     name: &str,
     schema: &Schema,
-    policies: &PolicySet,
+    policies: &mut PolicySet,
     settings: Settings,
 ) -> Result<Option<Explanation>, AllocError> {
-    let Ok(Some(bytes)) = files.read(alloc, Role::Policies) else {
+    let Some(links) = links_again(alloc, files)? else {
+        return Ok(None);
+    };
+    let explained = match first_refused(policies, &links) {
+        Ok(None) => {
+            let checked = Checked {
+                schema,
+                policies,
+                links: &links,
+                settings,
+            };
+            over_text(alloc, files, name, checked)
+        }
+        Ok(Some(_)) => Ok(None),
+        Err(error) => Err(error),
+    };
+    drop(links);
+    explained
+}
+
+// The same, with the text of the policy file.
+fn over_text<F: Files>(
+    alloc: Global,
+    files: &F,
+    name: &str,
+    checked: Checked<'_>,
+) -> Result<Option<Explanation>, AllocError> {
+    let Some(bytes) = bytes_again(alloc, files, Role::Policies)? else {
         return Ok(None);
     };
     let text = match String::from_utf8(bytes) {
@@ -62,12 +93,7 @@ fn over_policies<F: Files>(
             return Ok(None);
         }
     };
-    let report = check_with(alloc, schema, policies, settings)?;
-    let checked = Checked {
-        schema,
-        policies,
-        settings,
-    };
+    let report = check_with(alloc, checked.schema, checked.policies, checked.settings)?;
     let explained = explain_faults(alloc, name, text, checked, &report)?;
     Ok(Some(explained))
 }

@@ -13,6 +13,7 @@
 //! is shown of a file has no control character and no character that changes the direction of text (`base_places`).
 #![tactic(auto)]
 
+mod again;
 mod counting_sink;
 mod data;
 mod diagnostic;
@@ -25,16 +26,18 @@ mod faults;
 mod faulty;
 mod format;
 mod human;
+mod item_place;
 mod json_lines;
 mod json_text;
 mod links;
 mod messages;
+mod own_statement;
 mod policy_text;
 mod policy_words;
 mod refused;
 mod schemas;
 mod second_place;
-mod statement_place;
+mod statement_places;
 mod token_words;
 mod words;
 
@@ -50,5 +53,5 @@ pub use format::Format;
 pub use json_text::{explain_json, json_offset};
 pub use messages::{impossible_policies, not_again, refused_lines, unreadable};
 pub use policy_text::{PolicyPlace, explain_policies, policy_place};
-pub use refused::{Extent, RefusedFile, refused_file};
+pub use refused::RefusedFile;
 pub use words::explain_number;

@@ -1,25 +1,38 @@
 //! Links files that are refused: the link, and the key.
+use crate::again::{links_of, policies_again};
 use crate::data::push_fault;
 use crate::diagnostic::{Diagnostic, Explanation};
+use crate::item_place::item_place;
 use crate::words::words_of;
-use cedar_ast::{Link, PolicySet};
-use cedar_conform::read_links;
+use cedar_ast::{Link, LinkFault, PolicySet};
 use cedar_conform_diagnostics::refused_link;
-use cedar_files::{Files, read_policies};
+use cedar_files::Files;
 use std::alloc::{AllocError, Global};
 use std::fmt::Write;
 
-// The position of the first link that policies refuse, and the link.
-fn first_refused<'l>(policies: &mut PolicySet, links: &'l [Link]) -> Option<(usize, &'l Link)> {
+/// Enters links after policies, up to the first that is refused, and gives its position, from 0. None if all are entered.
+pub(crate) fn first_refused(
+    policies: &mut PolicySet,
+    links: &[Link],
+) -> Result<Option<usize>, AllocError> {
     for (position, link) in links.iter().enumerate() {
-        if policies
-            .link(link.template.as_str(), link.id.as_str(), &link.slots)
-            .is_err()
-        {
-            return Some((position, link));
+        match policies.link(link.template.as_str(), link.id.as_str(), &link.slots) {
+            Ok(()) => {}
+            Err(LinkFault::OutOfMemory) => return Err(AllocError),
+            Err(_) => return Ok(Some(position)),
         }
     }
-    None
+    Ok(None)
+}
+
+// Adds which item of the list is the link, and where it begins.
+fn push_position(
+    diagnostic: &mut Diagnostic,
+    bytes: &[u8],
+    position: usize,
+) -> Result<(), AllocError> {
+    diagnostic.place = item_place(bytes, position);
+    write!(diagnostic.part, "link {position} (from 0)")
 }
 
 // Adds the first link that the policies refuse.
@@ -28,18 +41,23 @@ fn push_refused<F: Files>(
     diagnostic: &mut Diagnostic,
     files: &F,
     links: &[Link],
+    bytes: &[u8],
 ) -> Result<(), AllocError> {
-    let Ok(mut policies) = read_policies(alloc, files) else {
+    let Some(mut policies) = policies_again(alloc, files)? else {
         return Ok(());
     };
-    if let Some((position, link)) = first_refused(&mut policies, links) {
+    let refused = first_refused(&mut policies, links);
+    drop(policies);
+    let Some(position) = refused? else {
+        return Ok(());
+    };
+    push_position(diagnostic, bytes, position)?;
+    if let Some(link) = links.get(position) {
         let id = link.id.as_str();
         let template = link.template.as_str();
-        write!(diagnostic.part, "link {position} (from 0)")?;
         let says = format!(in alloc; "link `{id}` of template `{template}`")?;
         diagnostic.note(alloc, says.as_str())?;
     }
-    drop(policies);
     Ok(())
 }
 
@@ -50,8 +68,7 @@ fn push_malformed(
     bytes: &[u8],
 ) -> Result<(), AllocError> {
     if let Some(refused) = refused_link(alloc, bytes)? {
-        let position = refused.position;
-        write!(diagnostic.part, "link {position} (from 0)")?;
+        push_position(diagnostic, bytes, refused.position)?;
         push_fault(alloc, diagnostic, &refused.fault)?;
     }
     Ok(())
@@ -70,12 +87,9 @@ pub fn explain_links<F: Files>(
     };
     let mut diagnostic = Diagnostic::error(alloc, number, reason);
     diagnostic.advise(alloc, hint)?;
-    match read_links(alloc, bytes) {
-        Ok(links) => push_refused(alloc, &mut diagnostic, files, &links)?,
-        Err(fault) => {
-            drop(fault);
-            push_malformed(alloc, &mut diagnostic, bytes)?;
-        }
+    match links_of(alloc, bytes)? {
+        Some(links) => push_refused(alloc, &mut diagnostic, files, &links, bytes)?,
+        None => push_malformed(alloc, &mut diagnostic, bytes)?,
     }
     Ok(Some(Explanation::of_one(alloc, file, diagnostic)?))
 }

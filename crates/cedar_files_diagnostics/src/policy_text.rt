@@ -5,9 +5,10 @@ ghost use Rattle.cedar_ast.specs.PolicySetTree.{PolicySetTree};
 ghost use Rattle.cedar_parser.specs.PolicyText.{HasFault, IsPolicyText};
 ghost use Rattle.cedar_parser_tokens.specs.Faults.{offset_of};
 
+use crate::again::tokens_again;
 use crate::diagnostic::{Diagnostic, Explanation};
 use crate::policy_words::{hint_of, mark_of, reason_of};
-use crate::second_place::second_place;
+use crate::second_place::{SecondPlace, before_unexpected, second_place};
 use crate::token_words::{meant_by_character, meant_by_word, unexpected};
 use base_places::Place;
 use cedar_parser::parse;
@@ -82,18 +83,43 @@ fn explain_text(
 }
 
 // What to do about a fault of a text, if one thing is likely.
-fn hint_for(
-    alloc: Global,
-    text: &str,
-    fault: ParseFault,
-) -> Result<Option<&'static str>, AllocError> {
+fn hint_for(text: &str, fault: ParseFault) -> Option<&'static str> {
     match fault {
-        ParseFault::Syntax(at) => meant_by_word(alloc, text, at),
         ParseFault::Text(TextFault::BadCharacter(at)) => {
-            Ok(meant_by_character(text.get(at..).unwrap_or("")))
+            meant_by_character(text.get(at..).unwrap_or(""))
         }
-        _ => Ok(hint_of(fault)),
+        _ => hint_of(fault),
     }
+}
+
+// Marks the second place and adds the hint, as far as there are these.
+fn push_rest(
+    alloc: Global,
+    diagnostic: &mut Diagnostic,
+    second: Option<SecondPlace>,
+    hint: Option<&'static str>,
+) -> Result<(), AllocError> {
+    if let Some(second) = second {
+        diagnostic.mark(alloc, second.at, second.at, second.says)?;
+    }
+    if let Some(hint) = hint {
+        diagnostic.advise(alloc, hint)?;
+    }
+    Ok(())
+}
+
+// Marks the token at a place where it is not allowed, and what explains it. The text is cut into tokens once for all of this.
+fn push_unexpected(
+    alloc: Global,
+    diagnostic: &mut Diagnostic,
+    text: &str,
+    at: usize,
+) -> Result<(), AllocError> {
+    let found = tokens_again(alloc, text)?;
+    let says = unexpected(alloc, &found, at)?;
+    diagnostic.mark(alloc, at, at, says.as_str())?;
+    let second = before_unexpected(alloc, &found, at)?;
+    push_rest(alloc, diagnostic, second, meant_by_word(&found, at))
 }
 
 // What is explained of a fault of a text.
@@ -101,17 +127,13 @@ fn diagnostic_of(alloc: Global, text: &str, found: PolicyPlace) -> Result<Diagno
     let fault = found.fault;
     let mut diagnostic = Diagnostic::error(alloc, fault.number(), reason_of(fault));
     diagnostic.place = Some(found.place);
-    let says = match fault {
-        ParseFault::Syntax(at) => unexpected(alloc, text, at)?,
-        fault => String::from_str(alloc, mark_of(fault))?,
-    };
-    diagnostic.mark(alloc, found.offset, found.offset, says.as_str())?;
-    if let Some(second) = second_place(alloc, text, fault)? {
-        diagnostic.mark(alloc, second.at, second.at, second.says)?;
+    if let ParseFault::Syntax(at) = fault {
+        push_unexpected(alloc, &mut diagnostic, text, at)?;
+        return Ok(diagnostic);
     }
-    if let Some(hint) = hint_for(alloc, text, fault)? {
-        diagnostic.advise(alloc, hint)?;
-    }
+    diagnostic.mark(alloc, found.offset, found.offset, mark_of(fault))?;
+    let second = second_place(alloc, text, fault)?;
+    push_rest(alloc, &mut diagnostic, second, hint_for(text, fault))?;
     Ok(diagnostic)
 }
 

@@ -1,9 +1,14 @@
 //! Which file is refused.
-use cedar_check_spec::Settings;
-use cedar_files::{
-    FileRefusal, Files, Role, Unprepared, Unread, read_all, read_policies, read_report,
-};
-use std::alloc::Global;
+use cedar_files::{FileRefusal, Role};
+
+/// How the line begins that says which file is refused.
+const BEGIN: &str = "{\"file\":\"";
+
+/// What is before the number of a refusal.
+const NUMBER: &str = "\"refused\":";
+
+/// What is before the place of a refusal, if it has one.
+const OFFSET: &str = ",\"offset\":";
 
 /// A file that is refused, and its refusal.
 #[derive(Clone, Copy, Debug, PartialEq, Eq)]
@@ -14,77 +19,42 @@ pub struct RefusedFile {
     pub refusal: FileRefusal,
 }
 
-/// Which files are read.
-#[derive(Clone, Copy, Debug, PartialEq, Eq)]
-pub enum Extent {
-    /// The policies, without a schema.
-    Policies,
-    /// The schema, the policies and the links.
-    Report,
-    /// All of them, and the policies are validated before the entities are read.
-    All,
-}
-
-/// The file for which these files are refused, if one is when they are read again, in their order.
-pub fn refused_file<F: Files>(
-    alloc: Global,
-    files: &F,
-    extent: Extent,
-    settings: Settings,
-) -> Option<RefusedFile> {
-    match extent {
-        Extent::Policies => policies_alone(alloc, files),
-        Extent::Report => reported(alloc, files, settings),
-        Extent::All => all(alloc, files, settings),
+// What the file of this name is to the program.
+fn role_of(name: &str) -> Option<Role> {
+    match name {
+        "schema" => Some(Role::Schema),
+        "policies" => Some(Role::Policies),
+        "links" => Some(Role::Links),
+        "entities" => Some(Role::Entities),
+        _ => None,
     }
 }
 
-// The policy file, if it is refused.
-fn policies_alone<F: Files>(alloc: Global, files: &F) -> Option<RefusedFile> {
-    match read_policies(alloc, files) {
-        Ok(policies) => {
-            drop(policies);
-            None
+/// The number in digits with which some bytes begin.
+pub(crate) fn number_of(digits: &[u8]) -> usize {
+    let mut number = 0usize;
+    for byte in digits {
+        if !byte.is_ascii_digit() {
+            break;
         }
-        Err(Unread::Refused(refusal)) => Some(RefusedFile {
-            role: Role::Policies,
-            refusal,
-        }),
-        Err(Unread::Unnamed | Unread::Device | Unread::Memory) => None,
+        number = number.saturating_mul(10);
+        number = number.saturating_add(usize::from(byte.saturating_sub(b'0')));
     }
+    number
 }
 
-// The schema file, the policy file or the links file, if one is refused.
-fn reported<F: Files>(alloc: Global, files: &F, settings: Settings) -> Option<RefusedFile> {
-    match read_report(alloc, files, settings) {
-        Ok((policies, report)) => {
-            drop(policies);
-            drop(report);
-            None
-        }
-        Err(unprepared) => refused(unprepared),
-    }
-}
-
-// The first file that is refused.
-fn all<F: Files>(alloc: Global, files: &F, settings: Settings) -> Option<RefusedFile> {
-    match read_all(alloc, files, settings) {
-        Ok(ready) => {
-            drop(ready);
-            None
-        }
-        Err(unprepared) => refused(unprepared),
-    }
-}
-
-// The refusal of a file, if that is why files are not ready.
-fn refused(unprepared: Unprepared) -> Option<RefusedFile> {
-    match unprepared {
-        Unprepared::Refused(role, refusal) => Some(RefusedFile { role, refusal }),
-        Unprepared::Faults(refused) => {
-            drop(refused);
-            None
-        }
-        Unprepared::Unnamed | Unprepared::Device | Unprepared::Memory => None,
-    }
+/// The file that a line says is refused, such as `{"file":"policies","offset":43,"refused":104}`; or none if it says something else.
+pub(crate) fn refused_file(line: &[u8]) -> Option<RefusedFile> {
+    let text = str::from_utf8(line).ok()?;
+    let (name, rest) = text.strip_prefix(BEGIN)?.split_once('"')?;
+    let role = role_of(name)?;
+    let (before, after) = rest.split_once(NUMBER)?;
+    let number = u16::try_from(number_of(after.as_bytes())).ok()?;
+    let offset = before
+        .strip_prefix(OFFSET)
+        .map(|digits| number_of(digits.as_bytes()));
+    Some(RefusedFile {
+        role,
+        refusal: FileRefusal { number, offset },
+    })
 }

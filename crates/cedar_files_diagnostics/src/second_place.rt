@@ -1,7 +1,8 @@
 //! The place that explains a fault at another place: an open bracket, a missing `;`, a string over several lines.
-use crate::statement_place::first_of_id;
+use crate::again::tokens_again;
+use crate::statement_places::StatementPlaces;
 use cedar_parser_tokens::ParseFault;
-use cedar_text::{TextFault, Token, TokenKind, tokens};
+use cedar_text::{TextFault, Token, TokenKind};
 use std::alloc::{AllocError, Global};
 
 /// A place of a text, in bytes from 0, and what it is.
@@ -13,26 +14,21 @@ pub struct SecondPlace {
     pub says: &'static str,
 }
 
-/// The place that explains a fault, if there is one.
+/// The place that explains a fault, if there is one. That of a token that is not allowed is given by [`before_unexpected`].
 pub fn second_place(
     alloc: Global,
     text: &str,
     fault: ParseFault,
 ) -> Result<Option<SecondPlace>, AllocError> {
     match fault {
-        ParseFault::Syntax(at) => match tokens(alloc, text) {
-            Ok(found) => before_unexpected(alloc, &found, at),
-            Err(_) => Ok(None),
-        },
         ParseFault::Text(TextFault::UnclosedString(at)) => {
-            let before = text.get(..at).unwrap_or("");
-            match tokens(alloc, before) {
-                Ok(found) => Ok(long_string(&found)),
-                Err(_) => Ok(None),
-            }
+            let found = tokens_again(alloc, text.get(..at).unwrap_or(""))?;
+            Ok(long_string(&found))
         }
         ParseFault::DuplicateId(at) => {
-            let first = first_of_id(alloc, text, at)?;
+            let statements = StatementPlaces::of(alloc, text)?;
+            let first = statements.first_of_id(at);
+            drop(statements);
             Ok(first.map(|at| SecondPlace {
                 at,
                 says: "the first statement with this id begins here",
@@ -66,8 +62,8 @@ fn is_close(kind: TokenKind) -> bool {
     )
 }
 
-// What explains the token at a place, of tokens in which it is not allowed.
-fn before_unexpected(
+/// What explains the token at a place, of the tokens of a text in which it is not allowed.
+pub fn before_unexpected(
     alloc: Global,
     found: &[Token<'_>],
     at: usize,

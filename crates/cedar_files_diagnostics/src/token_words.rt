@@ -1,7 +1,7 @@
 //! Words for the text at a place that the grammar does not allow.
 use crate::excerpt::first_of;
 use base_places::push_shown;
-use cedar_text::{Token, TokenKind, tokens};
+use cedar_text::{Token, TokenKind};
 use std::alloc::{AllocError, Global};
 
 /// How many bytes of a token are shown at most.
@@ -12,14 +12,10 @@ fn token_at<'t>(found: &[Token<'t>], at: usize) -> Option<Token<'t>> {
     found.iter().find(|token| token.start == at).copied()
 }
 
-/// What the mark says: the token that begins at an offset of a text that has tokens, or the end of the text.
-pub fn unexpected(alloc: Global, text: &str, at: usize) -> Result<String, AllocError> {
-    let token = match tokens(alloc, text) {
-        Ok(found) => token_at(&found, at),
-        Err(_) => None,
-    };
+/// What the mark says: the token that begins at an offset of a text that has these tokens, or the end of the text.
+pub fn unexpected(alloc: Global, found: &[Token<'_>], at: usize) -> Result<String, AllocError> {
     let mut says = String::new(alloc);
-    match token {
+    match token_at(found, at) {
         Some(token) => {
             says.push_str("unexpected `")?;
             let line = token.text.lines().next().unwrap_or(token.text);
@@ -35,26 +31,19 @@ pub fn unexpected(alloc: Global, text: &str, at: usize) -> Result<String, AllocE
     Ok(says)
 }
 
-/// What is likely meant by a word that the grammar does not allow, or none.
-pub fn meant_by_word(
-    alloc: Global,
-    text: &str,
-    at: usize,
-) -> Result<Option<&'static str>, AllocError> {
-    let token = match tokens(alloc, text) {
-        Ok(found) => token_at(&found, at),
-        Err(_) => None,
-    };
-    Ok(match token {
-        Some(token) if token.kind == TokenKind::Identifier => match token.text {
-            "and" => Some("`&&` is Cedar's and"),
-            "or" => Some("`||` is Cedar's or"),
-            "not" => Some("`!` is Cedar's not"),
-            "allow" | "deny" => Some("a policy begins with `permit` or `forbid`"),
-            _ => None,
-        },
+/// What is likely meant by the word at an offset of a text that has these tokens, which the grammar does not allow; or none.
+pub fn meant_by_word(found: &[Token<'_>], at: usize) -> Option<&'static str> {
+    let token = token_at(found, at)?;
+    if token.kind != TokenKind::Identifier {
+        return None;
+    }
+    match token.text {
+        "and" => Some("`&&` is Cedar's and"),
+        "or" => Some("`||` is Cedar's or"),
+        "not" => Some("`!` is Cedar's not"),
+        "allow" | "deny" => Some("a policy begins with `permit` or `forbid`"),
         _ => None,
-    })
+    }
 }
 
 /// What is likely meant by a character with which no token begins, or none. The text is what is from it on.

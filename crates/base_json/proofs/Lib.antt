@@ -1,5 +1,6 @@
 mod Bytes
 mod Coming
+mod ComingMembers
 mod Digits
 mod FirstItem
 mod Followed

@@ -1,3 +1,4 @@
 pub mod Items
 pub mod JsonTree
+pub mod Members
 pub mod Private

@@ -15,7 +15,7 @@
 //! ```rust
 //! use base_json::JsonReader;
 //!
-//! let mut reader = JsonReader::new(alloc);
+//! let mut reader = JsonReader::new(alloc)?;
 //! for line in lines {
 //!     if let Some(json) = reader.read(alloc, line)? {
 //!         println!(rt; "{json}")?;
@@ -45,6 +45,8 @@ mod behind;
 mod first_object;
 mod items;
 mod json_tree;
+mod lent_value;
+mod members;
 mod number;
 mod object_end;
 mod objects;
@@ -56,6 +58,8 @@ mod tree_fault;
 
 pub use items::ItemReader;
 pub use json_tree::read_json;
+pub use lent_value::LentValue;
+pub use members::MemberReader;
 pub use objects::ObjectReader;
 pub use reader::JsonReader;
 pub use tree_fault::TreeFault;

@@ -1,14 +1,16 @@
 //! JSON texts one after another.
 ghost use Rattle.std.specs.Prelude.{◌≡◌, ◌≢◌, Some, None, IfOk, MatchOption, MatchResult, option_and_then, option_map};
-ghost use Rattle.serde_json.specs.Data.{array};
-ghost use Rattle.serde_json.specs.Find.{as_array};
+ghost use Rattle.serde_json.specs.Data.{array, no_members, object};
+ghost use Rattle.serde_json.specs.Find.{as_array, as_object};
 ghost use Rattle.serde_json.specs.Read.{read as tree_of_text};
 ghost use Rattle.serde_json.specs.View.{view};
 ghost use Rattle.base_json.specs.JsonTree.{json_of};
 ghost use Rattle.base_json.specs.Items.{to_come};
+ghost use Rattle.base_json.specs.Members.{members_to_come};
 ghost use Rattle.base_json.specs.declared.tree_fault.TreeFault.TheVariants.{OutOfMemory};
 
 use crate::items::ItemReader;
+use crate::members::MemberReader;
 use crate::tree::read_tree;
 use crate::tree_fault::TreeFault;
 use json::{Reader, Scratch};
@@ -19,18 +21,24 @@ use std::alloc::{AllocError, Global};
 const MAX_DEPTH: usize = 127;
 
 /// Reads JSON texts with buffers that are kept from text to text: one for strings with escapes, as long as the longest text,
-/// and one for the places of a text's tokens.
+/// and one of 16 KiB for the places of a text's tokens. Both are on the heap.
 #[derive(Drop)]
 pub struct JsonReader {
-    scratch: Scratch,
+    scratch: Box<Scratch, Global>,
 }
 
 impl JsonReader {
-    /// A reader with room for no text yet. It takes no memory.
-    pub fn new(alloc: Global) -> JsonReader {
-        JsonReader {
-            scratch: Scratch::new(alloc),
-        }
+    /// A reader with room for no string yet.
+    ///
+    /// # Errors
+    ///
+    /// Fails only when out of memory.
+    // It is not inlined, so that the buffer is on the call stack only while it is made.
+    #[inline(never)]
+    pub fn new(alloc: Global) -> Result<JsonReader, AllocError> {
+        Ok(JsonReader {
+            scratch: Box::new(alloc, Scratch::new(alloc))?,
+        })
     }
 
     /// The JSON tree of the bytes. None exactly where they are not UTF-8, not JSON, or nest deeper than 127 (RFC 8259).
@@ -44,7 +52,7 @@ impl JsonReader {
         let Ok(text) = std::str::from_utf8(bytes) else {
             return Ok(None);
         };
-        match read_text(alloc, text, &mut self.scratch) {
+        match read_text(alloc, text, &mut *self.scratch) {
             Ok(json) => Ok(Some(json)),
             Err(fault) => match fault {
                 TreeFault::OutOfMemory => Err(AllocError),
@@ -66,7 +74,26 @@ impl JsonReader {
         let Ok(text) = std::str::from_utf8(bytes) else {
             return Ok(None);
         };
-        ItemReader::open(text, &mut self.scratch)
+        ItemReader::open(text, &mut *self.scratch)
+    }
+
+    /// The members of the bytes, to be read one after another, where the bytes begin as an object does (RFC 8259, section 4). None
+    /// where they do not begin so, or are not UTF-8: then they are not a JSON object.
+    ///
+    /// # Errors
+    ///
+    /// Fails only when out of memory.
+    pub fn members<'r>(
+        &'r mut self,
+        bytes: &'r [u8],
+    ) -> Result<Option<MemberReader<'r>>, AllocError>
+        ensures { IfOk result (λ found. MatchOption found (option_and_then as_object (json_of bytes.now) ≡ None)
+            (λ members. json_of bytes.now ≡ option_map object (members_to_come no_members members))) }
+    {
+        let Ok(text) = std::str::from_utf8(bytes) else {
+            return Ok(None);
+        };
+        MemberReader::open(text, &mut *self.scratch)
     }
 }
 

@@ -1,6 +1,8 @@
 //! One step through the tokens of a text: a scalar, or what nests.
-ghost use Rattle.std.specs.Prelude.{◌≡◌, ◌<◌, ℕ, length, None, Err, IfOk, OnOk};
+ghost use Rattle.std.specs.Prelude.{◌≡◌, ◌<◌, ◌∷◌, ℕ, List, length, None, Err, IfOk, OnOk};
 ghost use Rattle.json.specs.Json.{value};
+ghost use Rattle.json.specs.Reads.{token_of};
+ghost use Rattle.json.specs.Token.{Token as TokenTree};
 ghost use Rattle.serde_json.specs.Read.{of_json, converted};
 ghost use Rattle.base_json.specs.Private.Steps.{IsStep};
 ghost use Rattle.base_json.specs.declared.tree_fault.TreeFault.TheVariants.{Invalid};
@@ -33,6 +35,15 @@ pub(crate) fn read_step(alloc: Global, reader: &mut Reader<'_>) -> Result<Step, 
     ensures err { result ≡ Err Invalid → (depth : ℕ) → converted of_json (value depth reader.old) ≡ None }
 {
     let token = reader.next().ok_or(TreeFault::Invalid)?;
+    step_of(alloc, token)
+}
+
+/// The value that begins with a token, as [`read_step`] gives it.
+#[inline(always)]
+pub(crate) fn step_of(alloc: Global, token: Token<'_>) -> Result<Step, TreeFault>
+    ensures ok { IfOk result (λ step. (rest : List TokenTree) → IsStep (token_of token.entry ∷ rest) rest step) }
+    ensures err { result ≡ Err Invalid → (rest : List TokenTree) (depth : ℕ) → converted of_json (value depth (token_of token.entry ∷ rest)) ≡ None }
+{
     match token {
         Token::String(text) => Ok(Step::Scalar(Value::String(String::from_str(alloc, text)?))),
         Token::Number(text) => match number_of(text) {

@@ -1,6 +1,7 @@
 //! The tree of tokens.
-ghost use Rattle.std.specs.Prelude.{◌≡◌, ◌<◌, ◌∷◌, length, Some, None, Err, IfOk, OnOk};
+ghost use Rattle.std.specs.Prelude.{◌≡◌, ◌<◌, ◌≤◌, ◌∷◌, length, Some, None, Err, IfOk, OnOk};
 ghost use Rattle.json.specs.Json.{value, items, members};
+ghost use Rattle.json.specs.Reads.{token_of};
 ghost use Rattle.serde_json.specs.Data.{no_members};
 ghost use Rattle.serde_json.specs.Read.{of_json, of_items, of_members, converted};
 ghost use Rattle.serde_json.specs.View.{view, items_view, members_view};
@@ -8,9 +9,9 @@ ghost use Rattle.base_json.specs.Private.Steps.{opening};
 ghost use Rattle.base_json.specs.declared.tree_fault.TreeFault.TheVariants.{Invalid};
 
 use crate::scalars::{add_items, add_members};
-use crate::step::{Opened, Step, read_step};
+use crate::step::{Opened, Step, read_step, step_of};
 use crate::tree_fault::TreeFault;
-use json::Reader;
+use json::{Reader, Token};
 use serde_json::{Map, Value};
 use std::alloc::Global;
 
@@ -27,6 +28,24 @@ pub(crate) fn read_tree(
     ensures err { result ≡ Err Invalid → converted of_json (value depth reader.old) ≡ None }
 {
     match read_step(alloc, reader)? {
+        Step::Scalar(value) => Ok(value),
+        Step::Nested(opened) => read_nested(alloc, reader, opened, depth),
+    }
+}
+
+/// The tree of the value that begins with a token, as [`read_tree`] gives it.
+#[inline(always)]
+pub(crate) fn tree_after(
+    alloc: Global,
+    reader: &mut Reader<'_>,
+    token: Token<'_>,
+    depth: usize,
+) -> Result<Value, TreeFault>
+    ensures ok { IfOk result (λ v. converted of_json (value depth (token_of token.entry ∷ reader.old)) ≡ Some (view v, reader.new)) }
+    ensures no_longer { OnOk result (length reader.new ≤ length reader.old) }
+    ensures err { result ≡ Err Invalid → converted of_json (value depth (token_of token.entry ∷ reader.old)) ≡ None }
+{
+    match step_of(alloc, token)? {
         Step::Scalar(value) => Ok(value),
         Step::Nested(opened) => read_nested(alloc, reader, opened, depth),
     }

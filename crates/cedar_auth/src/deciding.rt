@@ -8,14 +8,14 @@ use crate::answer::append_response;
 use crate::ready::Ready;
 use crate::serving::append_fault;
 use crate::tally::Tally;
-use base_json::JsonReader;
 use cedar_ast::Decision;
 use cedar_auth_candidates::Selection;
+use cedar_conform::RequestReader;
 use cedar_value::Request;
 use std::alloc::{AllocError, Global};
 
 /// Appends the answer to one request line, as [`serve`](crate::serve) writes it but without LF: the response of the policies to
-/// the request that the line denotes for the schema, or `{"refused":N}`. The reader's buffers are kept from line to line.
+/// the request that the line denotes for the schema, or `{"refused":N}`. The reader keeps its buffers from line to line.
 ///
 /// # Errors
 ///
@@ -23,7 +23,7 @@ use std::alloc::{AllocError, Global};
 pub fn answer_line(
     alloc: Global,
     ready: &Ready,
-    reader: &mut JsonReader,
+    reader: &mut RequestReader,
     line: &[u8],
     out: &mut Vec<u8>,
 ) -> Result<(), AllocError>

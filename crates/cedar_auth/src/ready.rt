@@ -23,7 +23,6 @@ use crate::not_ready::NotReady;
 use crate::response::Response;
 use crate::tally::Tally;
 use crate::validated::Validated;
-use base_json::JsonReader;
 use cedar_ast::Effect;
 use cedar_auth_candidates::{Candidates, Selection};
 use cedar_auth_law::engine_is_sound;
@@ -31,8 +30,8 @@ use cedar_check_law::candidates_are_enough;
 use cedar_check_spec::Settings;
 use cedar_code::Code;
 use cedar_conform::{
-    RequestParts, denoted_requests_fit, read_entities_owned, read_request, read_request_parts,
-    read_request_with,
+    RequestParts, RequestReader, denoted_requests_fit, read_entities_owned, read_request,
+    read_request_parts, read_request_with,
 };
 use cedar_conform_values::{ConformFault, read_values_belong};
 use cedar_parser_tokens::uid_or_none;
@@ -175,12 +174,12 @@ impl Ready {
         read_request(alloc, self.validated.schema(), line)
     }
 
-    // Like `read`, with a JSON reader whose buffers are kept from line to line.
+    // Like `read`, with a reader that keeps its buffers from line to line.
     pub(crate) fn read_with(
         &self,
         alloc: Global,
         line: &[u8],
-        reader: &mut JsonReader,
+        reader: &mut RequestReader,
     ) -> Result<Request, ConformFault>
         ensures denotes { IfOk result (LineDenotes self.now.schema line.now) }
         ensures fits { IfOk result (Fits self.now.schema) }
@@ -189,8 +188,8 @@ impl Ready {
         read_request_with(alloc, self.validated.schema(), line, reader)
     }
 
-    /// The request that parts denote for the schema (Cedar documentation, entities and context in JSON). The reader's buffers are
-    /// kept from request to request.
+    /// The request that parts denote for the schema (Cedar documentation, entities and context in JSON). The reader
+    /// keeps its buffers from request to request.
     ///
     /// # Errors
     ///
@@ -199,7 +198,7 @@ impl Ready {
         &self,
         alloc: Global,
         parts: &RequestParts<'_>,
-        reader: &mut JsonReader,
+        reader: &mut RequestReader,
     ) -> Result<Request, ConformFault>
         ensures denotes { IfOk result (PartsDenote self.now.schema (parts_of parts.now)) }
         ensures fits { IfOk result (Fits self.now.schema) }

@@ -119,6 +119,8 @@ pub fn serve<S: Source, K: Sink>(
     ready.soundness();
     ready.lines_are_answered_soundly();
     ready.lines_have_answers();
-    let mut buffers = Room::new(alloc);
+    let Ok(mut buffers) = Room::new(alloc) else {
+        return Err(ServeFault::OutOfMemory);
+    };
     base_lines::serve(alloc, &Answering { ready }, &mut buffers, source, sink)
 }

@@ -8,16 +8,16 @@ ghost use Rattle.cedar_c.specs.Statuses.{IsOneOf};
 use crate::buffer::give;
 use crate::engine::Engine;
 use crate::status::MEMORY;
-use base_json::JsonReader;
 use base_lines::{SliceSource, VecSink};
 use cedar_auth::{Ready, answer_line, serve};
+use cedar_conform::RequestReader;
 use std::alloc::Global;
 
 // Gives what policies that are ready answer to one line.
 fn give_answer(
     alloc: Global,
     ready: &Ready,
-    reader: &mut JsonReader,
+    reader: &mut RequestReader,
     room: &mut Vec<u8>,
     line: &[u8],
     text: &mut [u8],

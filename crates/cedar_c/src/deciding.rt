@@ -17,8 +17,8 @@ use crate::decided::{Decided, decision_number};
 use crate::engine::Engine;
 use crate::parts::{RequestBytes, request_parts};
 use crate::status::{MEMORY, NO_REQUEST, OK, ROOM};
-use base_json::JsonReader;
 use cedar_auth::{Ready, append_answer, append_fault, decide};
+use cedar_conform::RequestReader;
 use cedar_conform_values::ConformFault;
 use cedar_value::Request;
 use std::alloc::Global;
@@ -27,7 +27,7 @@ use std::alloc::Global;
 fn read(
     alloc: Global,
     ready: &Ready,
-    reader: &mut JsonReader,
+    reader: &mut RequestReader,
     bytes: &RequestBytes<'_>,
 ) -> Result<Request, ConformFault>
     ensures denotes { IfOk result (PartsDenote ready.now.schema (parts_in bytes.now)) }
@@ -126,7 +126,7 @@ fn give_fault(
 fn give_decision(
     alloc: Global,
     ready: &Ready,
-    reader: &mut JsonReader,
+    reader: &mut RequestReader,
     room: &mut Vec<u8>,
     bytes: &RequestBytes<'_>,
     decided: &mut Decided,

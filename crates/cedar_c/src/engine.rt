@@ -1,8 +1,8 @@
 //! Policies that are ready to answer, and the buffers that calls keep.
 ghost use Rattle.std.specs.Prelude.{◌≡◌, IfOk};
 
-use base_json::JsonReader;
 use cedar_auth::Ready;
+use cedar_conform::RequestReader;
 use std::alloc::{AllocError, Global};
 use std::marker::Model;
 use std::sync::Arc;
@@ -12,7 +12,7 @@ use std::sync::Arc;
 #[derive(Drop)]
 pub struct Engine {
     pub(crate) ready: Arc<Ready, Global>,
-    pub(crate) reader: JsonReader,
+    pub(crate) reader: RequestReader,
     pub(crate) text: Vec<u8>,
 }
 
@@ -34,7 +34,7 @@ impl Engine {
     {
         Ok(Engine {
             ready: Arc::new(alloc, ready)?,
-            reader: JsonReader::new(alloc),
+            reader: RequestReader::new(alloc)?,
             text: Vec::new(alloc),
         })
     }
@@ -45,7 +45,7 @@ impl Engine {
     {
         Ok(Engine {
             ready: Arc::try_clone(&self.ready)?,
-            reader: JsonReader::new(alloc),
+            reader: RequestReader::new(alloc)?,
             text: Vec::new(alloc),
         })
     }

@@ -1,4 +1,5 @@
 pub mod EnvironmentSources
+pub mod FieldLemmas
 pub mod FitLemmas
 pub mod LinkLemmas
 pub mod PartsLemmas

@@ -1,10 +1,10 @@
 -- Which request a JSON denotes, and that there is but one.
 use Rattle.std.proofs.Common.{◌≡◌, ℕ, true, false, inl, inr, List, [], ◌∷◌, Contains, Option, Some, None, Result, Ok, Err, refl, sym, ap, subst, ◌∙◌}
-use Rattle.std.specs.Prelude.{◌≢◌, codes, IfErr, IfOk, MatchOption, MatchResult}
+use Rattle.std.specs.Prelude.{◌≢◌, codes, IfErr, IfOk, MatchOption, MatchResult, option_map, unwrap_or}
 use Rattle.std.specs.List.Sorted.{IsStrictlySortedBy}
 use Rattle.std.specs.Map.{keys_of}
-use Rattle.serde_json.specs.Data.{Data}
-use Rattle.serde_json.specs.Find.{get}
+use Rattle.serde_json.specs.Data.{Data, Members, object}
+use Rattle.serde_json.specs.Find.{as_object, get}
 use Rattle.base_reach.proofs.Listed.{nowhere}
 use Rattle.base_json.specs.JsonTree.{json_of}
 use Rattle.cedar_value.specs.Datum.{Datum, record_of, fields_of, pairs_of}
@@ -17,12 +17,13 @@ use Rattle.cedar_schema_spec.specs.Conformance.{Fits}
 use Rattle.cedar_schema_spec.specs.SchemaTree.{SchemaTree}
 use Rattle.cedar_schema_spec.specs.WellFormed.{AreListsDeclared, IsListedInOrder}
 use Rattle.cedar_conform_values.specs.Belonging.{ReadValuesBelong}
+use Rattle.cedar_conform_values.specs.Objects.{are_only}
 use Rattle.cedar_conform_values.specs.Values.{value_read}
 use Rattle.cedar_conform_values.specs.WrittenUids.{UidAt, WritesUid, WritesOneUid}
 use Rattle.cedar_conform_values.specs.declared.conform_fault.ConformFault.{ConformFault}
-use Rattle.cedar_conform_values.specs.declared.conform_fault.ConformFault.TheVariants.{OutOfMemory, Json, UnknownType, NoSuchAction, ActionDoesNotApply}
-use Rattle.cedar_conform.specs.Private.Answers.{IsAnswer}
-use Rattle.cedar_conform.specs.Requests.{Denotes, HasFault, HasUidsFault, HasContextFault, IsShapeless, LineDenotes, LineHasFault, Names, context_of}
+use Rattle.cedar_conform_values.specs.declared.conform_fault.ConformFault.TheVariants.{OutOfMemory, Json, Shape, UnknownType, NoSuchAction, ActionDoesNotApply}
+use Rattle.cedar_conform.specs.Private.Answers.{IsAnswer, IsLineAnswer, IsNoJson, IsNoObjectFault}
+use Rattle.cedar_conform.specs.Requests.{Denotes, HasFault, HasUidsFault, HasContextFault, IsShapeless, LineDenotes, LineHasFault, Names, context_of, is_request_key}
 use Rattle.cedar_conform.proofs.EnvironmentSources.{one_context, action_declared, principal_declared, resource_declared}
 
 -- ---- what a JSON denotes fits
@@ -46,13 +47,40 @@ denoted_line_fits belong s line q h = at (json_of line) h
     at None h = absurd h
     at (Some d) h = denoted_fits belong s d q h
 
-pub answer_fits : ReadValuesBelong → (s : SchemaTree) (d : Data) (result : Result Request ConformFault) → IsAnswer s d result → IfOk result (Fits s)
-answer_fits belong s d (Ok q) h = denoted_fits belong s d q h
-answer_fits belong s d (Err f) h = tt
+-- ---- what the answer to a line says
 
-pub answer_tells : (s : SchemaTree) (line : List ℕ) (d : Data) (result : Result Request ConformFault) → Some d ≡ json_of line → IsAnswer s d result → IfErr result (λ e. e ≢ OutOfMemory → LineHasFault s line e)
-answer_tells s line d (Ok q) is h = tt
-answer_tells s line d (Err f) is h = λ other. subst (λ o. MatchOption o (f ≡ Json) (λ x. HasFault s x f)) is (h other)
+pub line_denotes : (s : SchemaTree) (line : List ℕ) (result : Result Request ConformFault) → IsLineAnswer s line result → IfOk result (LineDenotes s line)
+line_denotes s line (Ok q) h = h
+line_denotes s line (Err f) h = tt
+
+pub line_fits : ReadValuesBelong → (s : SchemaTree) (line : List ℕ) (result : Result Request ConformFault) → IsLineAnswer s line result → IfOk result (Fits s)
+line_fits belong s line (Ok q) h = denoted_line_fits belong s line q h
+line_fits belong s line (Err f) h = tt
+
+pub line_refused : (s : SchemaTree) (line : List ℕ) (result : Result Request ConformFault) → IsLineAnswer s line result → IfErr result (λ e. e ≢ OutOfMemory → LineHasFault s line e)
+line_refused s line (Ok q) h = tt
+line_refused s line (Err f) h = h
+
+pub answer_of_members : (s : SchemaTree) (line : List ℕ) (mo : Option Members) (result : Result Request ConformFault) → json_of line ≡ option_map object mo
+    → MatchOption mo (IsNoJson result) (λ ms. IsAnswer s (object ms) result) → IsLineAnswer s line result
+answer_of_members s line None (Ok q) is h = absurd h
+answer_of_members s line None (Err f) is h = λ other. subst (λ o. MatchOption o (f ≡ Json) (λ x. HasFault s x f)) (sym is) (h other)
+answer_of_members s line (Some ms) (Ok q) is h = subst (λ o. MatchOption o ⊥ (λ x. Denotes s x q)) (sym is) h
+answer_of_members s line (Some ms) (Err f) is h = λ other. subst (λ o. MatchOption o (f ≡ Json) (λ x. HasFault s x f)) (sym is) (h other)
+
+no_keys : (d : Data) (o : Option Members) → as_object d ≡ o → o ≡ None → unwrap_or (option_map (are_only is_request_key) o) false ≡ false
+no_keys d o e n = ap (λ x. unwrap_or (option_map (are_only is_request_key) x) false) n
+
+pub no_object : (s : SchemaTree) (line : List ℕ) (f : ConformFault) → IsNoObjectFault line f → LineHasFault s line f
+no_object s line f h = at (json_of line) h
+  where
+    at : (o : Option Data) → MatchOption o (f ≡ Json) (λ d. (f ≡ Shape) × (as_object d ≡ None)) → MatchOption o (f ≡ Json) (λ d. HasFault s d f)
+    at None h = h
+    at (Some d) h = inl (h.0, inl (no_keys d (as_object d) refl h.1))
+
+pub memory_says_nothing : (s : SchemaTree) (mo : Option Members) → MatchOption mo (IsNoJson (Err OutOfMemory)) (λ ms. IsAnswer s (object ms) (Err OutOfMemory))
+memory_says_nothing s None = λ other. absurd (other refl)
+memory_says_nothing s (Some ms) = λ other. absurd (other refl)
 
 -- ---- there is but one
 
@@ -132,5 +160,11 @@ module _ (one : WritesOneUid) (s : SchemaTree) (up : IsStrictlySortedBy uid_cmp 
   only_answer q h (Ok found) g = same_request one s up d found q g h
   only_answer q h (Err f) g = memory_alone f (λ other. no_fault q h f (g other))
 
-  pub only_of : (line : List ℕ) → Some d ≡ json_of line → (result : Result Request ConformFault) → IsAnswer s d result → (q : Request) → LineDenotes s line q → MatchResult result (λ found. found ≡ q) (λ e. e ≡ OutOfMemory)
-  only_of line is result g q h = only_answer q (subst (λ o. MatchOption o ⊥ (λ x. Denotes s x q)) (sym is) h) result g
+pub only_line : WritesOneUid → (s : SchemaTree) → IsStrictlySortedBy uid_cmp (keys_of s.actions) → AreListsDeclared s → (line : List ℕ) (result : Result Request ConformFault) → IsLineAnswer s line result
+    → (q : Request) → LineDenotes s line q → MatchResult result (λ found. found ≡ q) (λ e. e ≡ OutOfMemory)
+only_line one s up declared line result h q g = at (json_of line) h g
+  where
+    at : (o : Option Data) → MatchResult result (λ r. MatchOption o ⊥ (λ d. Denotes s d r)) (λ f. f ≢ OutOfMemory → MatchOption o (f ≡ Json) (λ d. HasFault s d f)) → MatchOption o ⊥ (λ d. Denotes s d q)
+        → MatchResult result (λ found. found ≡ q) (λ e. e ≡ OutOfMemory)
+    at None h g = absurd g
+    at (Some d) h g = only_answer one s up declared d q g result h

@@ -1,4 +1,5 @@
 -- What only proofs and private contracts use.
 pub mod Answers
+pub mod Fields
 pub mod PartsAnswers
 pub mod Refusals

@@ -8,17 +8,21 @@
 //! assert!(rt; fits(&schema, &request));
 //! ```
 //!
-//! To read many lines, use [`read_request_with`], whose JSON reader is kept from line to line. A host without lines gives the parts
+//! To read many lines, use [`read_request_with`], whose [`RequestReader`] is kept from line to line. A host without lines gives the parts
 //! of a request to [`read_request_parts`]. Entities are read by
 //! cedar_conform_entities, values and uids by cedar_conform_values.
 #![tactic(auto)]
 
 mod context;
+mod fields;
 mod fitting;
 mod laws;
 mod links;
+mod names;
 mod parts;
 mod request;
+mod request_reader;
+mod uids;
 
 pub use cedar_conform_entities::{
     denoted_worlds_are_exact, denoted_worlds_conform, read_entities, read_entities_owned,
@@ -33,3 +37,4 @@ pub use laws::{denoted_requests_fit, one_request};
 pub use links::read_links;
 pub use parts::{RequestParts, UidParts, read_request_parts};
 pub use request::{read_request, read_request_with};
+pub use request_reader::RequestReader;

@@ -12,12 +12,14 @@ ghost use Rattle.cedar_conform.specs.Parts.{AreNamed, PartsDenote, PartsHaveFaul
 ghost use Rattle.cedar_conform.specs.Private.PartsAnswers.{AreUidsOf, IsUidOf};
 
 use crate::context::record_type;
+use crate::names::Names;
 use crate::request::{RequestUids, context_type};
+use crate::request_reader::RequestReader;
 use base_json::JsonReader;
 use cedar_conform_values::{ConformFault, read_record, read_values_belong};
 use cedar_schema::Schema;
 use cedar_schema_types::Type;
-use cedar_value::{Name, Record, Request, Text, Uid};
+use cedar_value::{Record, Request, Text, Uid};
 use serde_json::{Map, Value as Json};
 use std::alloc::Global;
 
@@ -43,8 +45,8 @@ pub struct RequestParts<'p> {
     pub context: &'p [u8],
 }
 
-/// The request that the parts denote for the schema (Cedar documentation, entities and context in JSON). Uses a JSON reader whose
-/// buffers are kept from request to request.
+/// The request that the parts denote for the schema (Cedar documentation, entities and context in JSON). The reader keeps its buffers
+/// from request to request.
 ///
 /// # Errors
 ///
@@ -54,7 +56,7 @@ pub fn read_request_parts(
     alloc: Global,
     schema: &Schema,
     parts: &RequestParts<'_>,
-    reader: &mut JsonReader,
+    reader: &mut RequestReader,
 ) -> Result<Request, ConformFault>
     ensures denotes { IfOk result (PartsDenote schema.now (parts_of parts.now)) }
     ensures fits { IfOk result (Fits schema.now) }
@@ -72,13 +74,13 @@ fn request_of_parts(
     alloc: Global,
     schema: &Schema,
     parts: &RequestParts<'_>,
-    reader: &mut JsonReader,
+    reader: &mut RequestReader,
 ) -> Result<Request, ConformFault>
     ensures { MatchResult result (PartsDenote schema.now (parts_of parts.now)) (λ e. e ≢ OutOfMemory → PartsHaveFault schema.now (parts_of parts.now) e) }
 {
-    let uids = uids_of_parts(alloc, parts)?;
+    let uids = uids_of_parts(alloc, &mut reader.names, parts)?;
     let ty = context_type(schema, &uids)?;
-    let context = read_context_bytes(alloc, ty, parts.context, reader)?;
+    let context = read_context_bytes(alloc, ty, parts.context, &mut reader.json)?;
     Ok(Request {
         principal: uids.principal,
         action: uids.action,
@@ -88,14 +90,18 @@ fn request_of_parts(
 }
 
 // The uids of the parts.
-fn uids_of_parts(alloc: Global, parts: &RequestParts<'_>) -> Result<RequestUids, ConformFault>
+fn uids_of_parts(
+    alloc: Global,
+    names: &mut Names,
+    parts: &RequestParts<'_>,
+) -> Result<RequestUids, ConformFault>
     ensures { MatchResult result
         (AreUidsOf (parts_of parts.now))
         (λ e. e ≢ OutOfMemory → (e ≡ ShapeFault) × ¬ AreNamed (parts_of parts.now)) }
 {
-    let principal = uid_of_parts(alloc, &parts.principal)?;
-    let action = uid_of_parts(alloc, &parts.action)?;
-    let resource = uid_of_parts(alloc, &parts.resource)?;
+    let principal = uid_of_parts(alloc, names, &parts.principal)?;
+    let action = uid_of_parts(alloc, names, &parts.action)?;
+    let resource = uid_of_parts(alloc, names, &parts.resource)?;
     Ok(RequestUids {
         principal,
         action,
@@ -104,12 +110,12 @@ fn uids_of_parts(alloc: Global, parts: &RequestParts<'_>) -> Result<RequestUids,
 }
 
 // The uid of a type and an id.
-fn uid_of_parts(alloc: Global, parts: &UidParts<'_>) -> Result<Uid, ConformFault>
+fn uid_of_parts(alloc: Global, names: &mut Names, parts: &UidParts<'_>) -> Result<Uid, ConformFault>
     ensures { MatchResult result
         (IsUidOf (uid_of parts.now))
         (λ e. e ≢ OutOfMemory → (e ≡ ShapeFault) × ¬ IsName parts.now.ty.now) }
 {
-    match Name::read(alloc, parts.ty)? {
+    match names.read(alloc, parts.ty)? {
         Some(ty) => {
             let id = Text::read(alloc, parts.id)?;
             Ok(Uid { ty, id })

@@ -1,23 +1,27 @@
 //! Requests from JSON.
-ghost use Rattle.std.specs.Prelude.{◌≡◌, ◌≢◌, IfErr, IfOk, IsTrue, MatchResult};
-ghost use Rattle.serde_json.specs.View.{members_view, view};
+ghost use Rattle.std.specs.Prelude.{◌≡◌, ◌≢◌, None, IfErr, IfOk, IsTrue, MatchOption, MatchResult, option_and_then};
+ghost use Rattle.serde_json.specs.Data.{Members, no_members, object};
+ghost use Rattle.serde_json.specs.Find.{as_object};
+ghost use Rattle.base_json.specs.JsonTree.{json_of};
+ghost use Rattle.base_json.specs.Members.{members_to_come};
 ghost use Rattle.cedar_schema_spec.specs.Conformance.{Fits};
 ghost use Rattle.cedar_schema_types.specs.Types.{is_record};
 ghost use Rattle.cedar_schema_spec.specs.SchemaTree.{HasEnvironment, HasNoEnvironment};
 ghost use Rattle.cedar_value.specs.declared.request.Request.{Request as RequestTree};
-ghost use Rattle.cedar_conform_values.specs.Objects.{are_only, has_only};
 ghost use Rattle.cedar_conform_values.specs.Reads.{ReadsRecord};
 ghost use Rattle.cedar_conform_values.specs.Values.{value_read};
-ghost use Rattle.cedar_conform_values.specs.WrittenUids.{UidAt};
 ghost use Rattle.cedar_conform_values.specs.declared.conform_fault.ConformFault.TheVariants.{OutOfMemory, Shape as ShapeFault};
-ghost use Rattle.cedar_conform.specs.Requests.{HasUidsFault, IsShapeless, Lacks, LineDenotes, LineHasFault, Names, context_of, is_request_key};
-ghost use Rattle.cedar_conform.specs.Private.Answers.{IsAnswer};
+ghost use Rattle.cedar_conform.specs.Requests.{HasUidsFault, LineDenotes, LineHasFault};
+ghost use Rattle.cedar_conform.specs.Private.Answers.{IsAnswer, IsLineAnswer, IsNoJson, IsNoObjectFault};
+ghost use Rattle.cedar_conform.specs.Private.Fields.{AreFieldsOf, AreWritten, LacksIn, LacksOne, WrittenIn, context_in, data_in};
 
 use crate::context::record_type;
-use base_json::JsonReader;
-use cedar_conform_values::{
-    ConformFault, one_written_uid, read_record, read_values_belong, written_uid,
-};
+use crate::fields::Fields;
+use crate::names::Names;
+use crate::request_reader::RequestReader;
+use crate::uids::lent_uid;
+use base_json::{JsonReader, LentValue, MemberReader, TreeFault};
+use cedar_conform_values::{ConformFault, one_written_uid, read_record, read_values_belong};
 use cedar_schema::Schema;
 use cedar_schema_types::Type;
 use cedar_value::{Record, Request, Uid};
@@ -45,10 +49,10 @@ pub fn read_request(alloc: Global, schema: &Schema, line: &[u8]) -> Result<Reque
     ensures only { (q : RequestTree) → LineDenotes schema.now line.now q → MatchResult result (λ found. found ≡ q) (λ e. e ≡ OutOfMemory) }
     ensures refused { IfErr result (λ e. e ≢ OutOfMemory → LineHasFault schema.now line.now e) }
 {
-    read_request_with(alloc, schema, line, &mut JsonReader::new(alloc))
+    read_request_with(alloc, schema, line, &mut RequestReader::new(alloc)?)
 }
 
-/// Like `read_request`, with a JSON reader whose buffers are kept from line to line.
+/// Like `read_request`, with a reader that keeps its buffers from line to line.
 ///
 /// # Errors
 ///
@@ -57,7 +61,7 @@ pub fn read_request_with(
     alloc: Global,
     schema: &Schema,
     line: &[u8],
-    reader: &mut JsonReader,
+    reader: &mut RequestReader,
 ) -> Result<Request, ConformFault>
     ensures denotes { IfOk result (LineDenotes schema.now line.now) }
     ensures fits { IfOk result (Fits schema.now) }
@@ -69,21 +73,71 @@ pub fn read_request_with(
     schema.well_formedness();
     read_values_belong();
     one_written_uid();
-    match reader.read(alloc, line)? {
-        Some(json) => request_of(alloc, schema, &json),
-        None => Err(ConformFault::Json),
+    read_line(alloc, schema, line, reader)
+}
+
+fn read_line(
+    alloc: Global,
+    schema: &Schema,
+    line: &[u8],
+    reader: &mut RequestReader,
+) -> Result<Request, ConformFault>
+    ensures { IsLineAnswer schema.now line.now result }
+{
+    let RequestReader { json, names } = reader;
+    if let Some(mut members) = json.members(line)? {
+        return request_of_members(alloc, schema, names, &mut members);
+    }
+    Err(no_object_fault(alloc, line, json))
+}
+
+// Why a line that is not a JSON object is refused.
+fn no_object_fault(alloc: Global, line: &[u8], reader: &mut JsonReader) -> ConformFault
+    requires { option_and_then as_object (json_of line.now) ≡ None }
+    ensures { result ≢ OutOfMemory → IsNoObjectFault line.now result }
+{
+    match reader.read(alloc, line) {
+        Ok(Some(json)) => {
+            drop(json);
+            ConformFault::Shape
+        }
+        Ok(None) => ConformFault::Json,
+        Err(_) => ConformFault::OutOfMemory,
     }
 }
 
-fn request_of(alloc: Global, schema: &Schema, json: &Json) -> Result<Request, ConformFault>
-    ensures { IsAnswer schema.now (view json.now) result }
+// The request of the members of an object, up to its end and that of its text.
+fn request_of_members(
+    alloc: Global,
+    schema: &Schema,
+    names: &mut Names,
+    members: &mut MemberReader<'_>,
+) -> Result<Request, ConformFault>
+    ensures { MatchOption (members_to_come no_members members.old) (IsNoJson result) (λ ms. IsAnswer schema.now (object ms) result) }
 {
-    if !has_request_keys(json) {
+    match Fields::read(alloc, members) {
+        Ok(fields) => request_of(alloc, schema, names, &fields),
+        Err(fault) => match fault {
+            TreeFault::OutOfMemory => Err(ConformFault::OutOfMemory),
+            TreeFault::Invalid => Err(ConformFault::Json),
+        },
+    }
+}
+
+fn request_of(
+    alloc: Global,
+    schema: &Schema,
+    names: &mut Names,
+    fields: &Fields<'_>,
+) -> Result<Request, ConformFault>
+    ensures { (ms : Members) → AreFieldsOf ms fields.now → IsAnswer schema.now (object ms) result }
+{
+    if !fields.are_known {
         return Err(ConformFault::Shape);
     }
-    let uids = read_uids(alloc, json)?;
+    let uids = read_uids(alloc, names, fields)?;
     let ty = context_type(schema, &uids)?;
-    let context = read_context(alloc, ty, json)?;
+    let context = read_context(alloc, ty, &fields.context)?;
     Ok(Request {
         principal: uids.principal,
         action: uids.action,
@@ -92,43 +146,17 @@ fn request_of(alloc: Global, schema: &Schema, json: &Json) -> Result<Request, Co
     })
 }
 
-// Whether the JSON is an object whose keys are those of a request.
-fn has_request_keys(json: &Json) -> bool
-    ensures { result ≡ has_only is_request_key (view json.now) }
-{
-    match json.as_object() {
-        Some(members) => are_request_keys(members),
-        None => false,
-    }
-}
-
-fn are_request_keys(members: &Map<String, Json>) -> bool
-    ensures { result ≡ are_only is_request_key (members_view members.now.entries) }
-{
-    for (key, _) in members.iter() {
-        if !is_request_key(key.as_str()) {
-            return false;
-        }
-    }
-    true
-}
-
-#[tactic(auto, unfolding(crate::specs::Requests::is_request_key))]
-fn is_request_key(key: &str) -> bool
-    ensures { result ≡ is_request_key key.now }
-{
-    key == "principal" || key == "action" || key == "resource" || key == "context"
-}
-
 // The uids at the three keys.
-fn read_uids(alloc: Global, json: &Json) -> Result<RequestUids, ConformFault>
-    ensures { MatchResult result
-        (λ u. Names (view json.now) u.principal u.action u.resource)
-        (λ e. e ≢ OutOfMemory → (e ≡ ShapeFault) × IsShapeless (view json.now)) }
+fn read_uids(
+    alloc: Global,
+    names: &mut Names,
+    fields: &Fields<'_>,
+) -> Result<RequestUids, ConformFault>
+    ensures { MatchResult result (AreWritten fields.now) (λ e. e ≢ OutOfMemory → (e ≡ ShapeFault) × LacksOne fields.now) }
 {
-    let principal = uid_at(alloc, json, "principal")?;
-    let action = uid_at(alloc, json, "action")?;
-    let resource = uid_at(alloc, json, "resource")?;
+    let principal = uid_in(alloc, names, &fields.principal)?;
+    let action = uid_in(alloc, names, &fields.action)?;
+    let resource = uid_in(alloc, names, &fields.resource)?;
     Ok(RequestUids {
         principal,
         action,
@@ -136,15 +164,19 @@ fn read_uids(alloc: Global, json: &Json) -> Result<RequestUids, ConformFault>
     })
 }
 
-fn uid_at(alloc: Global, json: &Json, key: &str) -> Result<Uid, ConformFault>
+fn uid_in(
+    alloc: Global,
+    names: &mut Names,
+    field: &Option<LentValue<'_>>,
+) -> Result<Uid, ConformFault>
     ensures { MatchResult result
-        (UidAt key.now (view json.now))
-        (λ e. e ≢ OutOfMemory → (e ≡ ShapeFault) × Lacks key.now (view json.now)) }
+        (WrittenIn (data_in field.now))
+        (λ e. e ≢ OutOfMemory → (e ≡ ShapeFault) × LacksIn (data_in field.now)) }
 {
-    let Some(found) = json.get(key) else {
+    let Some(value) = field else {
         return Err(ConformFault::Shape);
     };
-    match written_uid(alloc, found)? {
+    match lent_uid(alloc, names, value)? {
         Some(uid) => Ok(uid),
         None => Err(ConformFault::Shape),
     }
@@ -185,13 +217,20 @@ fn uids_fault(schema: &Schema, uids: &RequestUids) -> ConformFault
 }
 
 // The context, read as a value of its type.
-fn read_context(alloc: Global, ty: &Type, json: &Json) -> Result<Record, ConformFault>
+fn read_context(
+    alloc: Global,
+    ty: &Type,
+    field: &Option<LentValue<'_>>,
+) -> Result<Record, ConformFault>
     requires { IsTrue (is_record ty.now) }
-    ensures { ReadsRecord result (value_read ty.now (context_of (view json.now))) }
+    ensures { ReadsRecord result (value_read ty.now (context_in field.now)) }
 {
     let attributes = record_type(ty);
-    match json.get("context") {
-        Some(context) => read_record(alloc, attributes, context),
+    match field {
+        Some(value) => match value {
+            LentValue::Tree(context) => read_record(alloc, attributes, context),
+            LentValue::String(_) => Err(ConformFault::WrongType),
+        },
         None => {
             let empty = Json::Object(Map::new(alloc));
             read_record(alloc, attributes, &empty)

@@ -65,7 +65,7 @@ fn first_of_bytes(
         (λ o. MatchOption o (AllAreAccepted schema.now (list_of bytes.now)) (λ r. IsFirstOfAll schema.now (list_of bytes.now) r.position r.fault.number))
         (λ e. e ≡ Invalid → list_of bytes.now ≡ None) }
 {
-    let mut reader = JsonReader::new(alloc);
+    let mut reader = JsonReader::new(alloc)?;
     match reader.items(bytes)? {
         Some(mut items) => first_of_items(alloc, schema, &mut items, 0),
         None => Err(TreeFault::Invalid),

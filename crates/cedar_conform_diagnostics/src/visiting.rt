@@ -42,7 +42,7 @@ fn visit_objects<V: Visitor>(
 }
 
 fn visit_bytes<V: Visitor>(alloc: Global, bytes: &[u8], visitor: &mut V) -> Result<(), AllocError> {
-    let mut reader = JsonReader::new(alloc);
+    let mut reader = JsonReader::new(alloc)?;
     match reader.items(bytes)? {
         Some(mut items) => visit_items(alloc, &mut items, 0, visitor),
         None => Ok(()),

@@ -84,7 +84,7 @@ fn read_items(
         (λ v. AreRead schema.now bytes.now v.items)
         (λ f. f ≢ OutOfMemory → BytesHaveFault schema.now bytes.now f) }
 {
-    let mut reader = JsonReader::new(alloc);
+    let mut reader = JsonReader::new(alloc)?;
     match reader.items(bytes)? {
         Some(mut items) => read_list(alloc, schema, &mut items, actions),
         None => Err(no_list_fault(alloc, schema, bytes)),

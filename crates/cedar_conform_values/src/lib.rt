@@ -25,5 +25,5 @@ pub use conform_fault::ConformFault;
 pub use laws::{one_written_uid, read_values_belong};
 pub use membership::{is_member, is_record_member};
 pub use object::{size_of, text_at};
-pub use uid::{uid_of_object, written_uid};
+pub use uid::{uid_of_object, uid_of_text, written_uid};
 pub use value::{read_record, read_value};

@@ -53,8 +53,13 @@ pub fn written_uid(alloc: Global, json: &Value) -> Result<Option<Uid>, AllocErro
     }
 }
 
-// The uid that a string denotes, if it denotes one.
-fn uid_of_text(alloc: Global, text: &str) -> Result<Option<Uid>, AllocError>
+/// The uid that a string denotes, for example `User::"ann"` (Cedar language reference, entity identifiers). None for a string that
+/// denotes none.
+///
+/// # Errors
+///
+/// Fails only when out of memory.
+pub fn uid_of_text(alloc: Global, text: &str) -> Result<Option<Uid>, AllocError>
     ensures { IfOk result (λ found. MatchOption found ((u : UidTree) → ¬ (IsUidText text.now u)) (IsUidText text.now)) }
 {
     match read_uid(alloc, text) {

@@ -123,7 +123,7 @@ path_rest id l s at word (next ∷ others) h =
     let p = and_parts (is_identifier word) (list_all is_identifier (next ∷ others)) h in
     more_words id l.letters at word next others p.0 (path_rest id l s (at + length word + 2) next others p.1)
 
-plain_text_uid : (source path id : List ℕ) → IsName path → IsPlainText source path id → IsUidText source (record { ty = path; id = id })
+pub plain_text_uid : (source path id : List ℕ) → IsName path → IsPlainText source path id → IsUidText source (record { ty = path; id = id })
 plain_text_uid source path id name t =
     let l = plain_letters id t.utf8 t.plain in
     let r = path_rest id l (plain_string id t.plain) 0 name.first name.others name.identifiers in

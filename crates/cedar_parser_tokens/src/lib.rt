@@ -28,6 +28,7 @@ pub use names::{
     one_identifier, parse_entity, parse_entity_of_type, parse_key, parse_path, parse_string,
 };
 pub use parse_fault::ParseFault;
+pub use plain_uid::{PlainUid, plain_uid_texts};
 pub use spelled::Spelled;
 pub use spelling::{SpelledTokens, spelled_tokens};
 pub use uid::{one_uid, read_uid, uid_or_none};

@@ -1,6 +1,7 @@
 //! The uid of a text in the plain form, `Path::"letters"`, read without its tokens.
 ghost use Rattle.std.specs.Prelude.{◌≡◌, ◌++◌, ◌∷◌, [], IfOk, IfSome, codes};
 ghost use Rattle.std.specs.List.{list_all};
+ghost use Rattle.cedar_value.specs.Names.{IsName};
 ghost use Rattle.cedar_parser_tokens.specs.UidText.{IsUidText};
 ghost use Rattle.cedar_parser_tokens.specs.Private.PlainUid.{IsPlainText, is_plain_byte};
 
@@ -20,6 +21,25 @@ pub(crate) fn plain_uid(alloc: Global, source: &str) -> Result<Option<Uid>, Allo
     };
     let id = Text::read(alloc, id)?;
     Ok(Some(Uid { ty, id }))
+}
+
+/// The type and the id of a uid in the plain form, lent by its text.
+#[derive(Clone, Copy)]
+pub struct PlainUid<'t> {
+    /// The text of the type. It need not be a name.
+    pub ty: &'t str,
+    /// The id, which has neither a quote nor a backslash.
+    pub id: &'t str,
+}
+
+/// The type and the id of a text in the plain form, for example `Photos::User::"ann"`. Where the type is a name, they are those of the
+/// text's uid (Cedar language reference, entity identifiers). None for another text; that text may still write a uid, which
+/// `read_uid` reads. Takes no memory.
+pub fn plain_uid_texts(source: &str) -> Option<PlainUid<'_>>
+    ensures { IfSome result (λ texts. IsName texts.ty.now → IsUidText source.now (record { ty = texts.ty.now; id = texts.id.now })) }
+{
+    let (ty, id) = plain_parts(source)?;
+    Some(PlainUid { ty, id })
 }
 
 // The text before the `::` of the first quote, and the text after this quote up to the one that ends the source.

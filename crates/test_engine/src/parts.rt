@@ -1,10 +1,9 @@
 //! Requests that are answered one by one, from a line or from parts.
 use crate::held::made;
 use crate::world::ready;
-use base_json::JsonReader;
 use cedar_ast::Decision;
 use cedar_auth::{Ready, answer_line, append_answer, append_fault, decide};
-use cedar_conform::{RequestParts, UidParts};
+use cedar_conform::{RequestParts, RequestReader, UidParts};
 use std::alloc::{AllocError, Global};
 use std::test::Fail;
 
@@ -32,7 +31,7 @@ fn answer(
     parts: &RequestParts<'_>,
     out: &mut Vec<u8>,
 ) -> Result<(), AllocError> {
-    match ready.read_parts(alloc, parts, &mut JsonReader::new(alloc)) {
+    match ready.read_parts(alloc, parts, &mut RequestReader::new(alloc)?) {
         Ok(request) => {
             append_answer(alloc, ready, &request, out)?;
             Ok(())
@@ -43,7 +42,7 @@ fn answer(
 
 /// The answers to a view and to a line that is not JSON, one after the other.
 fn answers_to_lines(alloc: Global, ready: &Ready) -> Result<Vec<u8>, AllocError> {
-    let mut reader = JsonReader::new(alloc);
+    let mut reader = RequestReader::new(alloc)?;
     let mut out = Vec::new(alloc);
     let view =
         br#"{"principal":"User::\"ann\"","action":"Action::\"view\"","resource":"Doc::\"d\"","context":{"n":1}}"#;
@@ -95,7 +94,10 @@ fn answers_requests_in_parts(rt: HostRuntime) -> Result<(), Fail> {
 
 /// The number by which a request in parts is refused, and 0 where it is not.
 fn refusal(alloc: Global, ready: &Ready, parts: &RequestParts<'_>) -> u16 {
-    match ready.read_parts(alloc, parts, &mut JsonReader::new(alloc)) {
+    let Ok(mut reader) = RequestReader::new(alloc) else {
+        return 1;
+    };
+    match ready.read_parts(alloc, parts, &mut reader) {
         Ok(request) => {
             drop(request);
             0
@@ -159,7 +161,8 @@ fn refuses_parts_by_their_numbers(rt: HostRuntime) -> Result<(), Fail> {
 /// The decision on a view with a large number, or none where it is refused.
 fn decision(alloc: Global, ready: &Ready) -> Option<Decision> {
     let parts = asks(action("view"), br#"{"n":4}"#);
-    let Ok(request) = ready.read_parts(alloc, &parts, &mut JsonReader::new(alloc)) else {
+    let mut reader = RequestReader::new(alloc).ok()?;
+    let Ok(request) = ready.read_parts(alloc, &parts, &mut reader) else {
         return None;
     };
     decide(alloc, ready, &request).ok()

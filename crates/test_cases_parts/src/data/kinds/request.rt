@@ -6,8 +6,7 @@
 use crate::data::request_text::request_text;
 use crate::data::schema_input::schema_of;
 use crate::{Case, CaseFault, Outcome, bytes_of, refused};
-use base_json::JsonReader;
-use cedar_conform::{ConformFault, fits, read_request, read_request_with};
+use cedar_conform::{ConformFault, RequestReader, fits, read_request, read_request_with};
 use cedar_schema::Schema;
 use cedar_value::Request;
 use std::alloc::{AllocError, Global};
@@ -26,7 +25,7 @@ const UNFINISHED: &[u8] = br#"{"principal":["User",{"context":{"n":"#;
 
 // The answer, and each other one that differs.
 fn answers(alloc: Global, schema: &Schema, line: &[u8]) -> Result<String, AllocError> {
-    let mut reader = JsonReader::new(alloc);
+    let mut reader = RequestReader::new(alloc)?;
     let first = read_with(alloc, schema, line, &mut reader)?;
     let between = read_with(alloc, schema, UNFINISHED, &mut reader)?;
     drop(between);
@@ -42,7 +41,7 @@ fn read_with(
     alloc: Global,
     schema: &Schema,
     line: &[u8],
-    reader: &mut JsonReader,
+    reader: &mut RequestReader,
 ) -> Result<String, AllocError> {
     let answer = read_request_with(alloc, schema, line, reader);
     let text = answer_text(alloc, schema, &answer);

@@ -1,0 +1,44 @@
+//! JSON values whose strings are lent.
+ghost use Rattle.std.specs.Prelude.{◌≡◌, ◌<◌, length, None, Some, Err, IfOk, OnOk};
+ghost use Rattle.json.specs.Json.{value};
+ghost use Rattle.serde_json.specs.Read.{of_json, converted};
+ghost use Rattle.base_json.specs.Members.{lent_view};
+ghost use Rattle.base_json.specs.declared.tree_fault.TreeFault.TheVariants.{Invalid};
+
+use crate::tree::tree_after;
+use crate::tree_fault::TreeFault;
+use json::{Reader, Token};
+use serde_json::Value;
+use std::alloc::Global;
+
+/// A JSON value (RFC 8259, section 3). A string is lent by what was read, and takes no memory.
+#[derive(Drop)]
+pub enum LentValue<'t> {
+    /// A string, without quotation marks and escapes.
+    String(&'t str),
+    /// Any other value.
+    Tree(Value),
+}
+
+/// The next value, whose arrays and objects may nest `depth` deep.
+#[inline(always)]
+pub(crate) fn read_lent<'t>(
+    alloc: Global,
+    reader: &mut Reader<'t>,
+    depth: usize,
+) -> Result<LentValue<'t>, TreeFault>
+    ensures ok { IfOk result (λ v. converted of_json (value depth reader.old) ≡ Some (lent_view v, reader.new)) }
+    ensures shorter { OnOk result (length reader.new < length reader.old) }
+    ensures err { result ≡ Err Invalid → converted of_json (value depth reader.old) ≡ None }
+{
+    let Some(token) = reader.next() else {
+        return Err(TreeFault::Invalid);
+    };
+    match token {
+        Token::String(text) => Ok(LentValue::String(text)),
+        other => match tree_after(alloc, reader, other, depth) {
+            Ok(tree) => Ok(LentValue::Tree(tree)),
+            Err(fault) => Err(fault),
+        },
+    }
+}

@@ -1,0 +1,105 @@
+//! The members of a JSON text that is an object, one after another.
+ghost use Rattle.std.specs.Prelude.{◌≡◌, ◌<◌, length, Err, None, IfOk, MatchOption, OnSome, option_and_then, option_map};
+ghost use Rattle.std.specs.Bool.{MatchBool};
+ghost use Rattle.serde_json.specs.Data.{no_members, object};
+ghost use Rattle.serde_json.specs.Find.{as_object};
+ghost use Rattle.serde_json.specs.Read.{read as tree_of_text};
+ghost use Rattle.base_json.specs.Members.{BeginsWith, IsEnd, IsNoObject, lent_view, members_to_come};
+ghost use Rattle.base_json.specs.Private.Trees.{tree_of_tokens};
+ghost use Rattle.base_json.specs.declared.tree_fault.TreeFault.TheVariants.{Invalid};
+
+use crate::lent_value::{LentValue, read_lent};
+use crate::tree_fault::TreeFault;
+use json::{Reader, Scratch, Token};
+use std::alloc::{AllocError, Global};
+use std::marker::Model;
+
+// How deep arrays and objects may nest in a member: the object itself is one of a text's 127 levels.
+const MEMBER_DEPTH: usize = 126;
+
+/// The members of a JSON text that is an object, one after another and without a tree of all (RFC 8259, section 4). Contracts see
+/// the tokens that are to come.
+#[derive(Drop)]
+pub struct MemberReader<'r> {
+    reader: Reader<'r>,
+}
+
+impl<'r> Model for MemberReader<'r> {
+    ghost use Rattle.std.specs.Prelude.{List};
+    ghost use Rattle.json.specs.Token.{Token, tokens_code};
+
+    ghost Value = { List Token };
+
+    ghost coded = { tokens_code };
+
+    ghost view = { λ members. members.reader };
+}
+
+impl<'r> MemberReader<'r> {
+    /// The members of the text where it begins as an object does. The memory that it takes grows with the length of the text.
+    pub(crate) fn open(
+        text: &'r str,
+        scratch: &'r mut Scratch,
+    ) -> Result<Option<MemberReader<'r>>, AllocError>
+        ensures { IfOk result (λ found. MatchOption found (option_and_then as_object (tree_of_text text.now) ≡ None)
+            (λ members. tree_of_text text.now ≡ option_map object (members_to_come no_members members))) }
+    {
+        let mut reader = Reader::new(text, scratch)?;
+        if opens_object(&mut reader) {
+            Ok(Some(MemberReader { reader }))
+        } else {
+            Ok(None)
+        }
+    }
+
+    /// The key and the value of the next member, or None where the object ended and the text with it. A key may come again: then
+    /// its last value counts (RFC 8259, section 4; as `serde_json` reads it).
+    ///
+    /// # Errors
+    ///
+    /// `Invalid` where the rest of the text is not the members of an object up to its end: at the member where that shows. Fails
+    /// otherwise only when out of memory.
+    #[inline(always)]
+    pub fn next(&mut self, alloc: Global) -> Result<Option<(&'r str, LentValue<'r>)>, TreeFault>
+        ensures members { IfOk result (λ found. MatchOption found (IsEnd self.old) (λ m. BeginsWith m.0.now (lent_view m.1) self.old self.new)) }
+        ensures refused { result ≡ Err Invalid → IsNoObject self.old }
+        ensures shorter { IfOk result (λ found. OnSome found (length self.new < length self.old)) }
+    {
+        next_member(alloc, &mut self.reader)
+    }
+}
+
+// Whether the text begins as an object does. If so, its brace is passed.
+fn opens_object(reader: &mut Reader<'_>) -> bool
+    ensures { MatchBool result (tree_of_tokens reader.old ≡ option_map object (members_to_come no_members reader.new))
+        (option_and_then as_object (tree_of_tokens reader.old) ≡ None) }
+{
+    let Some(token) = reader.next() else {
+        return false;
+    };
+    match token {
+        Token::BeginObject => true,
+        _ => false,
+    }
+}
+
+#[inline(always)]
+fn next_member<'r>(
+    alloc: Global,
+    reader: &mut Reader<'r>,
+) -> Result<Option<(&'r str, LentValue<'r>)>, TreeFault>
+    ensures members { IfOk result (λ found. MatchOption found (IsEnd reader.old) (λ m. BeginsWith m.0.now (lent_view m.1) reader.old reader.new)) }
+    ensures refused { result ≡ Err Invalid → IsNoObject reader.old }
+    ensures shorter { IfOk result (λ found. OnSome found (length reader.new < length reader.old)) }
+{
+    let Some(key) = reader.next_key()? else {
+        if reader.next().is_some() {
+            return Err(TreeFault::Invalid);
+        }
+        return Ok(None);
+    };
+    match read_lent(alloc, reader, MEMBER_DEPTH) {
+        Ok(member) => Ok(Some((key, member))),
+        Err(fault) => Err(fault),
+    }
+}

@@ -1,0 +1,69 @@
+//! The members of a request line.
+ghost use Rattle.std.specs.Prelude.{◌≡◌, Err, IfOk, Some, None};
+ghost use Rattle.serde_json.specs.Data.{Members, no_members, put};
+ghost use Rattle.base_json.specs.Members.{lent_view, members_to_come};
+ghost use Rattle.base_json.specs.declared.tree_fault.TreeFault.TheVariants.{Invalid};
+ghost use Rattle.cedar_conform.specs.Private.Fields.{AreFieldsOf};
+
+use base_json::{LentValue, MemberReader, TreeFault};
+use std::alloc::Global;
+
+/// The values at the keys of a request. Of a key that comes twice, it is the last (RFC 8259, section 4; as `serde_json` reads it).
+#[derive(Drop)]
+pub(crate) struct Fields<'l> {
+    pub(crate) principal: Option<LentValue<'l>>,
+    pub(crate) action: Option<LentValue<'l>>,
+    pub(crate) resource: Option<LentValue<'l>>,
+    pub(crate) context: Option<LentValue<'l>>,
+    /// Whether there is no other key.
+    pub(crate) are_known: bool,
+}
+
+impl<'l> Fields<'l> {
+    /// The values of the members up to the end of their object and of its text.
+    #[inline(always)]
+    pub(crate) fn read(
+        alloc: Global,
+        members: &mut MemberReader<'l>,
+    ) -> Result<Fields<'l>, TreeFault>
+        ensures read { IfOk result (λ fields. (ms : Members) × (members_to_come no_members members.old ≡ Some ms) × AreFieldsOf ms fields) }
+        ensures refused { result ≡ Err Invalid → members_to_come no_members members.old ≡ None }
+    {
+        let mut fields = Fields::none();
+        'members: while let Some((key, value)) = members.next(alloc)? {
+            fields.put(key, value);
+        }
+        Ok(fields)
+    }
+
+    // The values where there are no members.
+    fn none() -> Fields<'l>
+        ensures { AreFieldsOf no_members result }
+    {
+        Fields {
+            principal: None,
+            action: None,
+            resource: None,
+            context: None,
+            are_known: true,
+        }
+    }
+
+    // Adds a member.
+    #[inline(always)]
+    fn put(&mut self, key: &str, value: LentValue<'l>)
+        ensures { (ms : Members) → AreFieldsOf ms self.old → AreFieldsOf (put key.now (lent_view value.entry) ms) self.new }
+    {
+        if key == "principal" {
+            self.principal = Some(value);
+        } else if key == "action" {
+            self.action = Some(value);
+        } else if key == "resource" {
+            self.resource = Some(value);
+        } else if key == "context" {
+            self.context = Some(value);
+        } else {
+            self.are_known = false;
+        }
+    }
+}

@@ -1,0 +1,92 @@
+//! The names of types that a reader keeps.
+ghost use Rattle.std.specs.Prelude.{◌≡◌, ◌≤◌, ◌<◌, ◌↔◌, IfOk, IfSome, IsSome, MatchResult, length, slice_index_or};
+ghost use Rattle.cedar_value.specs.Names.{IsName};
+
+use cedar_value::Name;
+use std::alloc::{AllocError, Global};
+use std::cmp::Ordering;
+use std::marker::Model;
+
+/// How many names are kept at most. Other names are read anew each time.
+const MOST_NAMES: usize = 256;
+
+/// Names that were read, in ascending order, so that the next request shares the name of its type and takes no memory for it. Each
+/// reader has its own: if threads shared them, they would count the holders of one name in turn. Contracts see the texts.
+#[derive(Drop)]
+pub(crate) struct Names {
+    names: Vec<Name>,
+}
+
+impl Model for Names {
+    ghost use Rattle.std.specs.Prelude.{ℕ, List, All};
+    ghost use Rattle.cedar_value.specs.Names.{IsName};
+
+    ghost Value = { List (List ℕ) };
+
+    ghost view = { λ n. n.names.items };
+
+    ghost invariant = { λ n. All IsName n.names.items };
+}
+
+impl Names {
+    /// No names. It takes no memory yet.
+    pub(crate) fn new(alloc: Global) -> Names {
+        Names {
+            names: Vec::new(alloc),
+        }
+    }
+
+    /// The name that the text writes, or None for another text. It is found with as many comparisons as the logarithm of the number of
+    /// names that are kept.
+    pub(crate) fn read(&mut self, alloc: Global, text: &str) -> Result<Option<Name>, AllocError>
+        ensures given { IfOk result (λ name. IsSome name ↔ IsName text.now) }
+        ensures path { IfOk result (λ name. IfSome name (λ n. n ≡ text.now)) }
+    {
+        match self.place(text) {
+            Ok(place) => {
+                let name = self.names[place].try_clone(alloc)?;
+                Ok(Some(name))
+            }
+            Err(place) => self.read_new(alloc, text, place),
+        }
+    }
+
+    // Where the name with this text is, or where it would come.
+    fn place(&self, text: &str) -> Result<usize, usize>
+        ensures { MatchResult result
+            (λ place. (place < length self.now) × IsName text.now × (slice_index_or self.now place text.now ≡ text.now))
+            (λ place. place ≤ length self.now) }
+    {
+        let mut low = 0;
+        let mut high = self.names.len();
+        'halves: while low < high {
+            let middle = low + (high - low) / 2;
+            match text.cmp(self.names[middle].as_str()) {
+                Ordering::Less => high = middle,
+                Ordering::Greater => low = middle + 1,
+                Ordering::Equal => return Ok(middle),
+            }
+        }
+        Err(low)
+    }
+
+    // Reads a name, and keeps it at its place.
+    fn read_new(
+        &mut self,
+        alloc: Global,
+        text: &str,
+        place: usize,
+    ) -> Result<Option<Name>, AllocError>
+        requires { place ≤ length self.old }
+        ensures given { IfOk result (λ name. IsSome name ↔ IsName text.now) }
+        ensures path { IfOk result (λ name. IfSome name (λ n. n ≡ text.now)) }
+    {
+        let Some(name) = Name::read(alloc, text)? else {
+            return Ok(None);
+        };
+        if self.names.len() < MOST_NAMES {
+            self.names.insert(place, name.try_clone(alloc)?)?;
+        }
+        Ok(Some(name))
+    }
+}

@@ -10,7 +10,7 @@
  * Memory: a call reads its bytes only while it runs, and keeps none of them. No argument that is written overlaps another. Handles are
  * not copied. The library asks malloc, realloc and free for memory. A call that returns CEDAR_MEMORY has changed nothing.
  *
- * Stack: 4 MiB for cedar_explain, 1 MiB for cedar_publish, cedar_validate and cedar_free, 128 KiB for the other calls. Do not call from a
+ * Stack: 4 MiB for cedar_explain, 512 KiB for cedar_publish, cedar_validate and cedar_free, 64 KiB for the other calls. Do not call from a
  * signal handler, nor in the forked child of a process with several threads. No call starts a thread, waits, or reads a file. */
 #ifndef CEDAR_H
 #define CEDAR_H

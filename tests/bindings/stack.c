@@ -9,8 +9,8 @@
 #include <unistd.h>
 
 #define EXPLAINING_STACK ((size_t)4 << 20)
-#define READING_STACK ((size_t)1 << 20)
-#define ASKING_STACK ((size_t)128 << 10)
+#define READING_STACK ((size_t)512 << 10)
+#define ASKING_STACK ((size_t)64 << 10)
 #define COUNT(list) (sizeof(list) / sizeof *(list))
 
 /* A text: its beginning, what opens `depth` times, its middle, what closes as often, and its end. */

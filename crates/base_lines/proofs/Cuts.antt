@@ -1,5 +1,6 @@
 -- Lemmas on cutting bytes at LF.
-use Rattle.std.proofs.Common.{◌≡◌, ◌≢◌, ℕ, zero, suc, ◌+◌, ◌<◌, ◌==◌, List, [], ◌∷◌, ◌++◌, length, take, get_or, true, false, refl, sym, ap, ◌∙◌, arith, append_assoc, add-one}
+use Rattle.std.proofs.Common.{◌≡◌, ◌≢◌, ℕ, zero, suc, ◌+◌, ◌<◌, ◌≤◌, ◌==◌, List, [], ◌∷◌, ◌++◌, length, take, drop, get_or, true, false, refl, sym, ap, subst, ◌∙◌, arith, append_assoc}
+use Rattle.std.proofs.lemmas.List.{take_all, take-append-drop, drop_more}
 use Rattle.base_lines.specs.Lines.{line_feed, lines_of, ended_lines_of}
 use Rattle.base_lines.specs.Private.Progress.{IsPiece, ArePieces, joined}
 
@@ -8,8 +9,16 @@ piece_suc [] i p l n = tt
 piece_suc (x ∷ xs) zero p l n = (n, tt)
 piece_suc (x ∷ xs) (suc i) p l n = (p.0, piece_suc xs i p.1 (omega arith) n)
 
-pub piece_more : (xs : List ℕ) (i : ℕ) → IsPiece (take i xs) → i < length xs → get_or xs i 0 ≢ line_feed → IsPiece (take (i + 1) xs)
-piece_more xs i p l n = rw add-one (piece_suc xs i p l n)
+-- no place before n has an LF
+pub piece_before : (xs : List ℕ) (n : ℕ) → n ≤ length xs → ((k : ℕ) → k < n → get_or xs k 0 ≢ line_feed) → IsPiece (take n xs)
+piece_before xs zero h none = tt
+piece_before xs (suc n) h none = piece_suc xs n (piece_before xs n (omega arith) (λ k less. none k (omega arith))) (omega arith) (none n (omega arith))
+
+pub whole_piece : (xs : List ℕ) → ((k : ℕ) → k < length xs → get_or xs k 0 ≢ line_feed) → IsPiece xs
+whole_piece xs none = subst IsPiece (take_all (length xs) xs (omega arith)) (piece_before xs (length xs) (omega arith) none)
+
+pub cut_at : (xs : List ℕ) (end : ℕ) → end < length xs → get_or xs end 0 ≡ line_feed → xs ≡ take end xs ++ (line_feed ∷ drop (end + 1) xs)
+cut_at xs end h e = sym (take-append-drop end xs) ∙ ap (λ (ys : List ℕ). take end xs ++ ys) (drop_more xs end 0 h ∙ ap (λ (b : ℕ). b ∷ drop (end + 1) xs) e)
 
 pub piece_append : (xs ys : List ℕ) → IsPiece xs → IsPiece ys → IsPiece (xs ++ ys)
 piece_append [] ys p q = q

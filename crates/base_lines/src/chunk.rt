@@ -7,6 +7,7 @@ use crate::engine::Engine;
 use crate::output::flush;
 use crate::serve_fault::ServeFault;
 use crate::sink::Sink;
+use memchr::memchr;
 use std::alloc::{AllocError, Global};
 
 /// Answers that wait are written once they have so many bytes.
@@ -17,12 +18,10 @@ fn cut_line(bytes: &[u8]) -> Option<(&[u8], &[u8])>
     ensures { MatchOption result (IsPiece bytes.now)
         (λ cut. IsPiece cut.0.now × (bytes.now ≡ cut.0.now ++ (line_feed ∷ cut.1.now))) }
 {
-    for (i, byte) in bytes.iter().enumerate() {
-        if *byte == b'\n' {
-            return Some((&bytes[..i], &bytes[i + 1..]));
-        }
+    match memchr(b'\n', bytes) {
+        Some(end) => Some((&bytes[..end], &bytes[end + 1..])),
+        None => None,
     }
-    None
 }
 
 /// Appends the answer line of a line to `out`. Where memory runs out, `out` is as before.

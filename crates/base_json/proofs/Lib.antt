@@ -6,6 +6,7 @@ mod FirstItem
 mod Followed
 mod Joined
 mod Punctuated
+mod QuotedMembers
 mod Reading
 mod Strings
 mod Trees

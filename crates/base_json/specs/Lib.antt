@@ -1,4 +1,5 @@
 pub mod Items
 pub mod JsonTree
 pub mod Members
+pub mod Quoted
 pub mod Private

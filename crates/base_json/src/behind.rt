@@ -50,8 +50,8 @@ fn next_at(bytes: &[u8], from: usize, byte: u8) -> Option<usize>
     }
 }
 
-// The position of the first byte from `from` on that is not a space.
-fn skip_spaces(bytes: &[u8], from: usize) -> usize
+/// The position of the first byte from `from` on that is not a space.
+pub(crate) fn skip_spaces(bytes: &[u8], from: usize) -> usize
     ensures { lex between (drop from bytes.now) ≡ lex between (drop result bytes.now) }
 {
     let mut at = from;

@@ -5,17 +5,20 @@ ghost use Rattle.serde_json.specs.Read.{of_json, converted};
 ghost use Rattle.base_json.specs.Members.{lent_view};
 ghost use Rattle.base_json.specs.declared.tree_fault.TreeFault.TheVariants.{Invalid};
 
+use crate::quoted_text::QuotedText;
 use crate::tree::tree_after;
 use crate::tree_fault::TreeFault;
 use json::{Reader, Token};
 use serde_json::Value;
 use std::alloc::Global;
 
-/// A JSON value (RFC 8259, section 3). A string is lent by what was read, and takes no memory.
+/// A JSON value (RFC 8259, section 3). A string is lent by what was read, and takes no memory. The same string may come in either form.
 #[derive(Drop)]
 pub enum LentValue<'t> {
     /// A string, without quotation marks and escapes.
     String(&'t str),
+    /// A string in two parts, of which the second is in quotation marks.
+    Quoted(QuotedText<'t>),
     /// Any other value.
     Tree(Value),
 }

@@ -9,30 +9,44 @@ ghost use Rattle.base_json.specs.Private.Trees.{tree_of_tokens};
 ghost use Rattle.base_json.specs.declared.tree_fault.TreeFault.TheVariants.{Invalid};
 
 use crate::lent_value::{LentValue, read_lent};
+use crate::quoted_member::{after, is_end, quoted_member};
 use crate::tree_fault::TreeFault;
 use json::{Reader, Scratch, Token};
 use std::alloc::{AllocError, Global};
 use std::marker::Model;
+use std::mem::replace;
 
 // How deep arrays and objects may nest in a member: the object itself is one of a text's 127 levels.
 const MEMBER_DEPTH: usize = 126;
 
-/// The members of a JSON text that is an object, one after another and without a tree of all (RFC 8259, section 4). Contracts see
-/// the tokens that are to come.
+/// The members of a JSON text that is an object, one after another and without a tree of all (RFC 8259, section 4). Members in the
+/// plain form that come first are read from their bytes, and those after them by tokens. Contracts see the tokens that are to come.
 #[derive(Drop)]
 pub struct MemberReader<'r> {
-    reader: Reader<'r>,
+    stage: Stage<'r>,
+}
+
+// How the members to come are read.
+#[derive(Drop)]
+enum Stage<'r> {
+    // From the text that is left. The buffers are for the tokens.
+    Bytes(&'r str, &'r mut Scratch),
+    // By tokens.
+    Tokens(Reader<'r>),
+    // Not at all, since memory ran out.
+    OutOfMemory,
 }
 
 impl<'r> Model for MemberReader<'r> {
     ghost use Rattle.std.specs.Prelude.{List};
     ghost use Rattle.json.specs.Token.{Token, tokens_code};
+    ghost use Rattle.base_json.specs.Private.Stages.{tokens_in};
 
     ghost Value = { List Token };
 
     ghost coded = { tokens_code };
 
-    ghost view = { λ members. members.reader };
+    ghost view = { λ members. tokens_in members.stage };
 }
 
 impl<'r> MemberReader<'r> {
@@ -44,9 +58,16 @@ impl<'r> MemberReader<'r> {
         ensures { IfOk result (λ found. MatchOption found (option_and_then as_object (tree_of_text text.now) ≡ None)
             (λ members. tree_of_text text.now ≡ option_map object (members_to_come no_members members))) }
     {
+        if let Some(rest) = after(text, b'{') {
+            return Ok(Some(MemberReader {
+                stage: Stage::Bytes(rest, scratch),
+            }));
+        }
         let mut reader = Reader::new(text, scratch)?;
         if opens_object(&mut reader) {
-            Ok(Some(MemberReader { reader }))
+            Ok(Some(MemberReader {
+                stage: Stage::Tokens(reader),
+            }))
         } else {
             Ok(None)
         }
@@ -65,7 +86,35 @@ impl<'r> MemberReader<'r> {
         ensures refused { result ≡ Err Invalid → IsNoObject self.old }
         ensures shorter { IfOk result (λ found. OnSome found (length self.new < length self.old)) }
     {
-        next_member(alloc, &mut self.reader)
+        if let Stage::Bytes(text, _) = &mut self.stage {
+            if let Some(member) = quoted_member(text) {
+                *text = member.rest;
+                return Ok(Some((member.key, LentValue::Quoted(member.value))));
+            }
+            if is_end(text) {
+                return Ok(None);
+            }
+        }
+        self.next_by_tokens(alloc)
+    }
+
+    // The next member from its tokens, and from then on all.
+    fn next_by_tokens(
+        &mut self,
+        alloc: Global,
+    ) -> Result<Option<(&'r str, LentValue<'r>)>, TreeFault>
+        ensures members { IfOk result (λ found. MatchOption found (IsEnd self.old) (λ m. BeginsWith m.0.now (lent_view m.1) self.old self.new)) }
+        ensures refused { result ≡ Err Invalid → IsNoObject self.old }
+        ensures shorter { IfOk result (λ found. OnSome found (length self.new < length self.old)) }
+    {
+        let mut reader = match replace(&mut self.stage, Stage::OutOfMemory) {
+            Stage::Bytes(text, scratch) => Reader::new(text, scratch)?,
+            Stage::Tokens(reader) => reader,
+            Stage::OutOfMemory => return Err(TreeFault::OutOfMemory),
+        };
+        let next = next_member(alloc, &mut reader);
+        self.stage = Stage::Tokens(reader);
+        next
     }
 }
 

@@ -33,6 +33,7 @@ pub fn answer_line(
     match ready.read_with(alloc, line, reader) {
         Ok(request) => {
             append_answer(alloc, ready, &request, out)?;
+            reader.keep(request);
             Ok(())
         }
         Err(fault) => append_fault(alloc, &fault, out),

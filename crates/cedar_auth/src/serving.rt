@@ -64,6 +64,7 @@ impl<'r> Engine for Answering<'r> {
             Ok(request) => {
                 ready.tally(alloc, &request, &mut buffers.selection, &mut buffers.tally)?;
                 append_response(alloc, &buffers.tally.told(), out)?;
+                buffers.reader.keep(request);
                 Ok(())
             }
             Err(fault) => {

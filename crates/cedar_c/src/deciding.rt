@@ -147,7 +147,11 @@ fn give_decision(
     ensures known { IsOneOf (0 ∷ 1 ∷ 6 ∷ 7 ∷ []) result }
 {
     match read(alloc, ready, reader, bytes) {
-        Ok(request) => give_response(alloc, ready, &request, room, decided, text, written),
+        Ok(request) => {
+            let status = give_response(alloc, ready, &request, room, decided, text, written);
+            reader.keep(request);
+            status
+        }
         Err(fault) => give_fault(alloc, &fault, room, decided, text, written),
     }
 }

@@ -1,5 +1,5 @@
 -- The values at the keys of a request, a member at a time.
-use Rattle.std.proofs.Common.{◌≡◌, ◌⊎◌, ℕ, true, false, inl, inr, List, Bool, Option, Some, None, Ordering, Less, Equal, Greater, nat_cmp, is_eq, bytes_eq, refl, sym, ap, subst, ◌∙◌}
+use Rattle.std.proofs.Common.{◌≡◌, ℕ, true, false, inl, inr, List, Bool, Option, Some, Ordering, Less, Equal, Greater, nat_cmp, is_eq, bytes_eq, refl, sym, ap, subst, ◌∙◌}
 use Rattle.std.specs.Prelude.{codes, if◌then◌else◌, MatchOption}
 use Rattle.std.specs.Ordering.{match_ordering}
 use Rattle.std.specs.Cmp.Lexicographic.{slice_cmp}
@@ -16,7 +16,7 @@ use Rattle.cedar_conform_values.specs.Objects.{are_only}
 use Rattle.cedar_conform_values.specs.WrittenUids.{WritesUid}
 use Rattle.cedar_conform.specs.declared.fields.Fields.{Fields}
 use Rattle.cedar_conform.specs.declared.request.RequestUids.{RequestUids}
-use Rattle.cedar_conform.specs.Private.Fields.{AreFieldsOf, AreWritten, LacksIn, LacksOne, WrittenIn, data_in}
+use Rattle.cedar_conform.specs.Private.Fields.{AreFieldsOf, AreWritten, LacksIn, LacksOne}
 use Rattle.cedar_conform.specs.Requests.{IsShapeless, Names, is_request_key}
 
 -- ---- whether each key is allowed

@@ -22,6 +22,8 @@ mod names;
 mod parts;
 mod request;
 mod request_reader;
+mod request_rooms;
+mod uid_room;
 mod uids;
 
 pub use cedar_conform_entities::{

@@ -1,5 +1,5 @@
 //! The names of types that a reader keeps.
-ghost use Rattle.std.specs.Prelude.{◌≡◌, ◌≤◌, ◌<◌, ◌↔◌, IfOk, IfSome, IsSome, MatchResult, length, slice_index_or};
+ghost use Rattle.std.specs.Prelude.{◌≡◌, ◌≤◌, ◌<◌, ◌↔◌, IfOk, IfSome, IsSome, IsTrue, MatchResult, length, slice_index_or};
 ghost use Rattle.cedar_value.specs.Names.{IsName};
 
 use cedar_value::Name;
@@ -36,19 +36,40 @@ impl Names {
         }
     }
 
-    /// The name that the text writes, or None for another text. It is found with as many comparisons as the logarithm of the number of
-    /// names that are kept.
-    pub(crate) fn read(&mut self, alloc: Global, text: &str) -> Result<Option<Name>, AllocError>
+    /// The name that the text writes, or None for another text. It is looked for at the place `guess` first, and otherwise found with as
+    /// many comparisons as the logarithm of the number of names that are kept. Its place is the next guess.
+    pub(crate) fn read(
+        &mut self,
+        alloc: Global,
+        text: &str,
+        guess: &mut usize,
+    ) -> Result<Option<Name>, AllocError>
         ensures given { IfOk result (λ name. IsSome name ↔ IsName text.now) }
         ensures path { IfOk result (λ name. IfSome name (λ n. n ≡ text.now)) }
     {
+        if self.is_at(*guess, text) {
+            let name = self.names[*guess].try_clone(alloc)?;
+            return Ok(Some(name));
+        }
         match self.place(text) {
             Ok(place) => {
+                *guess = place;
                 let name = self.names[place].try_clone(alloc)?;
                 Ok(Some(name))
             }
-            Err(place) => self.read_new(alloc, text, place),
+            Err(place) => {
+                *guess = place;
+                self.read_new(alloc, text, place)
+            }
         }
+    }
+
+    // Whether the name at the place has this text.
+    fn is_at(&self, place: usize, text: &str) -> bool
+        ensures { IsTrue result
+            → (place < length self.now) × IsName text.now × (slice_index_or self.now place text.now ≡ text.now) }
+    {
+        place < self.names.len() && self.names[place].as_str() == text
     }
 
     // Where the name with this text is, or where it would come.

@@ -11,16 +11,18 @@ ghost use Rattle.cedar_conform_values.specs.declared.conform_fault.ConformFault.
 ghost use Rattle.cedar_conform.specs.Parts.{AreNamed, PartsDenote, PartsHaveFault, context_json, parts_of, uid_of};
 ghost use Rattle.cedar_conform.specs.Private.PartsAnswers.{AreUidsOf, IsUidOf};
 
-use crate::context::record_type;
+use crate::context::{absent_context, record_type};
 use crate::names::Names;
 use crate::request::{RequestUids, context_type};
 use crate::request_reader::RequestReader;
+use crate::request_rooms::RequestRooms;
+use crate::uid_room::UidRoom;
+use crate::uids::named_uid;
 use base_json::JsonReader;
 use cedar_conform_values::{ConformFault, read_record, read_values_belong};
 use cedar_schema::Schema;
 use cedar_schema_types::Type;
-use cedar_value::{Record, Request, Text, Uid};
-use serde_json::{Map, Value as Json};
+use cedar_value::{Record, Request, Uid};
 use std::alloc::Global;
 
 /// A uid in parts: the type and the id of an entity, as `User` and `ann` of `User::"ann"`.
@@ -78,7 +80,7 @@ fn request_of_parts(
 ) -> Result<Request, ConformFault>
     ensures { MatchResult result (PartsDenote schema.now (parts_of parts.now)) (λ e. e ≢ OutOfMemory → PartsHaveFault schema.now (parts_of parts.now) e) }
 {
-    let uids = uids_of_parts(alloc, &mut reader.names, parts)?;
+    let uids = uids_of_parts(alloc, &mut reader.names, &mut reader.rooms, parts)?;
     let ty = context_type(schema, &uids)?;
     let context = read_context_bytes(alloc, ty, parts.context, &mut reader.json)?;
     Ok(Request {
@@ -93,15 +95,16 @@ fn request_of_parts(
 fn uids_of_parts(
     alloc: Global,
     names: &mut Names,
+    rooms: &mut RequestRooms,
     parts: &RequestParts<'_>,
 ) -> Result<RequestUids, ConformFault>
     ensures { MatchResult result
         (AreUidsOf (parts_of parts.now))
         (λ e. e ≢ OutOfMemory → (e ≡ ShapeFault) × ¬ AreNamed (parts_of parts.now)) }
 {
-    let principal = uid_of_parts(alloc, names, &parts.principal)?;
-    let action = uid_of_parts(alloc, names, &parts.action)?;
-    let resource = uid_of_parts(alloc, names, &parts.resource)?;
+    let principal = uid_of_parts(alloc, names, &mut rooms.principal, &parts.principal)?;
+    let action = uid_of_parts(alloc, names, &mut rooms.action, &parts.action)?;
+    let resource = uid_of_parts(alloc, names, &mut rooms.resource, &parts.resource)?;
     Ok(RequestUids {
         principal,
         action,
@@ -110,16 +113,18 @@ fn uids_of_parts(
 }
 
 // The uid of a type and an id.
-fn uid_of_parts(alloc: Global, names: &mut Names, parts: &UidParts<'_>) -> Result<Uid, ConformFault>
+fn uid_of_parts(
+    alloc: Global,
+    names: &mut Names,
+    room: &mut UidRoom,
+    parts: &UidParts<'_>,
+) -> Result<Uid, ConformFault>
     ensures { MatchResult result
         (IsUidOf (uid_of parts.now))
         (λ e. e ≢ OutOfMemory → (e ≡ ShapeFault) × ¬ IsName parts.now.ty.now) }
 {
-    match names.read(alloc, parts.ty)? {
-        Some(ty) => {
-            let id = Text::read(alloc, parts.id)?;
-            Ok(Uid { ty, id })
-        }
+    match named_uid(alloc, names, room, parts.ty, parts.id)? {
+        Some(uid) => Ok(uid),
         None => Err(ConformFault::Shape),
     }
 }
@@ -139,7 +144,7 @@ fn read_context_bytes(
 {
     let attributes = record_type(ty);
     if bytes.is_empty() {
-        return read_record(alloc, attributes, &Json::Object(Map::new(alloc)));
+        return absent_context(alloc, attributes);
     }
     match reader.read(alloc, bytes)? {
         Some(json) => read_record(alloc, attributes, &json),

@@ -15,17 +15,18 @@ ghost use Rattle.cedar_conform.specs.Requests.{HasUidsFault, LineDenotes, LineHa
 ghost use Rattle.cedar_conform.specs.Private.Answers.{IsAnswer, IsLineAnswer, IsNoJson, IsNoObjectFault};
 ghost use Rattle.cedar_conform.specs.Private.Fields.{AreFieldsOf, AreWritten, LacksIn, LacksOne, WrittenIn, context_in, data_in};
 
-use crate::context::record_type;
+use crate::context::{absent_context, record_type};
 use crate::fields::Fields;
 use crate::names::Names;
 use crate::request_reader::RequestReader;
+use crate::request_rooms::RequestRooms;
+use crate::uid_room::UidRoom;
 use crate::uids::lent_uid;
 use base_json::{JsonReader, LentValue, MemberReader, TreeFault};
 use cedar_conform_values::{ConformFault, one_written_uid, read_record, read_values_belong};
 use cedar_schema::Schema;
 use cedar_schema_types::Type;
 use cedar_value::{Record, Request, Uid};
-use serde_json::{Map, Value as Json};
 use std::alloc::Global;
 
 /// The uids of a request.
@@ -84,9 +85,9 @@ fn read_line(
 ) -> Result<Request, ConformFault>
     ensures { IsLineAnswer schema.now line.now result }
 {
-    let RequestReader { json, names } = reader;
+    let RequestReader { json, names, rooms } = reader;
     if let Some(mut members) = json.members(line)? {
-        return request_of_members(alloc, schema, names, &mut members);
+        return request_of_members(alloc, schema, names, rooms, &mut members);
     }
     Err(no_object_fault(alloc, line, json))
 }
@@ -111,12 +112,13 @@ fn request_of_members(
     alloc: Global,
     schema: &Schema,
     names: &mut Names,
+    rooms: &mut RequestRooms,
     members: &mut MemberReader<'_>,
 ) -> Result<Request, ConformFault>
     ensures { MatchOption (members_to_come no_members members.old) (IsNoJson result) (λ ms. IsAnswer schema.now (object ms) result) }
 {
     match Fields::read(alloc, members) {
-        Ok(fields) => request_of(alloc, schema, names, &fields),
+        Ok(fields) => request_of(alloc, schema, names, rooms, &fields),
         Err(fault) => match fault {
             TreeFault::OutOfMemory => Err(ConformFault::OutOfMemory),
             TreeFault::Invalid => Err(ConformFault::Json),
@@ -128,6 +130,7 @@ fn request_of(
     alloc: Global,
     schema: &Schema,
     names: &mut Names,
+    rooms: &mut RequestRooms,
     fields: &Fields<'_>,
 ) -> Result<Request, ConformFault>
     ensures { (ms : Members) → AreFieldsOf ms fields.now → IsAnswer schema.now (object ms) result }
@@ -135,7 +138,7 @@ fn request_of(
     if !fields.are_known {
         return Err(ConformFault::Shape);
     }
-    let uids = read_uids(alloc, names, fields)?;
+    let uids = read_uids(alloc, names, rooms, fields)?;
     let ty = context_type(schema, &uids)?;
     let context = read_context(alloc, ty, &fields.context)?;
     Ok(Request {
@@ -150,13 +153,14 @@ fn request_of(
 fn read_uids(
     alloc: Global,
     names: &mut Names,
+    rooms: &mut RequestRooms,
     fields: &Fields<'_>,
 ) -> Result<RequestUids, ConformFault>
     ensures { MatchResult result (AreWritten fields.now) (λ e. e ≢ OutOfMemory → (e ≡ ShapeFault) × LacksOne fields.now) }
 {
-    let principal = uid_in(alloc, names, &fields.principal)?;
-    let action = uid_in(alloc, names, &fields.action)?;
-    let resource = uid_in(alloc, names, &fields.resource)?;
+    let principal = uid_in(alloc, names, &mut rooms.principal, &fields.principal)?;
+    let action = uid_in(alloc, names, &mut rooms.action, &fields.action)?;
+    let resource = uid_in(alloc, names, &mut rooms.resource, &fields.resource)?;
     Ok(RequestUids {
         principal,
         action,
@@ -167,6 +171,7 @@ fn read_uids(
 fn uid_in(
     alloc: Global,
     names: &mut Names,
+    room: &mut UidRoom,
     field: &Option<LentValue<'_>>,
 ) -> Result<Uid, ConformFault>
     ensures { MatchResult result
@@ -176,7 +181,7 @@ fn uid_in(
     let Some(value) = field else {
         return Err(ConformFault::Shape);
     };
-    match lent_uid(alloc, names, value)? {
+    match lent_uid(alloc, names, room, value)? {
         Some(uid) => Ok(uid),
         None => Err(ConformFault::Shape),
     }
@@ -230,10 +235,8 @@ fn read_context(
         Some(value) => match value {
             LentValue::Tree(context) => read_record(alloc, attributes, context),
             LentValue::String(_) => Err(ConformFault::WrongType),
+            LentValue::Quoted(_) => Err(ConformFault::WrongType),
         },
-        None => {
-            let empty = Json::Object(Map::new(alloc));
-            read_record(alloc, attributes, &empty)
-        }
+        None => absent_context(alloc, attributes),
     }
 }

@@ -1,5 +1,5 @@
 //! A text that contracts see as its bytes.
-ghost use Rattle.std.specs.Prelude.{◌≡◌, ◌↔◌, IsTrue, IfOk, string_bytes};
+ghost use Rattle.std.specs.Prelude.{◌≡◌, ◌↔◌, [], IsTrue, IfOk, OnErr, OnOk, string_bytes};
 ghost use Rattle.std.specs.Str.{bytes_eq};
 
 use std::alloc::{AllocError, Global};
@@ -50,6 +50,19 @@ impl Text {
         ensures { IfOk result (λ t. t ≡ self.now) }
     {
         Text::read(alloc, self.content.as_str())
+    }
+
+    /// Replaces the text by a copy of another. Takes memory only where the other is longer than all that this has held.
+    ///
+    /// # Errors
+    ///
+    /// Fails only when out of memory. The text is then empty.
+    pub fn assign(&mut self, content: &str) -> Result<(), AllocError>
+        ensures ok { OnOk result (self.new ≡ content.now) }
+        ensures err { OnErr result (self.new ≡ []) }
+    {
+        self.content.clear();
+        self.content.push_str(content)
     }
 }
 

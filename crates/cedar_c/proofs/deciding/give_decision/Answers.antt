@@ -10,8 +10,8 @@ use Rattle.cedar_c.proofs.deciding.give_decision.Goals as goal
 pub returns-in-Ok-clause-ok : goal.returns-in-Ok-clause-ok
 returns-in-Ok-clause-ok c = λ done. (
   response_text c.args.ready.now c.in-Ok.request,
-  record { request = c.in-Ok.request; denoted = c.in-Ok.ensures.denotes; decided = c.give_response.ensures.ok done; is_text = refl },
-  c.give_response.ensures.told done,
+  record { request = c.in-Ok.request; denoted = c.in-Ok.ensures.denotes; decided = c.give_response-status.ensures.ok done; is_text = refl },
+  c.give_response-status.ensures.told done,
 )
 
 pub returns-in-Ok-clause-room : goal.returns-in-Ok-clause-room
@@ -23,7 +23,7 @@ returns-in-Ok-clause-room c = λ full. (
     decided = refl;
     is_text = refl;
   }),
-  c.give_response.ensures.room full,
+  c.give_response-status.ensures.room full,
 )
 
 pub returns-in-Err-clause-refused : goal.returns-in-Err-clause-refused

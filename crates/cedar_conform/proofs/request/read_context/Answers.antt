@@ -20,3 +20,12 @@ returns-in-String c = λ other.
     ap (λ d. (value_read c.args.ty.now d).faults) field ∙ ap (λ (t : TypeTree). (value_read t (string s)).faults) (sym c.record_type-attributes.ensures)
     ∙ string_is_no_record c.record_type-attributes.result.now s in
     subst (λ (fs : List ConformFault). Contains fs WrongType) (sym faults) (Contains-push [] WrongType)
+
+pub returns-in-Quoted : goal.returns-in-Quoted
+returns-in-Quoted c = λ other.
+    let s = c.in-Quoted.field-0 in
+    let field : context_in c.args.field.now ≡ string s = rw (c.in-Some.is, c.in-Quoted.is) refl in
+    let faults : (value_read c.args.ty.now (context_in c.args.field.now)).faults ≡ WrongType ∷ [] =
+    ap (λ d. (value_read c.args.ty.now d).faults) field ∙ ap (λ (t : TypeTree). (value_read t (string s)).faults) (sym c.record_type-attributes.ensures)
+    ∙ string_is_no_record c.record_type-attributes.result.now s in
+    subst (λ (fs : List ConformFault). Contains fs WrongType) (sym faults) (Contains-push [] WrongType)

@@ -150,11 +150,13 @@ validated-sync =
 pub ready-send : IsSend Ready.the_row
 ready-send =
     let v = validated-send in
+    let w = validated-sync in
     let s = store-send in
-    search (candidates.the_send, sendable) depth 20
+    search (candidates.the_send, candidates.the_sync, sendable, crosses) depth 20
 
 pub ready-sync : IsSync Ready.the_row
 ready-sync =
-    let v = validated-sync in
+    let v = validated-send in
+    let w = validated-sync in
     let s = store-sync in
-    search (candidates.the_sync, sendable) depth 20
+    search (candidates.the_send, candidates.the_sync, sendable, crosses) depth 20

@@ -16,6 +16,8 @@ ghost use Rattle.cedar_auth_spec.specs.Candidates.{AreCandidates, OthersAreFalse
 ghost use Rattle.cedar_auth_spec.specs.Codes.{IsPartAt};
 ghost use Rattle.cedar_auth_spec.specs.Headline.{IsAnsweredSoundlyWith};
 ghost use Rattle.cedar_auth_spec.specs.Validation.{IsValidatedWith};
+ghost use Rattle.cedar_auth.specs.Private.Kept.{IsReady};
+ghost use Rattle.cedar_auth.specs.Private.ReadyTrees.{ready_tree};
 ghost use Rattle.cedar_auth.specs.Private.Selected.{LeavesFalse};
 ghost use Rattle.cedar_auth.specs.Private.Tally.{tally_of};
 
@@ -40,13 +42,20 @@ use cedar_store::Store;
 use cedar_value::{Request, is_name_tells_names};
 use std::alloc::{AllocError, Global};
 use std::marker::Model;
+use std::sync::Arc;
 
 /// Validated policies with their schema, and entities that conform to it. Contracts see the schema, the policies, the
 /// settings under which these were accepted, and the world of the entities.
 #[derive(Drop)]
 pub struct Ready {
-    validated: Validated,
+    indexed: Arc<Indexed, Global>,
     store: Store,
+}
+
+// Validated policies, and which of them are candidates in each environment. What is ready over other entities shares them.
+#[derive(Drop)]
+struct Indexed {
+    validated: Validated,
     candidates: Candidates,
 }
 
@@ -62,9 +71,14 @@ impl Model for Ready {
 
     ghost coded = { Prim.hlevel (codes, datum_code, type_code, expression_code) };
 
-    ghost view = { λ r. record { schema = r.validated.schema; policies = r.validated.policies; settings = r.validated.settings; world = r.store } };
+    ghost view = { λ r. record {
+      schema = r.indexed.value.validated.schema;
+      policies = r.indexed.value.validated.policies;
+      settings = r.indexed.value.validated.settings;
+      world = r.store;
+    } };
 
-    ghost invariant = { λ r. IsReady r.validated.schema r.validated.policies.policies r.store r.candidates };
+    ghost invariant = { λ r. IsReady r.indexed.value.validated.schema r.indexed.value.validated.policies.policies r.store r.indexed.value.candidates };
 }
 
 impl Ready {
@@ -115,31 +129,90 @@ impl Ready {
             Ok(store) => store,
             Err(fault) => return Err(NotReady { fault, validated }),
         };
-        match Candidates::new(alloc, validated.schema(), validated.policies()) {
-            Ok(candidates) => Ok(Ready {
-                validated,
-                store,
-                candidates,
-            }),
-            Err(_) => Err(NotReady {
+        let Ok(candidates) = Candidates::new(alloc, validated.schema(), validated.policies()) else {
+            return Err(NotReady {
                 fault: ConformFault::OutOfMemory,
                 validated,
+            });
+        };
+        match Arc::new(
+            alloc,
+            Indexed {
+                validated,
+                candidates,
+            },
+        ) {
+            Ok(indexed) => Ok(Ready { indexed, store }),
+            Err(failed) => Err(NotReady {
+                fault: ConformFault::OutOfMemory,
+                validated: failed.value.validated,
             }),
         }
+    }
+
+    /// The same policies, ready to answer requests over the entities that the bytes denote for the schema (Cedar documentation,
+    /// entities JSON). The policies are shared: the call takes the time and the memory of reading the entities. What is ready now stays as
+    /// it is.
+    ///
+    /// # Errors
+    ///
+    /// Those of [`Ready::new`].
+    pub fn with_entities(&self, alloc: Global, entities: &[u8]) -> Result<Ready, ConformFault>
+        ensures holds { IfOk result (λ r. (r.schema ≡ self.now.schema) × (r.policies ≡ self.now.policies)) }
+        ensures settings { IfOk result (λ r. r.settings ≡ self.now.settings) }
+        ensures denotes { IfOk result (λ r. BytesDenote self.now.schema entities.now r.world) }
+        ensures conforms { IfOk result (λ r. Conforms r.schema r.world) }
+        ensures refused { IfErr result (λ e. e ≢ OutOfMemory → BytesHaveFault self.now.schema entities.now e) }
+    {
+        match Vec::from_slice(alloc, entities) {
+            Ok(copied) => self.with_entities_owned(alloc, copied),
+            Err(_) => Err(ConformFault::OutOfMemory),
+        }
+    }
+
+    /// Like [`Ready::with_entities`], but owns the bytes and frees them as they are read.
+    ///
+    /// # Errors
+    ///
+    /// Those of [`Ready::new`]. After an error the bytes are lost.
+    pub fn with_entities_owned(
+        &self,
+        alloc: Global,
+        entities: Vec<u8>,
+    ) -> Result<Ready, ConformFault>
+        ensures holds { IfOk result (λ r. (r.schema ≡ self.now.schema) × (r.policies ≡ self.now.policies)) }
+        ensures settings { IfOk result (λ r. r.settings ≡ self.now.settings) }
+        ensures denotes { IfOk result (λ r. BytesDenote self.now.schema entities.items r.world) }
+        ensures conforms { IfOk result (λ r. Conforms r.schema r.world) }
+        ensures refused { IfErr result (λ e. e ≢ OutOfMemory → BytesHaveFault self.now.schema entities.items e) }
+    {
+        let store = read_entities_owned(alloc, self.indexed.validated.schema(), entities)?;
+        match Arc::try_clone(&self.indexed) {
+            Ok(indexed) => Ok(Ready { indexed, store }),
+            Err(_) => Err(ConformFault::OutOfMemory),
+        }
+    }
+
+    // The policies and their candidates.
+    fn indexed(&self) -> &Indexed
+        ensures view { ready_tree result.now self.now.world ≡ self.now }
+        ensures ready { IsReady result.now.validated.schema result.now.validated.policies.policies self.now.world result.now.candidates }
+    {
+        &self.indexed
     }
 
     /// The policies with their schema.
     pub fn validated(&self) -> &Validated
         ensures { result.now ≡ record { schema = self.now.schema; policies = self.now.policies; settings = self.now.settings } }
     {
-        &self.validated
+        &self.indexed.validated
     }
 
     /// The settings under which the policies were accepted.
     pub fn settings(&self) -> Settings
         ensures { result ≡ self.now.settings }
     {
-        self.validated.settings()
+        self.indexed.validated.settings()
     }
 
     /// The entities. Takes no memory.
@@ -154,7 +227,7 @@ impl Ready {
         requires { position < length self.now.policies.policies }
         ensures { IsPartAt self.now.policies.policies position result.0.now.instructions result.1.now result.2 }
     {
-        let Some(part) = self.validated.part(position) else {
+        let Some(part) = self.indexed.validated.part(position) else {
             unreachable!()
         };
         (part.code, part.policy.id().as_str(), part.policy.effect())
@@ -171,7 +244,7 @@ impl Ready {
         ensures only { (q : RequestTree) → LineDenotes self.now.schema line.now q → MatchResult result (λ found. found ≡ q) (λ e. e ≡ OutOfMemory) }
         ensures refused { IfErr result (λ e. e ≢ OutOfMemory → LineHasFault self.now.schema line.now e) }
     {
-        read_request(alloc, self.validated.schema(), line)
+        read_request(alloc, self.indexed.validated.schema(), line)
     }
 
     // Like `read`, with a reader that keeps its buffers from line to line.
@@ -185,7 +258,7 @@ impl Ready {
         ensures fits { IfOk result (Fits self.now.schema) }
         ensures refused { IfErr result (λ e. e ≢ OutOfMemory → LineHasFault self.now.schema line.now e) }
     {
-        read_request_with(alloc, self.validated.schema(), line, reader)
+        read_request_with(alloc, self.indexed.validated.schema(), line, reader)
     }
 
     /// The request that parts denote for the schema (Cedar documentation, entities and context in JSON). The reader
@@ -205,7 +278,7 @@ impl Ready {
         ensures only { (q : RequestTree) → PartsDenote self.now.schema (parts_of parts.now) q → MatchResult result (λ found. found ≡ q) (λ e. e ≡ OutOfMemory) }
         ensures refused { IfErr result (λ e. e ≢ OutOfMemory → PartsHaveFault self.now.schema (parts_of parts.now) e) }
     {
-        read_request_parts(alloc, self.validated.schema(), parts, reader)
+        read_request_parts(alloc, self.validated().schema(), parts, reader)
     }
 
     /// Whether a request fits the schema: its action applies to its principal and its resource, and its context belongs
@@ -213,7 +286,7 @@ impl Ready {
     pub fn fits(&self, request: &Request) -> bool
         ensures { IsTrue result ↔ Fits self.now.schema request.now }
     {
-        cedar_conform::fits(self.validated.schema(), request)
+        cedar_conform::fits(self.indexed.validated.schema(), request)
     }
 
     /// The response to a request that fits, from the evaluation of every policy (Cedar language reference, authorization).
@@ -248,8 +321,9 @@ impl Ready {
     {
         // The policies that are left out are false, since no action's type is an entity type.
         candidates_are_enough();
-        self.validated.schema().well_formedness();
-        self.candidates.positions(request)
+        let indexed = self.indexed();
+        indexed.validated.schema().well_formedness();
+        indexed.candidates.positions(request)
     }
 
     // Selects the candidates that the request's own entities reach. Each other policy is false.
@@ -264,8 +338,9 @@ impl Ready {
         ensures within { OnOk result ((k : ℕ) → Contains selection.new k → k < length self.now.policies.policies) }
     {
         // No action's type is an entity type, as in each schema.
-        self.validated.schema().well_formedness();
-        self.candidates.select(request, &self.store, selection)
+        let indexed = self.indexed();
+        indexed.validated.schema().well_formedness();
+        indexed.candidates.select(request, self.store(), selection)
     }
 
     // Runs the code of the policies that are selected for the request, in order, and gathers how they ended.
@@ -280,8 +355,8 @@ impl Ready {
         ensures { OnOk result (tally.new ≡ tally_of request.now self.now.world self.now.policies.policies) }
     {
         self.select(request, selection)?;
-        self.validated
-            .tally(alloc, request, &self.store, selection.positions(), tally)
+        self.validated()
+            .tally(alloc, request, self.store(), selection.positions(), tally)
     }
 
     /// Every request that fits is answered soundly: what [`engine_is_sound`] says of these policies, under their settings, and
@@ -291,7 +366,7 @@ impl Ready {
     {
         // The theorem of the engine, and its premise that no action's type is an entity type.
         engine_is_sound();
-        self.validated.schema().well_formedness();
+        self.indexed().validated.schema().well_formedness();
     }
 
     /// The premises of [`engine_is_sound`] hold of these policies and this world: no action's type is an entity type, strict
@@ -302,7 +377,7 @@ impl Ready {
         ensures conforms { Conforms self.now.schema self.now.world }
     {
         // No action's type is an entity type, as in each schema.
-        self.validated.schema().well_formedness();
+        self.indexed().validated.schema().well_formedness();
     }
 
     /// Every request that a line denotes for the schema is answered soundly: what [`engine_is_sound`] says of these policies,
@@ -326,6 +401,6 @@ impl Ready {
         is_name_tells_names();
         tests_of_schemas_decide();
         read_values_belong();
-        self.validated.schema().well_formedness();
+        self.validated().schema().well_formedness();
     }
 }

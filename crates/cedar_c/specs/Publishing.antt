@@ -2,9 +2,11 @@
 use Rattle.std.specs.Prelude.{◌≡◌, ℕ, List, [], Option, None, Some}
 use Rattle.cedar_ast.specs.PolicySetTree.{PolicySetTree}
 use Rattle.cedar_schema_spec.specs.SchemaTree.{SchemaTree}
+use Rattle.cedar_auth_spec.specs.Ready.{ReadyTree}
 use Rattle.cedar_check_spec.specs.Reports.{AreFaultsWith}
 use Rattle.cedar_check_spec.specs.declared.settings.Settings.{Settings}
 use Rattle.cedar_files.specs.Authorization.{IsFirstRefused}
+use Rattle.cedar_files.specs.EntitiesFile.{HoldsNoWorld, HoldsWorld}
 use Rattle.cedar_files.specs.ReportText.{IsReportText}
 use Rattle.cedar_files.specs.Roles.{Holdings}
 use Rattle.cedar_files.specs.Standing.{IsRefusalLine}
@@ -52,3 +54,18 @@ pub record HaveFaults (settings : Settings) (holds : Holdings) (report : List �
   pub hold : Hold holds schema policies
   pub some : ¬ AreFaultsWith settings schema policies.policies []
   pub is_report : IsReportText settings schema policies.policies report
+
+-- The new engine has the schema, the policies and the settings of the old one, and the entities that the bytes denote for the schema
+-- (own; Cedar documentation, entities and context in JSON).
+pub record IsOver (entities : List ℕ) (old new : ReadyTree) : Type 0 where
+  pub schema : new.schema ≡ old.schema
+  pub policies : new.policies ≡ old.policies
+  pub settings : new.settings ≡ old.settings
+  pub is_world : HoldsWorld old.schema (Some entities) new.world
+
+-- The bytes denote no entities for the schema of the engine: this is why, and this is the line that says so (own).
+pub record AreRefusedOver (entities : List ℕ) (engine : ReadyTree) (refusal : Refusal) (line : List ℕ) : Type 0 where
+  pub why : FileRefusal
+  pub has_fault : HoldsNoWorld engine.schema (Some entities) why
+  pub is_refusal : IsRefusalOf Entities why refusal
+  pub is_line : IsRefusalLine Entities why line

@@ -11,7 +11,7 @@ ghost use Rattle.cedar_c.specs.declared.slot.Slot.TheVariants.{Empty};
 ghost use Rattle.cedar_c.specs.Answers.{AnswersLines, AnswersOne, LeadsTo};
 ghost use Rattle.cedar_c.specs.Buffers.{IsGiven, IsTooLong};
 ghost use Rattle.cedar_c.specs.Deciding.{AnswersParts, ArePartsRefused, IsDecided, parts};
-ghost use Rattle.cedar_c.specs.Publishing.{HaveFaults, IsRefusedFirst, no_refusal};
+ghost use Rattle.cedar_c.specs.Publishing.{AreRefusedOver, HaveFaults, IsOver, IsRefusedFirst, no_refusal};
 ghost use Rattle.cedar_c.specs.SettingBits.{AreSettings};
 ghost use Rattle.cedar_c.specs.Statuses.{IsOneOf};
 ghost use Rattle.cedar_c.specs.Texts.{held};
@@ -124,6 +124,41 @@ pub extern "C" fn cedar_raw_publish(
             OK
         }
         Err(why) => say_why(alloc, &texts, settings, &why, refusal, text, written),
+    }
+}
+
+/// Reads entities, and has the handle lead to an engine of the same policies over them. The policies are not read again, and other handles
+/// that share the old engine keep it. Otherwise the handle is as before, and the text says why.
+#[unsafe(no_mangle)]
+pub extern "C" fn cedar_raw_publish_entities(
+    alloc: Global,
+    place: &mut Handle,
+    entities: &[u8],
+    refusal: &mut Refusal,
+    text: &mut [u8],
+    written: &mut usize,
+) -> u32
+    ensures ok { result ≡ 0 → LeadsTo (λ old. LeadsTo (IsOver entities.now old) place.new.value) place.old.value }
+    ensures same { result ≢ 0 → place.new.value ≡ place.old.value }
+    ensures refused { result ≡ 2 → LeadsTo (λ old. (line : List ℕ) × AreRefusedOver entities.now old refusal.new line
+        × IsGiven line text.old text.new written.new) place.old.value }
+    ensures none { result ≡ 5 → place.old.value ≡ Empty }
+    ensures unrefused { result ≢ 2 → refusal.new ≡ no_refusal }
+    ensures untouched { result ≢ 2 → (text.new ≡ text.old) × (written.new ≡ 0) }
+    ensures known { IsOneOf (0 ∷ 1 ∷ 2 ∷ 5 ∷ []) result }
+{
+    *written = 0;
+    *refusal = Refusal::none();
+    let slot = place.slot();
+    let Slot::Full(engine) = slot else {
+        return NO_ENGINE;
+    };
+    match engine.over(alloc, entities) {
+        Ok(new) => {
+            *slot = Slot::Full(new);
+            OK
+        }
+        Err(why) => engine.refuse_entities(alloc, entities, why, refusal, text, written),
     }
 }
 

@@ -1,11 +1,13 @@
 //! Reads what is published, and says why nothing is.
-ghost use Rattle.std.specs.Prelude.{List, ℕ, ◌≡◌, ◌≢◌, [], ◌∷◌, IfErr, IfOk};
+ghost use Rattle.std.specs.Prelude.{List, ℕ, ◌≡◌, ◌≢◌, [], ◌∷◌, Some, IfErr, IfOk};
 ghost use Rattle.cedar_files.specs.Authorization.{HoldAll};
+ghost use Rattle.cedar_files.specs.EntitiesFile.{HoldsNoWorld};
 ghost use Rattle.cedar_files.specs.Faulty.{AreFaulty};
 ghost use Rattle.cedar_files.specs.Standing.{IsRefusalLine};
 ghost use Rattle.cedar_files.specs.Unprepared.{IsUnprepared};
+ghost use Rattle.cedar_files.specs.Unread.{IfRefused};
 ghost use Rattle.cedar_c.specs.Buffers.{IsGiven};
-ghost use Rattle.cedar_c.specs.Publishing.{HaveFaults, IsRefusalOf, IsRefusedFirst};
+ghost use Rattle.cedar_c.specs.Publishing.{AreRefusedOver, HaveFaults, IsOver, IsRefusalOf, IsRefusedFirst};
 ghost use Rattle.cedar_c.specs.Statuses.{IsOneOf};
 ghost use Rattle.cedar_c.specs.Texts.{held_by};
 
@@ -16,7 +18,9 @@ use crate::status::{FAULTS, MEMORY, REFUSED};
 use crate::texts::Texts;
 use cedar_auth::{NotValidated, ValidationFault};
 use cedar_check_spec::Settings;
-use cedar_files::{FileRefusal, Role, Unprepared, read_all, refusal_line, report_text};
+use cedar_files::{
+    FileRefusal, Role, Unprepared, Unread, read_all, read_over, refusal_line, report_text,
+};
 use std::alloc::Global;
 
 /// The engine of what the texts hold.
@@ -111,5 +115,52 @@ pub(crate) fn say_why(
         Unprepared::Memory => MEMORY,
         // Each text but the links is a file, and memory has no device.
         Unprepared::Unnamed | Unprepared::Device => unreachable!(),
+    }
+}
+
+impl Engine {
+    /// An engine of the same policies over the entities of these bytes.
+    pub(crate) fn over(&self, alloc: Global, entities: &[u8]) -> Result<Engine, Unread>
+        ensures ok { IfOk result (IsOver entities.now self.now) }
+        ensures refused { IfErr result (λ unread. IfRefused unread (λ why. HoldsNoWorld self.now.schema (Some entities.now) why)) }
+        ensures others { IfErr result (λ unread. (unread ≢ Unread.Unnamed) × (unread ≢ Unread.Device)) }
+    {
+        let ready = read_over(alloc, &self.ready, entities)?;
+        match Engine::new(alloc, ready) {
+            Ok(engine) => Ok(engine),
+            Err(_) => Err(Unread::Memory),
+        }
+    }
+
+    /// Says why the bytes are not entities for the schema.
+    pub(crate) fn refuse_entities(
+        &self,
+        alloc: Global,
+        entities: &[u8],
+        why: Unread,
+        refusal: &mut Refusal,
+        text: &mut [u8],
+        written: &mut usize,
+    ) -> u32
+        requires refused { IfRefused why (λ why. HoldsNoWorld self.now.schema (Some entities.now) why) }
+        requires others { (why ≢ Unread.Unnamed) × (why ≢ Unread.Device) }
+        ensures refused { result ≡ 2 → (line : List ℕ) × AreRefusedOver entities.now self.now refusal.new line
+            × IsGiven line text.old text.new written.new }
+        ensures unrefused { result ≢ 2 → refusal.new ≡ refusal.old }
+        ensures untouched { result ≢ 2 → (text.new ≡ text.old) × (written.new ≡ written.old) }
+        ensures known { IsOneOf (1 ∷ 2 ∷ []) result }
+    {
+        match why {
+            Unread::Refused(why) => give_refusal(
+                alloc,
+                Role::Entities,
+                why,
+                refusal,
+                text,
+                written,
+            ),
+            Unread::Memory => MEMORY,
+            Unread::Unnamed | Unread::Device => unreachable!(),
+        }
     }
 }

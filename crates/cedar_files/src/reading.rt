@@ -136,3 +136,21 @@ pub fn read_ready<F: Files>(alloc: Global, files: &F, validated: Validated) -> R
         Err(NotReady { fault, .. }) => Err(refusal_of(&fault)),
     }
 }
+
+/// The policies that are ready, over the entities of these bytes instead. The policies are shared, and what is ready stays as it is.
+///
+/// # Errors
+///
+/// `Refused` where the bytes denote no entities for the schema: 401, 402, 501 to 509, with no place. Otherwise `Memory`.
+pub fn read_over(alloc: Global, ready: &Ready, entities: &[u8]) -> Result<Ready, Unread>
+    ensures holds { IfOk result (λ new. (new.schema ≡ ready.now.schema) × (new.policies ≡ ready.now.policies)) }
+    ensures settings { IfOk result (λ new. new.settings ≡ ready.now.settings) }
+    ensures found { IfOk result (λ new. HoldsWorld ready.now.schema (Some entities.now) new.world) }
+    ensures refused { IfErr result (λ unread. IfRefused unread (λ refusal. HoldsNoWorld ready.now.schema (Some entities.now) refusal)) }
+    ensures others { IfErr result (λ unread. (unread ≢ Unread.Unnamed) × (unread ≢ Unread.Device)) }
+{
+    match ready.with_entities(alloc, entities) {
+        Ok(new) => Ok(new),
+        Err(fault) => Err(refusal_of(&fault)),
+    }
+}

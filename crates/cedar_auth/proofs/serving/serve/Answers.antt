@@ -1,4 +1,4 @@
-use Rattle.std.proofs.Common.{ℕ, List, [], ◌++◌, Option, None, Some, refl, sym, append-nil}
+use Rattle.std.proofs.Common.{ℕ, List, [], Option, None, Some, refl, sym, append-nil}
 use Rattle.std.specs.Prelude.{IfSome}
 use Rattle.base_lines.specs.AnswerText.{Answering, AnswersFirst, BeginsAnswers, Writes}
 use Rattle.base_lines.specs.Lines.{lines_of}

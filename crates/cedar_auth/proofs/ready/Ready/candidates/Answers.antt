@@ -10,20 +10,21 @@ use Rattle.cedar_auth.proofs.ready.Ready.candidates.Goals as goal
 
 pub returns-clause-exact : goal.returns-clause-exact
 returns-clause-exact c =
-    let inside = c.self.inside in
+    let i = c.indexed-indexed.result.now in
     let q = c.args.request.now in
     let ks = c.positions.result.now in
-    subst (λ (r : ReadyTree). (env : Environment) → FitsIn r.schema env q → AreCandidates r.schema r.policies.policies env ks) c.self.view_is
-    (λ env fits. c.positions.ensures inside.validated.schema inside.validated.policies.policies env c.self.invariant.candidates fits)
+    subst (λ (r : ReadyTree). (env : Environment) → FitsIn r.schema env q → AreCandidates r.schema r.policies.policies env ks) c.indexed-indexed.ensures.view
+    (λ env fits. c.positions.ensures i.validated.schema i.validated.policies.policies env c.indexed-indexed.ensures.ready.candidates fits)
 
 pub returns-clause-others : goal.returns-clause-others
 returns-clause-others c =
-    let inside = c.self.inside in
+    let i = c.indexed-indexed.result.now in
     let q = c.args.request.now in
     let ks = c.positions.result.now in
-    subst (λ (r : ReadyTree). Fits r.schema q → OthersAreFalse r.policies.policies q r.world ks) c.self.view_is
-    (λ fits. others_are_false inside.validated.schema inside.validated.policies.policies inside.store q ks
+    let kept = c.indexed-indexed.ensures.ready in
+    subst (λ (r : ReadyTree). Fits r.schema q → OthersAreFalse r.policies.policies q r.world ks) c.indexed-indexed.ensures.view
+    (λ fits. others_are_false i.validated.schema i.validated.policies.policies c.args.self.now.world q ks
     (subst (λ (s : SchemaTree). AreTypesApart s) c.schema.ensures.value c.well_formedness.ensures.apart)
-    c.self.invariant.conforms fits c.candidates_are_enough.ensures.others
-    (λ env fits. c.positions.ensures inside.validated.schema inside.validated.policies.policies env c.self.invariant.candidates fits))
+    kept.conforms fits c.candidates_are_enough.ensures.others
+    (λ env fits. c.positions.ensures i.validated.schema i.validated.policies.policies env kept.candidates fits))
     c.requires

@@ -1,12 +1,12 @@
 use Rattle.std.proofs.Common.{ap, subst, ◌∙◌}
 use Rattle.cedar_schema_spec.specs.SchemaTree.{SchemaTree}
 use Rattle.cedar_schema_spec.specs.WellFormed.{AreContextsOrdered}
-use Rattle.cedar_auth_spec.specs.Ready.{ReadyTree}
+use Rattle.cedar_auth_spec.specs.Validation.{ValidatedTree}
 use Rattle.cedar_auth.proofs.Answerable.{answerable}
 use Rattle.cedar_auth.proofs.ready.Ready.lines_have_answers.Goals as goal
 
 pub returns : goal.returns
 returns c =
-    let schema = c.schema.ensures.value ∙ ap (λ (r : ReadyTree). r.schema) c.self.view_is in
+    let schema = c.schema.ensures.value ∙ ap (λ (v : ValidatedTree). v.schema) c.validated.ensures in
     answerable c.uid_or_none.ensures c.is_name_tells_names.ensures c.tests_of_schemas_decide.ensures.actions c.read_values_belong.ensures c.args.self.now
     (subst (λ (s : SchemaTree). AreContextsOrdered s) schema c.well_formedness.ensures.contexts)

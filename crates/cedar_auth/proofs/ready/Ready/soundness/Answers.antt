@@ -9,9 +9,9 @@ use Rattle.cedar_auth.proofs.ready.Ready.soundness.Goals as goal
 
 pub returns : goal.returns
 returns c =
-    let inside = c.self.inside in
-    subst (λ (r : ReadyTree). (q : Request) → Fits r.schema q → IsAnsweredSoundlyWith r.settings r.policies.policies q r.world) c.self.view_is
-    (λ q. c.engine_is_sound.ensures.sound_with inside.validated.settings inside.validated.schema inside.validated.policies.policies inside.store q
+    let i = c.indexed.result.now in
+    subst (λ (r : ReadyTree). (q : Request) → Fits r.schema q → IsAnsweredSoundlyWith r.settings r.policies.policies q r.world) c.indexed.ensures.view
+    (λ q. c.engine_is_sound.ensures.sound_with i.validated.settings i.validated.schema i.validated.policies.policies c.args.self.now.world q
     (subst (λ (s : SchemaTree). AreTypesApart s) c.schema.ensures.value c.well_formedness.ensures.apart)
     c.schema.ensures.accepted
-    c.self.invariant.conforms)
+    c.indexed.ensures.ready.conforms)

@@ -177,6 +177,30 @@ func (e *Engine) AnswerLine(line []byte) ([]byte, error) {
 	return text, err
 }
 
+// AppendAnswer appends the answer lines to request lines to a text, all of one version. It allocates only where the text lacks the room.
+// The text must not overlap the lines. With an error nothing is appended.
+func (e *Engine) AppendAnswer(text, lines []byte) ([]byte, error) {
+	v, h, err := e.take(context.Background())
+	if err != nil {
+		return text, err
+	}
+	text, err = h.appendAnswer(text, lines, 0)
+	v.give(h)
+	return text, err
+}
+
+// AppendAnswerLine appends the answer line to one request line to a text, without a line feed. It allocates only where the text lacks the
+// room. The text must not overlap the line. With an error nothing is appended.
+func (e *Engine) AppendAnswerLine(text, line []byte) ([]byte, error) {
+	v, h, err := e.take(context.Background())
+	if err != nil {
+		return text, err
+	}
+	text, err = h.appendAnswer(text, line, 1)
+	v.give(h)
+	return text, err
+}
+
 // Validate validates the policies of files, of which Entities is not read. The error is *Refusal where a file is refused, or ErrMemory.
 func Validate(files Files) (Report, error) {
 	isAccepted, text, err := validated(&files)

@@ -124,6 +124,34 @@ func TestLinesAtOnceAndOneByOne(t *testing.T) {
 	}
 }
 
+func TestAppending(t *testing.T) {
+	for _, it := range examples(t) {
+		engine := engineOf(t, it.files)
+		for _, room := range []int{0, 1, 1 << 16} {
+			text := append(make([]byte, 0, room+3), "abc"...)
+			text, err := engine.AppendAnswer(text, []byte(it.requests))
+			if err != nil || string(text) != "abc"+it.answers {
+				t.Error(err, room, string(text))
+			}
+		}
+		wanted, text := strings.Split(it.answers, "\n"), []byte{}
+		for at, line := range strings.Split(strings.TrimSuffix(it.requests, "\n"), "\n") {
+			var err error
+			if text, err = engine.AppendAnswerLine(text[:0], []byte(line)); err != nil || string(text) != wanted[at] {
+				t.Error(err, line, string(text))
+			}
+		}
+		line, room := []byte(strings.Split(it.requests, "\n")[0]), make([]byte, 0, 4096)
+		if count := testing.AllocsPerRun(100, func() { _, _ = engine.AppendAnswerLine(room, line) }); count >= 1 {
+			t.Error(count, "allocations")
+		}
+	}
+	engine := engineOf(t, exampleOf("notes").files)
+	if text, err := engine.AppendAnswer(nil, nil); err != nil || len(text) != 0 {
+		t.Error(err, string(text))
+	}
+}
+
 func TestByParts(t *testing.T) {
 	count := 0
 	for _, it := range examples(t) {
@@ -286,7 +314,9 @@ func TestClosing(t *testing.T) {
 	_, decided := engine.Decide(context.Background(), ask("ann", "write"))
 	_, answered := engine.Answer(nil)
 	_, line := engine.AnswerLine(nil)
-	for _, err := range []error{authorized, decided, answered, line, engine.Publish(it.files)} {
+	_, appended := engine.AppendAnswer(nil, nil)
+	_, appendedLine := engine.AppendAnswerLine(nil, nil)
+	for _, err := range []error{authorized, decided, answered, line, appended, appendedLine, engine.Publish(it.files)} {
 		if !errors.Is(err, ErrClosed) {
 			t.Error(err)
 		}

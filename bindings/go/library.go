@@ -57,6 +57,15 @@ static uint32_t decide(slot *it, int with_text, _GoString_ principal_type, _GoSt
         it->room = it->written;
     }
 }
+
+// Answers request lines, or one line, into a text of the caller.
+static uint32_t answer(slot *it, int is_line, _GoString_ lines, char *text, size_t room) {
+    void *to = room ? text : it->text;
+    if (is_line) {
+        return cedar_raw_answer_line(&it->engine, address(lines), _GoStringLen(lines), to, room, &it->written);
+    }
+    return cedar_raw_answer(&it->engine, address(lines), _GoStringLen(lines), to, room, &it->written);
+}
 */
 import "C"
 
@@ -148,6 +157,30 @@ func (h *handle) answerLine(line []byte) ([]byte, error) {
 	})
 	runtime.KeepAlive(h)
 	return done(status, text)
+}
+
+// appendAnswer appends the answers to request lines to a text, or the answer to one line.
+func (h *handle) appendAnswer(text, lines []byte, isLine C.int) ([]byte, error) {
+	read := *(*string)(unsafe.Pointer(&lines))
+	for {
+		free := text[len(text):cap(text)]
+		var at *C.char
+		if len(free) > 0 {
+			at = (*C.char)(unsafe.Pointer(&free[0]))
+		}
+		status := C.answer(h.slot, isLine, read, at, C.size_t(len(free)))
+		runtime.KeepAlive(h)
+		runtime.KeepAlive(lines)
+		written := int(h.slot.written)
+		switch status {
+		case C.CEDAR_OK:
+			return text[:len(text)+written], nil
+		case C.CEDAR_ROOM:
+			text = append(make([]byte, 0, len(text)+written), text...)
+		default:
+			return text, failed(status)
+		}
+	}
 }
 
 // address gives the address of bytes, which is not null, and their length.

@@ -419,3 +419,19 @@ func BenchmarkAuthorize(b *testing.B) {
 		}
 	})
 }
+
+// A hundred lines a call: the lines of examples/notes, over and over.
+func BenchmarkAppendAnswer(b *testing.B) {
+	it := exampleOf("notes")
+	engine, err := New(it.files)
+	if err != nil {
+		b.Fatal(err)
+	}
+	lines := []byte(strings.Join(strings.SplitAfterN(strings.Repeat(it.requests, 13), "\n", 101)[:100], ""))
+	b.RunParallel(func(it *testing.PB) {
+		text := make([]byte, 0, len(lines)+256)
+		for it.Next() {
+			_, _ = engine.AppendAnswer(text, lines)
+		}
+	})
+}

@@ -1,0 +1,98 @@
+package main
+
+// The agent: what all calls share.
+
+import (
+	"net/http"
+	"sync/atomic"
+	"time"
+)
+
+// agent answers the calls of both listeners. Any number of goroutines may use it.
+type agent struct {
+	store      store
+	reloader   *reloader
+	metrics    *metrics
+	log        *logger
+	decisions  *decisionLog
+	mapping    *mapping // nil where the path for ext_authz is off
+	limits     limits
+	validating chan struct{} // a place for each validation that runs
+	public     *connections
+	isStopping atomic.Bool
+}
+
+// newAgent reads the files, and publishes them as the first version.
+func newAgent(settings *config, log *logger) (*agent, error) {
+	it := &agent{metrics: newMetrics(), log: log, limits: settings.limits, validating: make(chan struct{}, settings.limits.validations)}
+	it.reloader = newReloader(it, settings)
+	var err error
+	if it.mapping, err = readMapping(settings.extAuthz); err != nil {
+		return nil, err
+	}
+	if err := it.reloader.start(); err != nil {
+		return nil, err
+	}
+	if it.decisions, err = openDecisionLog(settings.decisionLog); err != nil {
+		return nil, err
+	}
+	return it, nil
+}
+
+// published counts and logs a version.
+func (a *agent) published(v *version, took time.Duration) {
+	a.metrics.published.Add(1)
+	a.log.event("info", "published", number("version", v.number), text("digest", v.digest), text("source", v.source),
+		seconds("seconds", took))
+}
+
+// close writes what logs still have. The engine is freed with the process.
+func (a *agent) close() {
+	a.decisions.close()
+	a.log.flush()
+}
+
+// count counts the answer lines of a request, and logs them where that is wanted.
+func (a *agent) count(v *version, request, answers []byte, isOne bool) {
+	a.decisions.add(v, request, answers, isOne)
+	var found tally
+	for len(answers) > 0 {
+		line := nextLine(answers)
+		answers = answers[len(line):]
+		if line[len(line)-1] == '\n' {
+			line = line[:len(line)-1]
+		}
+		what, number := outcomeOf(line)
+		if what == refused && !found.refuse(number) {
+			a.countRefused(v, number, 1)
+		}
+		found.outcomes[what]++
+		for _, failed := range failedPolicies(line, what) {
+			a.metrics.erred(failed)
+			a.log.repeat(repeat{event: "erring", name: failed.Policy, why: failed.Error, version: v.number}, 1)
+		}
+	}
+	addSome(&a.metrics.allowed, found.outcomes[allowed])
+	addSome(&a.metrics.denied, found.outcomes[denied])
+	for _, it := range found.refused[:found.numbers] {
+		a.countRefused(v, it.number, it.count)
+	}
+}
+
+// countRefused counts refused requests of a number.
+func (a *agent) countRefused(v *version, number int, count uint64) {
+	a.metrics.refusals[number].Add(count)
+	a.log.repeat(repeat{event: "refused", name: decimal(number), version: v.number}, count)
+}
+
+// addSome adds to a counter that many threads share only where there is something to add.
+func addSome(to *atomic.Uint64, count uint64) {
+	if count > 0 {
+		to.Add(count)
+	}
+}
+
+// versionHeader says which version answered.
+func versionHeader(w http.ResponseWriter, v *version) {
+	w.Header()["Cedar-Version"] = v.header
+}

@@ -1,0 +1,83 @@
+package main
+
+// POST /v1/authorize: one request, or request lines.
+
+import (
+	"mime"
+	"net/http"
+	"time"
+)
+
+// authorize answers a request of the type application/json, or request lines of the type application/x-ndjson.
+func (a *agent) authorize(w http.ResponseWriter, r *http.Request) {
+	began := time.Now()
+	switch mediaType(r) {
+	case "application/json", "application/x-www-form-urlencoded", "":
+		a.authorizeOne(w, r)
+		a.metrics.took(callOne, began)
+	case "application/x-ndjson":
+		defer a.metrics.took(callLines, began)
+		a.authorizeLines(w, r)
+	default:
+		a.fail(w, http.StatusUnsupportedMediaType, "media_type", "the type is application/json, or application/x-ndjson for request lines")
+	}
+}
+
+// mediaType gives the type of the body, without parameters.
+func mediaType(r *http.Request) string {
+	values := r.Header["Content-Type"]
+	if len(values) != 1 {
+		if len(values) == 0 {
+			return ""
+		}
+		return "several"
+	}
+	if values[0] == jsonType[0] || values[0] == linesType[0] {
+		return values[0]
+	}
+	name, _, err := mime.ParseMediaType(values[0])
+	if err != nil {
+		return "unknown"
+	}
+	return name
+}
+
+// authorizeOne answers the request that the body is. A refused request has the status 400.
+func (a *agent) authorizeOne(w http.ResponseWriter, r *http.Request) {
+	it := takeRoom()
+	defer it.give()
+	var err error
+	if it.body, err = readWhole(it.body, r, a.limits.line); err != nil {
+		a.failBody(w, err, a.limits.line)
+		return
+	}
+	a.answerOne(w, it, http.StatusOK)
+}
+
+// answerOne writes the answer to the request of a room: 200 for an allow, the given status for a deny, and 400 for a refusal.
+func (a *agent) answerOne(w http.ResponseWriter, it *room, deny int) {
+	answer, v, err := a.store.ask(oneRequest, it.answer, it.body)
+	it.answer = answer
+	if err != nil {
+		a.failEngine(w, err)
+		return
+	}
+	a.count(v, it.body, it.answer, true)
+	status := 0
+	switch what, _ := outcomeOf(it.answer); what {
+	case allowed:
+		status = http.StatusOK
+	case denied:
+		status = deny
+	case refused:
+		status = http.StatusBadRequest
+	default:
+		a.fail(w, http.StatusInternalServerError, "answer", "the answer has another form than those that are known")
+		return
+	}
+	it.answer = append(it.answer, '\n')
+	versionHeader(w, v)
+	w.Header()["Content-Type"] = jsonType
+	w.WriteHeader(status)
+	_, _ = w.Write(it.answer)
+}

@@ -1,0 +1,151 @@
+package main
+
+// The command line: its flags, their defaults, and what is wrong with them.
+
+import (
+	"bytes"
+	"errors"
+	"flag"
+	"fmt"
+	"io"
+	"strings"
+	"time"
+
+	"bobbinjade"
+)
+
+// config is what the command line says.
+type config struct {
+	paths       paths
+	anyDecimal  bool
+	listen      string
+	admin       string
+	extAuthz    string
+	decisionLog string
+	reloadEvery time.Duration
+	drain       time.Duration
+	shutdown    time.Duration
+	limits      limits
+	isVersion   bool
+}
+
+// paths are the files of an engine. That of the links is empty where there is none.
+type paths struct {
+	schema, policies, links, entities string
+}
+
+// list gives each file with its path, in the order in which the engine reads them.
+func (p *paths) list() []namedPath {
+	all := []namedPath{{bobbinjade.Schema, p.schema}, {bobbinjade.Policies, p.policies}}
+	if p.links != "" {
+		all = append(all, namedPath{bobbinjade.Links, p.links})
+	}
+	return append(all, namedPath{bobbinjade.Entities, p.entities})
+}
+
+// namedPath is a file of an engine and where it is.
+type namedPath struct {
+	file bobbinjade.File
+	path string
+}
+
+// parseConfig reads the command line. The error is flag.ErrHelp where help is wanted.
+func parseConfig(words []string) (*config, error) {
+	settings := &config{}
+	flags := flagsOf(settings)
+	flags.SetOutput(io.Discard)
+	if err := flags.Parse(words); err != nil {
+		return nil, err
+	}
+	if flags.NArg() > 0 {
+		return nil, fmt.Errorf("unexpected word %q: each setting is a flag", flags.Arg(0))
+	}
+	if settings.isVersion {
+		return settings, nil
+	}
+	return settings, settings.check()
+}
+
+// flagsOf declares the flags.
+func flagsOf(settings *config) *flag.FlagSet {
+	flags := flag.NewFlagSet("cedar-agent", flag.ContinueOnError)
+	flags.Usage = func() {}
+	flags.StringVar(&settings.paths.schema, "schema", "", "the schema `FILE`: JSON of the format that the Cedar language defines")
+	flags.StringVar(&settings.paths.policies, "policies", "", "the policies `FILE`: a text of the Cedar language")
+	flags.StringVar(&settings.paths.links, "links", "", "the links `FILE`, if templates are used")
+	flags.StringVar(&settings.paths.entities, "entities", "", "the entities `FILE`: JSON")
+	flags.BoolVar(&settings.anyDecimal, "any-decimal", false, "accept decimal(..) of any string, which may then fail at a request")
+	flags.StringVar(&settings.listen, "listen", "127.0.0.1:8180", "the `ADDRESS` for requests: HOST:PORT, or unix:PATH")
+	flags.StringVar(&settings.admin, "admin", "", "the `ADDRESS` for calls that publish; without it there are none")
+	flags.StringVar(&settings.extAuthz, "ext-authz", "", "the mapping `FILE` for Envoy's ext_authz; without it the path is off")
+	flags.StringVar(&settings.decisionLog, "decision-log", "", "append each request and its answer to this `FILE`; without it none is logged")
+	flags.DurationVar(&settings.reloadEvery, "reload", time.Second, "look for changed files so often; 0 is only at SIGHUP")
+	flags.DurationVar(&settings.drain, "drain", 0, "at the end answer for so long with /readyz at 503, before listening ends")
+	flags.DurationVar(&settings.shutdown, "shutdown", 10*time.Second, "wait so long for running requests at the end")
+	settings.limits.declare(flags)
+	flags.BoolVar(&settings.isVersion, "version", false, "print the version of the engine, and end")
+	return flags
+}
+
+// check finds what is wrong with the flags together.
+func (c *config) check() error {
+	missing := []string{}
+	for _, it := range c.paths.list() {
+		if it.path == "" {
+			missing = append(missing, "--"+it.file.String())
+		}
+	}
+	if len(missing) > 0 {
+		return errors.New("missing " + strings.Join(missing, ", "))
+	}
+	for name, address := range map[string]string{"--listen": c.listen, "--admin": c.admin} {
+		if name == "--admin" && address == "" {
+			continue
+		}
+		if err := checkAddress(address); err != nil {
+			return fmt.Errorf("%s: %w", name, err)
+		}
+	}
+	if c.admin == c.listen {
+		return errors.New("--admin and --listen are one address: calls that publish need a listener of their own")
+	}
+	if c.reloadEvery < 0 || c.drain < 0 || c.shutdown < 0 {
+		return errors.New("--reload, --drain and --shutdown are not negative")
+	}
+	return c.limits.check()
+}
+
+// usage is the help.
+func usage() string {
+	var text bytes.Buffer
+	text.WriteString(`Answers authorization requests over HTTP, as cedar authorize answers lines
+
+Usage: cedar-agent --schema FILE --policies FILE [--links FILE] --entities FILE [FLAGS]
+
+Flags:
+`)
+	flagsOf(&config{}).VisitAll(func(it *flag.Flag) {
+		name, words := flag.UnquoteUsage(it)
+		if it.DefValue != "" && it.DefValue != "false" {
+			words += " [default: " + it.DefValue + "]"
+		}
+		fmt.Fprintf(&text, "  %-30s %s\n", strings.TrimSpace("--"+it.Name+" "+name), words)
+	})
+	text.WriteString(`
+Example:
+  cedar-agent --schema schema.json --policies policies.cedar --entities entities.json &
+  curl --data '{"principal":"User::\"ann\"","action":"Action::\"write\"","resource":"Notebook::\"plans\""}' \
+      http://127.0.0.1:8180/v1/authorize
+
+Signals:
+  SIGHUP   read all files anew, and open the decision log anew
+  SIGTERM  end when the running requests are answered, as SIGINT does; a second one ends --drain, or else cuts requests off
+
+Statuses:
+  0  ended by a signal, and each request was answered
+  1  a file cannot be read, an address cannot be listened at, or requests were cut off at the end
+  2  the command line or the mapping of --ext-authz is wrong
+  3  a file is refused, or the policies have faults; standard error says why
+`)
+	return text.String()
+}

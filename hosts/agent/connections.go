@@ -1,0 +1,129 @@
+package main
+
+// Connections: at most so many are open. Where all are taken, the one that has made no progress for longest is closed for a new one. So
+// clients that open connections and do nothing, or next to nothing, keep nobody out.
+
+import (
+	"net"
+	"sync"
+	"sync/atomic"
+	"time"
+)
+
+// The answer to a connection for which there is no place.
+const noPlace = "HTTP/1.1 503 Service Unavailable\r\nContent-Type: application/json\r\nContent-Length: 34\r\nRetry-After: 1\r\n" +
+	"Connection: close\r\n\r\n{\"error\":\"too many connections\"}\r\n"
+
+// connections is a listener that counts the connections that it accepts.
+type connections struct {
+	net.Listener
+	limit      int
+	turnedAway *atomic.Uint64
+	lock       sync.Mutex
+	stalled    time.Duration // without progress for so long, a connection may be closed for a new one
+	open       map[*connection]struct{}
+}
+
+// connection is an open connection, with the time of its last progress in nanoseconds.
+type connection struct {
+	net.Conn
+	of       *connections
+	progress atomic.Int64
+}
+
+func limited(listener net.Listener, limit int, turnedAway *atomic.Uint64) *connections {
+	return &connections{Listener: listener, limit: limit, turnedAway: turnedAway, stalled: stalledAfter, open: map[*connection]struct{}{}}
+}
+
+// Accept gives the next connection for which there is a place.
+func (c *connections) Accept() (net.Conn, error) {
+	for {
+		accepted, err := c.Listener.Accept()
+		if err != nil {
+			return nil, err
+		}
+		it := &connection{Conn: accepted, of: c}
+		it.progress.Store(time.Now().UnixNano())
+		if c.enter(it) {
+			return it, nil
+		}
+		c.turnedAway.Add(1)
+		_ = accepted.SetWriteDeadline(time.Now().Add(10 * time.Millisecond))
+		_, _ = accepted.Write([]byte(noPlace))
+		_ = accepted.Close()
+	}
+}
+
+// enter finds a place for a connection. It is false where there is none.
+func (c *connections) enter(it *connection) bool {
+	c.lock.Lock()
+	var stalled *connection
+	if len(c.open) >= c.limit {
+		stalled = c.longestStalled()
+		if stalled == nil {
+			c.lock.Unlock()
+			return false
+		}
+		delete(c.open, stalled)
+	}
+	c.open[it] = struct{}{}
+	c.lock.Unlock()
+	if stalled != nil {
+		c.turnedAway.Add(1)
+		_ = stalled.Conn.Close()
+	}
+	return true
+}
+
+// longestStalled gives the connection without progress for longest, where that is long enough. The lock is held.
+func (c *connections) longestStalled() *connection {
+	var found *connection
+	least := time.Now().Add(-c.stalled).UnixNano()
+	for it := range c.open {
+		if at := it.progress.Load(); at < least {
+			found, least = it, at
+		}
+	}
+	return found
+}
+
+// count gives the number of open connections.
+func (c *connections) count() int {
+	c.lock.Lock()
+	defer c.lock.Unlock()
+	return len(c.open)
+}
+
+// Read reads, which is progress where something has arrived.
+func (c *connection) Read(to []byte) (int, error) {
+	count, err := c.Conn.Read(to)
+	if count > 0 {
+		c.progress.Store(time.Now().UnixNano())
+	}
+	return count, err
+}
+
+// Write writes, which is progress when it ends.
+func (c *connection) Write(from []byte) (int, error) {
+	count, err := c.Conn.Write(from)
+	if count > 0 {
+		c.progress.Store(time.Now().UnixNano())
+	}
+	return count, err
+}
+
+// CloseWrite ends the answer, so that a client that still sends reads it before it sees the end.
+func (c *connection) CloseWrite() error {
+	if it, isOne := c.Conn.(interface{ CloseWrite() error }); isOne {
+		return it.CloseWrite()
+	}
+	return nil
+}
+
+// Close closes the connection, and gives its place to another.
+func (c *connection) Close() error {
+	c.of.lock.Lock()
+	delete(c.of.open, c)
+	c.of.lock.Unlock()
+	return c.Conn.Close()
+}

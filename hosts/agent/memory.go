@@ -1,0 +1,30 @@
+package main
+
+// The memory of the engine, which is that of the C library: no other part of the process allocates there more than a little.
+
+/*
+#include <malloc.h>
+#include <stddef.h>
+
+#if defined(__GLIBC__) && defined(__GLIBC_PREREQ)
+#if __GLIBC_PREREQ(2, 33)
+#define HAS_COUNT 1
+#endif
+#endif
+
+// The bytes that malloc has given and that are not freed, or 0 where the C library does not count them.
+static size_t allocated(void) {
+#ifdef HAS_COUNT
+    struct mallinfo2 counts = mallinfo2();
+    return counts.uordblks + counts.hblkhd;
+#else
+    return 0;
+#endif
+}
+*/
+import "C"
+
+// engineBytes gives the bytes that the engine has allocated, of all versions that requests still use.
+func engineBytes() uint64 {
+	return uint64(C.allocated())
+}

@@ -1,0 +1,143 @@
+package main
+
+// PUT /v1/policies and the like, on the listener of --admin: a new version of one file, or of several at once.
+
+import (
+	"encoding/json"
+	"errors"
+	"net/http"
+	"strings"
+	"time"
+
+	"bobbinjade"
+)
+
+// Several files at once: an object with the keys schema, policies, links and entities. This is not a file of the binding.
+const severalFiles bobbinjade.File = 0
+
+// publishedPaths are the paths of calls that publish, with the file that the body is.
+var publishedPaths = map[string]bobbinjade.File{
+	"/v1/schema": bobbinjade.Schema, "/v1/policies": bobbinjade.Policies, "/v1/links": bobbinjade.Links,
+	"/v1/entities": bobbinjade.Entities, "/v1/files": severalFiles,
+}
+
+// errObject says that several files at once have another form.
+var errObject = errors.New("the body is an object with some of the keys schema, policies (a string), links and entities")
+
+// sentFiles are several files at once. Those that are left out stay.
+type sentFiles struct {
+	Schema   json.RawMessage `json:"schema"`
+	Policies *string         `json:"policies"`
+	Links    json.RawMessage `json:"links"`
+	Entities json.RawMessage `json:"entities"`
+}
+
+// publish publishes a version with the file that the body is. The answer describes the version, or says why nothing has changed.
+func (a *agent) publish(w http.ResponseWriter, r *http.Request, file bobbinjade.File) {
+	began := time.Now()
+	body, err := readWhole(nil, r, a.limits.files)
+	if err != nil {
+		a.failBody(w, err, a.limits.files)
+		return
+	}
+	v, err := a.store.publish("put", func(files *bobbinjade.Files) error {
+		if file == severalFiles {
+			return replaceSeveral(files, body)
+		}
+		*contentOf(files, file) = body
+		return nil
+	})
+	if errors.Is(err, errObject) {
+		a.fail(w, http.StatusBadRequest, "object", errObject.Error())
+		return
+	}
+	if err != nil {
+		a.metrics.publishRefused.Add(1)
+		a.log.event("warning", "publish_refused", failureFields(failureOf(err))...)
+		a.failPublish(w, r, err)
+		return
+	}
+	a.published(v, time.Since(began))
+	versionHeader(w, v)
+	writeJSON(w, http.StatusOK, describe(v))
+}
+
+// replaceSeveral replaces the files that an object has.
+func replaceSeveral(files *bobbinjade.Files, body []byte) error {
+	var sent *sentFiles
+	decoder := json.NewDecoder(strings.NewReader(string(body)))
+	decoder.DisallowUnknownFields()
+	if decoder.Decode(&sent) != nil || sent == nil || decoder.More() {
+		return errObject
+	}
+	if sent.Schema != nil {
+		files.Schema = sent.Schema
+	}
+	if sent.Policies != nil {
+		files.Policies = []byte(*sent.Policies)
+	}
+	if sent.Links != nil {
+		files.Links = sent.Links
+	}
+	if sent.Entities != nil {
+		files.Entities = sent.Entities
+	}
+	return nil
+}
+
+// failure is why files were not published.
+type failure struct {
+	Error   string `json:"error"`
+	File    string `json:"file,omitempty"`
+	Refused uint32 `json:"refused,omitempty"` // a number of docs/REFUSALS.md
+	Offset  *int64 `json:"offset,omitempty"`  // in bytes from 0
+	Line    int64  `json:"line,omitempty"`    // from 1
+	Report  string `json:"report,omitempty"`  // of faults, as `cedar validate` prints it
+	Words   string `json:"words,omitempty"`   // the explanation for people
+}
+
+// failureOf describes an error of publishing.
+func failureOf(err error) failure {
+	var refusal *bobbinjade.Refusal
+	var faults *bobbinjade.Faults
+	switch {
+	case errors.As(err, &refusal):
+		it := failure{Error: "a file is refused", File: refusal.File.String(), Refused: refusal.Number, Line: refusal.Line, Words: refusal.Words}
+		if refusal.Offset >= 0 {
+			it.Offset = &refusal.Offset
+		}
+		return it
+	case errors.As(err, &faults):
+		return failure{Error: "the policies have faults", File: bobbinjade.Policies.String(), Report: faults.Report, Words: faults.Words}
+	}
+	return failure{Error: err.Error()}
+}
+
+// failureFields gives what is logged of a failure.
+func failureFields(it failure) []field {
+	fields := []field{text("error", it.Error)}
+	if it.File != "" {
+		fields = append(fields, text("file", it.File))
+	}
+	if it.Refused != 0 {
+		fields = append(fields, number("refused", uint64(it.Refused)))
+	}
+	return append(fields, text("words", it.Words))
+}
+
+// failPublish answers for files that are refused or have faults, or for a call that failed.
+func (a *agent) failPublish(w http.ResponseWriter, r *http.Request, err error) {
+	it := failureOf(err)
+	if it.Words == "" {
+		a.failEngine(w, err)
+		return
+	}
+	a.metrics.failed("files_refused")
+	if wantsWords(r) {
+		w.Header()["Content-Type"] = plainType
+		w.WriteHeader(http.StatusUnprocessableEntity)
+		_, _ = w.Write([]byte(it.Words))
+		return
+	}
+	writeJSON(w, http.StatusUnprocessableEntity, it)
+}

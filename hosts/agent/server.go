@@ -1,0 +1,183 @@
+package main
+
+// Servers: the listener for requests, and that for calls that publish where one is wanted.
+
+import (
+	"context"
+	"log"
+	"net"
+	"net/http"
+	"strings"
+	"time"
+)
+
+// servers are the listeners of a process.
+type servers struct {
+	agent    *agent
+	drain    time.Duration
+	shutdown time.Duration
+	running  []running
+}
+
+// running is a server with its listener.
+type running struct {
+	name     string
+	server   *http.Server
+	listener net.Listener
+}
+
+// listenAll listens at the addresses of the command line.
+func listenAll(it *agent, settings *config) (*servers, error) {
+	all := &servers{agent: it, drain: settings.drain, shutdown: settings.shutdown}
+	listener, err := listen(settings.listen, false)
+	if err != nil {
+		return nil, err
+	}
+	it.public = limited(listener, settings.limits.connections, &it.metrics.turnedAway)
+	all.add("requests", it.public, http.HandlerFunc(it.servePublic), settings.limits.time, settings.limits.idle)
+	if settings.admin == "" {
+		return all, nil
+	}
+	if listener, err = listen(settings.admin, true); err != nil {
+		_ = it.public.Close()
+		return nil, err
+	}
+	admin := limited(listener, adminConnections, &it.metrics.turnedAway)
+	all.add("admin", admin, http.HandlerFunc(it.serveAdmin), settings.limits.adminTime, settings.limits.idle)
+	return all, nil
+}
+
+// add adds a server.
+func (s *servers) add(name string, listener net.Listener, handler http.Handler, most, idle time.Duration) {
+	server := &http.Server{
+		Handler: handler, ReadHeaderTimeout: headerTime, ReadTimeout: most, WriteTimeout: most, IdleTimeout: idle,
+		MaxHeaderBytes: headerSize, ErrorLog: log.New(s.agent.log, "", 0),
+	}
+	s.running = append(s.running, running{name, server, listener})
+}
+
+// serve serves until something ends it. It is false where requests were cut off, or a listener failed.
+func (s *servers) serve(hangups, ends <-chan struct{}) bool {
+	failed := make(chan error, len(s.running))
+	for _, it := range s.running {
+		it := it
+		s.agent.log.event("info", "listening", text("name", it.name), text("address", it.listener.Addr().String()))
+		go func() { failed <- it.server.Serve(it.listener) }()
+	}
+	stopped := make(chan struct{})
+	go s.agent.reloader.run(hangups, stopped)
+	go s.agent.writeLogs(stopped)
+	isClean := true
+	select {
+	case <-ends:
+	case err := <-failed:
+		s.agent.log.event("error", "listener", text("error", err.Error()))
+		isClean = false
+	}
+	close(stopped)
+	return s.stop(ends) && isClean
+}
+
+// stop answers requests until they are drained, then the running ones, and takes no others. A second signal ends the draining, and the next
+// one or the end of the time cuts requests off.
+func (s *servers) stop(ends <-chan struct{}) bool {
+	s.agent.isStopping.Store(true)
+	s.agent.log.event("info", "stopping")
+	if s.drain > 0 {
+		select {
+		case <-ends:
+		case <-time.After(s.drain):
+		}
+	}
+	limit, cancel := context.WithTimeout(context.Background(), s.shutdown)
+	defer cancel()
+	go func() {
+		select {
+		case <-ends:
+			cancel()
+		case <-limit.Done():
+		}
+	}()
+	isClean := true
+	for _, it := range s.running {
+		if err := it.server.Shutdown(limit); err != nil {
+			isClean = false
+			_ = it.server.Close()
+		}
+	}
+	if !isClean {
+		s.agent.log.event("warning", "cut_off")
+	}
+	return isClean
+}
+
+// writeLogs writes what logs have collected: decisions ten times a second, and what was counted once a second.
+func (a *agent) writeLogs(stopped <-chan struct{}) {
+	counted := time.NewTicker(time.Second)
+	defer counted.Stop()
+	decisions := time.NewTicker(100 * time.Millisecond)
+	defer decisions.Stop()
+	for {
+		select {
+		case <-stopped:
+			return
+		case <-decisions.C:
+			a.decisions.flush()
+		case <-counted.C:
+			a.log.flush()
+		}
+	}
+}
+
+// servePublic answers a call of the listener for requests.
+func (a *agent) servePublic(w http.ResponseWriter, r *http.Request) {
+	switch path := r.URL.Path; {
+	case path == "/v1/authorize":
+		if r.Method != http.MethodPost {
+			a.failMethod(w, http.MethodPost)
+			return
+		}
+		a.authorize(w, r)
+	case path == "/v1/validate" && a.limits.validations > 0:
+		if r.Method != http.MethodPost {
+			a.failMethod(w, http.MethodPost)
+			return
+		}
+		a.validate(w, r)
+	case a.mapping != nil && (path == extAuthzPath || strings.HasPrefix(path, extAuthzPath+"/")):
+		a.extAuthz(w, r)
+	default:
+		a.serveState(w, r)
+	}
+}
+
+// serveAdmin answers a call of the listener for calls that publish.
+func (a *agent) serveAdmin(w http.ResponseWriter, r *http.Request) {
+	file, isOne := publishedPaths[r.URL.Path]
+	switch {
+	case !isOne:
+		a.serveState(w, r)
+	case r.Method != http.MethodPut:
+		a.failMethod(w, http.MethodPut)
+	case len(r.Header["Origin"]) > 0:
+		a.fail(w, http.StatusForbidden, "browser", "a page in a browser cannot publish")
+	default:
+		a.publish(w, r, file)
+	}
+}
+
+// serveState answers a call that says how the agent is, which both listeners have.
+func (a *agent) serveState(w http.ResponseWriter, r *http.Request) {
+	calls := map[string]func(http.ResponseWriter){
+		"/healthz": a.healthz, "/readyz": a.readyz, "/metrics": a.writeMetrics, "/v1/version": a.writeVersion,
+	}
+	call, isOne := calls[r.URL.Path]
+	switch {
+	case !isOne:
+		a.fail(w, http.StatusNotFound, "path", "there is no such path here")
+	case r.Method != http.MethodGet && r.Method != http.MethodHead:
+		a.failMethod(w, "GET, HEAD")
+	default:
+		call(w)
+	}
+}

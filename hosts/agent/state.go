@@ -1,0 +1,83 @@
+package main
+
+// How the agent is: /healthz, /readyz, /metrics and /v1/version.
+
+import (
+	"bufio"
+	"encoding/json"
+	"net/http"
+	"time"
+
+	"bobbinjade"
+)
+
+// healthz says that the process runs.
+func (a *agent) healthz(w http.ResponseWriter) {
+	writeJSON(w, http.StatusOK, map[string]bool{"healthy": true})
+}
+
+// readiness is what /readyz says.
+type readiness struct {
+	Ready   bool          `json:"ready"`
+	Version uint64        `json:"version"`
+	Digest  string        `json:"digest"`
+	Reload  *failedReload `json:"reload,omitempty"` // why files that changed were not published
+}
+
+// readyz says whether requests are answered. It stays 200 where changed files were refused, since requests are answered according to the
+// version before, and a load balancer that takes all replicas out would make an outage of a typing error.
+func (a *agent) readyz(w http.ResponseWriter) {
+	v := a.store.current.Load()
+	it := readiness{Ready: !a.isStopping.Load(), Version: v.number, Digest: v.digest, Reload: a.reloader.failure.Load()}
+	status := http.StatusOK
+	if !it.Ready {
+		status = http.StatusServiceUnavailable
+	}
+	writeJSON(w, status, it)
+}
+
+// writeMetrics writes the metrics.
+func (a *agent) writeMetrics(w http.ResponseWriter) {
+	w.Header()["Content-Type"] = []string{"text/plain; version=0.0.4; charset=utf-8"}
+	buffer := bufio.NewWriter(w)
+	a.metrics.write(buffer, a.store.current.Load(), a.public.count(), a.decisions.failures())
+	_ = buffer.Flush()
+}
+
+// currentVersion is what /v1/version says, and what a call that publishes answers.
+type currentVersion struct {
+	Version    uint64            `json:"version"`
+	Digest     string            `json:"digest"`
+	Digests    map[string]string `json:"digests"`
+	AnyDecimal bool              `json:"any_decimal"`
+	Source     string            `json:"source"`
+	Published  time.Time         `json:"published"`
+	Engine     string            `json:"engine"`
+}
+
+// describe describes a version.
+func describe(v *version) currentVersion {
+	engine, _ := bobbinjade.Version()
+	digests := map[string]string{}
+	for file, digest := range v.digests {
+		digests[file.String()] = digest
+	}
+	return currentVersion{Version: v.number, Digest: v.digest, Digests: digests, AnyDecimal: v.files.AnyDecimal, Source: v.source,
+		Published: v.published, Engine: engine}
+}
+
+// writeVersion says which version is current.
+func (a *agent) writeVersion(w http.ResponseWriter) {
+	v := a.store.current.Load()
+	versionHeader(w, v)
+	writeJSON(w, http.StatusOK, describe(v))
+}
+
+// writeJSON writes a value as a line.
+func writeJSON(w http.ResponseWriter, status int, value any) {
+	w.Header()["Content-Type"] = jsonType
+	w.WriteHeader(status)
+	encoder := json.NewEncoder(w)
+	encoder.SetEscapeHTML(false)
+	_ = encoder.Encode(value)
+}

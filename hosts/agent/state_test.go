@@ -1,0 +1,122 @@
+package main
+
+import (
+	"fmt"
+	"strconv"
+	"strings"
+	"testing"
+)
+
+func TestState(t *testing.T) {
+	it := serveExample(t, "notes")
+	if got := it.get("/healthz"); got.status != 200 || got.body != `{"healthy":true}`+"\n" {
+		t.Error(got)
+	}
+	ready := decoded[readiness](t, it.get("/readyz").body)
+	if !ready.Ready || ready.Version != 1 || ready.Reload != nil {
+		t.Error(ready)
+	}
+	for _, path := range []string{"/healthz", "/readyz", "/metrics", "/v1/version"} {
+		for _, address := range []string{it.address, it.admin} {
+			if got := it.call("GET", path, "", "", address); got.status != 200 {
+				t.Error(path, got)
+			}
+			if got := it.call("HEAD", path, "", "", address); got.status != 200 || got.body != "" {
+				t.Error(path, got)
+			}
+			if got := it.call("POST", path, "", "", address); got.status != 405 || got.header.Get("Allow") != "GET, HEAD" {
+				t.Error(path, got)
+			}
+		}
+	}
+	for _, path := range []string{"/v1/authorize", "/v1/validate"} {
+		if got := it.get(path); got.status != 405 || got.header.Get("Allow") != "POST" {
+			t.Error(path, got)
+		}
+	}
+}
+
+func TestMetricsCount(t *testing.T) {
+	it := serveExample(t, "notes")
+	if got := it.askLines(content(t, "notes", "requests.jsonl")); got.status != 200 {
+		t.Fatal(got)
+	}
+	it.ask(line("ann", "write"))
+	it.ask("{")
+	it.call("POST", "/v1/authorize", "text/plain", "")
+	// examples/notes/answers.jsonl has two allows, four denies and two refusals.
+	for name, wanted := range map[string]string{`decisions_total{decision="allow"}`: "3", `decisions_total{decision="deny"}`: "4",
+		`refusals_total{number="502"}`: "1", `refusals_total{number="510"}`: "1", `refusals_total{number="501"}`: "1",
+		`failures_total{reason="media_type"}`: "1", `request_seconds_count{call="authorize"}`: "2",
+		`request_seconds_count{call="authorize_lines"}`: "1", `request_seconds_bucket{call="authorize",le="+Inf"}`: "2",
+		"version": "1", `publications_total{result="published"}`: "1", "connections_turned_away_total": "0"} {
+		if got := it.metric(name); got != wanted {
+			t.Error(name, got)
+		}
+	}
+	if got := it.metric(fmt.Sprintf("version_info{digest=%q}", it.store.current.Load().digest)); got != "1" {
+		t.Error(got)
+	}
+	if bytes, err := strconv.Atoi(it.metric("engine_bytes")); err != nil || bytes < 10_000 {
+		t.Error(bytes, err)
+	}
+}
+
+// Refusals with more numbers than a tally has places for are counted, too. The numbers are those of docs/DATA.md.
+func TestManyNumbersOfRefusals(t *testing.T) {
+	it := serveExample(t, "notes")
+	read := line("ann", "read")
+	lines := map[string]string{"501": "{", "502": "{}", "510": line("ann", "print"), "503": strings.Replace(read, "User", "Ghost", 1),
+		"506": strings.Replace(read, "{", `{"context":{"n":1},`, 1), "511": strings.Replace(read, "Notebook", "User", 1)}
+	body := ""
+	for at := 0; at < 3; at++ {
+		for _, text := range lines {
+			body += text + "\n"
+		}
+	}
+	if got := it.askLines(body); got.status != 200 {
+		t.Fatal(got)
+	}
+	for number := range lines {
+		if got := it.metric(`refusals_total{number="` + number + `"}`); got != "3" {
+			t.Error(number, got)
+		}
+	}
+}
+
+// Each line is a comment, or a name with a number, as the text format of Prometheus wants it.
+func TestMetricsFormat(t *testing.T) {
+	it := serveExample(t, "notes")
+	it.metrics.erred(failedPolicy{"a\n\"\\", "overflow"})
+	declared := map[string]bool{}
+	for _, line := range strings.Split(strings.TrimSuffix(it.get("/metrics").body, "\n"), "\n") {
+		if words := strings.Fields(line); strings.HasPrefix(line, "# ") {
+			declared[words[2]] = true
+			continue
+		}
+		name, value, isCut := strings.Cut(line, " ")
+		if at := strings.LastIndex(line, "} "); at >= 0 {
+			name, value = line[:at+1], line[at+2:]
+		}
+		plain := strings.Split(name, "{")[0]
+		for _, end := range []string{"_bucket", "_sum", "_count"} {
+			plain = strings.TrimSuffix(plain, end)
+		}
+		if _, err := strconv.ParseFloat(value, 64); err != nil || !isCut || !declared[plain] {
+			t.Errorf("%q", line)
+		}
+	}
+	if got := it.metric(`erring_total{policy="a\n\"\\",error="overflow"}`); got != "1" {
+		t.Error(got)
+	}
+}
+
+func TestPoliciesThatAreCountedTogether(t *testing.T) {
+	m := newMetrics()
+	for at := 0; at < countedPolicies+5; at++ {
+		m.erred(failedPolicy{fmt.Sprint(at), "overflow"})
+	}
+	if len(m.erring) != countedPolicies+1 || m.erring[failedPolicy{"(others)", "overflow"}] != 5 {
+		t.Error(len(m.erring))
+	}
+}

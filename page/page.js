@@ -1,0 +1,173 @@
+// The page: it gives the texts to the worker at each change, and shows what comes back.
+
+const inside = id => document.getElementById(id).textContent;
+
+const NEEDS = 'It needs WebAssembly with a 64-bit memory, which Chromium 133, Firefox 134 and later have.';
+
+class Page {
+  constructor() {
+    this.examples = JSON.parse(inside('examples'));
+    this.numbers = JSON.parse(inside('numbers'));
+    this.editors = Object.fromEntries(TEXT_NAMES.map(name => [name, new Editor(name)]));
+    this.view = new View(this.numbers, () => this.texts(), place => this.show(place));
+    this.status = new Status();
+    this.anyDecimal = document.getElementById('any-decimal');
+    this.example = document.getElementById('example');
+    // The number of the last work that was begun; whether it goes on; and whether a text has changed since.
+    this.number = 0;
+    this.isBusy = true;
+    this.isWaiting = false;
+    // What the worker has said of the files that it has, and what is shown.
+    this.judged = {};
+    this.last = null;
+  }
+
+  // Starts the worker, and shows the texts of the link or the first example.
+  async start() {
+    this.startWorker();
+    document.getElementById('sum').textContent = document.getElementById('module').dataset.sum;
+    this.example.append(...Object.keys(this.examples).map(name => element('option', {}, name)));
+    this.example.append(element('option', { value: '', hidden: '' }, 'of your own'));
+    this.example.addEventListener('change', () => this.choose(this.example.value));
+    this.anyDecimal.addEventListener('change', () => this.changed());
+    Object.values(this.editors).forEach(({ area }) => area.addEventListener('input', () => this.changed()));
+    document.getElementById('copy-link').addEventListener('click', () => this.copyLink());
+    document.querySelectorAll('details.raw').forEach(it => it.addEventListener('toggle', () => this.showPrinted()));
+    window.addEventListener('hashchange', () => this.openLink());
+    await this.openLink();
+  }
+
+  startWorker() {
+    const source = new Blob([inside('engine'), inside('worker')], { type: 'text/javascript' });
+    this.worker = new Worker(URL.createObjectURL(source));
+    this.worker.addEventListener('message', ({ data }) => this.heard(data));
+    this.worker.addEventListener('error', event => this.fail(event.message));
+    this.worker.postMessage({ packed: inside('module') });
+  }
+
+  fail(why) {
+    document.documentElement.dataset.failed = why;
+    this.status.say(`The engine does not run here: ${why}. ${NEEDS}`, 'error');
+  }
+
+  texts() {
+    return Object.fromEntries(TEXT_NAMES.map(name => [name, this.editors[name].text]));
+  }
+
+  // Puts texts into the page.
+  fill(texts, anyDecimal) {
+    for (const name of TEXT_NAMES) this.editors[name].text = texts[name];
+    this.anyDecimal.checked = anyDecimal;
+    document.getElementById('links-part').open = texts.links.trim() !== '';
+    this.work();
+  }
+
+  choose(name) {
+    this.example.value = name;
+    this.fill(this.examples[name], false);
+  }
+
+  changed() {
+    this.example.value = '';
+    this.work();
+  }
+
+  async openLink() {
+    const first = Object.keys(this.examples)[0];
+    if (location.hash.length < 2) return this.choose(first);
+    try {
+      const { texts, anyDecimal } = await stateOf(location.hash);
+      this.example.value = '';
+      this.fill(texts, anyDecimal);
+    } catch {
+      this.status.first = 'The link holds no texts of this page, so here is an example.';
+      this.choose(first);
+    }
+  }
+
+  // Puts the texts into the address of the page, and the address where it can be pasted from.
+  async copyLink() {
+    history.replaceState(null, '', await fragmentOf({ texts: this.texts(), anyDecimal: this.anyDecimal.checked }));
+    try {
+      await navigator.clipboard.writeText(location.href);
+      this.status.say('The link is copied.', 'good');
+    } catch {
+      this.status.say('The link is in the address bar: copy it from there.', 'good');
+    }
+  }
+
+  // Has the worker work on the texts as they are now; while it is busy, on what they will be when it has ended.
+  work() {
+    this.isWaiting = this.isBusy;
+    if (this.isBusy) return;
+    this.isBusy = true;
+    this.number += 1;
+    this.sent = this.texts();
+    this.late = setTimeout(() => this.status.say('Working', ''), 400);
+    this.worker.postMessage({ texts: this.sent, settings: this.anyDecimal.checked ? 1 : 0 });
+  }
+
+  // Hears that the engine is ready, what it has done, or that it does not run.
+  heard({ ready, done, failed }) {
+    clearTimeout(this.late);
+    this.isBusy = false;
+    if (failed !== undefined) return this.fail(failed);
+    if (ready !== undefined) {
+      this.status.loaded = ready;
+      return this.work();
+    }
+    if (done.report) this.judged = { report: done.report, publish: done.publish, words: done.words };
+    if (this.isWaiting) return this.work();
+    this.showDone({ ...this.judged, answers: done.answers, memory: done.memory });
+  }
+
+  showDone(done) {
+    this.last = { done, texts: this.sent };
+    this.showFindings(findingsOf(done, this.sent, this.numbers), done);
+    this.showAnswers(done);
+    this.showPrinted();
+    this.status.show(done);
+    document.documentElement.dataset.shown = String(this.number);
+  }
+
+  showFindings(findings, { report, publish }) {
+    const shown = findings.map(finding => this.view.finding(finding));
+    if (!shown.length && publish.status === 0) shown.push(element('li', { class: 'nothing' }, 'The policies have no faults.'));
+    document.getElementById('report').replaceChildren(...shown);
+    const count = [0, 3].includes(report.status) ? countOf(report.text) : '';
+    document.getElementById('report-count').textContent = publish.status === 2 ? REFUSED[findings[0].file] : count;
+    for (const [name, editor] of Object.entries(this.editors)) {
+      const own = findings.filter(it => it.file === name);
+      editor.mark(own.flatMap(it => it.marks.map((mark, place) => ({ ...mark, kind: place ? 'also' : it.kind }))));
+    }
+  }
+
+  showAnswers({ answers }) {
+    const list = document.getElementById('answers'), count = document.getElementById('answers-count');
+    list.replaceChildren(element('li', { class: 'nothing' }, 'No request is answered.'));
+    count.textContent = '';
+    if (answers?.status !== 0) return;
+    const all = this.view.answers(answers.text, this.sent.requests, list), of = kind => all.filter(it => it.decision === kind).length;
+    const allowed = of('allow'), denied = of('deny'), refused = all.length - allowed - denied;
+    count.textContent = `${allowed} allow, ${denied} deny${refused ? `, ${refused} refused` : ''}`;
+  }
+
+  // Shows what the program would print, where that is open.
+  showPrinted() {
+    if (!this.last) return;
+    const { report, publish, answers } = this.last.done;
+    const texts = { 'report-text': publish.status === 2 ? publish.text : report.text, 'answers-text': answers?.text ?? '' };
+    for (const [id, text] of Object.entries(texts)) {
+      const place = document.getElementById(id);
+      place.textContent = place.parentElement.open ? text : '';
+    }
+  }
+
+  show(place) {
+    if (place) this.editors[place.name].show(place.from, place.to);
+    else this.status.say('The policy is not in the texts any more.', 'error');
+  }
+}
+
+const page = new Page();
+page.start().catch(fault => page.fail(String(fault.message ?? fault)));

@@ -1,0 +1,121 @@
+// What is shown of the engine's work: findings on the files, and the answers to request lines.
+
+// The answers that are shown at first, and that each press of the button below them adds.
+const ANSWERS_AT_ONCE = 200;
+
+// The errors of a policy in words.
+const ERRORS = { overflow: 'an integer overflows', missing_entity: 'an entity is not stored', decimal: 'a string is not a decimal' };
+
+class View {
+  // `numbers` is what docs/REFUSALS.md says of each number. `texts()` gives the texts as they are now, and `show(place)` shows a place in
+  // one of them: its name, from and to.
+  constructor(numbers, texts, show) {
+    this.numbers = numbers;
+    this.texts = texts;
+    this.show = show;
+  }
+
+  // A button that shows a place when it is pressed.
+  placeButton(label, place, kind = 'place') {
+    return element('button', { type: 'button', class: kind, click: () => this.show(place()) }, label);
+  }
+
+  // A button with the id of a policy that shows the policy.
+  policyButton(id) {
+    return this.placeButton(id, () => placeOfPolicy(this.texts(), id), 'policy');
+  }
+
+  finding(finding) {
+    const { kind, number, reason, part, notes, hint, policy, environments } = finding;
+    const title = element('h3', {}, element('span', { class: 'number' }, `${kind} ${number}`), ' ', ...sentence(reason));
+    const shown = element('li', { class: `finding ${kind}` }, title, element('p', {}, ...this.placesOf(finding)));
+    if (part) shown.append(element('p', {}, ...sentence(part)));
+    if (policy !== undefined) shown.append(element('p', {}, 'policy ', this.policyButton(policy)));
+    if (notes.length) shown.append(element('ul', { class: 'notes' }, ...notes.map(note => element('li', {}, ...sentence(note)))));
+    if (hint) shown.append(element('p', { class: 'hint' }, 'Hint: ', ...sentence(hint)));
+    if (environments.length) shown.append(this.environments(environments));
+    return shown;
+  }
+
+  // The places of a finding, each with what is said of it; or only the file.
+  placesOf({ file, marks }) {
+    if (!marks.length) return [file];
+    return marks.map(mark => {
+      const button = this.placeButton(`${file}, line ${mark.line}, column ${mark.column}`, () => ({ name: file, ...mark }));
+      return element('span', { class: 'mark' }, button, ' ', ...sentence(mark.says));
+    });
+  }
+
+  // The environments of a fault. They are open if there is one.
+  environments(environments) {
+    const rows = environments.map(({ principal, action, resource }) =>
+      element('li', {}, element('code', {}, `${principal}, ${action.type}::${JSON.stringify(action.id)}, ${resource}`)));
+    const title = element('summary', {}, `in ${counted(environments.length, 'environment')}`);
+    const shown = element('details', { class: 'environments' }, title, element('ul', {}, ...rows));
+    shown.open = environments.length === 1;
+    return shown;
+  }
+
+  // Shows the first answers in a list, and a button for more. Gives all answers.
+  answers(text, requests, list) {
+    const answers = objectsOf(text), lines = requests.split('\n');
+    let shown = 0;
+    const add = () => {
+      list.querySelector('.more')?.remove();
+      for (const end = Math.min(shown + ANSWERS_AT_ONCE, answers.length); shown < end; shown++) {
+        list.append(this.answer(answers[shown], shown + 1, lines[shown]));
+      }
+      if (shown < answers.length) list.append(this.moreButton(answers.length - shown, add));
+    };
+    list.replaceChildren();
+    add();
+    return answers;
+  }
+
+  moreButton(others, add) {
+    const label = `Show more of the other ${others.toLocaleString('en')}`;
+    return element('li', { class: 'more' }, element('button', { type: 'button', click: add }, label));
+  }
+
+  answer(answer, line, request) {
+    const kind = answer.decision ?? 'refused';
+    const place = this.placeButton(`line ${line}`, () => ({ name: 'requests', ...rangeOfLine(this.texts().requests, line) }));
+    const why = answer.decision ? this.why(answer) : this.whyRefused(answer.refused);
+    return element('li', { class: `answer ${kind}` }, place, ' ', element('span', { class: 'decision' }, kind), ' ', ...why,
+      element('div', { class: 'request' }, requestInShort(request)));
+  }
+
+  // Why a request is decided as it is, in the words of `cedar why`.
+  why({ decision, determining, erring }) {
+    const effect = decision === 'allow' ? 'permit' : 'forbid', isOne = determining.length === 1;
+    const why = determining.length
+      ? [`since the ${effect}${isOne ? '' : 's'} `, ...this.named(determining), isOne ? ' is satisfied' : ' are satisfied']
+      : ['since no permit is satisfied'];
+    const failed = erring.map(({ policy, error }) =>
+      element('span', { class: 'erring' }, '; ', this.policyButton(policy), ` failed (${ERRORS[error] ?? error}) and was skipped`));
+    return [...why, ...failed];
+  }
+
+  // The buttons of policies, joined as in a sentence.
+  named(ids) {
+    const before = place => place === 0 ? '' : place === ids.length - 1 ? ' and ' : ', ';
+    return ids.flatMap((id, place) => [before(place), this.policyButton(id)]);
+  }
+
+  whyRefused(number) {
+    const { when, remedy } = rowOf(this.numbers, 'requests', number);
+    const why = [element('span', { class: 'number' }, String(number)), ': ', ...sentence(when)];
+    return remedy ? [...why, element('span', { class: 'hint' }, '. Hint: ', ...sentence(remedy))] : why;
+  }
+}
+
+// The principal, the action and the resource of a request line; or its beginning, if it does not have them.
+function requestInShort(line) {
+  try {
+    const { principal, action, resource } = JSON.parse(line);
+    const uid = it => typeof it === 'string' ? it : `${it.type}::${JSON.stringify(it.id)}`;
+    return [principal, action, resource].map(uid).join(', ');
+  } catch {
+    return line.slice(0, 200);
+  }
+}

@@ -1,0 +1,59 @@
+// The worker: it holds an engine, and works on one message at a time. The first message has the module; each later one has texts.
+let engine = null, published = null;
+
+const FILES = ['schema', 'policies', 'links', 'entities'];
+
+// The bytes of texts. A text of links that is blank means that there is no file of links, and has no bytes.
+function encoded(texts) {
+  const given = { ...texts, links: texts.links.trim() === '' ? '' : texts.links };
+  return Object.fromEntries(Object.entries(given).map(([name, text]) => [name, new TextEncoder().encode(text)]));
+}
+
+// The module from its base64 of gzip.
+async function moduleOf(packed) {
+  const bytes = Uint8Array.from(atob(packed), letter => letter.charCodeAt(0));
+  const stream = new Blob([bytes]).stream().pipeThrough(new DecompressionStream('gzip'));
+  return WebAssembly.compile(await new Response(stream).arrayBuffer());
+}
+
+// A call with its time in milliseconds.
+function timed(call) {
+  const began = performance.now(), ended = call();
+  return { ...ended, milliseconds: performance.now() - began };
+}
+
+// Whether the engine answers for these files already.
+const isPublished = (texts, settings) =>
+  published !== null && published.settings === settings && FILES.every(name => published.texts[name] === texts[name]);
+
+// What the engine says of the texts: report, words, and answers where the files are accepted. Files that are as they were are not read
+// again, so a change of requests alone is answered at once.
+function worked({ texts, settings }) {
+  const { requests, ...files } = encoded(texts), done = {};
+  if (!isPublished(texts, settings)) {
+    published = null;
+    done.report = timed(() => engine.validate(files, settings));
+    done.publish = timed(() => engine.publish(files, settings));
+    done.words = done.publish.status === 0 ? { status: 0, text: '' } : timed(() => engine.explain(files, settings));
+    if (done.publish.status !== 0) return done;
+    published = { texts, settings };
+  }
+  done.answers = timed(() => engine.answer(requests));
+  if (done.answers.status === 'stopped') published = null;
+  done.memory = engine.exports.memory.buffer.byteLength;
+  return done;
+}
+
+self.onmessage = async ({ data }) => {
+  try {
+    if (data.packed) {
+      const began = performance.now();
+      engine = new Engine(await moduleOf(data.packed));
+      self.postMessage({ ready: performance.now() - began });
+    } else {
+      self.postMessage({ done: worked(data) });
+    }
+  } catch (fault) {
+    self.postMessage({ failed: String(fault.message ?? fault) });
+  }
+};

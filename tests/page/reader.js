@@ -1,0 +1,84 @@
+// What a reader does with the playground, for tools/page_test, which evaluates this in the page.
+const reader = {
+  // Chooses an example.
+  choose(name) {
+    const select = document.getElementById('example');
+    select.value = name;
+    select.dispatchEvent(new Event('change'));
+  },
+
+  // Writes a text, as if it were typed.
+  write(name, text) {
+    const area = document.getElementById(name);
+    area.value = text;
+    area.dispatchEvent(new Event('input'));
+  },
+
+  // The texts of elements.
+  texts: selector => [...document.querySelectorAll(selector)].map(it => it.textContent),
+
+  // The policies that each answer names.
+  policies: () => [...document.querySelectorAll('#answers > .answer')]
+    .map(answer => [...answer.querySelectorAll('.policy')].map(it => it.textContent)),
+
+  // Presses the first button with a text. Gives the text area that has the focus then, and what is selected there.
+  press(selector, text) {
+    [...document.querySelectorAll(selector)].find(it => it.textContent === text).click();
+    const area = document.activeElement;
+    return [area.id, area.value.slice(area.selectionStart, area.selectionEnd)];
+  },
+
+  // The status and the text of a call for what is shown.
+  done(call) {
+    const ended = page.last.done[call];
+    return ended ? [ended.status, ended.text] : null;
+  },
+
+  // Types letters at the end of the requests. Gives the longest time in milliseconds for which the page did not go on.
+  async type(letters) {
+    const area = document.getElementById('requests');
+    let last = performance.now(), longest = 0, isOn = true;
+    const tick = () => {
+      const now = performance.now();
+      longest = Math.max(longest, now - last);
+      last = now;
+      if (isOn) setTimeout(tick, 0);
+    };
+    area.focus();
+    area.setSelectionRange(area.value.length, area.value.length);
+    tick();
+    for (const letter of letters) {
+      document.execCommand('insertText', false, letter);
+      await new Promise(done => setTimeout(done, 5));
+    }
+    while (page.isBusy || page.isWaiting) await new Promise(done => setTimeout(done, 5));
+    isOn = false;
+    return longest;
+  },
+
+  // Types letters at the place of the cursor, all at once.
+  burst(letters) {
+    for (const letter of letters) document.execCommand('insertText', false, letter);
+  },
+
+  // The colours of elements, each once.
+  colours: selector => [...new Set([...document.querySelectorAll(selector)].map(it => getComputedStyle(it).color))],
+
+  // The contrast of each element of these selectors with what is behind it (WCAG 2.1, contrast ratio).
+  contrasts(selectors) {
+    const channel = part => (part /= 255) <= 0.04045 ? part / 12.92 : ((part + 0.055) / 1.055) ** 2.4;
+    const parts = colour => colour.match(/[\d.]+/g).map(Number);
+    const light = ([red, green, blue]) => 0.2126 * channel(red) + 0.7152 * channel(green) + 0.0722 * channel(blue);
+    const behind = at => {
+      for (; at; at = at.parentElement) {
+        const found = parts(getComputedStyle(at).backgroundColor);
+        if (found.length === 3) return found;
+      }
+      return [255, 255, 255];
+    };
+    return selectors.flatMap(selector => [...document.querySelectorAll(selector)].slice(0, 20).map(it => {
+      const [most, least] = [light(parts(getComputedStyle(it).color)), light(behind(it))].sort((a, b) => b - a);
+      return [selector, (most + 0.05) / (least + 0.05)];
+    }));
+  },
+};

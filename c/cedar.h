@@ -1,7 +1,8 @@
 /* cedar.h: the engine of Bobbinjade for C and C++. docs/EMBEDDING.md has examples; the statuses are below.
  *
  * A handle leads to an engine. cedar_new makes a handle that leads nowhere, cedar_publish has it lead to an engine of the given files,
- * cedar_share has a second handle lead to the same engine, and cedar_free frees a handle. The last handle frees the engine.
+ * cedar_publish_entities has it lead to one of the same policies over other entities, cedar_share has a second handle lead to the same
+ * engine, and cedar_free frees a handle. The last handle frees the engine.
  *
  * Threads: one call at a time uses a handle. Different handles may be used at the same time, also where they share an engine. A handle
  * may move to another thread, if a lock, a start or a join orders that. Publishing to a handle changes nothing for the handles that
@@ -10,8 +11,9 @@
  * Memory: a call reads its bytes only while it runs, and keeps none of them. No argument that is written overlaps another. Handles are
  * not copied. The library asks malloc, realloc and free for memory. A call that returns CEDAR_MEMORY has changed nothing.
  *
- * Stack: 4 MiB for cedar_explain, 512 KiB for cedar_publish, cedar_validate and cedar_free, 64 KiB for the other calls. Do not call from a
- * signal handler, nor in the forked child of a process with several threads. No call starts a thread, waits, or reads a file. */
+ * Stack: 4 MiB for cedar_explain, 512 KiB for cedar_publish, cedar_publish_entities, cedar_validate and cedar_free, 64 KiB for the other
+ * calls. Do not call from a signal handler, nor in the forked child of a process with several threads. No call starts a thread, waits, or
+ * reads a file. */
 #ifndef CEDAR_H
 #define CEDAR_H
 #include <stddef.h>
@@ -106,6 +108,8 @@ void cedar_raw_free(cedar_engine engine);
 uint32_t cedar_raw_publish(cedar_engine *engine, const void *schema, size_t schema_length, const void *policies, size_t policies_length,
                            const void *links, size_t links_length, const void *entities, size_t entities_length, uint32_t settings,
                            cedar_raw_refusal *refusal, void *text, size_t room, size_t *written);
+uint32_t cedar_raw_publish_entities(cedar_engine *engine, const void *entities, size_t length, cedar_raw_refusal *refusal, void *text,
+                                    size_t room, size_t *written);
 uint32_t cedar_raw_validate(const void *schema, size_t schema_length, const void *policies, size_t policies_length, const void *links,
                             size_t links_length, uint32_t settings, void *text, size_t room, size_t *written);
 uint32_t cedar_raw_explain(const void *schema, size_t schema_length, const void *policies, size_t policies_length, const void *links,
@@ -146,6 +150,15 @@ static inline uint32_t cedar_written(uint32_t status, cedar_buffer *buffer, cons
         buffer->written = used->written;
     }
     return status;
+}
+
+/* Passes on why a call has refused a file to the caller. With another status no file is refused. */
+static inline void cedar_why(uint32_t status, cedar_refusal *refusal, const cedar_raw_refusal *why) {
+    if (refusal) {
+        refusal->file = status == CEDAR_REFUSED ? why->file : 0;
+        refusal->number = status == CEDAR_REFUSED ? why->number : 0;
+        refusal->offset = status == CEDAR_REFUSED ? why->offset : CEDAR_NO_OFFSET;
+    }
 }
 
 /* The version of the interface of the library. It is CEDAR_ABI_VERSION, or the library does not fit this header. */
@@ -189,11 +202,25 @@ static inline uint32_t cedar_publish(cedar_engine *engine, const cedar_files *fi
                                    cedar_length(files->policies), cedar_address(files->links), cedar_length(files->links),
                                    cedar_address(files->entities), cedar_length(files->entities), files->settings, &why, used->at,
                                    used->room, &used->written);
-        if (refusal) {
-            refusal->file = status == CEDAR_REFUSED ? why.file : 0;
-            refusal->number = status == CEDAR_REFUSED ? why.number : 0;
-            refusal->offset = status == CEDAR_REFUSED ? why.offset : CEDAR_NO_OFFSET;
-        }
+        cedar_why(status, refusal, &why);
+    }
+    return cedar_written(status, text, used);
+}
+
+/* Reads entities, and has the handle lead to an engine of the same schema, policies, links and settings over them. The policies are not
+ * read again, and other handles that shared the old engine keep it. With another status than CEDAR_OK the handle leads where it led, and
+ * with CEDAR_NO_ENGINE nothing was published to it. With CEDAR_REFUSED the text is what the program prints; where it does not fit,
+ * `written` is the room that it needs. cedar_explain says why in words: the schema and these entities are enough for that, and policies
+ * and links may be of no bytes. `refusal` and `text` may be null. */
+static inline uint32_t cedar_publish_entities(cedar_engine *engine, cedar_bytes entities, cedar_refusal *refusal, cedar_buffer *text) {
+    char no_room = 0;
+    cedar_buffer spare, *used = cedar_usable(text, &spare, &no_room);
+    cedar_raw_refusal why = {0, 0, CEDAR_NO_OFFSET};
+    uint32_t status = CEDAR_ARGUMENT;
+    if (engine && engine->at && (!refusal || refusal->size == sizeof *refusal)) {
+        status = cedar_raw_publish_entities(engine, cedar_address(entities), cedar_length(entities), &why, used->at, used->room,
+                                            &used->written);
+        cedar_why(status, refusal, &why);
     }
     return cedar_written(status, text, used);
 }

@@ -49,7 +49,7 @@ def modes(example):
     requests, wanted = content(example, 'requests.jsonl'), content(example, 'answers.jsonl')
     parts = [parts_of(it) for it in requests.splitlines()]
     cut = [(fields + b'\n', answer) for fields, answer in zip(parts, wanted.splitlines(True)) if fields]
-    return [('batch', requests, wanted), ('lines', requests, wanted),
+    return [('batch', requests, wanted), ('lines', requests, wanted), ('entities', requests, wanted),
             ('parts', b''.join(it[0] for it in cut), b''.join(it[1] for it in cut)),
             ('validate', b'', content(example, 'report.jsonl')), ('words', b'', b'')]
 

@@ -4,8 +4,9 @@
  *   bool may = engine.decide({{"User", "ann"}, {"Action", "write"}, {"Notebook", "plans"}});
  *
  * Any number of threads may use one Engine at the same time. A request takes no lock: it takes a handle out of an array of atomic
- * places. `publish` swaps the engine while requests run. Each answer is that of an engine that was current during its call, and an engine
- * that is no longer current is freed with its last request. A move, an assignment and the destructor need the Engine alone. */
+ * places. `publish` swaps the engine while requests run, and `publish_entities` its entities alone. Each answer is that of an engine that
+ * was current during its call, and an engine that is no longer current is freed with its last request. A move, an assignment and the
+ * destructor need the Engine alone. */
 #ifndef CEDAR_HPP
 #define CEDAR_HPP
 #include "cedar.h"
@@ -175,6 +176,11 @@ inline std::optional<std::uint64_t> line_of(const std::string &explanation) {
     return std::strtoull(explanation.c_str() + at + KEY.size(), nullptr, 10);
 }
 
+/* Throws that a file of these is refused. */
+[[noreturn]] inline void refuse(const cedar_files &files, const cedar_refusal &why, const std::string &text) {
+    throw Refusal(why, line_of(explained(files, CEDAR_JSON)), text, explained(files, CEDAR_WORDS));
+}
+
 /* Reads an answer line. */
 class Reader {
 public:
@@ -293,17 +299,30 @@ public:
     Core &operator=(const Core &) = delete;
     ~Core() { close(); }
 
-    /* Has a handle, to which was published, take the place of the main one. */
-    void swap(cedar_engine &handle) {
+    /* Keeps other publishers from swapping while it lives. Requests and `close` do not wait for it. */
+    std::unique_lock<std::mutex> publishing() { return std::unique_lock<std::mutex>(publishers_); }
+
+    /* Has a handle, to which was published, take the place of the main one. The caller has the lock of `publishing`. */
+    void swap(cedar_engine &handle, std::shared_ptr<const std::string> schema) {
         {
             std::lock_guard<std::mutex> guard(lock_);
             if (version_.load() == CLOSED) {
                 throw Closed();
             }
             std::swap(main_, handle);
+            std::swap(schema_, schema);
             version_.store(++count_);
         }
         sweep();
+    }
+
+    /* The schema of the current engine, by which refused entities are explained. */
+    std::shared_ptr<const std::string> schema() {
+        std::lock_guard<std::mutex> guard(lock_);
+        if (!schema_) {
+            throw Closed();
+        }
+        return schema_;
     }
 
     void close() {
@@ -311,6 +330,7 @@ public:
             std::lock_guard<std::mutex> guard(lock_);
             version_.store(CLOSED);
             cedar_free(&main_);
+            schema_.reset();
         }
         sweep();
     }
@@ -406,8 +426,9 @@ private:
         } while (version != version_.load());
     }
 
-    std::mutex lock_;
+    std::mutex publishers_, lock_;
     cedar_engine main_ = {nullptr};
+    std::shared_ptr<const std::string> schema_;
     std::uint64_t count_ = 0;
     std::atomic<std::uint64_t> version_{NOTHING};
     std::array<Place, PLACES> places_;
@@ -444,7 +465,7 @@ inline Report validate(const Files &files) {
         status = cedar_publish(&handle, &raw, &why, nullptr);
         cedar_free(&handle);
         if (status == CEDAR_REFUSED) {
-            throw Refusal(why, detail::line_of(detail::explained(raw, CEDAR_JSON)), text, detail::explained(raw, CEDAR_WORDS));
+            detail::refuse(raw, why, text);
         }
     }
     if (status != CEDAR_OK && status != CEDAR_FAULTS) {
@@ -480,7 +501,7 @@ public:
         std::uint32_t status =
             detail::grown(text, 4096, [&](cedar_buffer &buffer) { return cedar_publish(&handle.at, &raw, &why, &buffer); });
         if (status == CEDAR_REFUSED) {
-            throw Refusal(why, detail::line_of(detail::explained(raw, CEDAR_JSON)), text, detail::explained(raw, CEDAR_WORDS));
+            detail::refuse(raw, why, text);
         }
         if (status == CEDAR_FAULTS) {
             throw Faults(text, detail::explained(raw, CEDAR_WORDS));
@@ -488,7 +509,32 @@ public:
         if (status != CEDAR_OK) {
             detail::fail(status);
         }
-        core.swap(handle.at);
+        auto schema = std::make_shared<const std::string>(files.schema);
+        auto publishing = core.publishing();
+        core.swap(handle.at, std::move(schema));
+    }
+
+    /* Reads entities, and has all later calls answer over them, according to the schema, the policies and the links of the current engine,
+     * which are not read again. Where it throws, nothing has changed. Requests do not wait for it; another `publish` waits with its swap.
+     * Throws Refusal, OutOfMemory, NoEngine and Closed. */
+    void publish_entities(std::string_view entities) {
+        detail::Core &core = open();
+        auto publishing = core.publishing();
+        detail::Lease lease(core);
+        cedar_engine &handle = (*lease).handle;
+        auto schema = core.schema();
+        cedar_refusal why = {sizeof why, 0, 0, 0};
+        std::string text;
+        std::uint32_t status = detail::grown(text, 256, [&](cedar_buffer &buffer) {
+            return cedar_publish_entities(&handle, detail::bytes(entities), &why, &buffer);
+        });
+        if (status == CEDAR_REFUSED) {
+            detail::refuse(detail::raw({*schema, {}, {}, entities}), why, text);
+        }
+        if (status != CEDAR_OK) {
+            detail::fail(status);
+        }
+        core.swap(handle, std::move(schema));
     }
 
     /* Whether a request is allowed. It makes no text, so it is the fastest call. Throws RequestRefusal where the request is refused. */

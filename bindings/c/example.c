@@ -71,8 +71,16 @@ int main(int count, char **words) {
     }
     fwrite(answers.at, 1, answers.written, stdout);
     free(answers.at);
+
+    /* Entities that changed are read alone, and the policies are not read again. If they are refused, the handle is as before. */
+    cedar_bytes entities = content(words[1], "entities.json");
+    status = cedar_publish_entities(&engine, entities, NULL, NULL);
+    if (status == CEDAR_REFUSED) {
+        cedar_files refused = {sizeof refused, files.schema, {NULL, 0}, {NULL, 0}, entities, 0, 0};
+        print_why(&refused);
+    }
     cedar_free(&engine);
-    const cedar_bytes read[] = {files.schema, files.policies, files.links, files.entities, lines};
+    const cedar_bytes read[] = {files.schema, files.policies, files.links, files.entities, entities, lines};
     for (size_t i = 0; i < sizeof read / sizeof *read; i++) {
         free((void *)read[i].at);
     }

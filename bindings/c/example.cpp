@@ -27,6 +27,9 @@ int main(int count, char **words) {
         // All request lines of the folder, as `cedar authorize` answers them.
         std::cout << engine.answer(content(folder + "/requests.jsonl"));
 
+        // Entities that changed are read alone, and the policies are not read again. Threads may ask meanwhile.
+        engine.publish_entities(content(folder + "/entities.json"));
+
         // Policies that are refused change nothing.
         try {
             engine.publish({schema, "permit(", links, entities});

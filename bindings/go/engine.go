@@ -7,8 +7,8 @@
 //		Resource:  bobbinjade.UID{Type: "Notebook", ID: "plans"},
 //	})
 //
-// Any number of goroutines may use an Engine. A request takes no lock, and Publish swaps the files while requests run. Each answer is that
-// of files that were current during its call.
+// Any number of goroutines may use an Engine. A request takes no lock, and Publish swaps the files while requests run, PublishEntities the
+// entities alone. Each answer is that of files that were current during its call.
 package bobbinjade
 
 import (
@@ -75,11 +75,12 @@ type Engine struct {
 	current atomic.Pointer[version]
 }
 
-// A version of the files: the handle to which they were published, and the handles that requests use. Its handles are freed when it is
-// retired and its last request has ended.
+// A version of the files: the handle to which they were published, the schema, by which refused entities are explained, and the handles
+// that requests use. Its handles are freed when it is retired and its last request has ended.
 type version struct {
 	lock    sync.Mutex // of main
 	main    *handle
+	schema  []byte
 	pool    sync.Pool
 	retired atomic.Bool
 }
@@ -91,7 +92,7 @@ func New(files Files) (*Engine, error) {
 		return nil, err
 	}
 	engine := &Engine{}
-	engine.current.Store(&version{main: main})
+	engine.current.Store(versionOf(main, &files))
 	return engine, nil
 }
 
@@ -102,14 +103,33 @@ func (e *Engine) Publish(files Files) error {
 	if err != nil {
 		return err
 	}
+	next := versionOf(main, &files)
 	e.lock.Lock()
-	old := e.current.Load()
-	if old != nil {
-		e.current.Store(&version{main: main})
+	defer e.lock.Unlock()
+	return e.swap(e.current.Load(), next)
+}
+
+// PublishEntities reads entities, and has all later calls answer over them, according to the schema, the policies and the links that are
+// current. These are not read again. Requests do not wait for it; Publish waits with its swap. The error is *Refusal, ErrMemory or
+// ErrClosed; then nothing has changed.
+func (e *Engine) PublishEntities(entities []byte) error {
+	e.lock.Lock()
+	defer e.lock.Unlock()
+	old, h, err := e.take(context.Background())
+	if err != nil {
+		return err
 	}
-	e.lock.Unlock()
-	if old == nil {
-		main.free()
+	if err := h.publishEntities(entities, old.schema); err != nil {
+		old.give(h)
+		return err
+	}
+	return e.swap(old, &version{main: h, schema: old.schema})
+}
+
+// swap has a version take the place of the current one, unless the engine is closed meanwhile. The publisher has the lock.
+func (e *Engine) swap(old, next *version) error {
+	if old == nil || !e.current.CompareAndSwap(old, next) {
+		next.main.free()
 		return ErrClosed
 	}
 	old.retire()
@@ -119,10 +139,7 @@ func (e *Engine) Publish(files Files) error {
 // Close frees all that no running call uses. Later calls give ErrClosed. Closing twice is safe. An Engine to which nothing refers is
 // freed without it.
 func (e *Engine) Close() error {
-	e.lock.Lock()
-	old := e.current.Swap(nil)
-	e.lock.Unlock()
-	if old != nil {
+	if old := e.current.Swap(nil); old != nil {
 		old.retire()
 	}
 	return nil
@@ -214,6 +231,11 @@ func Validate(files Files) (Report, error) {
 func Explain(files Files) (string, error) {
 	words, err := explained(&files, 0)
 	return string(words), err
+}
+
+// versionOf gives the version of files that were published to a handle.
+func versionOf(main *handle, files *Files) *version {
+	return &version{main: main, schema: append([]byte(nil), files.Schema...)}
 }
 
 // take gives the current version, and a handle that leads to it, which the caller gives back.

@@ -232,6 +232,61 @@ func TestRefusals(t *testing.T) {
 	}
 }
 
+func TestEntities(t *testing.T) {
+	it := exampleOf("photos")
+	broken := content("photos", "broken_entities.json")
+	noFriends := bytes.Replace(it.files.Entities, []byte(`, "parents": [{ "type": "UserGroup", "id": "jane_friends" }]`), nil, 1)
+	asked := Request{Principal: UID{"User", "ann"}, Action: UID{"Action", "view"}, Resource: UID{"Photo", "beach"}}
+	engine := engineOf(t, it.files)
+	for _, step := range []struct {
+		entities []byte
+		number   uint32
+		wanted   string
+	}{
+		{it.files.Entities, 0, `{"decision":"allow","determining":["shared-with-friends"],"erring":[]}`},
+		{noFriends, 0, `{"decision":"deny","determining":[],"erring":[]}`},
+		{broken, 506, `{"decision":"deny","determining":[],"erring":[]}`},
+		{nil, 501, `{"decision":"deny","determining":[],"erring":[]}`},
+		// The beach is not stored, and `private` reads an attribute of it.
+		{[]byte("[]"), 0, `{"decision":"deny","determining":[],"erring":[{"error":"missing_entity","policy":"private"}]}`},
+	} {
+		err := engine.PublishEntities(step.entities)
+		var refusal, other *Refusal
+		if step.number == 0 && err != nil || step.number != 0 && (!errors.As(err, &refusal) || refusal.Number != step.number) {
+			t.Fatal(step.number, err)
+		}
+		if refusal != nil {
+			files := it.files
+			files.Entities = step.entities
+			if err := engine.Publish(files); !errors.As(err, &other) || *other != *refusal || refusal.File != Entities || refusal.Offset != -1 {
+				t.Error(err, *refusal)
+			}
+		}
+		if response, err := engine.Authorize(context.Background(), asked); err != nil || written(response) != step.wanted {
+			t.Error(err, response)
+		}
+	}
+	var refusal *Refusal
+	if err := engine.PublishEntities(broken); !errors.As(err, &refusal) || refusal.Line != 3 ||
+		!strings.HasPrefix(refusal.Words, "error[506]: an attribute is not declared\n") {
+		t.Error(err)
+	}
+}
+
+func TestSwappedEntities(t *testing.T) {
+	for _, it := range examples(t) {
+		entities := it.files.Entities
+		it.files.Entities = []byte("[]")
+		engine := engineOf(t, it.files)
+		if err := engine.PublishEntities(entities); err != nil {
+			t.Error(err)
+		}
+		if text, err := engine.Answer([]byte(it.requests)); err != nil || string(text) != it.answers {
+			t.Error(err, string(text))
+		}
+	}
+}
+
 func TestFaults(t *testing.T) {
 	it := exampleOf("notes")
 	it.files.Policies = bytes.Repeat([]byte("permit(principal, action, resource) when { principal.age > 1 };"), 200)
@@ -316,7 +371,8 @@ func TestClosing(t *testing.T) {
 	_, line := engine.AnswerLine(nil)
 	_, appended := engine.AppendAnswer(nil, nil)
 	_, appendedLine := engine.AppendAnswerLine(nil, nil)
-	for _, err := range []error{authorized, decided, answered, line, appended, appendedLine, engine.Publish(it.files)} {
+	for _, err := range []error{authorized, decided, answered, line, appended, appendedLine, engine.Publish(it.files),
+		engine.PublishEntities(it.files.Entities)} {
 		if !errors.Is(err, ErrClosed) {
 			t.Error(err)
 		}
@@ -340,18 +396,72 @@ func TestVersion(t *testing.T) {
 	}
 }
 
+// How many versions have an id of their own.
+const versions = 1000
+
 // policies gives the policies of a version, whose id is its number. Even versions permit, and odd ones forbid.
-func policies(number int64) []byte {
-	return []byte(fmt.Sprintf("@id(\"%d\") %s(principal, action, resource);", number, []string{"permit", "forbid"}[number%2]))
+func policies(number int64, principal string) []byte {
+	return []byte(fmt.Sprintf("@id(\"%d\") %s(%s, action, resource);", number%versions, []string{"permit", "forbid"}[number%2], principal))
 }
 
+// isOfVersion says whether an answer is that of one of these versions.
+func isOfVersion(response *Response, first, last int64) bool {
+	answered, _ := strconv.ParseInt(response.Determining[0], 10, 64)
+	for number := first; number <= last; number++ {
+		if number%versions == answered {
+			return response.Allowed == (number%2 == 0)
+		}
+	}
+	return false
+}
+
+// Entities that are published alone meanwhile bring no older policies back.
 func TestVersionsSwapWhileRequestsRun(t *testing.T) {
 	files := exampleOf("notes").files
-	files.Policies = policies(0)
+	files.Policies = policies(0, "principal")
 	engine := engineOf(t, files)
+	swap(t, engine, func(number int64) error {
+		files.Policies = policies(number, "principal")
+		return engine.Publish(files)
+	}, func() error { return engine.PublishEntities([]byte("[]")) })
+}
+
+// Ann is in the group of the number of the version, and each group has a policy. Entities that are refused meanwhile change nothing.
+func TestEntitiesSwapWhileRequestsRun(t *testing.T) {
+	files := Files{Schema: []byte(`{"":{"entityTypes":{"Group":{},"User":{"memberOfTypes":["Group"]},"Notebook":{}},
+		"actions":{"write":{"appliesTo":{"principalTypes":["User"],"resourceTypes":["Notebook"]}}}}}`)}
+	for number := int64(0); number < versions; number++ {
+		files.Policies = append(files.Policies, policies(number, fmt.Sprintf("principal in Group::\"%d\"", number))...)
+	}
+	entities := func(number int64) []byte {
+		return []byte(fmt.Sprintf(`[{"uid":{"type":"User","id":"ann"},"parents":[{"type":"Group","id":"%d"}]}]`, number%versions))
+	}
+	files.Entities = entities(0)
+	engine := engineOf(t, files)
+	swap(t, engine, func(number int64) error { return engine.PublishEntities(entities(number)) }, func() error {
+		var refusal *Refusal
+		if err := engine.PublishEntities([]byte("{}")); !errors.As(err, &refusal) {
+			return fmt.Errorf("it is not refused: %v", err)
+		}
+		return nil
+	})
+}
+
+// swap has eight goroutines ask while versions are published and, in another goroutine, something else is done again and again.
+func swap(t *testing.T, engine *Engine, publish func(int64) error, meanwhile func() error) {
 	var begun, done, count atomic.Int64
 	var isOver atomic.Bool
 	var asking sync.WaitGroup
+	asking.Add(1)
+	go func() {
+		defer asking.Done()
+		for !isOver.Load() {
+			if err := meanwhile(); err != nil {
+				t.Error(err)
+				return
+			}
+		}
+	}()
 	for i := 0; i < 8; i++ {
 		asking.Add(1)
 		go func() {
@@ -364,8 +474,7 @@ func TestVersionsSwapWhileRequestsRun(t *testing.T) {
 					t.Error(err)
 					return
 				}
-				answered, _ := strconv.ParseInt(response.Determining[0], 10, 64)
-				if answered < first || answered > last || response.Allowed != (answered%2 == 0) {
+				if !isOfVersion(&response, first, last) {
 					t.Error(response, first, last)
 				}
 				count.Add(1)
@@ -377,8 +486,7 @@ func TestVersionsSwapWhileRequestsRun(t *testing.T) {
 		seconds = 1
 	}
 	for end := time.Now().Add(time.Duration(seconds * float64(time.Second))); time.Now().Before(end); {
-		files.Policies = policies(begun.Add(1))
-		if err := engine.Publish(files); err != nil {
+		if err := publish(begun.Add(1)); err != nil {
 			t.Error(err)
 		}
 		done.Store(begun.Load())
@@ -389,8 +497,8 @@ func TestVersionsSwapWhileRequestsRun(t *testing.T) {
 	isOver.Store(true)
 	asking.Wait()
 	t.Log(count.Load(), "answers,", done.Load(), "versions")
-	if count.Load() <= 8 {
-		t.Error("too few answers")
+	if count.Load() <= 8 || done.Load() <= 1 {
+		t.Error("too few answers or versions")
 	}
 }
 

@@ -270,6 +270,24 @@ func published(files *Files) (*handle, error) {
 	return nil, failed(status)
 }
 
+// publishEntities has the handle lead to an engine of the same policies over entities. The schema, which is that of its engine, explains
+// entities that are refused.
+func (h *handle) publishEntities(entities, schema []byte) error {
+	var why C.cedar_raw_refusal
+	from, length := address(entities)
+	status, _ := grown(256, func(at unsafe.Pointer, room C.size_t, written *C.size_t) C.uint32_t {
+		return C.cedar_raw_publish_entities(&h.slot.engine, from, length, &why, at, room, written)
+	})
+	runtime.KeepAlive(h)
+	switch status {
+	case C.CEDAR_OK:
+		return nil
+	case C.CEDAR_REFUSED:
+		return refusal(&Files{Schema: schema, Entities: entities}, &why)
+	}
+	return failed(status)
+}
+
 // refusal gives the error for a refused file.
 func refusal(files *Files, why *C.cedar_raw_refusal) error {
 	words, err := explained(files, C.CEDAR_WORDS)

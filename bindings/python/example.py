@@ -24,6 +24,9 @@ def main():
     # All request lines of the folder, as `cedar authorize` answers them.
     print(engine.answer(content('requests.jsonl')), end='')
 
+    # Entities that changed are read alone, and the policies are not read again. Threads may ask meanwhile.
+    engine.publish_entities(content('entities.json'))
+
     # Policies that are refused change nothing.
     try:
         engine.publish(files[0], 'permit(', files[2])

@@ -56,6 +56,37 @@ static void check_refusals(const std::string &broken) {
     CHECK(engine.answer(requests) == answers);
 }
 
+static void check_entities(const std::string &folder) {
+    const std::string schema = content(folder + "schema.json"), policies = content(folder + "policies.cedar");
+    const std::string entities = content(folder + "entities.json"), broken = content(folder + "broken_entities.json");
+    // Ann is in no group, and so not a friend of jane.
+    const std::string others = R"([{"uid":{"type":"User","id":"ann"}},{"uid":{"type":"Photo","id":"beach"},"attrs":{"owner":)"
+                               R"({"type":"User","id":"jane"},"private":false},"parents":[{"type":"Album","id":"jane_vacation"}]}])";
+    const cedar::Request request = {{"User", "ann"}, {"Action", "view"}, {"Photo", "beach"}};
+    cedar::Engine engine;
+    CHECK(thrown<cedar::NoEngine>([&] { engine.publish_entities(entities); }));
+    engine.publish({schema, policies, {}, entities});
+    CHECK(engine.is_authorized(request).determining == std::vector<std::string>{"shared-with-friends"});
+    engine.publish_entities(others);
+    CHECK(!engine.decide(request) && engine.is_authorized(request).erring.empty());
+    auto refusal = thrown<cedar::Refusal>([&] { engine.publish_entities(broken); });
+    CHECK(refusal && refusal->file == CEDAR_ENTITIES && refusal->number == 506 && !refusal->offset && refusal->line == 3u);
+    CHECK(refusal && refusal->text == "{\"file\":\"entities\",\"refused\":506}\n" && refusal->status() == CEDAR_REFUSED);
+    CHECK(refusal && refusal->words.rfind("error[506]: an attribute is not declared\n", 0) == 0);
+    auto other = thrown<cedar::Refusal>([&] { engine.publish({schema, policies, {}, broken}); });
+    CHECK(refusal && other && refusal->words == other->words && refusal->text == other->text);
+    CHECK(!engine.decide(request));
+    engine.publish_entities("[]");
+    cedar::Response response = engine.is_authorized(request);
+    CHECK(!response.allow && response.determining.empty() && response.erring.size() == 1);
+    CHECK(response.erring.at(0).policy == "private" && response.erring.at(0).error == "missing_entity");
+    engine.publish_entities(entities);
+    CHECK(engine.answer(content(folder + "requests.jsonl")) == content(folder + "answers.jsonl"));
+    engine.close();
+    CHECK(thrown<cedar::Closed>([&] { engine.publish_entities(entities); }));
+    CHECK(thrown<cedar::Closed>([&] { cedar::Engine moved(std::move(engine)); engine.publish_entities(entities); }));
+}
+
 static void check_faults() {
     std::string text;
     for (int i = 0; i < 200; i++) {
@@ -148,10 +179,11 @@ static void check_many_threads() {
 }
 
 int main(int count, char **words) {
-    const std::string folder = std::string(count == 2 ? words[1] : "examples") + "/notes/";
+    const std::string examples = count == 2 ? words[1] : "examples", folder = examples + "/notes/";
     schema = content(folder + "schema.json"), policies = content(folder + "policies.cedar"), entities = content(folder + "entities.json");
     requests = content(folder + "requests.jsonl"), answers = content(folder + "answers.jsonl");
     check_refusals(content(folder + "broken_policies.cedar"));
+    check_entities(examples + "/photos/");
     check_faults();
     check_room();
     check_escapes();

@@ -1,4 +1,4 @@
-/* The edges of the inline functions of cedar.h: edges FOLDER, where FOLDER is examples/notes. */
+/* The edges of the inline functions of cedar.h: edges FOLDER, where FOLDER is examples/notes, with examples/photos beside it. */
 #include "files.h"
 
 #include <sys/wait.h>
@@ -24,6 +24,8 @@ static void check_null(void) {
     cedar_free(&none);
     CHECK(cedar_publish(NULL, &files, NULL, NULL) == CEDAR_ARGUMENT);
     CHECK(cedar_publish(&none, &files, &refusal, NULL) == CEDAR_ARGUMENT);
+    CHECK(cedar_publish_entities(NULL, files.entities, NULL, NULL) == CEDAR_ARGUMENT);
+    CHECK(cedar_publish_entities(&none, files.entities, &refusal, NULL) == CEDAR_ARGUMENT && refusal.file == 7);
     CHECK(cedar_answer(&none, lines, NULL) == CEDAR_ARGUMENT);
     CHECK(cedar_answer(NULL, lines, NULL) == CEDAR_ARGUMENT);
     CHECK(cedar_answer_line(&none, lines, NULL) == CEDAR_ARGUMENT);
@@ -42,6 +44,9 @@ static void check_null(void) {
 
 static void check_empty_handle(void) {
     cedar_engine engine, other;
+    cedar_refusal refusal = {sizeof refusal, 7, 7, 7};
+    char room[] = "####";
+    cedar_buffer text = {room, 4, 9};
     cedar_decision decision = {sizeof decision, 7, 7};
     cedar_request request = asked("write");
     CHECK(cedar_new(&engine) == CEDAR_OK && cedar_new(&other) == CEDAR_OK);
@@ -49,6 +54,9 @@ static void check_empty_handle(void) {
     CHECK(cedar_answer_line(&engine, lines, NULL) == CEDAR_NO_ENGINE);
     CHECK(cedar_decide(&engine, &request, &decision, NULL) == CEDAR_NO_ENGINE && decision.allow == 0);
     CHECK(cedar_share(&engine, &other) == CEDAR_NO_ENGINE);
+    CHECK(cedar_publish_entities(&engine, files.entities, &refusal, &text) == CEDAR_NO_ENGINE && text.written == 0);
+    CHECK(refusal.file == 0 && refusal.number == 0 && refusal.offset == CEDAR_NO_OFFSET && strcmp(room, "####") == 0);
+    CHECK(cedar_publish_entities(&engine, bytes_of("{}"), NULL, NULL) == CEDAR_NO_ENGINE);
     cedar_free(&engine);
     cedar_free(&other);
 }
@@ -61,6 +69,7 @@ static void check_arguments(void) {
     cedar_refusal refusal = {sizeof refusal - 1, 7, 7, 7};
     CHECK(cedar_new(&engine) == CEDAR_OK);
     CHECK(cedar_publish(&engine, &files, &refusal, NULL) == CEDAR_ARGUMENT && refusal.file == 7);
+    CHECK(cedar_publish_entities(&engine, files.entities, &refusal, NULL) == CEDAR_ARGUMENT && refusal.file == 7);
     other.settings = 2;
     CHECK(cedar_publish(&engine, &other, NULL, NULL) == CEDAR_ARGUMENT && cedar_validate(&other, NULL) == CEDAR_ARGUMENT);
     CHECK(cedar_explain(&other, CEDAR_WORDS, NULL) == CEDAR_ARGUMENT && cedar_explain(&files, 2, NULL) == CEDAR_ARGUMENT);
@@ -96,6 +105,12 @@ static void check_empty_bytes(void) {
     cedar_refusal refusal = {sizeof refusal, 0, 0, 0};
     CHECK(cedar_publish(&engine, &empty, &refusal, &text) == CEDAR_REFUSED && refusal.file == CEDAR_SCHEMA && refusal.number == 301);
     CHECK(refusal.offset == CEDAR_NO_OFFSET && has(&text, bytes_of("{\"file\":\"schema\",\"refused\":301}\n")));
+    CHECK(answers_are_right(&engine));
+    /* Entities of no bytes are no JSON. */
+    for (int i = 0; i < 2; i++) {
+        CHECK(cedar_publish_entities(&engine, i ? none : no_length, &refusal, &text) == CEDAR_REFUSED && refusal.file == CEDAR_ENTITIES);
+        CHECK(refusal.number == 501 && has(&text, bytes_of("{\"file\":\"entities\",\"refused\":501}\n")));
+    }
     CHECK(answers_are_right(&engine));
     cedar_free(&engine);
 }
@@ -165,6 +180,77 @@ static void check_versions(void) {
     cedar_free(&other);
 }
 
+/* Entities in which ann is in no group. */
+#define ANN_IN_NO_GROUP \
+    "[{\"uid\":{\"type\":\"User\",\"id\":\"ann\"}}," \
+    "{\"uid\":{\"type\":\"Photo\",\"id\":\"beach\"},\"attrs\":{\"owner\":{\"type\":\"User\",\"id\":\"jane\"},\"private\":false}," \
+    "\"parents\":[{\"type\":\"Album\",\"id\":\"jane_vacation\"}]}]"
+#define ALLOWED "{\"decision\":\"allow\",\"determining\":[\"shared-with-friends\"],\"erring\":[]}"
+#define DENIED "{\"decision\":\"deny\",\"determining\":[],\"erring\":[]}"
+/* What is answered where the beach is not stored: `private` reads an attribute of it, and the other policies ask whether it has one. */
+#define NOT_STORED "{\"decision\":\"deny\",\"determining\":[],\"erring\":[{\"error\":\"missing_entity\",\"policy\":\"private\"}]}"
+#define REFUSED_506 "{\"file\":\"entities\",\"refused\":506}\n"
+
+/* Whether this is answered where ann views the beach of examples/photos. */
+static int is_answered(cedar_engine *engine, const char *answer) {
+    char room[256];
+    cedar_buffer text = {room, sizeof room, 0};
+    const char *line = "{\"principal\":\"User::\\\"ann\\\"\",\"action\":\"Action::\\\"view\\\"\",\"resource\":\"Photo::\\\"beach\\\"\"}";
+    return cedar_answer_line(engine, bytes_of(line), &text) == CEDAR_OK && has(&text, bytes_of(answer));
+}
+
+/* Whether entities of examples/photos are refused as `cedar_publish` refuses them, with any room for the text, and explained by the schema
+ * alone in the same words. */
+static int are_refused(cedar_engine *engine, cedar_files photos, cedar_bytes entities, uint32_t number, const char *line) {
+    cedar_refusal refusal = {sizeof refusal, 7, 7, 7}, other = {sizeof other, 7, 7, 7};
+    char room[64], words[2][1024];
+    cedar_buffer text = {room, sizeof room, 0}, all = {words[0], sizeof words[0], 0}, alone = {words[1], sizeof words[1], 0};
+    int is_right = cedar_publish_entities(engine, entities, &refusal, &text) == CEDAR_REFUSED && has(&text, bytes_of(line));
+    is_right = is_right && refusal.file == CEDAR_ENTITIES && refusal.number == number && refusal.offset == CEDAR_NO_OFFSET;
+    is_right = is_right && cedar_publish_entities(engine, entities, NULL, NULL) == CEDAR_REFUSED;
+    for (text.room = 0; text.room < strlen(line); text.room++) {
+        memset(room, '#', sizeof room);
+        is_right = is_right && cedar_publish_entities(engine, entities, NULL, &text) == CEDAR_REFUSED && text.written == strlen(line);
+        for (size_t i = 0; i < sizeof room; i++) {
+            is_right = is_right && room[i] == '#';
+        }
+    }
+    photos.entities = entities;
+    is_right = is_right && cedar_publish(engine, &photos, &other, NULL) == CEDAR_REFUSED && memcmp(&refusal, &other, sizeof other) == 0;
+    is_right = is_right && cedar_explain(&photos, CEDAR_WORDS, &all) == CEDAR_OK;
+    photos.policies = photos.links = (cedar_bytes){NULL, 0};
+    return is_right && cedar_explain(&photos, CEDAR_WORDS, &alone) == CEDAR_OK && alone.written > 20
+        && has(&all, (cedar_bytes){words[1], alone.written});
+}
+
+/* Entities are swapped under the same policies, for one handle and not for those that share with it. */
+static void check_entities(const char *folder) {
+    cedar_engine engine, other;
+    char photos_folder[4096];
+    snprintf(photos_folder, sizeof photos_folder, "%s/../photos", folder);
+    cedar_files photos = files_of(photos_folder);
+    cedar_bytes broken = content(photos_folder, "broken_entities.json");
+    cedar_refusal refusal = {sizeof refusal, 7, 7, 7};
+    CHECK(cedar_new(&engine) == CEDAR_OK && cedar_new(&other) == CEDAR_OK && cedar_publish(&engine, &photos, NULL, NULL) == CEDAR_OK);
+    CHECK(cedar_share(&engine, &other) == CEDAR_OK && is_answered(&engine, ALLOWED) && is_answered(&other, ALLOWED));
+    CHECK(cedar_publish_entities(&engine, bytes_of(ANN_IN_NO_GROUP), &refusal, NULL) == CEDAR_OK);
+    CHECK(refusal.file == 0 && refusal.number == 0 && refusal.offset == CEDAR_NO_OFFSET);
+    CHECK(is_answered(&engine, DENIED) && is_answered(&other, ALLOWED));
+    CHECK(are_refused(&engine, photos, broken, 506, REFUSED_506));
+    CHECK(are_refused(&engine, photos, bytes_of("{}"), 502, "{\"file\":\"entities\",\"refused\":502}\n"));
+    CHECK(are_refused(&engine, photos, bytes_of("[\xff]"), 501, "{\"file\":\"entities\",\"refused\":501}\n"));
+    CHECK(is_answered(&engine, DENIED) && is_answered(&other, ALLOWED));
+    CHECK(cedar_publish_entities(&engine, bytes_of("[]"), NULL, NULL) == CEDAR_OK && is_answered(&engine, NOT_STORED));
+    CHECK(cedar_share(&engine, &other) == CEDAR_OK && is_answered(&other, NOT_STORED));
+    CHECK(cedar_publish_entities(&engine, photos.entities, NULL, NULL) == CEDAR_OK && is_answered(&engine, ALLOWED));
+    cedar_free(&engine);
+    CHECK(is_answered(&other, NOT_STORED) && cedar_publish_entities(&other, photos.entities, NULL, NULL) == CEDAR_OK);
+    CHECK(is_answered(&other, ALLOWED));
+    cedar_free(&other);
+    free_files(&photos);
+    free((void *)broken.at);
+}
+
 static void check_refused_requests(void) {
     const struct {
         const char *principal, *action, *context, *text;
@@ -216,6 +302,7 @@ int main(int count, char **words) {
     check_empty_bytes();
     check_room();
     check_versions();
+    check_entities(words[1]);
     check_refused_requests();
     check_fork();
     free_files(&files);

@@ -15,16 +15,18 @@ def plain(text):
 def main():
     with open(os.path.join(TOP, 'docs', 'EMBEDDING.md'), encoding='utf-8') as file:
         blocks = file.read().split('```')[1::2]
-    found = set()
+    passed, left = 0, set(EXAMPLES)
     for block in blocks:
         language, _, text = block.partition('\n')
         with open(os.path.join(TOP, 'bindings', EXAMPLES[language]), encoding='utf-8') as file:
-            if plain(text) in plain(file.read()):
-                found.add(language)
-            else:
-                print('docs/EMBEDDING.md: the block of %s is not in bindings/%s' % (language, EXAMPLES[language]))
-    print('%d passed, %d failed' % (len(found), len(EXAMPLES) - len(found)))
-    return len(found) != len(EXAMPLES)
+            is_there = plain(text) in plain(file.read())
+        passed += is_there
+        left.discard(language)
+        if not is_there:
+            print('docs/EMBEDDING.md: a block of %s is not in bindings/%s:\n%s' % (language, EXAMPLES[language], text))
+    failed = len(blocks) - passed + len(left)
+    print('%d passed, %d failed' % (passed, failed))
+    return failed != 0
 
 
 if __name__ == '__main__':

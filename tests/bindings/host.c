@@ -3,9 +3,12 @@
  *   batch     answers the request lines of standard input by one call
  *   lines     answers each of them by a call
  *   parts     answers requests by parts: each line has seven fields, with the byte 1F between them
+ *   entities  publishes the files with no entities, then the entities alone, and answers the request lines by one call
  *   publish   publishes the files, prints the text of the call, and ends with its status
+ *   publish-entities  publishes the files with no entities, then the entities alone, prints the text of that call, and ends with its status
  *   validate  validates the files, prints the text of the call, and ends with its status
- *   words     explains the files in words; `json` explains them as JSON lines */
+ *   words     explains the files in words; `json` explains them as JSON lines
+ *   entities-words    explains the entities in words, by the schema alone */
 #include "files.h"
 
 static cedar_buffer text;
@@ -71,14 +74,24 @@ static int print_parts(cedar_engine *engine, cedar_bytes lines) {
     return 0;
 }
 
+/* Publishes the files with no entities. */
+static uint32_t publish_without_entities(cedar_engine *engine, cedar_files files) {
+    files.entities = bytes_of("[]");
+    return cedar_publish(engine, &files, NULL, NULL);
+}
+
 static int answered(const cedar_files *files, const char *mode) {
     cedar_engine engine;
-    int ended = 9;
-    if (cedar_new(&engine) != CEDAR_OK || cedar_publish(&engine, files, NULL, NULL) != CEDAR_OK) {
+    int ended = 9, is_over = strcmp(mode, "entities") == 0;
+    if (cedar_new(&engine) != CEDAR_OK) {
+        return 9;
+    }
+    if (is_over ? publish_without_entities(&engine, *files) || cedar_publish_entities(&engine, files->entities, NULL, NULL)
+                : cedar_publish(&engine, files, NULL, NULL)) {
         return 9;
     }
     cedar_bytes lines = read_all(stdin);
-    if (strcmp(mode, "batch") == 0) {
+    if (strcmp(mode, "batch") == 0 || is_over) {
         uint32_t status;
         do {
             status = cedar_answer(&engine, lines, &text);
@@ -94,12 +107,15 @@ static int answered(const cedar_files *files, const char *mode) {
     return ended;
 }
 
-static int published(const cedar_files *files) {
+static int published(const cedar_files *files, int is_over) {
     cedar_engine engine;
     uint32_t status = cedar_new(&engine);
+    if (status == CEDAR_OK && is_over && publish_without_entities(&engine, *files) != CEDAR_OK) {
+        return 9;
+    }
     if (status == CEDAR_OK) {
         do {
-            status = cedar_publish(&engine, files, NULL, &text);
+            status = is_over ? cedar_publish_entities(&engine, files->entities, NULL, &text) : cedar_publish(&engine, files, NULL, &text);
         } while (status != CEDAR_OK && grows(&text));
         cedar_free(&engine);
     }
@@ -108,6 +124,8 @@ static int published(const cedar_files *files) {
 
 static int judged(const cedar_files *files, const char *mode) {
     uint32_t status;
+    cedar_files alone = {sizeof alone, files->schema, {NULL, 0}, {NULL, 0}, files->entities, 0, 0};
+    files = strcmp(mode, "entities-words") == 0 ? &alone : files;
     do {
         status = strcmp(mode, "validate") == 0 ? cedar_validate(files, &text)
                                                : cedar_explain(files, strcmp(mode, "json") == 0 ? CEDAR_JSON : CEDAR_WORDS, &text);
@@ -121,8 +139,11 @@ int main(int count, char **words) {
     }
     cedar_files files = files_of(words[1]);
     const char *mode = words[2];
-    int is_judged = strcmp(mode, "validate") == 0 || strcmp(mode, "words") == 0 || strcmp(mode, "json") == 0;
-    int ended = strcmp(mode, "publish") == 0 ? published(&files) : is_judged ? judged(&files, mode) : answered(&files, mode);
+    int is_over = strcmp(mode, "publish-entities") == 0;
+    int is_judged = strcmp(mode, "validate") == 0 || strcmp(mode, "json") == 0 || strstr(mode, "words") != NULL;
+    int ended = is_over || strcmp(mode, "publish") == 0 ? published(&files, is_over)
+                : is_judged                             ? judged(&files, mode)
+                                                        : answered(&files, mode);
     free_files(&files);
     free(text.at);
     return ended;

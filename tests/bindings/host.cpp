@@ -48,10 +48,18 @@ static std::string answer_of(const cedar::Engine &engine, std::string_view field
     }
 }
 
+static cedar::Files without_entities(cedar::Files files) {
+    files.entities = "[]";
+    return files;
+}
+
 static int answered(const cedar::Files &files, const std::string &mode) {
     const std::string lines = all(std::cin);
-    cedar::Engine engine(files);
-    if (mode == "batch") {
+    cedar::Engine engine(mode == "entities" ? without_entities(files) : files);
+    if (mode == "entities") {
+        engine.publish_entities(files.entities);
+    }
+    if (mode == "batch" || mode == "entities") {
         std::cout << engine.answer(lines);
         return 0;
     }
@@ -84,9 +92,14 @@ int main(int count, char **words) {
             cedar::Engine engine(files);
             return 0;
         }
+        if (mode == "publish-entities" || mode == "entities-words") {
+            cedar::Engine engine(without_entities(files));
+            engine.publish_entities(files.entities);
+            return 0;
+        }
         return answered(files, mode);
     } catch (const cedar::Refusal &refusal) {
-        std::cout << refusal.text;
+        std::cout << (mode == "entities-words" ? refusal.words : refusal.text);
         return 2;
     } catch (const cedar::Faults &faults) {
         std::cout << faults.report;

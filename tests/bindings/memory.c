@@ -39,6 +39,18 @@ static outcome publishes_faults(void) {
     return (outcome){is_right ? CEDAR_OK : status, is_right || status == CEDAR_MEMORY};
 }
 
+static outcome publishes_entities(void) { return (outcome){cedar_publish_entities(&engine, files.entities, NULL, NULL), 1}; }
+
+/* Entities that are no list are refused, with any schema. */
+static outcome publishes_refused_entities(void) {
+    cedar_refusal refusal = {sizeof refusal, 0, 0, 0};
+    cedar_buffer text = text_buffer();
+    uint32_t status = cedar_publish_entities(&engine, bytes_of("{}"), &refusal, &text);
+    int is_right = status == CEDAR_REFUSED && refusal.file == CEDAR_ENTITIES && refusal.number == 502
+        && has(&text, bytes_of("{\"file\":\"entities\",\"refused\":502}\n"));
+    return (outcome){is_right ? CEDAR_OK : status, is_right || (refusal.file == 0 && refusal.number == 0 && text.written == 0)};
+}
+
 static outcome validates(void) {
     cedar_buffer text = text_buffer();
     uint32_t status = cedar_validate(&files, &text);
@@ -181,6 +193,8 @@ int main(int count, char **words) {
     try_each("new", makes);
     try_each("publish", publishes);
     try_each("publish with faults", publishes_faults);
+    try_each("publish entities", publishes_entities);
+    try_each("publish entities that are refused", publishes_refused_entities);
     try_each("validate", validates);
     try_explanations();
     try_each("share", shares);

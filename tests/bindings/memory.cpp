@@ -71,6 +71,15 @@ int main(int count, char **words) {
         }
         return false;
     });
+    try_each("publish entities", [&] { return engine.publish_entities(entities), asks(); });
+    try_each("publish entities that are refused", [&] {
+        try {
+            engine.publish_entities("{}");
+        } catch (const cedar::Refusal &refusal) {
+            return refusal.file == CEDAR_ENTITIES && refusal.number == 502 && !refusal.offset && asks();
+        }
+        return false;
+    });
     try_each("validate", [&] { return cedar::validate(files).accepted && cedar::explain(files).empty(); });
     std::printf("%d passed, %d failed\n", passed, failed);
     return failed != 0;

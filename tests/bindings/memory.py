@@ -57,9 +57,22 @@ def main():
             return (refused.number, refused.offset) == (201, 7) and (is_refusing or refused.line == 1) and asks(is_refusing)
         return False
 
+    def publishes_entities(is_refusing):
+        engine.publish_entities(files[2])
+        return asks(is_refusing)
+
+    def refuses_entities(is_refusing):
+        try:
+            engine.publish_entities('{}')
+        except bobbinjade.Refused as refused:
+            return (refused.file, refused.number, refused.offset) == ('entities', 502, None) and asks(is_refusing)
+        return False
+
     try_each('ask', asks)
     try_each('publish', publishes)
     try_each('publish what is refused', refuses)
+    try_each('publish entities', publishes_entities)
+    try_each('publish entities that are refused', refuses_entities)
     try_each('validate', lambda _: bobbinjade.validate(*files[:2]).is_accepted and bobbinjade.explain(*files) == '')
     print('%d passed, %d failed' % (COUNTS[True], COUNTS[False]))
     return COUNTS[False] != 0

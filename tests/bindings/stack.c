@@ -59,6 +59,30 @@ static const form lines[] = {
     {"a context of 124 arrays", ANN ",\"context\":{\"a\":", "[", 124, "1", "]", "}}"},
 };
 
+/* Schemas with a user whose attribute is as high as a type may be, and entities for each. A type is at most 100 high. */
+#define USERS \
+    "{\"\":{\"actions\":{},\"entityTypes\":{\"User\":{\"memberOfTypes\":[\"User\"]," \
+    "\"shape\":{\"type\":\"Record\",\"attributes\":{\"a\":"
+#define NUMBER "{\"type\":\"Long\"}"
+#define USER "[{\"uid\":{\"type\":\"User\",\"id\":\"0\"},\"attrs\":{\"a\":"
+static const form schemas[] = {
+    {"sets", USERS, "{\"type\":\"Set\",\"element\":", 98, NUMBER, "}", "}}}}}}"},
+    {"records", USERS, "{\"type\":\"Record\",\"attributes\":{\"a\":", 60, NUMBER, "}}", "}}}}}}"},
+};
+static const form entities[] = {
+    {"sets in sets, 98 deep", USER, "[", 98, "1", "]", "}}]"},
+    {"records in records, 60 deep", USER, "{\"a\":", 60, "1", "}", "}}]"},
+};
+/* Texts that are refused, or make no deep values. */
+static const form other_entities[] = {
+    {"no entities", "[]", "", 0, "", "", ""},
+    {"open arrays", USER, "[", 100000, "", "", ""},
+    {"open objects", "", "{\"a\":", 100000, "", "", ""},
+    {"an object of 100,000 members", USER "{\"a\":1", ",\"a\":1", 100000, "}", "", "}}]"},
+};
+/* So many users are each a child of the next. */
+#define CHAIN 20000
+
 static cedar_files files;
 static cedar_engine engine;
 static cedar_bytes asked_line;
@@ -83,12 +107,32 @@ static cedar_bytes text_of(const form *form) {
     return (cedar_bytes){at, length};
 }
 
+/* Entities of users in a chain. */
+static cedar_bytes chain(void) {
+    char *at = malloc((size_t)CHAIN * 100 + 2), *to = at;
+    if (!at) {
+        exit(9);
+    }
+    for (int i = 0; i < CHAIN; i++) {
+        to += sprintf(to, "%c{\"uid\":{\"type\":\"User\",\"id\":\"%d\"},\"attrs\":{\"a\":[]}", i ? ',' : '[', i);
+        to += i + 1 < CHAIN ? sprintf(to, ",\"parents\":[{\"type\":\"User\",\"id\":\"%d\"}]}", i + 1) : sprintf(to, "}");
+    }
+    *to++ = ']';
+    return (cedar_bytes){at, (size_t)(to - at)};
+}
+
 /* The calls. Each sets whether its status is one that these texts may have. */
 static int is_right;
+static uint32_t wanted;
 
 static void *publishes(void *none) {
     uint32_t status = cedar_publish(&engine, &files, NULL, NULL);
     is_right = status == CEDAR_OK || status == CEDAR_FAULTS;
+    return none;
+}
+
+static void *publishes_entities(void *none) {
+    is_right = cedar_publish_entities(&engine, files.entities, NULL, NULL) == wanted;
     return none;
 }
 
@@ -170,6 +214,50 @@ static void close_engine(void) {
     free((void *)files.policies.at);
 }
 
+/* Publishes a schema of `schemas`, with policies that are short and no entities. */
+static void open_schema(const form *form) {
+    files = (cedar_files){sizeof files, text_of(form), bytes_of("permit(principal, action, resource);"), {NULL, 0}, bytes_of("[]"), 0, 0};
+    if (cedar_new(&engine) != CEDAR_OK) {
+        exit(9);
+    }
+    on_a_stack(READING_STACK, publishes);
+    CHECK(is_right);
+}
+
+static void close_schema(void) {
+    on_a_stack(READING_STACK, frees);
+    free((void *)files.schema.at);
+}
+
+static void check_entities(const form *form, uint32_t status) {
+    files.entities = text_of(form);
+    wanted = status;
+    on_a_stack(READING_STACK, publishes_entities);
+    CHECK(is_right);
+    free((void *)files.entities.at);
+}
+
+/* Publishes entities over deep ones, which are freed then. */
+static void check_all_entities(void) {
+    for (size_t i = 0; i < COUNT(schemas); i++) {
+        open_schema(&schemas[i]);
+        check_entities(&entities[i], CEDAR_OK);
+        check_entities(&entities[i], CEDAR_OK);
+        for (size_t k = 0; k < COUNT(other_entities); k++) {
+            check_entities(&other_entities[k], k == 0 ? CEDAR_OK : CEDAR_REFUSED);
+        }
+        check_entities(&entities[i], CEDAR_OK);
+        close_schema();
+    }
+    open_schema(&schemas[0]);
+    files.entities = chain();
+    wanted = CEDAR_OK;
+    on_a_stack(READING_STACK, publishes_entities);
+    CHECK(is_right);
+    free((void *)files.entities.at);
+    close_schema();
+}
+
 static void print_least(void) {
     printf("| Policies | publish | validate | explain | free |\n|---|---|---|---|---|\n");
     for (size_t i = 0; i < COUNT(policies); i++) {
@@ -189,6 +277,15 @@ static void print_least(void) {
         free((void *)asked_line.at);
     }
     close_engine();
+    printf("\n| Entities | publish entities |\n|---|---|\n");
+    for (size_t i = 0; i < COUNT(entities); i++) {
+        open_schema(&schemas[i]);
+        files.entities = text_of(&entities[i]);
+        wanted = CEDAR_OK;
+        printf("| %s | %zu |\n", entities[i].name, least(publishes_entities));
+        free((void *)files.entities.at);
+        close_schema();
+    }
 }
 
 static void check(const form *form) {
@@ -228,5 +325,6 @@ int main(int count, char **words) {
     }
     files.policies = (cedar_bytes){NULL, 0};
     free_files(&files);
+    check_all_entities();
     return counted();
 }

@@ -48,6 +48,11 @@ func main() {
 	}
 	fmt.Print(string(answers))
 
+	// Entities that changed are read alone, and the policies are not read again. Goroutines may ask meanwhile.
+	if err := engine.PublishEntities(content("entities.json")); err != nil {
+		log.Fatal(err)
+	}
+
 	// Policies that are refused change nothing.
 	files.Policies = []byte("permit(")
 	var refusal *bobbinjade.Refusal

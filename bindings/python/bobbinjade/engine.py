@@ -1,7 +1,7 @@
 """An engine, for any number of threads.
 
 A request takes a handle from a deque, and puts it back, without a lock. Only where the deque has no handle of the current version does it
-take the lock for a moment, to share one. Files are read before the lock is taken."""
+take the lock for a moment, to share one. Files are read before the lock is taken. Publishers have a lock of their own."""
 from __future__ import annotations
 
 import json
@@ -110,7 +110,12 @@ class Engine:
 
     def __init__(self, schema: Text, policies: Text, entities: Text, links: Optional[Text] = None, any_decimal: bool = False) -> None:
         """Reads and validates the contents of files. Raises Refused, Faults or OutOfMemory."""
-        self._main: Optional[Handle] = library.published(files_of(schema, policies, links, entities, any_decimal))
+        files = files_of(schema, policies, links, entities, any_decimal)
+        self._main: Optional[Handle] = library.published(files)
+        # The schema of the current version, by which refused entities are explained.
+        self._schema = files.schema
+        # Publishers swap one after another. Requests and `close` do not wait for this lock.
+        self._publishers = threading.Lock()
         self._lock = threading.Lock()
         self._count = 1
         # The number of the current version; 0 after closing.
@@ -126,11 +131,28 @@ class Engine:
     def publish(self, schema: Text, policies: Text, entities: Text, links: Optional[Text] = None, any_decimal: bool = False) -> None:
         """Reads and validates files, and has all later calls answer according to them. Requests do not wait for it. Raises Refused, Faults,
         OutOfMemory or Closed; then nothing has changed."""
-        main = library.published(files_of(schema, policies, links, entities, any_decimal))
+        files = files_of(schema, policies, links, entities, any_decimal)
+        main = library.published(files)
+        with self._publishers:
+            self._swap(main, files.schema)
+
+    def publish_entities(self, entities: Text) -> None:
+        """Reads entities, and has all later calls answer over them, according to the schema, the policies and the links that are current.
+        These are not read again. Requests do not wait for it; `publish` of another thread waits with its swap. Raises Refused, OutOfMemory
+        or Closed; then nothing has changed."""
+        given = encoded(entities)
+        with self._publishers:
+            schema, main = self._schema, self._renewed(Handle())
+            library.publish_entities(main, schema, given)
+            self._swap(main, schema)
+
+    def _swap(self, main: Optional[Handle], schema: bytes) -> None:
+        """Has a handle, to which was published, take the place of the main one. The caller has the lock of publishers."""
         with self._lock:
             if not self._version:
                 raise Closed('the engine is closed')
             main, self._main = self._main, main
+            self._schema = schema
             self._count += 1
             self._version = self._count
         del main
@@ -140,6 +162,7 @@ class Engine:
         """Frees all that no running call uses. Later calls raise Closed. Closing twice is safe."""
         with self._lock:
             self._version = 0
+            self._schema = b''
             main, self._main = self._main, None
         del main
         self._sweep()

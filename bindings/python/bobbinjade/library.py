@@ -43,7 +43,8 @@ def loaded(kind: type) -> Any:
     folder = os.environ.get('BOBBINJADE_LIB')
     beside = os.path.join(os.path.dirname(os.path.abspath(__file__)), NAME)
     library = kind(os.path.join(folder, NAME) if folder else beside if os.path.exists(beside) else SYSTEM_NAME)
-    for name in ('new', 'publish', 'validate', 'explain', 'share', 'answer', 'answer_line', 'decide', 'abi_version', 'version'):
+    for name in ('new', 'publish', 'publish_entities', 'validate', 'explain', 'share', 'answer', 'answer_line', 'decide', 'abi_version',
+                 'version'):
         getattr(library, 'cedar_raw_' + name).restype = ctypes.c_uint32
     library.cedar_raw_free.restype = None
     if library.cedar_raw_abi_version() != ABI_VERSION:
@@ -154,6 +155,17 @@ def published(files: Files) -> Handle:
     if status != OK:
         raise failed(status)
     return handle
+
+
+def publish_entities(handle: Handle, schema: bytes, entities: bytes) -> None:
+    """Has a handle lead to an engine of the same policies over entities. `schema` is that of its engine, and explains refused entities."""
+    why = Why()
+    words = flat(entities)
+    status, _ = grown(256, lambda *room: LIBRARY.cedar_raw_publish_entities(handle.at, *words, ctypes.byref(why), *room))
+    if status == REFUSED:
+        raise refused(files_of(schema, b'', None, entities, False), why)
+    if status != OK:
+        raise failed(status)
 
 
 def validated(files: Files) -> tuple[bool, str]:

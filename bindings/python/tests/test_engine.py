@@ -67,6 +67,13 @@ class Examples(unittest.TestCase):
                 for line, wanted in zip(requests.splitlines(), answers.splitlines()):
                     self.assertEqual(engine.answer_line(line), wanted)
 
+    def test_swapped_entities(self):
+        for name in names():
+            schema, policies, entities, links = files_of(name)
+            engine = bobbinjade.Engine(schema, policies, '[]', links)
+            engine.publish_entities(entities)
+            self.assertEqual(engine.answer(content(name, 'requests.jsonl')), content(name, 'answers.jsonl').decode())
+
     def test_by_parts(self):
         count = 0
         for name in names():
@@ -132,6 +139,34 @@ class Refusals(unittest.TestCase):
             self.assertEqual((raised.exception.file, raised.exception.number), wanted)
             self.assertTrue(raised.exception.words.startswith('error[%d]: ' % wanted[1]), raised.exception.words)
 
+    def test_entities(self):
+        schema, policies, entities, _ = files_of('photos')
+        broken = content('photos', 'broken_entities.json')
+        engine = bobbinjade.Engine(schema, policies, '[]')
+        raised = []
+        for call in (lambda: engine.publish_entities(broken), lambda: engine.publish(schema, policies, broken)):
+            with self.assertRaises(bobbinjade.Refused) as refused:
+                call()
+            raised.append(vars(refused.exception))
+        words = raised[0].pop('words')
+        self.assertTrue(words.startswith('error[506]: an attribute is not declared\n'), words)
+        self.assertEqual(raised[0], {'file': 'entities', 'number': 506, 'offset': None, 'line': 3})
+        self.assertEqual(raised[1], {**raised[0], 'words': words})
+        with self.assertRaises(bobbinjade.Refused) as refused:
+            engine.publish_entities('')
+        self.assertEqual((refused.exception.file, refused.exception.number), ('entities', 501))
+        # The beach is not stored yet, and `private` reads an attribute of it.
+        asked = 'User::"ann"', 'Action::"view"', 'Photo::"beach"'
+        self.assertEqual(engine.authorize(*asked).text,
+                         '{"decision":"deny","determining":[],"erring":[{"error":"missing_entity","policy":"private"}]}')
+        engine.publish_entities(entities)
+        self.assertEqual(engine.authorize(*asked).determining, ['shared-with-friends'])
+        # Ann leaves her group.
+        engine.publish_entities(entities.decode().replace(', "parents": [{ "type": "UserGroup", "id": "jane_friends" }]', ''))
+        self.assertEqual(engine.authorize(*asked).text, '{"decision":"deny","determining":[],"erring":[]}')
+        engine.close()
+        self.assertRaises(bobbinjade.Closed, engine.publish_entities, entities)
+
     def test_faults(self):
         schema, _, entities, _ = self.files
         policies = 'permit(principal, action, resource) when { principal.age > 1 };' * 200
@@ -175,6 +210,9 @@ class Refusals(unittest.TestCase):
 
 class Versions(unittest.TestCase):
     """Eight threads ask while versions are published. The id of the policy of a version is its number; even ones permit, odd ones forbid."""
+    COUNT = 1000
+    SCHEMA = {'': {'entityTypes': {'Group': {}, 'User': {'memberOfTypes': ['Group']}, 'Notebook': {}},
+                   'actions': {'write': {'appliesTo': {'principalTypes': ['User'], 'resourceTypes': ['Notebook']}}}}}
 
     def setUp(self):
         self.schema, _, self.entities, _ = files_of('notes')
@@ -182,8 +220,8 @@ class Versions(unittest.TestCase):
         self.is_over = False
         self.wrong = []
 
-    def policies(self, number):
-        return '@id("%d") %s(principal, action, resource);' % (number, 'forbid' if number % 2 else 'permit')
+    def policies(self, number, principal='principal'):
+        return '@id("%d") %s(%s, action, resource);' % (number % self.COUNT, 'forbid' if number % 2 else 'permit', principal)
 
     def ask(self, engine):
         while not self.is_over:
@@ -196,18 +234,26 @@ class Versions(unittest.TestCase):
             last = self.begun
             answered = int(response.determining[0])
             self.count += 1
-            if not first <= answered <= last or response.allowed == bool(answered % 2):
+            if all(it % self.COUNT != answered for it in range(first, last + 1)) or response.allowed == bool(answered % 2):
                 self.wrong.append('%r is not of %d to %d' % (response, first, last))
 
-    def test_swaps(self):
-        engine = bobbinjade.Engine(self.schema, self.policies(0), self.entities)
+    def repeat(self, call):
+        while not self.is_over:
+            try:
+                call()
+            except bobbinjade.Error as error:
+                self.wrong.append(repr(error))
+                return
+
+    def swap(self, engine, publish, meanwhile):
         threads = [threading.Thread(target=self.ask, args=(engine,)) for _ in range(8)]
+        threads.append(threading.Thread(target=self.repeat, args=(meanwhile,)))
         for thread in threads:
             thread.start()
         end = time.monotonic() + SECONDS
         while time.monotonic() < end:
             self.begun += 1
-            engine.publish(self.schema, self.policies(self.begun), self.entities)
+            publish(self.begun)
             self.done = self.begun
         self.is_over = True
         for thread in threads:
@@ -215,6 +261,28 @@ class Versions(unittest.TestCase):
         print('%d answers, %d versions' % (self.count, self.done))
         self.assertEqual(self.wrong, [])
         self.assertGreater(self.count, 8)
+        self.assertGreater(self.done, 1)
+
+    def test_swaps(self):
+        """Entities that are published alone meanwhile bring no older policies back."""
+        engine = bobbinjade.Engine(self.schema, self.policies(0), self.entities)
+        self.swap(engine, lambda number: engine.publish(self.schema, self.policies(number), self.entities),
+                  lambda: engine.publish_entities('[]'))
+
+    def test_swaps_of_entities(self):
+        """Ann is in the group of the number of the version, and each group has a policy. Refused entities meanwhile change nothing."""
+        policies = ''.join(self.policies(at, 'principal in Group::"%d"' % at) for at in range(self.COUNT))
+
+        def entities(number):
+            parent = {'type': 'Group', 'id': str(number % self.COUNT)}
+            return json.dumps([{'uid': {'type': 'User', 'id': 'ann'}, 'parents': [parent]}])
+
+        def refuse():
+            with self.assertRaises(bobbinjade.Refused):
+                engine.publish_entities('{}')
+
+        engine = bobbinjade.Engine(json.dumps(self.SCHEMA), policies, entities(0))
+        self.swap(engine, lambda number: engine.publish_entities(entities(number)), refuse)
 
 
 if __name__ == '__main__':

@@ -19,6 +19,9 @@ fn main() -> Result<(), Box<dyn Error>> {
     // All request lines of the folder, as `cedar authorize` answers them.
     print!("{}", engine.answer(content("requests.jsonl")?)?);
 
+    // Entities that changed are read alone, and the policies are not read again. Threads may ask meanwhile.
+    engine.publish_entities(&content("entities.json")?)?;
+
     // Policies that are refused change nothing.
     if let Err(error) = engine.publish(&Files { policies: b"permit(", ..files }) {
         println!("{error}");

@@ -13,7 +13,8 @@
 //! ```
 //!
 //! An [`Engine`] is `Send`, `Sync` and `Clone`: all clones are one engine. A request takes no lock, and [`Engine::publish`] swaps the
-//! files while requests run. Each answer is that of files that were current during its call.
+//! files while requests run, [`Engine::publish_entities`] the entities alone. Each answer is that of files that were current during its
+//! call.
 //!
 //! All `unsafe` code is in `src/raw.rs`.
 #![deny(missing_docs)]
@@ -29,7 +30,7 @@ use std::sync::Arc;
 use std::thread;
 
 pub use error::{Error, Faults, File, Refusal};
-use pool::Pool;
+use pool::{Pool, Published};
 use raw::{Decided, Handle, Why};
 
 /// The version of the interface that this crate is written for.
@@ -200,7 +201,30 @@ impl Engine {
     ///
     /// Those of [`Engine::new`], and [`Error::Closed`]. Nothing has changed then.
     pub fn publish(&self, files: &Files) -> Result<(), Error> {
-        on_large_stack(|| self.pool.swap(published(files)?))
+        on_large_stack(|| {
+            let published = published(files)?;
+            let _publishing = self.pool.publishing();
+            self.pool.swap(published)
+        })
+    }
+
+    /// Reads entities, and has all later calls answer over them, according to the schema, the policies and the links that are current.
+    /// These are not read again. Requests do not wait for it; [`Engine::publish`] on another thread waits with its swap.
+    ///
+    /// # Errors
+    ///
+    /// [`Error::Refused`], [`Error::Memory`] and [`Error::Closed`]. Nothing has changed then.
+    pub fn publish_entities(&self, entities: &[u8]) -> Result<(), Error> {
+        on_large_stack(|| {
+            let _publishing = self.pool.publishing();
+            let (mut lease, schema) = (self.pool.lease()?, self.pool.schema()?);
+            let (mut why, mut text) = (Why::default(), room(256)?);
+            match lease.call(|handle| handle.publish_entities(entities, &mut why, &mut text)) {
+                raw::OK => self.pool.swap(Published { handle: lease.into_handle().ok_or(Error::Closed)?, schema }),
+                raw::REFUSED => Err(refused(&Files { schema: &schema, entities, ..Files::default() }, &why)?),
+                status => Err(Error::of(status)),
+            }
+        })
     }
 
     /// Whether a request is allowed. It makes no text, so it is the fastest call.
@@ -302,17 +326,18 @@ pub fn version() -> Result<String, Error> {
 }
 
 /// A new handle to which these files are published.
-fn published(files: &Files) -> Result<Handle, Error> {
+fn published(files: &Files) -> Result<Published, Error> {
     let (mut handle, mut why, mut text) = (Handle::new().map_err(Error::of)?, Why::default(), room(1024)?);
     match handle.publish(files, &mut why, &mut text) {
-        raw::OK => Ok(handle),
-        raw::REFUSED => Err(Error::Refused(Box::new(refusal(files, &why)?))),
+        raw::OK => Ok(Published { handle, schema: Arc::new(copied(files.schema)?) }),
+        raw::REFUSED => Err(refused(files, &why)?),
         raw::FAULTS => Err(Error::Faults(Box::new(Faults { report: text_of(text)?, words: explained(files, 0)? }))),
         status => Err(Error::of(status)),
     }
 }
 
-fn refusal(files: &Files, why: &Why) -> Result<Refusal, Error> {
+/// The error for a file of these that is refused.
+fn refused(files: &Files, why: &Why) -> Result<Error, Error> {
     let file = match why.file {
         1 => File::Schema,
         2 => File::Policies,
@@ -320,7 +345,8 @@ fn refusal(files: &Files, why: &Why) -> Result<Refusal, Error> {
         _ => File::Entities,
     };
     let offset = (why.offset != u64::MAX).then_some(why.offset);
-    Ok(Refusal { file, number: why.number, offset, line: answer::line_of(&explained(files, 1)?), words: explained(files, 0)? })
+    let (line, words) = (answer::line_of(&explained(files, 1)?), explained(files, 0)?);
+    Ok(Error::Refused(Box::new(Refusal { file, number: why.number, offset, line, words })))
 }
 
 fn explained(files: &Files, format: u32) -> Result<String, Error> {
@@ -334,6 +360,13 @@ fn room(bytes: usize) -> Result<Vec<u8>, Error> {
     let mut text = Vec::new();
     text.try_reserve_exact(bytes).map_err(|_| Error::Memory)?;
     Ok(text)
+}
+
+/// A copy of bytes.
+fn copied(bytes: &[u8]) -> Result<Vec<u8>, Error> {
+    let mut copy = room(bytes.len())?;
+    copy.extend_from_slice(bytes);
+    Ok(copy)
 }
 
 fn text_of(text: Vec<u8>) -> Result<String, Error> {

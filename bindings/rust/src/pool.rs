@@ -2,9 +2,10 @@
 //!
 //! A request takes a handle out of a place, and puts it back, without a lock. Only where no place has a handle of the current version does
 //! it take the lock for a moment, to share one. The lock is held for nothing longer than that: files are read before it is taken.
+//! Publishers have a lock of their own.
 use std::array;
 use std::sync::atomic::{AtomicU64, AtomicUsize, Ordering};
-use std::sync::{Mutex, MutexGuard, PoisonError};
+use std::sync::{Arc, Mutex, MutexGuard, PoisonError};
 
 use crate::raw::{self, Handle, Shared, Spot};
 use crate::Error;
@@ -23,9 +24,16 @@ fn home() -> usize {
     HOME.try_with(|home| *home).unwrap_or(0)
 }
 
+/// A handle to which was published, and the schema, by which refused entities are explained.
+pub(crate) struct Published {
+    pub(crate) handle: Handle,
+    pub(crate) schema: Arc<Vec<u8>>,
+}
+
 /// The pool of an engine.
 pub(crate) struct Pool {
-    main: Mutex<Option<Handle>>,
+    publishers: Mutex<()>,
+    main: Mutex<Option<Published>>,
     version: AtomicU64,
     spots: [Spot; PLACES],
 }
@@ -41,6 +49,11 @@ impl Lease<'_> {
     pub(crate) fn call(&mut self, call: impl FnOnce(&mut Handle) -> u32) -> u32 {
         self.shared.as_mut().map_or(raw::MEMORY, |shared| call(&mut shared.handle))
     }
+
+    /// The handle, which does not go back.
+    pub(crate) fn into_handle(mut self) -> Option<Handle> {
+        self.shared.take().map(|shared| shared.handle)
+    }
 }
 
 impl Drop for Lease<'_> {
@@ -52,13 +65,28 @@ impl Drop for Lease<'_> {
 }
 
 impl Pool {
-    /// A pool over a handle to which was published.
-    pub(crate) fn new(main: Handle) -> Pool {
-        Pool { main: Mutex::new(Some(main)), version: AtomicU64::new(1), spots: array::from_fn(|_| Spot::default()) }
+    /// A pool over what was published.
+    pub(crate) fn new(main: Published) -> Pool {
+        Pool {
+            publishers: Mutex::new(()),
+            main: Mutex::new(Some(main)),
+            version: AtomicU64::new(1),
+            spots: array::from_fn(|_| Spot::default()),
+        }
     }
 
-    fn lock(&self) -> MutexGuard<'_, Option<Handle>> {
+    fn lock(&self) -> MutexGuard<'_, Option<Published>> {
         self.main.lock().unwrap_or_else(PoisonError::into_inner)
+    }
+
+    /// Keeps other publishers from swapping while the guard lives. Requests and [`Pool::close`] do not wait for it.
+    pub(crate) fn publishing(&self) -> MutexGuard<'_, ()> {
+        self.publishers.lock().unwrap_or_else(PoisonError::into_inner)
+    }
+
+    /// The schema of the current engine.
+    pub(crate) fn schema(&self) -> Result<Arc<Vec<u8>>, Error> {
+        self.lock().as_ref().map(|main| Arc::clone(&main.schema)).ok_or(Error::Closed)
     }
 
     fn current(&self) -> Result<u64, Error> {
@@ -68,13 +96,13 @@ impl Pool {
         }
     }
 
-    /// Has a handle, to which was published, take the place of the main one.
-    pub(crate) fn swap(&self, handle: Handle) -> Result<(), Error> {
+    /// Has what was published take the place of the main handle. The caller has the guard of [`Pool::publishing`].
+    pub(crate) fn swap(&self, published: Published) -> Result<(), Error> {
         let old = {
             let mut main = self.lock();
             let version = self.current()?;
             self.version.store(version + 1, Ordering::SeqCst);
-            main.replace(handle)
+            main.replace(published)
         };
         drop(old);
         self.sweep();
@@ -108,8 +136,8 @@ impl Pool {
     /// The handle, which then leads to the current engine.
     fn renewed(&self, mut shared: Box<Shared>) -> Result<Box<Shared>, Error> {
         let mut main = self.lock();
-        let handle = main.as_mut().ok_or(Error::Closed)?;
-        match handle.share(&mut shared.handle) {
+        let main = main.as_mut().ok_or(Error::Closed)?;
+        match main.handle.share(&mut shared.handle) {
             raw::OK => shared.version = self.current()?,
             status => return Err(Error::of(status)),
         }

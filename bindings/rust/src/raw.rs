@@ -54,6 +54,15 @@ extern "C" {
         room: usize,
         written: *mut usize,
     ) -> u32;
+    fn cedar_raw_publish_entities(
+        place: *mut Place,
+        entities: *const u8,
+        _: usize,
+        why: *mut Why,
+        text: *mut u8,
+        room: usize,
+        written: *mut usize,
+    ) -> u32;
     fn cedar_raw_validate(
         schema: *const u8,
         _: usize,
@@ -177,6 +186,15 @@ impl Handle {
                     written,
                 )
             }
+        })
+    }
+
+    /// Has the handle lead to an engine of the same policies over these entities.
+    pub(crate) fn publish_entities(&mut self, entities: &[u8], why: &mut Why, text: &mut Vec<u8>) -> u32 {
+        let place: *mut Place = &mut self.place;
+        grown(text, |at, room, written| {
+            // SAFETY: as in `publish`.
+            unsafe { cedar_raw_publish_entities(place, entities.as_ptr(), entities.len(), why, at, room, written) }
         })
     }
 

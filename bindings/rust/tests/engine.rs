@@ -154,6 +154,55 @@ fn refusals_have_their_words() {
     }
 }
 
+/// Entities of examples/photos in which ann is in no group, and so not a friend of jane.
+const NO_FRIENDS: &str = r#"[
+    {"uid":{"type":"User","id":"ann"}},
+    {"uid":{"type":"Photo","id":"beach"},"attrs":{"owner":{"type":"User","id":"jane"},"private":false},
+     "parents":[{"type":"Album","id":"jane_vacation"}]}
+]"#;
+
+/// Why a result is refused.
+fn refusal_of<T: std::fmt::Debug>(result: Result<T, Error>) -> bobbinjade::Refusal {
+    match result {
+        Err(Error::Refused(why)) => *why,
+        other => panic!("{other:?} is not a refusal"),
+    }
+}
+
+#[test]
+fn entities_are_swapped_alone() {
+    let it = example("photos");
+    let engine = it.engine();
+    let asked = Request::new(Uid::new("User", "ann"), Uid::new("Action", "view"), Uid::new("Photo", "beach"));
+    assert_eq!(engine.is_authorized(&asked).unwrap().determining, ["shared-with-friends"]);
+    engine.publish_entities(NO_FRIENDS.as_bytes()).unwrap();
+    assert_eq!(written(&engine.is_authorized(&asked).unwrap()), r#"{"decision":"deny","determining":[],"erring":[]}"#);
+
+    let broken = fs::read(folder().join("photos/broken_entities.json")).unwrap();
+    let why = refusal_of(engine.publish_entities(&broken));
+    assert_eq!((why.file, why.number, why.offset, why.line), (File::Entities, 506, None, Some(3)));
+    assert!(why.words.starts_with("error[506]: an attribute is not declared\n"), "{}", why.words);
+    assert_eq!(why, refusal_of(engine.publish(&Files { entities: &broken, ..it.files() })));
+    assert_eq!(refusal_of(engine.publish_entities(b"")).number, 501);
+    assert_eq!(engine.decide(&asked), Ok(Decision::Deny));
+
+    // The beach is not stored, and `private` reads an attribute of it.
+    engine.clone().publish_entities(b"[]").unwrap();
+    let wanted = r#"{"decision":"deny","determining":[],"erring":[{"error":"missing_entity","policy":"private"}]}"#;
+    assert_eq!(written(&engine.is_authorized(&asked).unwrap()), wanted);
+    engine.close();
+    assert_eq!(engine.publish_entities(&it.entities), Err(Error::Closed));
+}
+
+#[test]
+fn swapped_entities_answer_as_published_ones() {
+    for it in examples() {
+        let engine = Engine::new(&Files { entities: b"[]", ..it.files() }).unwrap();
+        engine.publish_entities(&it.entities).unwrap();
+        assert_eq!(engine.answer(&it.requests).unwrap(), it.answers);
+    }
+}
+
 #[test]
 fn faults_have_their_report() {
     let it = example("notes");
@@ -218,10 +267,13 @@ fn an_engine_crosses_threads() {
     crosses(&example("notes").engine());
 }
 
+/// How many versions have an id of their own.
+const VERSIONS: u64 = 1000;
+
 /// The policies of a version, whose id has its number. Even versions permit, and odd ones forbid.
 fn version(number: u64) -> String {
     let effect = if number % 2 == 0 { "permit" } else { "forbid" };
-    format!("@id(\"{number}\") {effect}(principal, action, resource);")
+    format!("@id(\"{}\") {effect}(principal, action, resource);", number % VERSIONS)
 }
 
 /// Asks until the end, and checks that each answer is that of a version that was current during its call. Gives the count of answers.
@@ -232,33 +284,59 @@ fn ask(engine: &Engine, begun: &AtomicU64, done: &AtomicU64, is_over: &AtomicBoo
         let response = engine.is_authorized(&asked("ann", "write")).unwrap();
         let last = begun.load(Ordering::SeqCst);
         let answered: u64 = response.determining[0].parse().unwrap();
-        assert!((first..=last).contains(&answered), "{answered} is not in {first} to {last}");
+        assert!((first..=last).any(|it| it % VERSIONS == answered), "{answered} is not in {first} to {last}");
         assert_eq!(response.decision == Decision::Allow, answered % 2 == 0);
         count += 1;
     }
     count
 }
 
-#[test]
-fn versions_swap_while_requests_run() {
-    let it = example("notes");
-    let engine = Engine::new(&Files { policies: version(0).as_bytes(), ..it.files() }).unwrap();
+/// Eight threads ask while versions are published and, on another thread, something else is done again and again.
+fn swap(engine: &Engine, publish: impl Fn(u64), meanwhile: impl Fn() + Sync) {
     let (begun, done, is_over) = (AtomicU64::new(0), AtomicU64::new(0), AtomicBool::new(false));
     let seconds: u64 = std::env::var("BOBBINJADE_SECONDS").ok().and_then(|it| it.parse().ok()).unwrap_or(1);
     let count: u64 = thread::scope(|scope| {
-        let asking: Vec<_> = (0..8).map(|_| scope.spawn(|| ask(&engine, &begun, &done, &is_over))).collect();
+        let asking: Vec<_> = (0..8).map(|_| scope.spawn(|| ask(engine, &begun, &done, &is_over))).collect();
+        scope.spawn(|| {
+            while !is_over.load(Ordering::SeqCst) {
+                meanwhile();
+            }
+        });
         let began = Instant::now();
         for number in 1.. {
             if began.elapsed() > Duration::from_secs(seconds) {
                 break;
             }
             begun.store(number, Ordering::SeqCst);
-            engine.publish(&Files { policies: version(number).as_bytes(), ..it.files() }).unwrap();
+            publish(number);
             done.store(number, Ordering::SeqCst);
         }
         is_over.store(true, Ordering::SeqCst);
         asking.into_iter().map(|it| it.join().unwrap()).sum()
     });
     println!("{count} answers, {} versions", done.load(Ordering::SeqCst));
-    assert!(count > 8);
+    assert!(count > 8 && done.load(Ordering::SeqCst) > 1);
+}
+
+/// Entities that are published alone meanwhile bring no older policies back.
+#[test]
+fn versions_swap_while_requests_run() {
+    let it = example("notes");
+    let engine = Engine::new(&Files { policies: version(0).as_bytes(), ..it.files() }).unwrap();
+    let publish = |number| engine.publish(&Files { policies: version(number).as_bytes(), ..it.files() }).unwrap();
+    swap(&engine, publish, || engine.publish_entities(b"[]").unwrap());
+}
+
+/// Ann is in the group of the number of the version, and each group has a policy. Entities that are refused meanwhile change nothing.
+#[test]
+fn entities_swap_while_requests_run() {
+    const SCHEMA: &[u8] = br#"{"":{"entityTypes":{"Group":{},"User":{"memberOfTypes":["Group"]},"Notebook":{}},
+        "actions":{"write":{"appliesTo":{"principalTypes":["User"],"resourceTypes":["Notebook"]}}}}}"#;
+    let policies: String = (0..VERSIONS).map(|at| version(at).replace("principal", &format!("principal in Group::\"{at}\""))).collect();
+    let entities = |number| {
+        format!(r#"[{{"uid":{{"type":"User","id":"ann"}},"parents":[{{"type":"Group","id":"{}"}}]}}]"#, number % VERSIONS).into_bytes()
+    };
+    let files = Files { schema: SCHEMA, policies: policies.as_bytes(), entities: &entities(0), ..Files::default() };
+    let engine = Engine::new(&files).unwrap();
+    swap(&engine, |number| engine.publish_entities(&entities(number)).unwrap(), || drop(engine.publish_entities(b"{}").unwrap_err()));
 }

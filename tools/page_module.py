@@ -34,6 +34,8 @@ LAYOUTS = {
 # The functions that the module has from outside, but for those of LLVM.
 FOREIGN = {'rattle_alloc', 'rattle_realloc', 'rattle_dealloc', 'memcmp', 'bcmp'}
 PSHUFB = 'llvm.x86.ssse3.pshuf.b.128'
+# Assembly of no instruction, by which the compiler keeps the order of memory around a count of holders. It is the same for each processor.
+BARRIER = 'asm sideeffect "", "~{memory}"()'
 FRAME = """  %frame.at = call ptr @llvm.frameaddress.p0(i32 0)
   %frame.number = ptrtoint ptr %frame.at to i64
   %frame.low = icmp slt i64 %frame.number, 16
@@ -99,7 +101,7 @@ class Rewriting:
         if self.found != self.exports or self.layouts != len(LAYOUTS) or function is not None:
             refuse('it exports %s, and has %d of its two lines of layout' % (sorted(self.found), self.layouts))
         text = ''.join(made).replace('@%s(' % PSHUFB, '@pshufb(') + DECLARED + (SWIZZLE if self.has_pshufb else '')
-        left = sorted(set(re.findall(r'llvm\.x86[\w.]*|\basm (?:sideeffect )?"[^"]*"', text)))
+        left = sorted(set(re.findall(r'llvm\.x86[\w.]*|\basm (?:sideeffect )?"[^"]*"', text.replace(BARRIER, ''))))
         if left:
             refuse('it has %s' % ', '.join(left))
         return text

@@ -46,30 +46,11 @@ fn push<'a>(
     Ok(())
 }
 
-/// How many tokens the text has. Where the text has a fault, how many come before the first fault.
-fn count(source: &str) -> usize {
-    let mut found = 0usize;
-    let mut rest = source;
-    for _turn in 0..source.len() {
-        if rest.is_empty() {
-            return found;
-        }
-        let Ok((piece, _, after)) = cut(rest, 0) else {
-            return found;
-        };
-        if piece.kind.is_some() {
-            found = found.saturating_add(1);
-        }
-        rest = after;
-    }
-    found
-}
-
-/// The tokens from left to right, which are counted before the list of them is made.
+/// The tokens from left to right. The list grows as they are found.
 fn lex(alloc: Global, source: &str) -> Result<Vec<Token<'_>>, TextFault>
     ensures { Gives (λ v. lexemes v.items) (spec.lex (length source.now) 0 source.now) result }
 {
-    let mut found = Vec::with_capacity(alloc, count(source))?;
+    let mut found = Vec::new(alloc);
     let mut at = 0;
     let mut rest = source;
     for _turn in 0..source.len() {

@@ -41,7 +41,7 @@ impl<'t> SpelledTokens<'t> {
 }
 
 /// The tokens of a text, each string with the letters that it writes (Cedar language reference, grammar). A token takes 32
-/// bytes of memory, a letter of a string 8.
+/// bytes of memory, a byte of a string 8.
 ///
 /// # Errors
 ///

@@ -1,5 +1,5 @@
 -- The number of a token is that of its text.
-use Rattle.std.proofs.Common.{◌≡◌, refl, sym, subst, ◌∙◌, ℕ, ◌+◌, ◌≤◌, ◌<◌, min, false, leb, List, [], ◌∷◌, length, take, drop, Option, Some, None, Ok, arith}
+use Rattle.std.proofs.Common.{◌≡◌, refl, sym, subst, ◌∙◌, ℕ, ◌+◌, ◌<◌, min, false, leb, List, [], ◌∷◌, length, take, drop, Option, Some, None, Ok, arith}
 use Rattle.std.specs.Prelude.{IsSome}
 use Rattle.std.proofs.lemmas.Bool.{cond-true, cond-false, and_right, lt-leb}
 use Rattle.cedar_text.specs.declared.token_kind.TokenKind.{TokenKind}

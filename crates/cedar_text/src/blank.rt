@@ -22,18 +22,30 @@ fn is_white_triple(a: u8, b: u8, c: u8) -> bool
         || (a == 0xE3 && b == 0x80 && c == 0x80)
 }
 
-/// How many bytes the white space at the beginning has; 0 where there is none.
-pub fn white_len(bytes: &[u8]) -> usize
-    ensures { result ≡ spec.white_len bytes.now }
+// How many bytes the white space at the beginning has, if it has two or three; 0 where there is none.
+fn long_white_len(bytes: &[u8]) -> usize
+    ensures { result ≡ spec.long_white_len bytes.now }
 {
     let (a, b, c) = (byte_at(bytes, 0), byte_at(bytes, 1), byte_at(bytes, 2));
-    if a == b' ' || (b'\t' <= a && a <= b'\r') {
-        1
-    } else if is_white_pair(a, b) {
+    if is_white_pair(a, b) {
         2
     } else if is_white_triple(a, b, c) {
         3
     } else {
         0
+    }
+}
+
+/// How many bytes the white space at the beginning has; 0 where there is none. Most texts are ASCII, so that is asked first.
+pub fn white_len(bytes: &[u8]) -> usize
+    ensures { result ≡ spec.white_len bytes.now }
+{
+    let a = byte_at(bytes, 0);
+    if a == b' ' || (b'\t' <= a && a <= b'\r') {
+        1
+    } else if a.is_ascii() {
+        0
+    } else {
+        long_white_len(bytes)
     }
 }

@@ -114,8 +114,8 @@ fn between_quotes(text: &str) -> Option<&str>
     Some(&text[1..len - 1])
 }
 
-/// The letters of a string token, as a pattern has them. The text is that of the token, with its quotes. Each letter takes
-/// memory once.
+/// The letters of a string token, as a pattern has them. The text is that of the token, with its quotes. The list has room for a
+/// letter for each byte between them, so it never grows.
 ///
 /// # Errors
 ///
@@ -132,7 +132,7 @@ pub fn letters(alloc: Global, text: &str) -> Result<Vec<Letter>, TextFault>
     let Some(inner) = between_quotes(text) else {
         return Err(TextFault::UnclosedString(0));
     };
-    let mut found = Vec::new(alloc);
+    let mut found = Vec::with_capacity(alloc, inner.len())?;
     let mut rest = inner;
     while !rest.is_empty() {
         let Some((letter, len)) = first_letter(rest) else {

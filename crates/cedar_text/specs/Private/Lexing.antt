@@ -32,12 +32,15 @@ is_white_triple a b c =
     || (a == 0xE2 && b == 0x81 && c == 0x9F)
     || (a == 0xE3 && b == 0x80 && c == 0x80)
 
+-- how many bytes of white space come first, where it has two or three
+abbrev pub long_white_len : List ℕ → ℕ
+long_white_len bs =
+    if is_white_pair (first bs) (slice_index bs 1) then 2
+    else (if is_white_triple (first bs) (slice_index bs 1) (slice_index bs 2) then 3 else 0)
+
 -- how many bytes of white space come first
 abbrev pub white_len : List ℕ → ℕ
-white_len bs =
-    if first bs == 32 || (nat_le 9 (first bs) && nat_le (first bs) 13) then 1
-    else (if is_white_pair (first bs) (slice_index bs 1) then 2
-    else (if is_white_triple (first bs) (slice_index bs 1) (slice_index bs 2) then 3 else 0))
+white_len bs = if first bs == 32 || (nat_le 9 (first bs) && nat_le (first bs) 13) then 1 else long_white_len bs
 
 -- ---- strings
 

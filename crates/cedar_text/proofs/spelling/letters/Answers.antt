@@ -7,7 +7,7 @@ use Rattle.cedar_text.proofs.EveryString.{no_string_stuck}
 use Rattle.cedar_text.proofs.spelling.letters.Goals as goal
 
 pub loop-rest-init : goal.loop-rest-init
-loop-rest-init c = (c.in-Some.ensures.utf8, ([], c.in-Some.ensures.found, rw c.new-found.ensures.items nothing))
+loop-rest-init c = (c.in-Some.ensures.utf8, ([], c.in-Some.ensures.found, rw c.in_ok-found.ensures.items nothing))
 
 pub returns-in_default-first_letter-clause-only : goal.returns-in_default-first_letter-clause-only
 returns-in_default-first_letter-clause-only c =

@@ -5,7 +5,7 @@ ghost use Rattle.cedar_schema_spec.specs.SchemaTree.{environments_of};
 ghost use Rattle.cedar_check_spec.specs.Private.Reporting.{faults_of_with, is_impossible_with, is_known_false};
 ghost use Rattle.cedar_check_spec.specs.Reports.{fault_at};
 ghost use Rattle.cedar_check.specs.FaultView.{fault_view};
-ghost use Rattle.cedar_check.specs.Private.Condition.{condition_in, IsReady};
+ghost use Rattle.cedar_check.specs.Private.Condition.{condition_in, first_in, IsReady};
 ghost use Rattle.cedar_check.specs.Private.Signatures.{AreKnown, AreNumbered};
 ghost use Rattle.cedar_check.specs.Private.View.{form_view};
 
@@ -88,7 +88,8 @@ fn add_fault(
     }
 }
 
-// The forms of a condition for the signatures: none where the condition names the action.
+// The forms for the signatures: those of a condition that does not name the action, or those of the condition on the principal,
+// where that on the action is `action == E`. In other cases there are none.
 fn known_forms(
     alloc: Global,
     settings: Settings,
@@ -96,13 +97,15 @@ fn known_forms(
     signatures: &Signatures<'_>,
     condition: Prepared<'_>,
 ) -> Result<Vec<Form>, AllocError>
-    requires { IsReady condition }
-    ensures { IfOk result (λ v. AreKnown settings schema.now (condition_in condition.entry) signatures.now.examples.items v.items) }
+    requires { IsReady schema.now condition }
+    ensures { IfOk result (λ v. AreKnown settings schema.now (first_in condition.entry) signatures.now.examples.items v.items) }
 {
-    match condition {
-        Prepared::Open(open) => forms_in(alloc, settings, schema, &signatures.examples, open),
-        Prepared::Parts(_) | Prepared::Whole(_) => Ok(Vec::new(alloc)),
-    }
+    let first = match condition {
+        Prepared::Open(open) => open,
+        Prepared::Parts(parts) if parts.named.is_some() => parts.principal,
+        Prepared::Parts(_) | Prepared::Whole(_) => return Ok(Vec::new(alloc)),
+    };
+    forms_in(alloc, settings, schema, &signatures.examples, first)
 }
 
 // Adds the faults of a policy, one for each environment in which its condition is not accepted. Returns whether it is known
@@ -118,7 +121,7 @@ fn check_everywhere(
 ) -> Result<bool, AllocError>
     requires signatures { AreNumbered signatures.now.examples.items signatures.now.numbers.items (environments_of schema.now.actions) }
     requires condition { condition_in condition ≡ condition_of policy.now }
-    requires ready { IsReady condition }
+    requires ready { IsReady schema.now condition }
     ensures faults { OnOk result (map fault_view faults.new.items ≡ map fault_view faults.old.items ++ faults_of_with settings schema.now policy.now) }
     ensures impossible { IfOk result (λ impossible. impossible ≡ is_impossible_with settings schema.now policy.now) }
 {
@@ -164,7 +167,7 @@ pub(crate) fn check_policy(
         schema,
         signatures,
         policy,
-        Prepared::new(&condition),
+        Prepared::new(schema, &condition),
         faults,
     );
     drop(condition);

@@ -83,7 +83,7 @@ pub(crate) fn form_of(
     environment: &Environment,
     condition: Prepared<'_>,
 ) -> Result<Form, AllocError>
-    requires { IsReady condition }
+    requires { IsReady schema.now condition }
     ensures { IfOk result (λ form. form_view form ≡ option_and_then (λ x. truth_in x.ty) (type_of_with settings schema.now environment.now [] (replace environment.now.action (condition_in condition.entry)))) }
 {
     let checker = Checker {

@@ -1,9 +1,12 @@
 //! Conditions, looked at once for all environments.
-ghost use Rattle.std.specs.Prelude.{◌≡◌};
-ghost use Rattle.cedar_check.specs.Private.Condition.{condition_in, IsReady};
+ghost use Rattle.std.specs.Prelude.{◌≡◌, IfSome};
+ghost use Rattle.cedar_check.specs.Private.Condition.{condition_in, IsNamed, IsReady};
 
 use crate::mention::mentions_action;
-use cedar_ast_expressions::{Expr, ExprKind};
+use crate::rows::is_declared;
+use cedar_ast_expressions::{BinaryOperator, Expr, ExprKind, Variable};
+use cedar_schema::Schema;
+use cedar_value::{Uid, ValueKind};
 
 /// The parts of a condition `principal && (action && rest)`.
 #[derive(Clone, Copy)]
@@ -14,6 +17,27 @@ pub(crate) struct Parts<'c> {
     pub(crate) action: &'c Expr,
     /// The rest of the condition.
     pub(crate) rest: &'c Expr,
+    /// The entity to which the condition on the action compares the action, if it is `action == E` and `E` is declared.
+    pub(crate) named: Option<&'c Uid>,
+}
+
+// The entity to which a condition compares the action, if it is `action == E` and `E` is declared.
+fn named_in<'c>(schema: &Schema, condition: &'c Expr) -> Option<&'c Uid>
+    ensures { IfSome result (λ named. IsNamed schema.now condition.now named.now) }
+{
+    let ExprKind::Binary(BinaryOperator::Equal, left, right) = condition.kind() else {
+        return None;
+    };
+    let ExprKind::Variable(Variable::Action) = left.kind() else {
+        return None;
+    };
+    let ExprKind::Literal(value) = right.kind() else {
+        return None;
+    };
+    match value.kind() {
+        ValueKind::Uid(named) if is_declared(schema, named) => Some(named),
+        _ => None,
+    }
 }
 
 /// A condition, sorted according to where the variable `action` occurs in it.
@@ -29,9 +53,9 @@ pub(crate) enum Prepared<'c> {
 
 impl<'c> Prepared<'c> {
     /// The condition, searched for the variable.
-    pub(crate) fn new(condition: &'c Expr) -> Self
+    pub(crate) fn new(schema: &Schema, condition: &'c Expr) -> Self
         ensures condition { condition_in result ≡ condition.now }
-        ensures ready { IsReady result }
+        ensures ready { IsReady schema.now result }
     {
         if !mentions_action(condition) {
             return Prepared::Open(condition);
@@ -49,6 +73,7 @@ impl<'c> Prepared<'c> {
             principal,
             action,
             rest,
+            named: named_in(schema, action),
         })
     }
 }

@@ -1,12 +1,15 @@
 use Rattle.std.proofs.Common.{◌≡◌, ◌++◌, ◌&&◌, ◌∷◌, [], Bool, List, cond, length, map, arith, ap, subst, sym, ◌∙◌}
-use Rattle.std.specs.Prelude.{IfSome, is_some, slice_get}
+use Rattle.std.specs.Prelude.{Contains, IfSome, is_some, slice_get}
+use Rattle.std.proofs.lemmas.List.Elements.{Contains-get_or}
 use Rattle.cedar_schema_spec.specs.SchemaTree.{environments_of}
 use Rattle.cedar_check_spec.specs.Private.Checking.{form_in_with}
 use Rattle.cedar_check_spec.specs.Private.Reporting.{is_known_false}
 use Rattle.cedar_check_spec.specs.Reports.{fault_at}
+use Rattle.cedar_check_law.proofs.Candidates.{environment_action}
+use Rattle.cedar_check_law.proofs.Descents.{is_action-Decides}
 use Rattle.cedar_check.specs.declared.form.Form.{Form}
 use Rattle.cedar_check.specs.FaultView.{fault_view}
-use Rattle.cedar_check.specs.Private.Condition.{condition_in}
+use Rattle.cedar_check.specs.Private.Condition.{first_in}
 use Rattle.cedar_check.specs.Private.Signatures.{AreNumbered, form_with}
 use Rattle.cedar_check.specs.Private.View.{form_view}
 use Rattle.cedar_check.proofs.Environments.{known_false, faults_step, impossible_step, not_known, still_known}
@@ -24,7 +27,7 @@ pub form_at-requires-clause-known : goal.form_at-requires-clause-known
 form_at-requires-clause-known c =
     let settings = c.args.settings in
     let s = c.args.schema.now in
-    let e = condition_in c.args.condition in
+    let e = first_in c.args.condition in
     let examples = c.args.signatures.now.examples.items in
     let numbers = c.args.signatures.now.numbers.items in
     let envs = c.environments-environments.result.now in
@@ -35,6 +38,14 @@ form_at-requires-clause-known c =
     subst (λ (l : List Form). IfSome number (λ n. IfSome (slice_get l n) (λ f. form_view f ≡ form_with settings s env e))) (sym c.deref.ensures.value)
     (known_at examples settings s e c.in_ok-known.known.items number env c.in_ok-known.ensures
     (numbered_at examples numbers envs i number env c.loop-place-test.true c.index-number.ensures c.index-environments-place.is numbered))
+
+pub form_at-requires-clause-declared : goal.form_at-requires-clause-declared
+form_at-requires-clause-declared c =
+    let s = c.args.schema.now in
+    let envs = c.environments-environments.result.now in
+    let env = c.index-environments-place.result in
+    let listed : Contains envs env = subst (λ e. Contains envs e) (sym c.index-environments-place.is) (Contains-get_or envs c.loop-place.place env c.loop-place-test.true) in
+    (is_action-Decides s env.action).1 (environment_action s.actions env (subst (λ l. Contains l env) c.environments-environments.ensures listed))
 
 pub loop-place-preserved : goal.loop-place-preserved
 loop-place-preserved c =

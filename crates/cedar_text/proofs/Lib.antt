@@ -1,4 +1,5 @@
 pub mod Runs
+pub mod Lines
 pub mod Digits
 pub mod Escapes
 pub mod Passing

@@ -5,6 +5,8 @@ ghost use Rattle.std.specs.Char.{digit_value};
 ghost use Rattle.std.specs.List.{prefix_len};
 ghost use Rattle.cedar_text.specs.Bytes as spec;
 
+use memchr::memchr2;
+
 /// The byte at an index, or 0 past the end.
 pub fn byte_at(bytes: &[u8], index: usize) -> u8
     ensures { result ≡ slice_index bytes.now index }
@@ -47,13 +49,6 @@ pub fn digit_value(b: u8) -> u32
     char::from(b).to_digit(36).unwrap_or(36)
 }
 
-/// Whether the byte is neither LF nor CR.
-pub fn goes_on_line(b: u8) -> bool
-    ensures { result ≡ spec.goes_on_line b }
-{
-    !(b == b'\n' || b == b'\r')
-}
-
 /// How many letters, digits and `_` come first.
 pub fn word_len(bytes: &[u8]) -> usize
     ensures len { result ≡ prefix_len spec.is_word bytes.now }
@@ -79,9 +74,13 @@ pub fn hex_len(bytes: &[u8]) -> usize
 }
 
 /// How many bytes come before the first LF or CR.
+#[tactic(auto, using(crate::proofs::Lines::ended, crate::proofs::Lines::endless))]
 pub fn line_len(bytes: &[u8]) -> usize
     ensures len { result ≡ prefix_len spec.goes_on_line bytes.now }
     ensures within { result ≤ length bytes.now }
 {
-    bytes.iter().take_while(|b| goes_on_line(**b)).count()
+    match memchr2(b'\n', b'\r', bytes) {
+        Some(end) => end,
+        None => bytes.len(),
+    }
 }

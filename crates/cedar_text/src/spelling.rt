@@ -153,7 +153,7 @@ pub fn letters(alloc: Global, text: &str) -> Result<Vec<Letter>, TextFault>
 pub fn plain_text(alloc: Global, letters: &[Letter]) -> Result<Option<String>, AllocError>
     ensures { IfOk result (λ text. option_map string_bytes text ≡ plain_text_of letters.now) }
 {
-    let mut text = String::new(alloc);
+    let mut text = String::with_capacity(alloc, letters.len())?;
     for letter in letters {
         let Some(character) = letter.plain() else {
             return Ok(None);

@@ -11,7 +11,7 @@ use Rattle.json.proofs.Grammar.{value_is}
 use Rattle.serde_json.specs.Data as Data
 use Rattle.serde_json.specs.Read.{of_json, converted}
 use Rattle.base_json.proofs.ComingMembers.{end_to_come, member_to_come}
-use Rattle.base_json.specs.Members.{BeginsWith, IsEnd, members_to_come}
+use Rattle.base_json.specs.Members.{BeginsWith, BeginsWithThree, IsEnd, members_to_come}
 use Rattle.base_json.specs.Quoted.{is_plain, with_quoted}
 
 pub object_begins : (rest : List ℕ) → tokens (123 ∷ rest) ≡ begin_object ∷ tokens rest
@@ -108,3 +108,9 @@ member_first ts r k s is old =
 
 pub end_first : (ts : List Token) → ts ≡ end_object ∷ [] → IsEnd ts
 end_first ts is old = ap (members_to_come old) is ∙ end_to_come (end_object ∷ []) refl old
+
+pub three_first : (ts rest : List Token) (k a l b m c : List ℕ) → ts ≡ key k ∷ string a ∷ key l ∷ string b ∷ key m ∷ string c ∷ rest → BeginsWithThree k a l b m c ts rest
+three_first ts rest k a l b m c is old =
+    member_first ts (key l ∷ string b ∷ key m ∷ string c ∷ rest) k a is old
+    ∙ member_first (key l ∷ string b ∷ key m ∷ string c ∷ rest) (key m ∷ string c ∷ rest) l b refl (Data.put k (Data.string a) old)
+    ∙ member_first (key m ∷ string c ∷ rest) rest m c refl (Data.put l (Data.string b) (Data.put k (Data.string a) old))

@@ -30,6 +30,10 @@ IsEnd ts = (old : Members) → members_to_come old ts ≡ Some old
 abbrev pub BeginsWith : List ℕ → Data → List Token → List Token → Type 0
 BeginsWith key d ts rest = (old : Members) → members_to_come old ts ≡ members_to_come (put key d old) rest
 
+-- The tokens begin with three members whose values are strings (RFC 8259, section 4).
+abbrev pub BeginsWithThree : List ℕ → List ℕ → List ℕ → List ℕ → List ℕ → List ℕ → List Token → List Token → Type 0
+BeginsWithThree k a l b m c ts rest = (old : Members) → members_to_come old ts ≡ members_to_come (put m (string c) (put l (string b) (put k (string a) old))) rest
+
 -- The tokens are not the members of an object up to the end of the text (RFC 8259, section 4).
 abbrev pub IsNoObject : List Token → Type 0
 IsNoObject ts = (old : Members) → members_to_come old ts ≡ None

@@ -55,6 +55,7 @@ mod quoted_text;
 mod reader;
 mod scalars;
 mod step;
+mod three_quoted;
 mod tree;
 mod tree_fault;
 
@@ -65,4 +66,5 @@ pub use members::MemberReader;
 pub use objects::ObjectReader;
 pub use quoted_text::QuotedText;
 pub use reader::JsonReader;
+pub use three_quoted::ThreeQuoted;
 pub use tree_fault::TreeFault;

@@ -1,15 +1,18 @@
 //! The members of a JSON text that is an object, one after another.
-ghost use Rattle.std.specs.Prelude.{◌≡◌, ◌<◌, length, Err, None, IfOk, MatchOption, OnSome, option_and_then, option_map};
+ghost use Rattle.std.specs.Prelude.{◌≡◌, ◌<◌, length, true, Err, None, IfOk, IfSome, IsTrue, MatchOption, OnSome, option_and_then, option_map};
+ghost use Rattle.std.specs.List.{list_all};
 ghost use Rattle.std.specs.Bool.{MatchBool};
 ghost use Rattle.serde_json.specs.Data.{no_members, object};
 ghost use Rattle.serde_json.specs.Find.{as_object};
 ghost use Rattle.serde_json.specs.Read.{read as tree_of_text};
-ghost use Rattle.base_json.specs.Members.{BeginsWith, IsEnd, IsNoObject, lent_view, members_to_come};
+ghost use Rattle.base_json.specs.Members.{BeginsWith, BeginsWithThree, IsEnd, IsNoObject, lent_view, members_to_come};
+ghost use Rattle.base_json.specs.Quoted.{is_plain};
 ghost use Rattle.base_json.specs.Private.Trees.{tree_of_tokens};
 ghost use Rattle.base_json.specs.declared.tree_fault.TreeFault.TheVariants.{Invalid};
 
 use crate::lent_value::{LentValue, read_lent};
 use crate::quoted_member::{after, is_end, quoted_member};
+use crate::three_quoted::{ThreeQuoted, three_members};
 use crate::tree_fault::TreeFault;
 use json::{Reader, Scratch, Token};
 use std::alloc::{AllocError, Global};
@@ -96,6 +99,38 @@ impl<'r> MemberReader<'r> {
             }
         }
         self.next_by_tokens(alloc)
+    }
+
+    /// Reads three members with these keys, where they come next in this order, and the value of each is a string with a part in quotation
+    /// marks at its end, all in the plain form. None where other members come next, or these in another form: then none is read. Takes
+    /// no memory.
+    #[inline(always)]
+    pub fn next_three(&mut self, first: &str, second: &str, third: &str) -> Option<ThreeQuoted<'r>>
+        requires first { list_all is_plain first.now ≡ true }
+        requires second { list_all is_plain second.now ≡ true }
+        requires third { list_all is_plain third.now ≡ true }
+        ensures members { IfSome result (λ found. BeginsWithThree first.now found.first second.now found.second third.now found.third self.old self.new) }
+        ensures none { result ≡ None → self.new ≡ self.old }
+    {
+        if let Stage::Bytes(text, _) = &mut self.stage
+            && let Some((values, rest)) = three_members(text, first, second, third)
+        {
+            *text = rest;
+            return Some(values);
+        }
+        None
+    }
+
+    /// Whether the object ends here, and the text with it. Where this is false, [`MemberReader::next`] may still find its end. Takes no
+    /// memory.
+    #[inline(always)]
+    pub fn is_at_end(&self) -> bool
+        ensures { IsTrue result → IsEnd self.now }
+    {
+        match &self.stage {
+            Stage::Bytes(text, _) => is_end(text),
+            Stage::Tokens(_) | Stage::OutOfMemory => false,
+        }
     }
 
     // The next member from its tokens, and from then on all.

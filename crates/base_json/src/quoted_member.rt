@@ -62,8 +62,8 @@ pub(crate) fn after(text: &str, byte: u8) -> Option<&str>
     Some(rest)
 }
 
-// What follows the spaces that the text begins with.
-fn past_spaces(text: &str) -> Option<&str>
+/// What follows the spaces that the text begins with.
+pub(crate) fn past_spaces(text: &str) -> Option<&str>
     ensures { IfSome result (λ rest. lex between text.now ≡ lex between rest.now) }
 {
     let (_, rest) = text.split_at_checked(skip_spaces(text.as_bytes(), 0))?;
@@ -78,8 +78,8 @@ fn plain_string(text: &str) -> Option<(&str, &str)>
     Some((plain, after(rest, b'"')?))
 }
 
-// The string with a part in quotation marks that the text begins with, and what follows it.
-fn quoted_string(text: &str) -> Option<(QuotedText<'_>, &str)>
+/// The string with a part in quotation marks that the text begins with, and what follows it.
+pub(crate) fn quoted_string(text: &str) -> Option<(QuotedText<'_>, &str)>
     ensures { IfSome result (λ found. lex between text.now ≡ token (string found.0) ∷ lex between found.1.now) }
 {
     let (before, rest) = plain_start(after(text, b'"')?)?;
@@ -122,8 +122,8 @@ fn is_plain(byte: u8) -> bool
     byte != b'"' && byte != b'\\' && byte >= b' '
 }
 
-// After a value: the next member, whose key follows the comma, or the brace that closes the object.
-fn past_comma(text: &str) -> Option<&str>
+/// After a value: the next member, whose key follows the comma, or the brace that closes the object.
+pub(crate) fn past_comma(text: &str) -> Option<&str>
     ensures value { IfSome result (λ rest. begins_colon (lex between text.now) ≡ false) }
     ensures rest { IfSome result (λ rest. punctuate after_value (lex between text.now) ≡ tokens rest.now) }
 {

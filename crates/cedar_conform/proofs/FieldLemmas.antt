@@ -1,22 +1,24 @@
 -- The values at the keys of a request, a member at a time.
-use Rattle.std.proofs.Common.{◌≡◌, ℕ, true, false, inl, inr, List, Bool, Option, Some, Ordering, Less, Equal, Greater, nat_cmp, is_eq, bytes_eq, refl, sym, ap, subst, ◌∙◌}
+use Rattle.std.proofs.Common.{◌≡◌, ℕ, true, false, inl, inr, List, Bool, Option, Some, None, Ordering, Less, Equal, Greater, nat_cmp, is_eq, bytes_eq, refl, sym, ap, subst, ◌∙◌}
 use Rattle.std.specs.Prelude.{codes, if◌then◌else◌, MatchOption}
 use Rattle.std.specs.Ordering.{match_ordering}
 use Rattle.std.specs.Cmp.Lexicographic.{slice_cmp}
 use Rattle.std.proofs.lemmas.Bool.{false≢true}
 use Rattle.std.proofs.lemmas.Map.Text.{is_eq-slice_cmp}
 use Rattle.std.proofs.lemmas.Slice.Eq.{bytes_eq-Decides}
-use Rattle.serde_json.specs.Data.{Data, Members, no_members, member, object, put}
+use Rattle.serde_json.specs.Data.{Data, Members, no_members, member, object, put, string}
 use Rattle.serde_json.specs.Find.{get_member}
 use Rattle.serde_json.proofs.Views.{get_member-put, get_member-put_other}
 use Rattle.base_json.specs.Members.{lent_view}
 use Rattle.base_json.specs.declared.lent_value.LentValue.{LentValue}
+use Rattle.base_json.specs.declared.lent_value.LentValue.TheVariants.{Quoted}
+use Rattle.base_json.specs.declared.three_quoted.ThreeQuoted.{ThreeQuoted}
 use Rattle.cedar_value.specs.declared.uid.Uid.{Uid}
 use Rattle.cedar_conform_values.specs.Objects.{are_only}
 use Rattle.cedar_conform_values.specs.WrittenUids.{WritesUid}
 use Rattle.cedar_conform.specs.declared.fields.Fields.{Fields}
 use Rattle.cedar_conform.specs.declared.request.RequestUids.{RequestUids}
-use Rattle.cedar_conform.specs.Private.Fields.{AreFieldsOf, AreWritten, LacksIn, LacksOne}
+use Rattle.cedar_conform.specs.Private.Fields.{AreFieldsOf, AreWritten, LacksIn, LacksOne, quoted_fields}
 use Rattle.cedar_conform.specs.Requests.{IsShapeless, Names, is_request_key}
 
 -- ---- whether each key is allowed
@@ -121,6 +123,17 @@ module _ (k : List ℕ) (v : LentValue) (ms : Members) (f : Fields) (are : AreFi
     context = beside (codes "context") c ∙ are.context;
     known = are_only-put is_request_key k d ms ∙ ap (λ b. if b then are_only is_request_key ms else false) (no_key p a r c);
   }
+
+-- ---- three strings
+
+pub no_fields : AreFieldsOf no_members (record { principal = None; action = None; resource = None; context = None; are_known = true })
+no_fields = record { principal = refl; action = refl; resource = refl; context = refl; known = refl }
+
+pub three_put : (v : ThreeQuoted) → AreFieldsOf (put (codes "resource") (string v.third) (put (codes "action") (string v.second) (put (codes "principal") (string v.first) no_members))) (quoted_fields v)
+three_put v =
+    let first = principal_put (codes "principal") (Quoted v.first) no_members _ no_fields refl in
+    let second = action_put (codes "action") (Quoted v.second) _ _ first refl in
+    resource_put (codes "resource") (Quoted v.third) _ _ second refl
 
 -- ---- what is written at the keys
 

@@ -1,11 +1,11 @@
 //! The members of a request line.
-ghost use Rattle.std.specs.Prelude.{◌≡◌, Err, IfOk, Some, None};
-ghost use Rattle.serde_json.specs.Data.{Members, no_members, put};
+ghost use Rattle.std.specs.Prelude.{◌≡◌, Err, OnOk, Some, None};
+ghost use Rattle.serde_json.specs.Data.{Members, put};
 ghost use Rattle.base_json.specs.Members.{lent_view, members_to_come};
 ghost use Rattle.base_json.specs.declared.tree_fault.TreeFault.TheVariants.{Invalid};
-ghost use Rattle.cedar_conform.specs.Private.Fields.{AreFieldsOf};
+ghost use Rattle.cedar_conform.specs.Private.Fields.{AreFieldsOf, begun_fields};
 
-use base_json::{LentValue, MemberReader, TreeFault};
+use base_json::{LentValue, MemberReader, ThreeQuoted, TreeFault};
 use std::alloc::Global;
 
 /// The values at the keys of a request. Of a key that comes twice, it is the last (RFC 8259, section 4; as `serde_json` reads it).
@@ -20,32 +20,42 @@ pub(crate) struct Fields<'l> {
 }
 
 impl<'l> Fields<'l> {
-    /// The values of the members up to the end of their object and of its text.
+    /// Adds the members up to the end of their object and of its text.
     #[inline(always)]
     pub(crate) fn read(
+        &mut self,
         alloc: Global,
         members: &mut MemberReader<'l>,
-    ) -> Result<Fields<'l>, TreeFault>
-        ensures read { IfOk result (λ fields. (ms : Members) × (members_to_come no_members members.old ≡ Some ms) × AreFieldsOf ms fields) }
-        ensures refused { result ≡ Err Invalid → members_to_come no_members members.old ≡ None }
+    ) -> Result<(), TreeFault>
+        ensures read { (old : Members) → AreFieldsOf old self.old
+            → OnOk result ((ms : Members) × (members_to_come old members.old ≡ Some ms) × AreFieldsOf ms self.new) }
+        ensures refused { (old : Members) → AreFieldsOf old self.old → result ≡ Err Invalid → members_to_come old members.old ≡ None }
     {
-        let mut fields = Fields::none();
         'members: while let Some((key, value)) = members.next(alloc)? {
-            fields.put(key, value);
+            self.put(key, value);
         }
-        Ok(fields)
+        Ok(())
     }
 
-    // The values where there are no members.
-    fn none() -> Fields<'l>
-        ensures { AreFieldsOf no_members result }
+    /// The values of a principal, an action and a resource, or none.
+    pub(crate) fn begun(values: Option<ThreeQuoted<'l>>) -> Fields<'l>
+        ensures { result ≡ begun_fields values.entry }
     {
-        Fields {
-            principal: None,
-            action: None,
-            resource: None,
-            context: None,
-            are_known: true,
+        match values {
+            Some(values) => Fields {
+                principal: Some(LentValue::Quoted(values.first)),
+                action: Some(LentValue::Quoted(values.second)),
+                resource: Some(LentValue::Quoted(values.third)),
+                context: None,
+                are_known: true,
+            },
+            None => Fields {
+                principal: None,
+                action: None,
+                resource: None,
+                context: None,
+                are_known: true,
+            },
         }
     }
 

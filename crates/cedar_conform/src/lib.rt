@@ -20,6 +20,7 @@ mod laws;
 mod links;
 mod names;
 mod parts;
+mod plain_request;
 mod request;
 mod request_reader;
 mod request_rooms;

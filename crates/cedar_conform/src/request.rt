@@ -13,16 +13,17 @@ ghost use Rattle.cedar_conform_values.specs.Values.{value_read};
 ghost use Rattle.cedar_conform_values.specs.declared.conform_fault.ConformFault.TheVariants.{OutOfMemory, Shape as ShapeFault};
 ghost use Rattle.cedar_conform.specs.Requests.{HasUidsFault, LineDenotes, LineHasFault};
 ghost use Rattle.cedar_conform.specs.Private.Answers.{IsAnswer, IsLineAnswer, IsNoJson, IsNoObjectFault};
-ghost use Rattle.cedar_conform.specs.Private.Fields.{AreFieldsOf, AreWritten, LacksIn, LacksOne, WrittenIn, context_in, data_in};
+ghost use Rattle.cedar_conform.specs.Private.Fields.{AreFieldsOf, AreWritten, LacksIn, LacksOne, WrittenIn, begun_fields, context_in, data_in};
 
 use crate::context::{absent_context, record_type};
 use crate::fields::Fields;
 use crate::names::Names;
+use crate::plain_request::plain_request;
 use crate::request_reader::RequestReader;
 use crate::request_rooms::RequestRooms;
 use crate::uid_room::UidRoom;
 use crate::uids::lent_uid;
-use base_json::{JsonReader, LentValue, MemberReader, TreeFault};
+use base_json::{JsonReader, LentValue, MemberReader, ThreeQuoted, TreeFault};
 use cedar_conform_values::{ConformFault, one_written_uid, read_record, read_values_belong};
 use cedar_schema::Schema;
 use cedar_schema_types::Type;
@@ -107,7 +108,8 @@ fn no_object_fault(alloc: Global, line: &[u8], reader: &mut JsonReader) -> Confo
     }
 }
 
-// The request of the members of an object, up to its end and that of its text.
+// The request of the members of an object, up to its end and that of its text. Most lines have three members in the plain form, and these
+// are read without a look at what else there could be.
 fn request_of_members(
     alloc: Global,
     schema: &Schema,
@@ -117,8 +119,32 @@ fn request_of_members(
 ) -> Result<Request, ConformFault>
     ensures { MatchOption (members_to_come no_members members.old) (IsNoJson result) (λ ms. IsAnswer schema.now (object ms) result) }
 {
-    match Fields::read(alloc, members) {
-        Ok(fields) => request_of(alloc, schema, names, rooms, &fields),
+    let Some(values) = members.next_three("principal", "action", "resource") else {
+        return request_of_rest(alloc, schema, names, rooms, None, members);
+    };
+    if members.is_at_end() {
+        return plain_request(alloc, schema, names, rooms, &values);
+    }
+    request_of_rest(alloc, schema, names, rooms, Some(values), members)
+}
+
+// The request of three members that were read already, or of none, and of those that follow, up to the end of their object and of its
+// text. It is not inlined, so that its room is not cleared for lines that do not come to it.
+#[inline(never)]
+fn request_of_rest<'l>(
+    alloc: Global,
+    schema: &Schema,
+    names: &mut Names,
+    rooms: &mut RequestRooms,
+    values: Option<ThreeQuoted<'l>>,
+    members: &mut MemberReader<'l>,
+) -> Result<Request, ConformFault>
+    ensures { (old : Members) → AreFieldsOf old (begun_fields values.entry)
+        → MatchOption (members_to_come old members.old) (IsNoJson result) (λ ms. IsAnswer schema.now (object ms) result) }
+{
+    let mut fields = Fields::begun(values);
+    match fields.read(alloc, members) {
+        Ok(()) => request_of(alloc, schema, names, rooms, &fields),
         Err(fault) => match fault {
             TreeFault::OutOfMemory => Err(ConformFault::OutOfMemory),
             TreeFault::Invalid => Err(ConformFault::Json),
@@ -221,8 +247,8 @@ fn uids_fault(schema: &Schema, uids: &RequestUids) -> ConformFault
     ConformFault::ActionDoesNotApply
 }
 
-// The context, read as a value of its type.
-fn read_context(
+/// The context, read as a value of its type.
+pub(crate) fn read_context(
     alloc: Global,
     ty: &Type,
     field: &Option<LentValue<'_>>,

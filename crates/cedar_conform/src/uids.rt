@@ -33,8 +33,8 @@ pub(crate) fn lent_uid(
     }
 }
 
-// The uid that a string with a part in quotation marks denotes, if it denotes one.
-fn quoted_uid(
+/// The uid that a string with a part in quotation marks denotes, if it denotes one.
+pub(crate) fn quoted_uid(
     alloc: Global,
     names: &mut Names,
     room: &mut UidRoom,

@@ -1,9 +1,11 @@
 -- The members of a request line as they are kept.
-use Rattle.std.specs.Prelude.{◌≡◌, ◌⊎◌, codes, Option, MatchOption, option_map, unwrap_or}
+use Rattle.std.specs.Prelude.{◌≡◌, ◌⊎◌, codes, true, Option, Some, None, MatchOption, option_map, unwrap_or}
 use Rattle.serde_json.specs.Data.{Data, Members, object, no_members}
 use Rattle.serde_json.specs.Find.{get_member}
 use Rattle.base_json.specs.Members.{lent_view}
 use Rattle.base_json.specs.declared.lent_value.LentValue.{LentValue}
+use Rattle.base_json.specs.declared.lent_value.LentValue.TheVariants.{Quoted}
+use Rattle.base_json.specs.declared.three_quoted.ThreeQuoted.{ThreeQuoted}
 use Rattle.cedar_value.specs.declared.uid.Uid.{Uid}
 use Rattle.cedar_conform_values.specs.Objects.{are_only}
 use Rattle.cedar_conform_values.specs.WrittenUids.{WritesUid}
@@ -21,6 +23,15 @@ pub record AreFieldsOf (ms : Members) (f : Fields) : Type 0 where
   pub resource : get_member (codes "resource") ms ≡ data_in f.resource
   pub context : get_member (codes "context") ms ≡ data_in f.context
   pub known : are_only is_request_key ms ≡ f.are_known
+
+-- the values where there are three strings and nothing else
+abbrev pub quoted_fields : ThreeQuoted → Fields
+quoted_fields v = record { principal = Some (Quoted v.first); action = Some (Quoted v.second); resource = Some (Quoted v.third); context = None; are_known = true }
+
+-- the values of three strings, or none
+abbrev pub begun_fields : Option ThreeQuoted → Fields
+begun_fields (Some v) = quoted_fields v
+begun_fields None = record { principal = None; action = None; resource = None; context = None; are_known = true }
 
 -- there is a value, and it writes the uid
 abbrev pub WrittenIn : Option Data → Uid → Type 0

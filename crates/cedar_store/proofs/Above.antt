@@ -74,3 +74,12 @@ any_chain w u s ds h b is = (
       (named.0, subst (Contains ds) named.1 (some.0, some.2, some.3), (h named.0).0 named.2)),
   λ c. is ∙ list_any_at (has_datum s) ds c.1.0 (uid c.0) c.1.1 (ap (has_datum s) c.1.2 ∙ (h c.0).1 c.2),
 )
+
+-- ---- the answers, from what chains say
+
+pub below-chain : (w : World) (u v : Uid) (b : Bool) → IsTrue b ↔ Below w u v → b ≡ below w u v
+below-chain w u v b told = one_answer b (below w u v) told (below-Decides w u v)
+
+pub below_any-chain : (w : World) (u : Uid) (ds : List Datum) (b : Bool) → IsTrue b ↔ ((v : Uid) × Contains ds (uid v) × Below w u v) → b ≡ below_any w u ds
+below_any-chain w u ds b told =
+    one_answer b (below_any w u ds) told (any_chain w u (below w u) ds (below-Decides w u) (below_any w u ds) (sym (below_any-ancestors w u (below w u) (below-Decides w u) ds)))

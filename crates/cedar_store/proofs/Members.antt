@@ -1,5 +1,5 @@
 -- The uids whose bits a row has, in a list that gains them.
-use Rattle.std.proofs.Common.{◌≡◌, ◌≢◌, ◌↔◌, take, ℕ, ◌+◌, ◌<◌, ◌≤◌, ◌⊎◌, inl, inr, ⊎_elim, Bool, true, false, cond, Bor, List, [], ◌∷◌, ◌++◌, length, get_or, Option, None, Some, refl, sym, ap, subst, ◌∙◌, arith, Contains, nat_lt, lt-ltb}
+use Rattle.std.proofs.Common.{◌≡◌, ◌≢◌, ◌↔◌, take, ℕ, ◌+◌, ◌<◌, ◌≤◌, ◌⊎◌, inl, inr, ⊎_elim, Bool, true, false, cond, Bor, List, [], ◌∷◌, ◌++◌, length, get_or, Option, None, Some, refl, sym, ap, subst, ◌∙◌, arith, Contains, IsTrue, nat_lt, lt-ltb}
 use Rattle.std.specs.List.{AllPairs, IsDistinct, position, position_or_len, slice_get}
 use Rattle.std.proofs.lemmas.Bool.{cases_lt}
 use Rattle.std.proofs.lemmas.List.{append-nil, append_assoc}
@@ -87,14 +87,20 @@ module _ (keys : List Uid) (row : List ℕ) (next number : ℕ) (u : Uid) (disti
         ]
       ]
 
-  told_apart : (us : List Uid) → ((v : Uid) → Contains us v ↔ IsToldBelow keys row next v) → (k : ℕ) (d : Uid) → k < length us → get_or us k d ≢ u
-  told_apart us told k d within same =
-      let before = (told u).0 (subst (Contains us) same (Contains-get_or us k d within)) in
+  pub told_step : (v : Uid) → IsToldBelow keys row (number + 1) v ↔ (IsToldBelow keys row next v ⊎ (u ≡ v))
+  told_step v = (λ told. told_last v told, λ h. ⊎_elim (λ before. told_more v before) (λ same. told_here v same) h)
+
+  -- the uid of the number was not told before
+  pub told_new : ¬ IsToldBelow keys row next u
+  told_new before =
       let here = position_here keys number u distinct read in
       let less = before.1 in
       let order = found.0 in
       let is : before.0 ≡ number = same_Some before.0 number (sym before.2 ∙ here) in
       absurd (omega arith)
+
+  told_apart : (us : List Uid) → ((v : Uid) → Contains us v ↔ IsToldBelow keys row next v) → (k : ℕ) (d : Uid) → k < length us → get_or us k d ≢ u
+  told_apart us told k d within same = told_new ((told u).0 (subst (Contains us) same (Contains-get_or us k d within)))
 
   pub HasGained-more : (begun old new : List (Bor Uid)) (b : Bor Uid) → b.now ≡ u → HasGained keys row next begun old → new ≡ old ++ b ∷ [] → HasGained keys row (number + 1) begun new
   HasGained-more begun old new b named gained is =
@@ -120,27 +126,28 @@ number_told row None h = cc
 number_told row (Some k) h = (k, refl, h)
 
 -- the row has no bit more
+module _ (keys : List Uid) (row : List ℕ) (bound : ℕ) (none : (k : ℕ) → bound ≤ k → k < length keys → has_bit row k ≡ false) where
+  bit_below : (v : Uid) → in_row keys row v ≡ true → IsToldBelow keys row bound v
+  bit_below v h =
+      let number = number_told row (position (same_uid v) keys) h in
+      elim (cases_lt number.0 bound) [
+        | inl below ↦ (number.0, below, number.1, number.2)
+        | inr past ↦ (let absent = none number.0 past (position-Some (same_uid v) keys number.0 v number.1).0 in
+            let there = number.2 in
+            absurd (cc))
+      ]
+
+  pub told_all : (v : Uid) → IsToldBelow keys row bound v ↔ IsTrue (in_row keys row v)
+  told_all v = (λ told. ap (bit_told row) told.2 ∙ told.3, λ h. bit_below v h)
+
 pub HasGained-all : (keys : List Uid) (row : List ℕ) (bound : ℕ) (begun now : List (Bor Uid)) → HasGained keys row bound begun now → ((k : ℕ) → bound ≤ k → k < length keys → has_bit row k ≡ false)
     → AddsMembers keys row begun now
 HasGained-all keys row bound begun now gained none = record {
   added = gained.added;
   appended = gained.appended;
   once = gained.once;
-  told = λ v. (
-    λ m. let told = (gained.told v).0 m in ap (bit_told row) told.2 ∙ told.3,
-    λ (h : in_row keys row v ≡ true). (gained.told v).1 (told v h),
-  );
+  told = λ v. (λ m. (told_all keys row bound none v).0 ((gained.told v).0 m), λ h. (gained.told v).1 ((told_all keys row bound none v).1 h));
 }
-  where
-    told : (v : Uid) → in_row keys row v ≡ true → IsToldBelow keys row bound v
-    told v h =
-        let number = number_told row (position (same_uid v) keys) h in
-        elim (cases_lt number.0 bound) [
-          | inl below ↦ (number.0, below, number.1, number.2)
-          | inr past ↦ (let absent = none number.0 past (position-Some (same_uid v) keys number.0 v number.1).0 in
-              let there = number.2 in
-              absurd (cc))
-        ]
 
 -- ---- what a store says of it
 

@@ -1,4 +1,5 @@
 pub mod Ancestors
+pub mod Changes
 pub mod Entities
 pub mod Faults
 pub mod Private

@@ -49,6 +49,20 @@ impl EntityTable {
         Ok(EntityTable { entities, places })
     }
 
+    /// No uid is repeated. A law: it runs no code.
+    pub(crate) fn uids_are_distinct(&self)
+        ensures { AreUidsDistinct self.now }
+    {
+        let _places = &self.places;
+    }
+
+    /// The entities, in the order in which they came, without their places.
+    pub(crate) fn into_entities(self) -> Vec<Entity>
+        ensures { result.items ≡ self }
+    {
+        self.entities
+    }
+
     /// The entities, in the order in which they came.
     pub(crate) fn entities(&self) -> &[Entity]
         ensures { result.now ≡ self.now }

@@ -14,14 +14,30 @@
 #![tactic(auto)]
 
 mod ancestors;
+mod base;
+mod call_marks;
+mod change;
+mod change_hash;
+mod change_map;
+mod change_tree;
+mod changed_links;
+mod changing;
+mod cycles;
 mod entity;
 mod entity_table;
+mod gathering;
 mod links;
+mod links_stay;
+mod marks;
 mod mask;
+mod more_changes;
 mod numbers;
+mod overlay;
 mod plain_ancestors;
 mod plain_store;
 mod rows;
+mod settled;
+mod settling;
 mod store;
 mod store_fault;
 mod uid_hasher;

@@ -1,18 +1,18 @@
 //! The entity store that keeps sets of uids.
 ghost use Rattle.std.specs.Prelude.{◌≡◌, IfOk, IfErr, OnOk, MatchOption};
 ghost use Rattle.std.specs.BTreeSet.{contains};
-ghost use Rattle.std.specs.List.{list_any};
 ghost use Rattle.cedar_value.specs.Order.{uid_cmp};
 ghost use Rattle.cedar_value.specs.World.{Below};
 ghost use Rattle.cedar_store.specs.Entities.{AreUidsDistinct, IsAcyclic};
 ghost use Rattle.cedar_store.specs.Faults.{IsThere};
-ghost use Rattle.cedar_store.specs.Private.Kept.{AreAncestors, has_datum};
+ghost use Rattle.cedar_store.specs.Private.Kept.{AreAncestors};
 
 use crate::entity::Entity;
 use crate::entity_table::EntityTable;
 use crate::plain_ancestors::all_ancestors;
+use crate::settled::has_any;
 use crate::store_fault::StoreFault;
-use cedar_value::{Hierarchy, Record, Uid, ValueKind, ValueSet};
+use cedar_value::{Hierarchy, Record, Uid, ValueSet};
 use std::alloc::Global;
 use std::collections::BTreeSet;
 use std::marker::Model;
@@ -102,18 +102,4 @@ impl Hierarchy for PlainStore {
             None => false,
         }
     }
-}
-
-// Whether some uid of a set of values is in the set of uids.
-fn has_any(uids: &BTreeSet<Uid>, values: &ValueSet) -> bool
-    ensures { result ≡ list_any (has_datum (contains uid_cmp uids.now)) values.now }
-{
-    for value in values.members() {
-        if let ValueKind::Uid(uid) = value.kind() {
-            if uids.contains(&**uid) {
-                return true;
-            }
-        }
-    }
-    false
 }

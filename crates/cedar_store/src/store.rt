@@ -1,47 +1,50 @@
 //! The entity store.
-ghost use Rattle.std.specs.Prelude.{◌≡◌, IfOk, IfErr, OnErr, OnOk};
+ghost use Rattle.std.specs.Prelude.{◌≡◌, IfErr, IfOk, OnErr, OnOk};
 ghost use Rattle.cedar_store.specs.Ancestors.{AddsAncestors};
+ghost use Rattle.cedar_store.specs.Changes.{changed, HaveSameEntities, IsThereInChanges};
 ghost use Rattle.cedar_store.specs.Entities.{AreUidsDistinct, IsAcyclic};
 ghost use Rattle.cedar_store.specs.Faults.{IsThere};
+ghost use Rattle.cedar_store.specs.Private.Overlaid.{IsOverlaid, world_over};
 
-use crate::ancestors::push_members;
+use crate::base::Base;
+use crate::change_map::ChangeMap;
+use crate::changing;
 use crate::entity::Entity;
 use crate::entity_table::EntityTable;
-use crate::links::links_of;
-use crate::mask::meets;
-use crate::numbers::{Numbers, has_uid};
-use crate::rows::{all_rows, row_of};
+use crate::overlay::Overlay;
+use crate::settled::Settled;
 use crate::store_fault::StoreFault;
 use base_search::Row;
 use cedar_value::{Hierarchy, Record, Uid, ValueSet};
+use indexmap::IndexMap;
 use std::alloc::{AllocError, Global};
 use std::marker::Model;
+use std::sync::Arc;
 
-/// Entities with what is above each of them, which contracts see as their world: the list of the entities, in the order in
-/// which they were handed in.
+/// Entities with what is above each of them, which contracts see as their world.
 ///
-/// Each uid that has something below it has a number, in the order in which the uids are first named as parents. Each entity
-/// has a row of bits with the numbers of all that it is below.
+/// The entities that were read whole are shared by all stores that changes made of theirs. A store keeps its own changes over them.
 #[derive(Drop)]
 pub struct Store {
-    table: EntityTable,
-    numbers: Numbers,
-    rows: Vec<Row>,
+    base: Arc<Base, Global>,
+    changes: ChangeMap,
+    marks: Row,
+    settled: Arc<Settled, Global>,
 }
 
 impl Model for Store {
     ghost use Rattle.std.specs.Coded.{codes};
     ghost use Rattle.cedar_value.specs.Private.DatumCode.{datum_code};
     ghost use Rattle.cedar_value.specs.World.{World};
-    ghost use Rattle.cedar_store.specs.Private.Kept.{AreRows};
+    ghost use Rattle.cedar_store.specs.Private.Overlaid.{IsOverlaid, world_over};
 
     ghost Value = { World };
 
     ghost coded = { Prim.hlevel (codes, datum_code) };
 
-    ghost view = { λ s. s.table };
+    ghost view = { λ s. world_over s.base.value.world s.changes };
 
-    ghost invariant = { λ s. AreRows s.numbers.keys s.table s.rows.items };
+    ghost invariant = { λ s. IsOverlaid s.base.value s.changes s.marks s.settled.value };
 }
 
 impl Store {
@@ -62,20 +65,64 @@ impl Store {
         ensures acyclic { OnOk result (IsAcyclic entities.items) }
         ensures refused { IfErr result (IsThere entities.items) }
     {
-        let table = EntityTable::new(alloc, entities)?;
-        let (numbers, graph) = links_of(alloc, &table)?;
-        let rows = all_rows(alloc, &table, &numbers, &graph)?;
+        let base = Base::build(alloc, entities)?;
+        // Nothing is below itself.
+        base.facts();
+        let hashing = base.hashing();
         Ok(Store {
-            table,
-            numbers,
-            rows,
+            base: Arc::new(alloc, base)?,
+            changes: ChangeMap::new(hashing),
+            marks: Row::new(alloc),
+            settled: Arc::new(alloc, IndexMap::with_hasher(alloc, hashing))?,
+        })
+    }
+
+    /// The store of the entities after changes: without those that are removed, and with those that are upserted in place of what had
+    /// their uids (Cedar's crate, upsert and removal of entities). This store stays as it is, and both share what they have in common.
+    ///
+    /// Where nothing is below a uid that is removed or upserted, the time grows with the uids that the changes name and the parents
+    /// of what they upsert, and a row of bits is copied. Else the links above each uid whose row has become wrong are followed again.
+    ///
+    /// # Errors
+    ///
+    /// 401 where a uid is upserted twice, 402 where an entity is below itself after the changes, and 1 when out of memory.
+    pub fn with_changes(
+        &self,
+        alloc: Global,
+        removed: &[Uid],
+        upserted: Vec<Entity>,
+    ) -> Result<Self, StoreFault>
+        ensures world { IfOk result (λ s. HaveSameEntities s (changed self.now removed.now upserted.items)) }
+        ensures distinct { IfOk result AreUidsDistinct }
+        ensures upserted { OnOk result (AreUidsDistinct upserted.items) }
+        ensures acyclic { IfOk result IsAcyclic }
+        ensures refused { IfErr result (IsThereInChanges self.now removed.now upserted.items) }
+    {
+        // No uid is repeated in what was read whole.
+        self.base.facts();
+        let upserted = EntityTable::new(alloc, upserted)?;
+        let overlay = Overlay {
+            base: &self.base,
+            changes: &self.changes,
+            marks: &self.marks,
+            settled: &self.settled,
+        };
+        let kept = changing::changed(alloc, &overlay, &self.settled, removed, upserted)?;
+        // No two changes have one uid.
+        kept.changes.facts();
+        Ok(Store {
+            base: Arc::try_clone(&self.base)?,
+            changes: kept.changes,
+            marks: kept.marks,
+            settled: kept.settled,
         })
     }
 
     /// Appends each uid that `low` is below, once (Cedar language reference, hierarchy). An entity that is not in the store is
     /// below nothing.
     ///
-    /// Time grows with the words of the row of `low` and the number of uids that are appended.
+    /// Time grows with the words of the row of `low` and the number of uids that are appended. Where changes name the entity, or
+    /// something that it may be below, and it has more parents than one, time grows with the square of that number.
     ///
     /// # Errors
     ///
@@ -84,9 +131,23 @@ impl Store {
         ensures adds { OnOk result (AddsAncestors self.now low.now found.old.items found.new.items) }
         ensures refused { OnErr result (found.new.items ≡ found.old.items) }
     {
-        match row_of(&self.table, &self.rows, low) {
-            Some(row) => push_members(&self.numbers, row, found),
-            None => Ok(()),
+        if self.changes.is_empty() {
+            self.base.ancestors(low, found)
+        } else {
+            self.overlay().ancestors(low, found)
+        }
+    }
+
+    // The entities that were read whole, and the changes over them.
+    fn overlay(&self) -> Overlay<'_>
+        ensures world { world_over result.base.now.world result.changes.now ≡ self.now }
+        ensures overlaid { IsOverlaid result.base.now result.changes.now result.marks.now result.settled.now }
+    {
+        Overlay {
+            base: &self.base,
+            changes: &self.changes,
+            marks: &self.marks,
+            settled: &self.settled,
         }
     }
 }
@@ -95,27 +156,26 @@ impl Hierarchy for Store {
     ghost world = { λ s. s };
 
     fn has(&self, entity: &Uid) -> bool {
-        self.table.place(entity).is_some()
+        self.overlay().has(entity)
     }
 
     fn attributes(&self, entity: &Uid) -> Option<&Record> {
-        match self.table.get(entity) {
-            Some(found) => Some(&found.attrs),
-            None => None,
-        }
+        self.overlay().attributes(entity)
     }
 
     fn is_below(&self, low: &Uid, high: &Uid) -> bool {
-        match row_of(&self.table, &self.rows, low) {
-            Some(row) => has_uid(&self.numbers, row, high),
-            None => false,
+        if self.changes.is_empty() {
+            self.base.is_below(low, high)
+        } else {
+            self.overlay().is_below(low, high)
         }
     }
 
     fn is_below_any(&self, low: &Uid, highs: &ValueSet) -> bool {
-        match row_of(&self.table, &self.rows, low) {
-            Some(row) => meets(&self.numbers, row.words(), highs),
-            None => false,
+        if self.changes.is_empty() {
+            self.base.is_below_any(low, highs)
+        } else {
+            self.overlay().is_below_any(low, highs)
         }
     }
 }

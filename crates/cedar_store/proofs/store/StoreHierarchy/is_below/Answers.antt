@@ -1,27 +1,23 @@
-use Rattle.std.proofs.Common.{◌∙◌}
-use Rattle.cedar_store.specs.Private.Kept.{in_row}
-use Rattle.cedar_store.proofs.Above.{chain_told, chain_nothing, below-ancestors, below-nothing}
-use Rattle.cedar_store.proofs.BitRows.{row_above, row_nothing}
+use Rattle.std.proofs.Common.{◌≡◌, ◌↔◌, IsTrue, ap, subst, sym, ◌∙◌}
+use Rattle.cedar_value.specs.World.{World, Below}
+use Rattle.cedar_store.specs.Private.Based.{BaseTree}
+use Rattle.cedar_store.proofs.Above.{below-chain}
+use Rattle.cedar_store.proofs.Overlaid.{world_over-none}
 use Rattle.cedar_store.proofs.store.StoreHierarchy.is_below.Goals as goal
 
-pub returns-in-Some-clause-chain : goal.returns-in-Some-clause-chain
-returns-in-Some-clause-chain c =
-    let keys = c.self.inside.numbers.keys in
-    let above = row_above keys c.self.inside.table c.self.inside.rows.items c.deref.result.now c.args.low.now c.self.invariant c.deref.ensures.value c.in-Some.row.now c.in-Some.ensures.found in
-    rw (← c.self.view_is) (chain_told c.self.inside.table c.args.low.now c.args.high.now (in_row keys c.in-Some.row.now) c.has_uid.result above c.has_uid.ensures)
+pub returns-then-is_empty-clause-chain : goal.returns-then-is_empty-clause-chain
+returns-then-is_empty-clause-chain c =
+    let bare = world_over-none c.self.inside.base.value.world c.self.inside.changes (c.is_empty.ensures.0 c.if-is_empty.true) in
+    let same : c.deref.result.now.world ≡ c.args.self.now = ap (λ (b : BaseTree). b.world) c.deref.ensures ∙ sym bare ∙ c.self.view_is in
+    subst (λ (w : World). IsTrue c.is_below.result ↔ Below w c.args.low.now c.args.high.now) same c.is_below.ensures.chain
 
-pub returns-in-Some-clause-gives : goal.returns-in-Some-clause-gives
-returns-in-Some-clause-gives c =
-    let keys = c.self.inside.numbers.keys in
-    let above = row_above keys c.self.inside.table c.self.inside.rows.items c.deref.result.now c.args.low.now c.self.invariant c.deref.ensures.value c.in-Some.row.now c.in-Some.ensures.found in
-    rw (← c.self.view_is) (c.has_uid.ensures ∙ below-ancestors c.self.inside.table c.args.low.now c.args.high.now (in_row keys c.in-Some.row.now) above)
+pub returns-then-is_empty-clause-gives : goal.returns-then-is_empty-clause-gives
+returns-then-is_empty-clause-gives c =
+    let bare = world_over-none c.self.inside.base.value.world c.self.inside.changes (c.is_empty.ensures.0 c.if-is_empty.true) in
+    let same : c.deref.result.now.world ≡ c.args.self.now = ap (λ (b : BaseTree). b.world) c.deref.ensures ∙ sym bare ∙ c.self.view_is in
+    below-chain c.args.self.now c.args.low.now c.args.high.now c.is_below.result (subst (λ (w : World). IsTrue c.is_below.result ↔ Below w c.args.low.now c.args.high.now) same c.is_below.ensures.chain)
 
-pub returns-in-None-clause-chain : goal.returns-in-None-clause-chain
-returns-in-None-clause-chain c =
-    let none = row_nothing c.self.inside.numbers.keys c.self.inside.table c.self.inside.rows.items c.deref.result.now c.args.low.now c.self.invariant c.deref.ensures.value c.in-None.ensures.absent in
-    rw (← c.self.view_is) (chain_nothing c.self.inside.table c.args.low.now none c.args.high.now)
-
-pub returns-in-None-clause-gives : goal.returns-in-None-clause-gives
-returns-in-None-clause-gives c =
-    let none = row_nothing c.self.inside.numbers.keys c.self.inside.table c.self.inside.rows.items c.deref.result.now c.args.low.now c.self.invariant c.deref.ensures.value c.in-None.ensures.absent in
-    rw (← c.self.view_is) (below-nothing c.self.inside.table c.args.low.now none c.args.high.now)
+pub returns-else-is_empty-clause-gives : goal.returns-else-is_empty-clause-gives
+returns-else-is_empty-clause-gives c =
+    let answer = c.is_below-else-is_empty.result in
+    below-chain c.args.self.now c.args.low.now c.args.high.now answer (subst (λ (w : World). IsTrue answer ↔ Below w c.args.low.now c.args.high.now) c.overlay.ensures.world c.is_below-else-is_empty.ensures)

@@ -1,28 +1,27 @@
-use Rattle.std.proofs.Common.{ℕ, List, ap, ◌∙◌}
-use Rattle.std.specs.List.{list_any}
-use Rattle.cedar_store.specs.Private.Kept.{has_datum, in_row}
-use Rattle.cedar_store.proofs.Above.{any_chain, any_chain_nothing, below_any-ancestors, below_any-nothing}
-use Rattle.cedar_store.proofs.BitRows.{row_above, row_nothing}
+use Rattle.std.proofs.Common.{◌≡◌, ◌↔◌, Contains, IsTrue, ap, subst, sym, ◌∙◌}
+use Rattle.cedar_value.specs.Datum.{uid}
+use Rattle.cedar_value.specs.World.{World, Below}
+use Rattle.cedar_value.specs.declared.uid.Uid.{Uid}
+use Rattle.cedar_store.specs.Private.Based.{BaseTree}
+use Rattle.cedar_store.proofs.Above.{below_any-chain}
+use Rattle.cedar_store.proofs.Overlaid.{world_over-none}
 use Rattle.cedar_store.proofs.store.StoreHierarchy.is_below_any.Goals as goal
 
-pub returns-in-Some-clause-chain : goal.returns-in-Some-clause-chain
-returns-in-Some-clause-chain c =
-    let keys = c.self.inside.numbers.keys in
-    let above = row_above keys c.self.inside.table c.self.inside.rows.items c.deref.result.now c.args.low.now c.self.invariant c.deref.ensures.value c.in-Some.row.now c.in-Some.ensures.found in
-    rw (← c.self.view_is) (any_chain c.self.inside.table c.args.low.now (in_row keys c.in-Some.row.now) c.args.highs.now above c.meets.result (c.meets.ensures ∙ ap (λ (r : List ℕ). list_any (has_datum (in_row keys r)) c.args.highs.now) c.words.ensures))
+pub returns-then-is_empty-clause-chain : goal.returns-then-is_empty-clause-chain
+returns-then-is_empty-clause-chain c =
+    let bare = world_over-none c.self.inside.base.value.world c.self.inside.changes (c.is_empty.ensures.0 c.if-is_empty.true) in
+    let same : c.deref.result.now.world ≡ c.args.self.now = ap (λ (b : BaseTree). b.world) c.deref.ensures ∙ sym bare ∙ c.self.view_is in
+    subst (λ (w : World). IsTrue c.is_below_any.result ↔ ((v : Uid) × Contains c.args.highs.now (uid v) × Below w c.args.low.now v)) same c.is_below_any.ensures.chain
 
-pub returns-in-Some-clause-gives : goal.returns-in-Some-clause-gives
-returns-in-Some-clause-gives c =
-    let keys = c.self.inside.numbers.keys in
-    let above = row_above keys c.self.inside.table c.self.inside.rows.items c.deref.result.now c.args.low.now c.self.invariant c.deref.ensures.value c.in-Some.row.now c.in-Some.ensures.found in
-    rw (← c.self.view_is) (c.meets.ensures ∙ ap (λ (r : List ℕ). list_any (has_datum (in_row keys r)) c.args.highs.now) c.words.ensures ∙ below_any-ancestors c.self.inside.table c.args.low.now (in_row keys c.in-Some.row.now) above c.args.highs.now)
+pub returns-then-is_empty-clause-gives : goal.returns-then-is_empty-clause-gives
+returns-then-is_empty-clause-gives c =
+    let bare = world_over-none c.self.inside.base.value.world c.self.inside.changes (c.is_empty.ensures.0 c.if-is_empty.true) in
+    let same : c.deref.result.now.world ≡ c.args.self.now = ap (λ (b : BaseTree). b.world) c.deref.ensures ∙ sym bare ∙ c.self.view_is in
+    below_any-chain c.args.self.now c.args.low.now c.args.highs.now c.is_below_any.result
+    (subst (λ (w : World). IsTrue c.is_below_any.result ↔ ((v : Uid) × Contains c.args.highs.now (uid v) × Below w c.args.low.now v)) same c.is_below_any.ensures.chain)
 
-pub returns-in-None-clause-chain : goal.returns-in-None-clause-chain
-returns-in-None-clause-chain c =
-    let none = row_nothing c.self.inside.numbers.keys c.self.inside.table c.self.inside.rows.items c.deref.result.now c.args.low.now c.self.invariant c.deref.ensures.value c.in-None.ensures.absent in
-    rw (← c.self.view_is) (any_chain_nothing c.self.inside.table c.args.low.now c.args.highs.now none)
-
-pub returns-in-None-clause-gives : goal.returns-in-None-clause-gives
-returns-in-None-clause-gives c =
-    let none = row_nothing c.self.inside.numbers.keys c.self.inside.table c.self.inside.rows.items c.deref.result.now c.args.low.now c.self.invariant c.deref.ensures.value c.in-None.ensures.absent in
-    rw (← c.self.view_is) (below_any-nothing c.self.inside.table c.args.low.now none c.args.highs.now)
+pub returns-else-is_empty-clause-gives : goal.returns-else-is_empty-clause-gives
+returns-else-is_empty-clause-gives c =
+    let answer = c.is_below_any-else-is_empty.result in
+    below_any-chain c.args.self.now c.args.low.now c.args.highs.now answer
+    (subst (λ (w : World). IsTrue answer ↔ ((v : Uid) × Contains c.args.highs.now (uid v) × Below w c.args.low.now v)) c.overlay.ensures.world c.is_below_any-else-is_empty.ensures)

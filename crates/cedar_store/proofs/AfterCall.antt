@@ -1,0 +1,186 @@
+-- The world after a call of more changes.
+--     told_after, entry_after, parents_after      what it says of a uid
+--     links_kept, links_changed      what a store keeps after the call
+use Rattle.std.proofs.Common.{◌≡◌, ℕ, inl, inr, ⊎_elim, List, Bool, true, false, ◌||◌, Option, Some, None, is_some, refl, sym, ap, subst, ◌∙◌, Contains, IsTrue}
+use Rattle.std.specs.BTreeSet.{BTreeSet, contains}
+use Rattle.std.specs.List.{list_any}
+use Rattle.indexmap.specs.IndexMap.{IndexMap, get}
+use Rattle.base_reach.specs.Closure.{one_link}
+use Rattle.base_reach.proofs.Chains.{first_link, chain_among}
+use Rattle.base_reach.proofs.Listed.{nowhere}
+use Rattle.cedar_value.specs.Datum.{same_uid}
+use Rattle.cedar_value.specs.Order.{uid_cmp}
+use Rattle.cedar_value.specs.World.{EntityTree, World, Below, entry_of, parents_of, has_entity}
+use Rattle.cedar_value.specs.declared.uid.Uid.{Uid}
+use Rattle.cedar_store.specs.Changes.{changed, is_changed, IsThereInChanges}
+use Rattle.cedar_store.specs.Entities.{uids_of}
+use Rattle.cedar_store.specs.Private.Based.{BaseTree, IsMarked}
+use Rattle.cedar_store.specs.Private.Called.{AreApart, AreMarkedToo, AreSettledAnew, DoLinksStay, IsAfterCall, IsCycleThere, IsLinked}
+use Rattle.cedar_store.specs.Private.Changing.{AreChangesDistinct, ChangeTree, EachChange, IsChangeOfUid, change_of, upsert_in}
+use Rattle.cedar_store.specs.Private.Kept.{AreAncestors, in_row}
+use Rattle.cedar_store.specs.Private.Overlaid.{AreMarked, AreParentsKnown, IsNamed, IsNumbered, IsOverlaid, IsSettled, world_over}
+use Rattle.cedar_store.specs.declared.store_fault.StoreFault.{StoreFault}
+use Rattle.cedar_store.specs.declared.store_fault.StoreFault.TheVariants.{OutOfMemory, DuplicateEntity, Cycle}
+use Rattle.cedar_store.proofs.ChangedLemmas.{entry_named, entry_unnamed}
+use Rattle.cedar_store.proofs.CutChains.{chain_stays, cycle_named, last_link}
+use Rattle.cedar_store.proofs.Overlaid.{over_named, over_unnamed, parents_in, parents_named, parents_unnamed}
+
+-- the entity that a change of the uid, if there is one, leaves
+abbrev told_entry : Option ChangeTree → Option EntityTree → Option EntityTree
+told_entry None e = e
+told_entry (Some c) e = c.entity
+
+entry_case : (w : World) (cs : List ChangeTree) (u : Uid) (o : Option ChangeTree) → AreChangesDistinct cs → EachChange IsChangeOfUid cs → change_of cs u ≡ o → entry_of (world_over w cs) u ≡ told_entry o (entry_of w u)
+entry_case w cs u None distinct named is = over_unnamed w cs distinct named u is
+entry_case w cs u (Some c) distinct named is = over_named w cs distinct named u c is
+
+named_entry : (o : Option ChangeTree) (e : Option EntityTree) → IsTrue (is_some o) → told_entry o e ≡ upsert_in o
+named_entry None e there = cc
+named_entry (Some c) e there = refl
+
+no_both : (b : Bool) → b ≡ true → b ≡ false → ⊥
+no_both true t f = cc
+no_both false t f = cc
+
+some_entry : (o : Option EntityTree) (p : Uid) → Contains (parents_in o) p → (e : EntityTree) × (o ≡ Some e)
+some_entry None p m = absurd (nowhere p m)
+some_entry (Some e) p m = (e, refl)
+
+-- ---- entities and parents after the call
+
+module _ (w : World) (old new : List ChangeTree) (removed : List Uid) (upserted : World) (distinct : AreChangesDistinct old) (named : EachChange IsChangeOfUid old) (distinct_new : AreChangesDistinct new) (named_new : EachChange IsChangeOfUid new) (after : IsAfterCall old removed upserted new) where
+  entry_by : (u : Uid) (b : Bool) → is_changed removed upserted u ≡ b → entry_of (world_over w new) u ≡ entry_of (changed (world_over w old) removed upserted) u
+  entry_by u true is =
+      entry_case w new u (change_of new u) distinct_new named_new refl ∙ named_entry (change_of new u) (entry_of w u) (after.named u is) ∙ after.upserts u is ∙ sym (entry_named (world_over w old) removed upserted u is)
+  entry_by u false is =
+      entry_case w new u (change_of new u) distinct_new named_new refl ∙ ap (λ o. told_entry o (entry_of w u)) (after.kept u is) ∙ sym (entry_case w old u (change_of old u) distinct named refl) ∙ sym (entry_unnamed (world_over w old) removed upserted u is)
+
+  pub entry_after : (u : Uid) → entry_of (world_over w new) u ≡ entry_of (changed (world_over w old) removed upserted) u
+  entry_after u = entry_by u (is_changed removed upserted u) refl
+
+  -- what the call does not name has the parents that it had
+  pub parents_kept : (u : Uid) → is_changed removed upserted u ≡ false → parents_of (world_over w new) u ≡ parents_of (world_over w old) u
+  parents_kept u is = ap parents_in (entry_after u ∙ entry_unnamed (world_over w old) removed upserted u is)
+
+  -- what the call names and has a parent is upserted
+  pub parent_upserted : (u p : Uid) → is_changed removed upserted u ≡ true → Contains (parents_of (world_over w new) u) p → (e : EntityTree) × (entry_of upserted u ≡ Some e)
+  parent_upserted u p is m = some_entry (entry_of upserted u) p (subst (λ o. Contains (parents_in o) p) (entry_after u ∙ entry_named (world_over w old) removed upserted u is) m)
+
+  pub below_after : (u v : Uid) → Below (world_over w new) u v → Below (changed (world_over w old) removed upserted) u v
+  below_after u v chain = chain_among (λ x y m. subst (λ o. Contains (parents_in o) y) (entry_after x) m) chain
+
+  pub fault_after : (f : StoreFault) → IsCycleThere (world_over w new) f → IsThereInChanges (world_over w old) removed upserted f
+  fault_after OutOfMemory there = there
+  fault_after (DuplicateEntity u) there = absurd there
+  fault_after (Cycle u) there = below_after u u there
+
+-- ---- what something is below is known
+
+module _ {S : Type 0} (b : BaseTree) (cs : List ChangeTree) (sets : IndexMap Uid (BTreeSet Uid) S) (distinct : AreChangesDistinct cs) (named : EachChange IsChangeOfUid cs) (numbered : (u v : Uid) → Below b.world u v → IsNumbered b v) (known : AreParentsKnown b cs sets) where
+  parent_case : (z p : Uid) (o : Option ChangeTree) (e : Option EntityTree) → change_of cs z ≡ o → upsert_in o ≡ e → Contains (parents_of (world_over b.world cs) z) p → IsLinked b sets p
+  parent_case z p None e is entity m = inr (numbered z p (one_link (subst (λ ps. Contains ps p) (parents_unnamed b.world cs distinct named z is) m)))
+  parent_case z p (Some c) None is entity m = absurd (nowhere p (subst (λ ps. Contains ps p) (parents_named b.world cs distinct named z c is ∙ ap parents_in entity) m))
+  parent_case z p (Some c) (Some e) is entity m =
+      known z p e (ap upsert_in is ∙ entity) (subst (λ ps. Contains ps p) (parents_named b.world cs distinct named z c is ∙ ap parents_in entity) m)
+
+  pub high_linked : (u v : Uid) → Below (world_over b.world cs) u v → IsLinked b sets v
+  high_linked u v chain = let l = last_link chain in parent_case l.0 v (change_of cs l.0) (upsert_in (change_of cs l.0)) refl refl l.1
+
+-- ---- the call leaves alone what anything else is below
+
+module _ {S : Type 0} (b : BaseTree) (old new : List ChangeTree) (removed : List Uid) (upserted : World) (marks marks_new : List ℕ) (sets : IndexMap Uid (BTreeSet Uid) S)
+    (distinct : AreChangesDistinct old) (named : EachChange IsChangeOfUid old) (distinct_new : AreChangesDistinct new) (named_new : EachChange IsChangeOfUid new)
+    (numbered : (u v : Uid) → Below b.world u v → IsNumbered b v) (after : IsAfterCall old removed upserted new) (kept : IsOverlaid b old marks sets) where
+  abbrev is_named : Uid → Bool
+  is_named = is_changed removed upserted
+
+  known_by : (sets_new : IndexMap Uid (BTreeSet Uid) S) (u p : Uid) (e : EntityTree) (t : Bool) → is_named u ≡ t → ((p : Uid) → IsLinked b sets p → IsLinked b sets_new p) → (entry_of upserted u ≡ Some e → IsLinked b sets_new p)
+      → upsert_in (change_of new u) ≡ Some e → Contains e.parents p → IsLinked b sets_new p
+  known_by sets_new u p e true is keeps here entity m = here (sym (after.upserts u is) ∙ entity)
+  known_by sets_new u p e false is keeps here entity m = keeps p (kept.parents u p e (ap upsert_in (sym (after.kept u is)) ∙ entity) m)
+
+  marked_by : (u : Uid) (t : Bool) → is_named u ≡ t → ((x : Uid) → IsTrue (in_row b.keys marks x) → IsTrue (in_row b.keys marks_new x)) → (is_named u ≡ true → IsTrue (in_row b.keys marks_new u)) → IsNamed new u → IsNumbered b u → IsTrue (in_row b.keys marks_new u)
+  marked_by u true is keeps here there number = here is
+  marked_by u false is keeps here there number = keeps u (kept.marked u (subst (λ o. IsTrue (is_some o)) (after.kept u is) there) number)
+
+  module _ (same_marks : (u : Uid) → in_row b.keys marks_new u ≡ in_row b.keys marks u) (stay : DoLinksStay b sets removed upserted) where
+    known_still : AreParentsKnown b new sets
+    known_still u p e entity m = known_by sets u p e (is_named u) refl (λ q l. l) (λ is. stay.known u p e is m) entity m
+
+    none_high_new : (c x : Uid) → Below (world_over b.world new) x c → is_named c ≡ true → ⊥
+    none_high_new c x chain is = stay.apart c is (high_linked b new sets distinct_new named_new numbered known_still x c chain)
+
+    none_high_old : (c x : Uid) → Below (world_over b.world old) x c → is_named c ≡ true → ⊥
+    none_high_old c x chain is = stay.apart c is (high_linked b old sets distinct named numbered kept.parents x c chain)
+
+    same_links : (u : Uid) → is_named u ≡ false → parents_of (world_over b.world new) u ≡ parents_of (world_over b.world old) u
+    same_links = parents_kept b.world old new removed upserted distinct named distinct_new named_new after
+
+    settled_by : (u : Uid) (s : BTreeSet Uid) (t : Bool) → is_named u ≡ t → get same_uid sets u ≡ Some s → AreAncestors (world_over b.world new) u (contains uid_cmp s)
+    settled_by u s true is found = absurd (stay.apart u is (inl (ap is_some found)))
+    settled_by u s false is found = λ v. (let told = kept.settled u s found v in (
+      λ t. chain_stays (world_over b.world new) (world_over b.world old) is_named (λ x h. sym (same_links x h)) u v is none_high_old (told.0 t),
+      λ chain. told.1 (chain_stays (world_over b.world old) (world_over b.world new) is_named same_links u v is none_high_new chain),
+    ))
+
+    marked_still : (p : Uid) → IsMarked b marks_new p → IsMarked b marks p
+    marked_still p (inl here) = inl (sym (same_marks p) ∙ here)
+    marked_still p (inr (x, here, chain)) = inr (x, sym (same_marks x) ∙ here, chain)
+
+    pub links_kept : IsOverlaid b new marks_new sets
+    links_kept = record {
+      acyclic = λ u chain. (let c = cycle_named (world_over b.world old) (world_over b.world new) is_named same_links kept.acyclic u chain in none_high_new c.0 c.0 c.2 c.1);
+      marked = λ u there number. marked_by u (is_named u) refl (λ x t. same_marks x ∙ t) (λ is. absurd (stay.apart u is (inr number))) there number;
+      settled = λ u s found. settled_by u s (is_named u) refl found;
+      parents = known_still;
+      below_marked = λ p number marked. kept.below_marked p number (marked_still p marked);
+    }
+
+  -- ---- the sets are made anew
+
+  module _ (sets_new : IndexMap Uid (BTreeSet Uid) S) (too : AreMarkedToo b removed upserted marks marks_new) (anew : AreSettledAnew b new marks_new sets (uids_of upserted) sets_new) (apart : AreApart sets_new (uids_of upserted))
+      (listed : (u : Uid) (e : EntityTree) → entry_of upserted u ≡ Some e → Contains (uids_of upserted) u) where
+    linked_still : (p : Uid) → IsLinked b sets p → IsLinked b sets_new p
+    linked_still p (inl settled) = inl (anew.kept p settled)
+    linked_still p (inr number) = inr number
+
+    upserted_parent : (u p : Uid) (e : EntityTree) → entry_of upserted u ≡ Some e → Contains e.parents p → Contains (parents_of (world_over b.world new) u) p
+    upserted_parent u p e is m =
+        let named_here = is_upserted u e is in
+        subst (λ o. Contains (parents_in o) p) (sym (entry_after b.world old new removed upserted distinct named distinct_new named_new after u ∙ entry_named (world_over b.world old) removed upserted u named_here ∙ is)) m
+      where
+        is_upserted : (u : Uid) (e : EntityTree) → entry_of upserted u ≡ Some e → is_named u ≡ true
+        is_upserted u e is = or_there (list_any (same_uid u) removed) (has_entity upserted u) (ap is_some is)
+          where
+            or_there : (a c : Bool) → c ≡ true → (a || c) ≡ true
+            or_there true c h = refl
+            or_there false c h = h
+
+    known_anew : AreParentsKnown b new sets_new
+    known_anew u p e entity m = known_by sets_new u p e (is_named u) refl linked_still (λ is. anew.parents u p (listed u e is) (upserted_parent u p e is m)) entity m
+
+    marked_anew : AreMarked b new marks_new
+    marked_anew u there number = marked_by u (is_named u) refl too.kept (λ is. too.named u is number) there number
+
+    settled_here : (c x : Uid) → is_named c ≡ true → Below (world_over b.world new) x c → IsSettled sets_new c
+    settled_here c x is chain =
+        ⊎_elim (λ settled. settled) (λ number. anew.below_marked c number (inl (too.named c is number))) (high_linked b new sets_new distinct_new named_new numbered known_anew x c chain)
+
+    found_in : (c : Uid) (o : Option (BTreeSet Uid)) → get same_uid sets_new c ≡ o → IsTrue (is_some o) → Contains (uids_of upserted) c → Below (world_over b.world new) c c → ⊥
+    found_in c None is there m chain = cc
+    found_in c (Some s) is there m chain = no_both (contains uid_cmp s c) ((anew.settled c s is c).1 chain) (apart c s m is)
+
+    none_cyclic : (c : Uid) → is_named c ≡ true → Below (world_over b.world new) c c → ⊥
+    none_cyclic c is chain =
+        let first = first_link chain in
+        let entity = parent_upserted b.world old new removed upserted distinct named distinct_new named_new after c first.0 is first.1 in
+        found_in c (get same_uid sets_new c) refl (settled_here c c is chain) (listed c entity.0 entity.1) chain
+
+    pub links_changed : IsOverlaid b new marks_new sets_new
+    links_changed = record {
+      acyclic = λ u chain. (let c = cycle_named (world_over b.world old) (world_over b.world new) is_named (parents_kept b.world old new removed upserted distinct named distinct_new named_new after) kept.acyclic u chain in none_cyclic c.0 c.1 c.2);
+      marked = marked_anew;
+      settled = anew.settled;
+      parents = known_anew;
+      below_marked = anew.below_marked;
+    }

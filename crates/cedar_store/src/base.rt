@@ -1,0 +1,226 @@
+//! Entities that were read whole.
+ghost use Rattle.std.specs.Prelude.{◌≡◌, ◌≤◌, false, Contains, Some, IfOk, IfErr, IsTrue, OnErr, OnOk, is_some, length};
+ghost use Rattle.base_reach.specs.Private.Lent.{lent};
+ghost use Rattle.cedar_value.specs.World.{Below, parents_of};
+ghost use Rattle.cedar_value.specs.declared.uid.Uid.{Uid as Uids};
+ghost use Rattle.cedar_store.specs.Ancestors.{AddsAncestors};
+ghost use Rattle.cedar_store.specs.Entities.{AreUidsDistinct, IsAcyclic};
+ghost use Rattle.cedar_store.specs.Faults.{IsThere};
+ghost use Rattle.cedar_store.specs.Private.Based.{IsMarked};
+ghost use Rattle.cedar_store.specs.Private.Gathered.{Gathers, KeepsFirst};
+ghost use Rattle.cedar_store.specs.Private.Kept.{in_row, number_in};
+
+use crate::ancestors::push_members;
+use crate::entity::Entity;
+use crate::entity_table::EntityTable;
+use crate::gathering::gather_members;
+use crate::links::links_of;
+use crate::marks::have_common;
+use crate::mask::meets;
+use crate::numbers::{Numbers, has_uid};
+use crate::rows::{all_rows, row_of};
+use crate::store_fault::StoreFault;
+use crate::uid_hashing::UidHashing;
+use base_reach::Links;
+use base_search::Row;
+use cedar_value::{Hierarchy, Record, Uid, ValueSet};
+use std::alloc::{AllocError, Global};
+use std::marker::Model;
+
+/// Entities that were read whole, with what is above each of them. Contracts see the list of the entities, in the order in which they
+/// were handed in, and the uids that have a number.
+///
+/// Each uid that has something below it has a number, in the order in which the uids are first named as parents. Each entity
+/// has a row of bits with the numbers of all that it is below.
+#[derive(Drop)]
+pub(crate) struct Base {
+    table: EntityTable,
+    numbers: Numbers,
+    rows: Vec<Row>,
+}
+
+impl Model for Base {
+    ghost use Rattle.std.specs.Coded.{codes};
+    ghost use Rattle.cedar_value.specs.Private.DatumCode.{datum_code};
+    ghost use Rattle.cedar_store.specs.Entities.{IsAcyclic};
+    ghost use Rattle.cedar_store.specs.Private.Based.{BaseTree};
+    ghost use Rattle.cedar_store.specs.Private.Kept.{AreRows};
+
+    ghost Value = { BaseTree };
+
+    ghost coded = { Prim.hlevel (codes, datum_code) };
+
+    ghost view = { λ b. record { world = b.table; keys = b.numbers.keys } };
+
+    ghost invariant = { λ b. AreRows b.numbers.keys b.table b.rows.items × IsAcyclic b.table };
+}
+
+impl Base {
+    /// The store of these entities (Cedar language reference, entities and hierarchy).
+    ///
+    /// Time is the number of links times the words of a row, whatever the order of the entities, and memory is the words of all
+    /// rows. A row has a bit for each parent up to the last of those that the entity is below, in the order in which they are
+    /// first named. Entities in 1,000 groups take 125 bytes each at most, but a chain of entities, each in the next, takes an
+    /// eighth of the square of its length.
+    ///
+    /// # Errors
+    ///
+    /// 401 where a uid is repeated, 402 where an entity is below itself, and 1 when out of memory. After an error nothing is
+    /// kept.
+    pub(crate) fn build(alloc: Global, entities: Vec<Entity>) -> Result<Self, StoreFault>
+        ensures world { IfOk result (λ b. b.world ≡ entities.items) }
+        ensures distinct { OnOk result (AreUidsDistinct entities.items) }
+        ensures acyclic { OnOk result (IsAcyclic entities.items) }
+        ensures refused { IfErr result (IsThere entities.items) }
+    {
+        let table = EntityTable::new(alloc, entities)?;
+        let (numbers, graph) = links_of(alloc, &table)?;
+        let rows = all_rows(alloc, &table, &numbers, &graph)?;
+        Ok(Base {
+            table,
+            numbers,
+            rows,
+        })
+    }
+
+    /// For contracts alone: no uid is repeated, nothing is below itself, and what something is below has a number.
+    pub(crate) fn facts(&self)
+        ensures distinct { AreUidsDistinct self.now.world }
+        ensures acyclic { IsAcyclic self.now.world }
+        ensures numbered { (u v : Uids) → Below self.now.world u v → IsTrue (is_some (number_in self.now.keys v)) }
+    {
+        self.table.uids_are_distinct();
+    }
+
+    /// How the uids are hashed.
+    pub(crate) fn hashing(&self) -> UidHashing {
+        self.table.hashing()
+    }
+
+    /// The direct parents of an entity, and none of a uid that is not there.
+    pub(crate) fn parents(&self, uid: &Uid) -> &[Uid]
+        ensures { result.now ≡ parents_of self.now.world uid.now }
+    {
+        self.table.links(uid)
+    }
+
+    /// Whether the uid has a number: whether it is the direct parent of some entity.
+    pub(crate) fn is_numbered(&self, uid: &Uid) -> bool
+        ensures { result ≡ is_some (number_in self.now.keys uid.now) }
+    {
+        self.numbers.get_index_of(uid).is_some()
+    }
+
+    /// Marks the uid's number, where it has one.
+    pub(crate) fn mark(&self, marks: &mut Row, uid: &Uid) -> Result<(), AllocError>
+        ensures kept { OnOk result ((x : Uids) → IsTrue (in_row self.now.keys marks.old x) → IsTrue (in_row self.now.keys marks.new x)) }
+        ensures marked { OnOk result (IsTrue (is_some (number_in self.now.keys uid.now)) → IsTrue (in_row self.now.keys marks.new uid.now)) }
+    {
+        match self.numbers.get_index_of(uid) {
+            Some(number) => marks.insert(number),
+            None => Ok(()),
+        }
+    }
+
+    /// Whether an entity may be below a uid that is marked. Where it is not said to be, it is not.
+    pub(crate) fn is_below_marked(&self, low: &Uid, marks: &Row) -> bool
+        ensures { result ≡ false → (x : Uids) → IsTrue (in_row self.now.keys marks.now x) → ¬ Below self.now.world low.now x }
+    {
+        match row_of(&self.table, &self.rows, low) {
+            Some(row) => have_common(row, marks),
+            None => false,
+        }
+    }
+
+    /// Appends each uid with a number that is marked, or is below a uid that is marked.
+    pub(crate) fn push_marked<'s>(
+        &'s self,
+        marks: &Row,
+        found: &mut Vec<&'s Uid>,
+    ) -> Result<(), AllocError>
+        ensures kept { OnOk result ((p : Uids) → Contains (lent found.old.items) p → Contains (lent found.new.items) p) }
+        ensures marked { OnOk result ((p : Uids) → IsTrue (is_some (number_in self.now.keys p)) → IsMarked self.now marks.now p → Contains (lent found.new.items) p) }
+    {
+        for (number, uid) in self.numbers.as_slice().iter().enumerate() {
+            if self.may_be_marked(number, uid, marks) {
+                found.push(uid)?;
+            }
+        }
+        Ok(())
+    }
+
+    // Whether the uid of this number is marked, or may be below a uid that is marked. Where it is not said to be, it is neither.
+    fn may_be_marked(&self, number: usize, uid: &Uid, marks: &Row) -> bool
+        ensures { result ≡ false → number_in self.now.keys uid.now ≡ Some number → ¬ IsMarked self.now marks.now uid.now }
+    {
+        marks.has(number) || self.is_below_marked(uid, marks)
+    }
+
+    /// Appends each uid that `low` is below, once (Cedar language reference, hierarchy). An entity that is not in the store is
+    /// below nothing.
+    ///
+    /// Time grows with the words of the row of `low` and the number of uids that are appended.
+    ///
+    /// # Errors
+    ///
+    /// Fails only when out of memory, where the list has to grow. The list is then as it was.
+    pub(crate) fn ancestors<'s>(
+        &'s self,
+        low: &Uid,
+        found: &mut Vec<&'s Uid>,
+    ) -> Result<(), AllocError>
+        ensures adds { OnOk result (AddsAncestors self.now.world low.now found.old.items found.new.items) }
+        ensures refused { OnErr result (found.new.items ≡ found.old.items) }
+    {
+        match row_of(&self.table, &self.rows, low) {
+            Some(row) => push_members(&self.numbers, row, found),
+            None => Ok(()),
+        }
+    }
+
+    /// Appends each uid that `low` is below, unless it is one of those that were appended since the list had the length `begun`.
+    pub(crate) fn gather_ancestors<'s>(
+        &'s self,
+        low: &Uid,
+        found: &mut Vec<&'s Uid>,
+        begun: usize,
+    ) -> Result<(), AllocError>
+        requires { begun ≤ length found.old.items }
+        ensures kept { KeepsFirst begun found.old.items found.new.items }
+        ensures gathers { OnOk result (Gathers begun found.old.items found.new.items (λ v. Below self.now.world low.now v)) }
+    {
+        match row_of(&self.table, &self.rows, low) {
+            Some(row) => gather_members(&self.numbers, row, found, begun),
+            None => Ok(()),
+        }
+    }
+}
+
+impl Hierarchy for Base {
+    ghost world = { λ b. b.world };
+
+    fn has(&self, entity: &Uid) -> bool {
+        self.table.place(entity).is_some()
+    }
+
+    fn attributes(&self, entity: &Uid) -> Option<&Record> {
+        match self.table.get(entity) {
+            Some(found) => Some(&found.attrs),
+            None => None,
+        }
+    }
+
+    fn is_below(&self, low: &Uid, high: &Uid) -> bool {
+        match row_of(&self.table, &self.rows, low) {
+            Some(row) => has_uid(&self.numbers, row, high),
+            None => false,
+        }
+    }
+
+    fn is_below_any(&self, low: &Uid, highs: &ValueSet) -> bool {
+        match row_of(&self.table, &self.rows, low) {
+            Some(row) => meets(&self.numbers, row.words(), highs),
+            None => false,
+        }
+    }
+}

@@ -1,0 +1,111 @@
+//! The changes of a world, by their uids.
+ghost use Rattle.std.specs.Prelude.{◌≡◌, ◌↔◌, [], IfOk, IsTrue, Some, if◌then◌else◌, option_copied};
+ghost use Rattle.cedar_value.specs.Datum.{same_uid};
+ghost use Rattle.cedar_value.specs.declared.uid.Uid as uids;
+ghost use Rattle.cedar_store.specs.Private.Changing.{AreChangesDistinct, EachChange, IsChangeOfUid, change_of};
+
+use crate::change::Change;
+use crate::change_hash::hash_of;
+use crate::change_tree::ForkTree;
+use crate::uid_hashing::UidHashing;
+use cedar_value::Uid;
+use std::alloc::{AllocError, Global};
+use std::marker::Model;
+use std::sync::Arc;
+
+/// The changes of a world, each found by its uid. A new version shares with the old one all that is not on the way to what
+/// changes. Contracts see the list of the changes.
+#[derive(Drop)]
+pub(crate) struct ChangeMap {
+    hashing: UidHashing,
+    root: ForkTree,
+}
+
+impl Model for ChangeMap {
+    ghost use Rattle.std.specs.Prelude.{List};
+    ghost use Rattle.std.specs.Coded.{codes};
+    ghost use Rattle.cedar_value.specs.Private.DatumCode.{datum_code};
+    ghost use Rattle.cedar_store.specs.Private.Changing.{ChangeTree};
+    ghost use Rattle.cedar_store.specs.Private.Branches.{IsMap, changes_in};
+    ghost use Rattle.cedar_store.specs.Private.Forks.{branches_of};
+
+    ghost Value = { List ChangeTree };
+
+    ghost coded = { Prim.hlevel (codes, datum_code) };
+
+    ghost view = { λ m. changes_in (branches_of m.root) };
+
+    ghost invariant = { λ m. IsMap m.hashing (branches_of m.root) };
+}
+
+impl ChangeMap {
+    /// No changes. Takes no memory.
+    pub(crate) fn new(hashing: UidHashing) -> Self
+        ensures { result ≡ [] }
+    {
+        ChangeMap {
+            hashing,
+            root: ForkTree::Leaf,
+        }
+    }
+
+    /// Whether there are no changes.
+    pub(crate) fn is_empty(&self) -> bool
+        ensures { IsTrue result ↔ (self.now ≡ []) }
+    {
+        match &self.root {
+            ForkTree::Leaf => true,
+            ForkTree::Fork(_) => false,
+        }
+    }
+
+    /// The change of this uid. Where there are no changes, the uid is not hashed.
+    pub(crate) fn get(&self, uid: &Uid) -> Option<&Change>
+        ensures { option_copied result ≡ change_of self.now uid.now }
+    {
+        match &self.root {
+            ForkTree::Leaf => None,
+            ForkTree::Fork(_) => self.root.find(hash_of(&self.hashing, uid), uid),
+        }
+    }
+
+    /// These changes with one more, which takes the place of the change with its uid. This version stays as it is.
+    ///
+    /// # Errors
+    ///
+    /// Fails only when out of memory.
+    pub(crate) fn with(&self, alloc: Global, change: Change) -> Result<ChangeMap, AllocError>
+        ensures { IfOk result (λ m. (u : uids.Uid) → change_of m u ≡ (if same_uid change.uid u then Some change else change_of self.now u)) }
+    {
+        let hash = hash_of(&self.hashing, &change.uid);
+        let change = Arc::new(alloc, change)?;
+        let root = self.root.with(alloc, hash, change)?;
+        Ok(ChangeMap {
+            hashing: self.hashing,
+            root,
+        })
+    }
+
+    /// The same changes for one more holder. Takes no memory.
+    ///
+    /// # Errors
+    ///
+    /// Fails only where the changes have so many holders that their count has no room.
+    pub(crate) fn try_clone(&self) -> Result<ChangeMap, AllocError>
+        ensures { IfOk result (λ m. m ≡ self.now) }
+    {
+        let root = self.root.share()?;
+        Ok(ChangeMap {
+            hashing: self.hashing,
+            root,
+        })
+    }
+
+    /// For contracts alone: no two changes have one uid, and an entity that is upserted has the uid of its change.
+    pub(crate) fn facts(&self)
+        ensures distinct { AreChangesDistinct self.now }
+        ensures named { EachChange IsChangeOfUid self.now }
+    {
+        let _root = &self.root;
+    }
+}

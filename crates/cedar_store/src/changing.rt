@@ -1,0 +1,138 @@
+//! What a store keeps of more changes.
+ghost use Rattle.std.specs.Prelude.{◌≡◌, IfErr, IfOk};
+ghost use Rattle.cedar_store.specs.Changes.{changed as changed_world, IsThereInChanges};
+ghost use Rattle.cedar_store.specs.Entities.{uids_of};
+ghost use Rattle.cedar_store.specs.Private.Called.{DoLinksStay};
+ghost use Rattle.cedar_store.specs.Private.Overlaid.{IsOverlaid, world_over};
+ghost use Rattle.cedar_value.specs.World.{entry_of};
+ghost use Rattle.cedar_value.specs.declared.uid.Uid.{Uid as Uids};
+
+use crate::call_marks::{copied, marked_too};
+use crate::change_map::ChangeMap;
+use crate::changed_links::ChangedLinks;
+use crate::cycles::refuse_cycles;
+use crate::entity_table::EntityTable;
+use crate::links_stay::do_links_stay;
+use crate::more_changes::with_more;
+use crate::overlay::Overlay;
+use crate::settled::Settled;
+use crate::settling::settled_anew;
+use crate::store_fault::StoreFault;
+use base_search::Row;
+use cedar_value::Uid;
+use std::alloc::{AllocError, Global};
+use std::sync::Arc;
+
+/// What a store keeps of changes, without the entities that were read whole.
+#[derive(Drop)]
+pub(crate) struct Kept {
+    pub(crate) changes: ChangeMap,
+    pub(crate) marks: Row,
+    pub(crate) settled: Arc<Settled, Global>,
+}
+
+/// What a store keeps after more changes.
+///
+/// Where nothing is below a uid that the call names, only the marks are copied, and the sets are shared. Else each set is made
+/// anew: all links above its uid are followed.
+///
+/// # Errors
+///
+/// 402 where an entity is below itself after the changes, and 1 when out of memory.
+pub(crate) fn changed(
+    alloc: Global,
+    overlay: &Overlay<'_>,
+    settled: &Arc<Settled, Global>,
+    removed: &[Uid],
+    upserted: EntityTable,
+) -> Result<Kept, StoreFault>
+    requires overlaid { IsOverlaid overlay.now.base.now overlay.now.changes.now overlay.now.marks.now overlay.now.settled.now }
+    requires same { settled.now.value ≡ overlay.now.settled.now }
+    ensures overlaid { IfOk result (λ k. IsOverlaid overlay.now.base.now k.changes k.marks k.settled.value) }
+    ensures entries { IfOk result (λ k. (u : Uids) → entry_of (world_over overlay.now.base.now.world k.changes) u
+        ≡ entry_of (changed_world (world_over overlay.now.base.now.world overlay.now.changes.now) removed.now upserted) u) }
+    ensures refused { IfErr result (IsThereInChanges (world_over overlay.now.base.now.world overlay.now.changes.now) removed.now upserted) }
+{
+    if do_links_stay(overlay.base, overlay.settled, removed, &upserted) {
+        with_links_kept(alloc, overlay, settled, removed, upserted)
+    } else {
+        with_links_changed(alloc, overlay, removed, upserted)
+    }
+}
+
+// What a store keeps after changes that leave alone what anything else is below.
+fn with_links_kept(
+    alloc: Global,
+    overlay: &Overlay<'_>,
+    settled: &Arc<Settled, Global>,
+    removed: &[Uid],
+    upserted: EntityTable,
+) -> Result<Kept, StoreFault>
+    requires overlaid { IsOverlaid overlay.now.base.now overlay.now.changes.now overlay.now.marks.now overlay.now.settled.now }
+    requires same { settled.now.value ≡ overlay.now.settled.now }
+    requires stay { DoLinksStay overlay.now.base.now overlay.now.settled.now removed.now upserted }
+    ensures overlaid { IfOk result (λ k. IsOverlaid overlay.now.base.now k.changes k.marks k.settled.value) }
+    ensures entries { IfOk result (λ k. (u : Uids) → entry_of (world_over overlay.now.base.now.world k.changes) u
+        ≡ entry_of (changed_world (world_over overlay.now.base.now.world overlay.now.changes.now) removed.now upserted) u) }
+    ensures refused { IfErr result (IsThereInChanges (world_over overlay.now.base.now.world overlay.now.changes.now) removed.now upserted) }
+{
+    // What something is below in the base has a number, and no two changes have one uid.
+    overlay.base.facts();
+    overlay.changes.facts();
+    let marks = copied(alloc, overlay.base, overlay.marks)?;
+    let changes = with_more(alloc, overlay.changes, removed, upserted)?;
+    // No two of the new changes have one uid.
+    changes.facts();
+    let settled = Arc::try_clone(settled)?;
+    Ok(Kept {
+        changes,
+        marks,
+        settled,
+    })
+}
+
+// What a store keeps after changes, with all sets made anew.
+fn with_links_changed(
+    alloc: Global,
+    overlay: &Overlay<'_>,
+    removed: &[Uid],
+    upserted: EntityTable,
+) -> Result<Kept, StoreFault>
+    requires overlaid { IsOverlaid overlay.now.base.now overlay.now.changes.now overlay.now.marks.now overlay.now.settled.now }
+    ensures overlaid { IfOk result (λ k. IsOverlaid overlay.now.base.now k.changes k.marks k.settled.value) }
+    ensures entries { IfOk result (λ k. (u : Uids) → entry_of (world_over overlay.now.base.now.world k.changes) u
+        ≡ entry_of (changed_world (world_over overlay.now.base.now.world overlay.now.changes.now) removed.now upserted) u) }
+    ensures refused { IfErr result (IsThereInChanges (world_over overlay.now.base.now.world overlay.now.changes.now) removed.now upserted) }
+{
+    // What something is below in the base has a number, and no two changes have one uid.
+    overlay.base.facts();
+    overlay.changes.facts();
+    let marks = marked_too(alloc, overlay.base, overlay.marks, removed, &upserted)?;
+    let uids = copied_uids(alloc, &upserted)?;
+    let changes = with_more(alloc, overlay.changes, removed, upserted)?;
+    // No two of the new changes have one uid.
+    changes.facts();
+    let links = ChangedLinks {
+        base: overlay.base,
+        changes: &changes,
+    };
+    let sets = settled_anew(alloc, &links, &marks, overlay.settled, &uids)?;
+    refuse_cycles(alloc, &links, &sets, &uids)?;
+    let settled = Arc::new(alloc, sets)?;
+    Ok(Kept {
+        changes,
+        marks,
+        settled,
+    })
+}
+
+// The uids of the entities.
+fn copied_uids(alloc: Global, entities: &EntityTable) -> Result<Vec<Uid>, AllocError>
+    ensures { IfOk result (λ uids. uids.items ≡ uids_of entities.now) }
+{
+    let mut uids = Vec::new(alloc);
+    for entity in entities.entities() {
+        uids.push(entity.uid.try_clone(alloc)?)?;
+    }
+    Ok(uids)
+}

@@ -28,7 +28,8 @@ mod uid_room;
 mod uids;
 
 pub use cedar_conform_entities::{
-    denoted_worlds_are_exact, denoted_worlds_conform, read_entities, read_entities_owned,
+    changed_worlds_are_exact, changed_worlds_conform, denoted_worlds_are_exact,
+    denoted_worlds_conform, read_changes, read_entities, read_entities_owned,
     sound_entities_conform,
 };
 pub use cedar_conform_values::{

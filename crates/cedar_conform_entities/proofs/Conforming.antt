@@ -1,5 +1,5 @@
 -- Sound entities with the schema's actions conform.
-use Rattle.std.proofs.Common.{◌≡◌, ℕ, Bool, true, false, cond, inl, inr, ⊎_elim, List, [], ◌∷◌, ◌++◌, Contains, Option, Some, None, unwrap_or, refl, sym, ap, subst, ◌∙◌}
+use Rattle.std.proofs.Common.{◌≡◌, ℕ, true, inl, inr, ⊎_elim, List, [], Contains, Option, Some, None, unwrap_or, refl, sym, ap, subst, ◌∙◌}
 use Rattle.std.specs.Prelude.{is_some}
 use Rattle.std.specs.BTreeMap.{is_at}
 use Rattle.std.specs.Map.{keys_of, lookup}
@@ -7,49 +7,24 @@ use Rattle.std.specs.Option.{option_map}
 use Rattle.std.proofs.lemmas.List.Elements.{All-contains}
 use Rattle.std.proofs.lemmas.Map.Views.{Contains-keys_from_lookup, tells_apart}
 use Rattle.base_reach.proofs.Chains.{chain_on}
-use Rattle.base_reach.proofs.Listed.{here, there, nowhere, mapped, from_mapped}
+use Rattle.base_reach.proofs.Listed.{nowhere, mapped, from_mapped}
 use Rattle.base_reach.specs.Closure.{one_link, more_links}
 use Rattle.cedar_conform_entities.specs.Worlds.{IsSound, world_of, SoundEntitiesConform}
 use Rattle.cedar_conform_entities.proofs.TwiceLemmas.{either_of}
+use Rattle.cedar_store.proofs.ChangedLemmas.{entry_in, entry_first, entry_second}
 use Rattle.cedar_schema_spec.specs.Conformance.{IsOfSchema, of_type, Conforms, ActionsConform}
 use Rattle.cedar_schema_spec.specs.Declarations.{IsAction, IsEntityType, action_entity, action_entities, ChainsOfActions}
 use Rattle.cedar_schema_spec.specs.Descents.{EntityTypeDescends, TypeDescends}
 use Rattle.cedar_schema_spec.specs.SchemaTree.{SchemaTree, EntityTypeTree, ActionTree, shape_of}
 use Rattle.cedar_schema_spec.specs.WellFormed.{AreTypesApart, IsHierarchy}
 use Rattle.cedar_schema_types.specs.Types.{TypeTree}
-use Rattle.cedar_value.specs.Datum.{same_uid}
 use Rattle.cedar_value.specs.Order.{text_cmp}
-use Rattle.cedar_value.specs.Private.Equality.{same_uid-Decides}
 use Rattle.cedar_value.specs.Private.Same.{text_same}
 use Rattle.cedar_value.specs.World.{World, EntityTree, entry_of, parents_of, Below}
 use Rattle.cedar_value.specs.Private.Parents.{IsParent}
 use Rattle.cedar_value.specs.declared.uid.Uid.{Uid}
 
--- ---- two worlds, one after another
-
-entry_first : (xs ys : World) (u : Uid) (e : EntityTree) → entry_of xs u ≡ Some e → entry_of (xs ++ ys) u ≡ Some e
-entry_first [] ys u e h = cc
-entry_first (x ∷ xs) ys u e h = by (same_uid x.uid u) (entry_first xs ys u e) h
-  where
-    by : (b : Bool) → (entry_of xs u ≡ Some e → entry_of (xs ++ ys) u ≡ Some e) → cond b (Some x) (entry_of xs u) ≡ Some e → cond b (Some x) (entry_of (xs ++ ys) u) ≡ Some e
-    by true later k = k
-    by false later k = later k
-
-entry_second : (xs ys : World) (u : Uid) → entry_of xs u ≡ None → entry_of (xs ++ ys) u ≡ entry_of ys u
-entry_second [] ys u h = refl
-entry_second (x ∷ xs) ys u h = by (same_uid x.uid u) (entry_second xs ys u) h
-  where
-    by : (b : Bool) → (entry_of xs u ≡ None → entry_of (xs ++ ys) u ≡ entry_of ys u) → cond b (Some x) (entry_of xs u) ≡ None → cond b (Some x) (entry_of (xs ++ ys) u) ≡ entry_of ys u
-    by true later k = cc
-    by false later k = later k
-
-entry_in : (xs : World) (u : Uid) (e : EntityTree) → entry_of xs u ≡ Some e → Contains xs e × (e.uid ≡ u)
-entry_in [] u e h = cc
-entry_in (x ∷ xs) u e h = by (same_uid x.uid u) refl (entry_in xs u e) h
-  where
-    by : (b : Bool) → same_uid x.uid u ≡ b → (entry_of xs u ≡ Some e → Contains xs e × (e.uid ≡ u)) → cond b (Some x) (entry_of xs u) ≡ Some e → Contains (x ∷ xs) e × (e.uid ≡ u)
-    by true t later k = let same : x ≡ e = cc in (subst (Contains (x ∷ xs)) same (here x xs), ap (λ (y : EntityTree). y.uid) (sym same) ∙ (same_uid-Decides x.uid u).0 t)
-    by false t later k = let r = later k in (there x xs e r.0, r.1)
+-- ---- declared types
 
 some_of : {A : Type 0} (o : Option A) → is_some o ≡ true → (x : A) × (o ≡ Some x)
 some_of None h = cc
@@ -67,8 +42,27 @@ shape_declared s n t h = Contains-keys_from_lookup (tells_apart {R = text_cmp} t
 pub apart_type : (s : SchemaTree) → AreTypesApart s → (u : Uid) (t : TypeTree) → shape_of s u.ty ≡ Some t → IsAction s u → ⊥
 apart_type s apart u t e a = All-contains (λ (x : Uid). ¬ Contains (keys_of s.entities) x.ty) (keys_of s.actions) u apart a (shape_declared s u.ty t e)
 
-abbrev pars : Option EntityTree → List Uid
+-- ---- parents
+
+abbrev pub pars : Option EntityTree → List Uid
 pars o = unwrap_or (option_map (λ e. e.parents) o) []
+
+module _ (s : SchemaTree) (apart : AreTypesApart s) (hierarchy : IsHierarchy s) where
+  -- a type with a shape descends as an entity type
+  pub entity_descends : (u : Uid) (m : List ℕ) (t : TypeTree) → shape_of s u.ty ≡ Some t → TypeDescends s u.ty m → EntityTypeDescends s u.ty m
+  entity_descends u m t e (inl d) = d
+  entity_descends u m t e (inr d) = absurd (apart_type s apart d.0 t (ap (shape_of s) d.2 ∙ e) (hierarchy.0 d.0 d.1 d.4).0)
+
+  -- each parent of a sound entity is of a type from which its own descends
+  pub sound_parent : (es : World) → ((e : EntityTree) → Contains es e → IsSound s e) → (u v : Uid) (o : Option EntityTree) → entry_of es u ≡ o → Contains (pars o) v → EntityTypeDescends s u.ty v.ty × IsEntityType s v.ty
+  sound_parent es sound u v None h m = absurd (nowhere v m)
+  sound_parent es sound u v (Some e) h m =
+      let found = entry_in es u e h in
+      let is = sound e found.0 in
+      let p = is.parents v m in
+      (subst (λ (x : Uid). EntityTypeDescends s x.ty v.ty) found.1 (entity_descends e.uid v.ty is.shape is.declared p.1), p.0)
+
+-- ---- the world
 
 module _ (chains : ChainsOfActions) (actions : ActionsConform) (s : SchemaTree) (es : World) (apart : AreTypesApart s) (hierarchy : IsHierarchy s) (sound : (e : EntityTree) → Contains es e → IsSound s e) where
   sound_listed : (e : EntityTree) → IsSound s e → IsOfSchema s e
@@ -90,20 +84,8 @@ module _ (chains : ChainsOfActions) (actions : ActionsConform) (s : SchemaTree) 
   other_parents : (u : Uid) → ¬ IsAction s u → parents_of (world_of s es) u ≡ parents_of es u
   other_parents u n = ap pars (entry_second (action_entities s) es u (no_action u (entry_of (action_entities s) u) refl n))
 
-  entity_descends : (u : Uid) (m : List ℕ) (t : TypeTree) → shape_of s u.ty ≡ Some t → TypeDescends s u.ty m → EntityTypeDescends s u.ty m
-  entity_descends u m t e (inl d) = d
-  entity_descends u m t e (inr d) = absurd (apart_type s apart d.0 t (ap (shape_of s) d.2 ∙ e) (hierarchy.0 d.0 d.1 d.4).0)
-
-  from_parents : (u v : Uid) (o : Option EntityTree) → entry_of es u ≡ o → Contains (pars o) v → EntityTypeDescends s u.ty v.ty × IsEntityType s v.ty
-  from_parents u v None h m = absurd (nowhere v m)
-  from_parents u v (Some e) h m =
-      let found = entry_in es u e h in
-      let is = sound e found.0 in
-      let p = is.parents v m in
-      (subst (λ (x : Uid). EntityTypeDescends s x.ty v.ty) found.1 (entity_descends e.uid v.ty is.shape is.declared p.1), p.0)
-
   parent_sound : (u v : Uid) → ¬ IsAction s u → IsParent (world_of s es) u v → EntityTypeDescends s u.ty v.ty × IsEntityType s v.ty
-  parent_sound u v n m = from_parents u v (entry_of es u) refl (subst (λ ps. Contains ps v) (other_parents u n) m)
+  parent_sound u v n m = sound_parent s apart hierarchy es sound u v (entry_of es u) refl (subst (λ ps. Contains ps v) (other_parents u n) m)
 
   chain_above : (u v : Uid) → ¬ IsAction s u → Below (world_of s es) u v → EntityTypeDescends s u.ty v.ty
   chain_above u v n (one_link m) = (parent_sound u v n m).0

@@ -20,7 +20,8 @@ module _ (belong : ReadValuesBelong) where
     parents = h.parents;
   }
 
-  all_sound : (s : SchemaTree) {ds : Items} {es : World} → DenoteEntities s ds es → (e : EntityTree) → Contains es e → IsSound s e
+  -- what a list of entries denotes is sound
+  pub all_sound : (s : SchemaTree) {ds : Items} {es : World} → DenoteEntities s ds es → (e : EntityTree) → Contains es e → IsSound s e
   all_sound s no_entries e m = absurd (nowhere e m)
   all_sound s (an_entity {d = d} {e = x} {es = es} h more) e m = ⊎_elim (λ same. subst (IsSound s) same (sound_entity s d x h)) (λ r. all_sound s more e r) (first_or_later x es e m)
   all_sound s (an_action h more) e m = all_sound s more e m

@@ -21,12 +21,12 @@ use Rattle.cedar_value.specs.Datum.{Datum, record_of, fields_of, pairs_of}
 use Rattle.cedar_value.specs.World.{World, EntityTree, Below}
 use Rattle.cedar_value.specs.declared.uid.Uid.{Uid}
 
-same_value : {A : Type 0} (o : Option A) (x y : A) → o ≡ Some x → o ≡ Some y → x ≡ y
+pub same_value : {A : Type 0} (o : Option A) (x y : A) → o ≡ Some x → o ≡ Some y → x ≡ y
 same_value o x y p q = let same : Some x ≡ Some y = sym p ∙ q in cc
 
 -- ---- an entry writes one uid, and one list of parents
 
-uids_same : {ds : Items} {us vs : List Uid} → AreUids ds us → AreUids ds vs → us ≡ vs
+pub uids_same : {ds : Items} {us vs : List Uid} → AreUids ds us → AreUids ds vs → us ≡ vs
 uids_same no_uids no_uids = refl
 uids_same (one_uid {d = d} {u = u} {us = us} h more) (one_uid {u = v} {us = vs} k rest) =
     ap (λ x. x ∷ us) (written.one_object d u v h k) ∙ ap (λ xs. v ∷ xs) (uids_same more rest)
@@ -66,7 +66,7 @@ module _ (s : SchemaTree) (d : Data) where
   not_both : (e : EntityTree) (u : Uid) (parents : List Uid) → DenotesEntity s d e → RepeatsAction s d u parents → ⊥
   not_both e u parents h k = h.written.no_action (subst (λ (v : Uid). IsActionName v.ty) (uid_same d k.written h.written.written) k.named)
 
-entities_same : {s : SchemaTree} {ds : Items} {es fs : World} → DenoteEntities s ds es → DenoteEntities s ds fs → es ≡ fs
+pub entities_same : {s : SchemaTree} {ds : Items} {es fs : World} → DenoteEntities s ds es → DenoteEntities s ds fs → es ≡ fs
 entities_same no_entries no_entries = refl
 entities_same {s} (an_entity {d = d} {e = e} {es = es} h more) (an_entity {e = f} {es = fs} k rest) = ap (λ x. x ∷ es) (entity_same s d e f h k) ∙ ap (λ xs. f ∷ xs) (entities_same more rest)
 entities_same {s} (an_entity {d = d} {e = e} h more) (an_action {u = u} {parents = us} k rest) = absurd (not_both s d e u us h k)
@@ -98,7 +98,7 @@ module _ (s : SchemaTree) (d : Data) where
   fine_action u us h f (no_repetition w named k) = k (subst (RepeatsAction s d _) (parents_same d h.written w) (subst (λ (x : Uid). RepeatsAction s d x us) (uid_same d h.written w) h))
   fine_action u us h f (attributes {u = v} {parents = vs} w declared m) = no_action_fault u v us vs h w.written w.no_action
 
-fine_entries : {s : SchemaTree} {ds : Items} {es : World} → DenoteEntities s ds es → (k : ℕ) (d : Data) → get_item k ds ≡ Some d → (f : ConformFault) → HasEntryFault s d f → ⊥
+pub fine_entries : {s : SchemaTree} {ds : Items} {es : World} → DenoteEntities s ds es → (k : ℕ) (d : Data) → get_item k ds ≡ Some d → (f : ConformFault) → HasEntryFault s d f → ⊥
 fine_entries no_entries k d at f h = cc
 fine_entries {s} (an_entity {d = x} {e = e} one more) zero d at f h = let same : x ≡ d = cc in fine_entity s x e one f (subst (λ y. HasEntryFault s y f) (sym same) h)
 fine_entries {s} (an_action {d = x} {u = u} {parents = us} one more) zero d at f h = let same : x ≡ d = cc in fine_action s x u us one f (subst (λ y. HasEntryFault s y f) (sym same) h)

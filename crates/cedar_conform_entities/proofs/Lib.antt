@@ -1,9 +1,14 @@
+mod ChangedConforming
+mod ChangesExact
+mod ChangesLemmas
 mod ComingLemmas
 mod Conforming
 mod Denoted
 mod EntryLemmas
 mod Exact
 mod ListLemmas
+mod OnceLemmas
 mod Repeats
+mod SameConforming
 mod StoreLemmas
 mod TwiceLemmas

@@ -3,5 +3,6 @@ pub mod Entries
 pub mod Denotes
 pub mod Faults
 pub mod Bytes
+pub mod Changes
 pub mod Exactness
 pub mod Private

@@ -1,4 +1,5 @@
 -- What proofs and contracts within the crate cite, and nobody needs to believe.
+pub mod Changing
 pub mod Coming
 pub mod Parts
 pub mod Progress

@@ -1,6 +1,7 @@
 //! Laws of entities: what is proved of their definitions alone.
+ghost use Rattle.cedar_conform_entities.specs.Changes.{ChangedWorldsConform};
 ghost use Rattle.cedar_conform_entities.specs.Denotes.{DenotedWorldsConform};
-ghost use Rattle.cedar_conform_entities.specs.Exactness.{OneWorld, WorldsHaveNoFault};
+ghost use Rattle.cedar_conform_entities.specs.Exactness.{ChangedWorldsHaveNoFault, OneChangedWorld, OneWorld, WorldsHaveNoFault};
 ghost use Rattle.cedar_conform_entities.specs.Worlds.{SoundEntitiesConform};
 
 use cedar_conform_values::read_values_belong;
@@ -25,9 +26,24 @@ pub fn denoted_worlds_conform()
     sound_entities_conform();
 }
 
+/// After changes that a JSON denotes, a world that conforms still conforms. A law: it runs no code.
+pub fn changed_worlds_conform()
+    ensures { ChangedWorldsConform }
+{
+    // Values that are read belong to their types.
+    read_values_belong();
+}
+
 /// No bytes denote two worlds for a schema, and bytes that denote one have no fault. So such bytes are refused only when out of
 /// memory, and otherwise give that world. A law: it runs no code.
 pub fn denoted_worlds_are_exact()
     ensures one { OneWorld }
     ensures no_fault { WorldsHaveNoFault }
+{}
+
+/// Worlds that bytes of changes denote after one have the same entities, and bytes that denote one have no fault. So such bytes
+/// are refused only when out of memory, and otherwise give those entities. A law: it runs no code.
+pub fn changed_worlds_are_exact()
+    ensures one { OneChangedWorld }
+    ensures no_fault { ChangedWorldsHaveNoFault }
 {}

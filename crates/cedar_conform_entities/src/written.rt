@@ -79,7 +79,12 @@ fn read_parents(alloc: Global, schema: &Schema, json: &Json) -> Result<Vec<Uid>,
     }
 }
 
-fn read_uids(alloc: Global, schema: &Schema, items: &[Json]) -> Result<Vec<Uid>, ConformFault>
+/// The uids that the items write, each as an object, or 502.
+pub(crate) fn read_uids(
+    alloc: Global,
+    schema: &Schema,
+    items: &[Json],
+) -> Result<Vec<Uid>, ConformFault>
     ensures { MatchResult result (λ v. AreUids (items_view items.now) v.items) (Refuses (AreUids (items_view items.now))) }
 {
     let mut uids = Vec::with_capacity(alloc, items.len())?;

@@ -5,6 +5,7 @@ use std::alloc::Global;
 mod actions;
 mod attributes;
 mod below;
+mod changes;
 mod check;
 mod context;
 mod declares;
@@ -32,6 +33,7 @@ pub fn outcome(alloc: Global, kind: &str, case: &Case) -> Result<Option<Outcome>
         "actions" => actions::outcome(alloc, case)?,
         "attributes" => attributes::outcome(alloc, case)?,
         "below" => below::outcome(alloc, case)?,
+        "changes" => changes::outcome(alloc, case)?,
         "check" => check::outcome(alloc, case)?,
         "context" => context::outcome(alloc, case)?,
         "declares" => declares::outcome(alloc, case)?,

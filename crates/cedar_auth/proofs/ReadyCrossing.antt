@@ -39,6 +39,8 @@ use Rattle.cedar_ast.specs.contracts.policy.PolicyOver as Over
 use Rattle.cedar_ast.specs.contracts.scope.Scope as Scope
 use Rattle.cedar_ast.specs.contracts.template_scope.TemplateScope as TemplateScope
 use Rattle.cedar_schema.specs.contracts.schema.Schema as Schema
+use Rattle.cedar_store.proofs.ChangesCrossing.{map-send, map-sync}
+use Rattle.cedar_store.specs.contracts.base.Base as Base
 use Rattle.cedar_store.specs.contracts.store.Store as Store
 use Rattle.cedar_code.specs.contracts.code.Code as Code
 use Rattle.cedar_auth.specs.contracts.ready.Ready as Ready
@@ -111,15 +113,29 @@ schema-sync =
     let t = type-sync in
     search (row.the_sync, names, sendable, crosses, maps, BTreeSet-sync, sync) depth 40
 
-store-send : IsSend Store.the_row
-store-send =
+base-send : IsSend Base.the_row
+base-send =
     let r = record-send in
     search (map.the_send, hashing.the_send, row.the_send, names, sendable, crosses, send) depth 40
 
-store-sync : IsSync Store.the_row
-store-sync =
+base-sync : IsSync Base.the_row
+base-sync =
     let r = record-sync in
     search (map.the_sync, hashing.the_sync, row.the_sync, names, sendable, crosses, sync) depth 40
+
+store-send : IsSend Store.the_row
+store-send =
+    let b = base-send in
+    let c = base-sync in
+    let m = map-send record-send record-sync in
+    search (map.the_send, map.the_sync, hashing.the_send, hashing.the_sync, row.the_send, names, sendable, crosses, maps, BTreeSet-send, BTreeSet-sync, send, sync) depth 40
+
+store-sync : IsSync Store.the_row
+store-sync =
+    let b = base-send in
+    let c = base-sync in
+    let m = map-sync record-send record-sync in
+    search (map.the_send, map.the_sync, hashing.the_send, hashing.the_sync, row.the_sync, names, sendable, crosses, maps, BTreeSet-send, BTreeSet-sync, send, sync) depth 40
 
 code-send : IsSend Code.the_row
 code-send =

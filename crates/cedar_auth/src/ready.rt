@@ -4,6 +4,7 @@ ghost use Rattle.std.specs.List.Sorted.{IsStrictlyIncreasing};
 ghost use Rattle.cedar_ast.specs.Response.{ErringTree, response};
 ghost use Rattle.cedar_conform_values.specs.declared.conform_fault.ConformFault.TheVariants.{OutOfMemory};
 ghost use Rattle.cedar_conform_entities.specs.Bytes.{BytesDenote, BytesHaveFault};
+ghost use Rattle.cedar_conform_entities.specs.Changes.{BytesDenoteChanged, BytesHaveChangesFault};
 ghost use Rattle.cedar_conform.specs.Parts.{PartsDenote, PartsHaveFault, parts_of};
 ghost use Rattle.cedar_conform.specs.Requests.{LineDenotes, LineHasFault};
 ghost use Rattle.cedar_schema_spec.specs.Conformance.{Conforms, Fits, FitsIn};
@@ -32,8 +33,8 @@ use cedar_check_law::candidates_are_enough;
 use cedar_check_spec::Settings;
 use cedar_code::Code;
 use cedar_conform::{
-    RequestParts, RequestReader, denoted_requests_fit, read_entities_owned, read_request,
-    read_request_parts, read_request_with,
+    RequestParts, RequestReader, denoted_requests_fit, read_changes, read_entities_owned,
+    read_request, read_request_parts, read_request_with,
 };
 use cedar_conform_values::{ConformFault, read_values_belong};
 use cedar_parser_tokens::uid_or_none;
@@ -187,6 +188,27 @@ impl Ready {
         ensures refused { IfErr result (λ e. e ≢ OutOfMemory → BytesHaveFault self.now.schema entities.items e) }
     {
         let store = read_entities_owned(alloc, self.indexed.validated.schema(), entities)?;
+        match Arc::try_clone(&self.indexed) {
+            Ok(indexed) => Ok(Ready { indexed, store }),
+            Err(_) => Err(ConformFault::OutOfMemory),
+        }
+    }
+
+    /// The same policies, ready to answer requests over the entities after the changes that the bytes write,
+    /// `{"upsert":[entry, ..],"remove":[uid, ..]}` (Cedar's crate, upsert and removal of entities). The policies are shared. What
+    /// is ready now stays as it is.
+    ///
+    /// # Errors
+    ///
+    /// 1 when out of memory, and otherwise 401, 402 or 501 to 509 only where that fault is in the bytes.
+    pub fn with_changes(&self, alloc: Global, changes: &[u8]) -> Result<Ready, ConformFault>
+        ensures holds { IfOk result (λ r. (r.schema ≡ self.now.schema) × (r.policies ≡ self.now.policies)) }
+        ensures settings { IfOk result (λ r. r.settings ≡ self.now.settings) }
+        ensures denotes { IfOk result (λ r. BytesDenoteChanged self.now.schema changes.now self.now.world r.world) }
+        ensures conforms { IfOk result (λ r. Conforms r.schema r.world) }
+        ensures refused { IfErr result (λ e. e ≢ OutOfMemory → BytesHaveChangesFault self.now.schema self.now.world changes.now e) }
+    {
+        let store = read_changes(alloc, self.indexed.validated.schema(), &self.store, changes)?;
         match Arc::try_clone(&self.indexed) {
             Ok(indexed) => Ok(Ready { indexed, store }),
             Err(_) => Err(ConformFault::OutOfMemory),

@@ -1,4 +1,5 @@
 pub mod Authorization
+pub mod ChangesText
 pub mod Ending
 pub mod EntitiesFile
 pub mod Faulty

@@ -31,7 +31,7 @@ pub use file_names::FileNames;
 pub use files::{FileFault, Files, MemoryFiles, NamedFiles, Role};
 pub use linking::enter_links;
 pub use preparing::prepare;
-pub use reading::{Unread, read_over, read_policies, read_ready, read_schema};
+pub use reading::{Unread, read_changed, read_over, read_policies, read_ready, read_schema};
 pub use reading_all::read_all;
 pub use reading_report::read_report;
 pub use refusal::{FileRefusal, refusal_line, refuse};

@@ -2,6 +2,7 @@
 ghost use Rattle.std.specs.Prelude.{◌≡◌, ◌≢◌, None, Some, IfOk, IfErr, IfSome, IsErrOf};
 ghost use Rattle.cedar_conform_values.specs.Numbers.{number_of};
 ghost use Rattle.cedar_conform_values.specs.declared.conform_fault.ConformFault.TheVariants.{OutOfMemory};
+ghost use Rattle.cedar_files.specs.ChangesText.{HoldChanges, HoldNoChanges};
 ghost use Rattle.cedar_files.specs.EntitiesFile.{HoldsNoWorld, HoldsWorld};
 ghost use Rattle.cedar_files.specs.PolicyFile.{HoldsNoPolicies, HoldsPolicies};
 ghost use Rattle.cedar_files.specs.SchemaFile.{HoldsNoSchema, HoldsSchema};
@@ -152,5 +153,25 @@ pub fn read_over(alloc: Global, ready: &Ready, entities: &[u8]) -> Result<Ready,
     match ready.with_entities(alloc, entities) {
         Ok(new) => Ok(new),
         Err(fault) => Err(refusal_of(&fault)),
+    }
+}
+
+/// The policies that are ready, over the entities after the changes that these bytes write, `{"upsert":[entry, ..],"remove":[uid, ..]}`.
+/// The policies are shared, and what is ready stays as it is.
+///
+/// # Errors
+///
+/// `Refused` where the bytes denote no changes for the schema and the entities: 401, 402, 501 to 509, with no place. Otherwise `Memory`.
+pub fn read_changed(alloc: Global, ready: &Ready, changes: &[u8]) -> Result<Ready, Unread>
+    ensures holds { IfOk result (λ new. (new.schema ≡ ready.now.schema) × (new.policies ≡ ready.now.policies)) }
+    ensures settings { IfOk result (λ new. new.settings ≡ ready.now.settings) }
+    ensures found { IfOk result (λ new. HoldChanges ready.now.schema changes.now ready.now.world new.world) }
+    ensures refused { IfErr result (λ unread. IfRefused unread (λ refusal.
+        HoldNoChanges ready.now.schema changes.now ready.now.world refusal)) }
+    ensures others { IfErr result (λ unread. (unread ≢ Unread.Unnamed) × (unread ≢ Unread.Device)) }
+{
+    match ready.with_changes(alloc, changes) {
+        Ok(new) => Ok(new),
+        Err(refused) => Err(refusal_of(&refused)),
     }
 }

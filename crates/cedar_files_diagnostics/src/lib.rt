@@ -14,6 +14,7 @@
 #![tactic(auto)]
 
 mod again;
+mod changes;
 mod counting_sink;
 mod data;
 mod diagnostic;
@@ -41,6 +42,7 @@ mod statement_places;
 mod token_words;
 mod words;
 
+pub use changes::explain_changes;
 pub use counting_sink::{CountingSink, FirstRefused, LineCounts};
 pub use data::explain_request;
 pub use diagnostic::{Diagnostic, Explanation, Mark, Severity};

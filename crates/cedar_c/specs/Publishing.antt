@@ -6,6 +6,7 @@ use Rattle.cedar_auth_spec.specs.Ready.{ReadyTree}
 use Rattle.cedar_check_spec.specs.Reports.{AreFaultsWith}
 use Rattle.cedar_check_spec.specs.declared.settings.Settings.{Settings}
 use Rattle.cedar_files.specs.Authorization.{IsFirstRefused}
+use Rattle.cedar_files.specs.ChangesText.{HoldChanges, HoldNoChanges}
 use Rattle.cedar_files.specs.EntitiesFile.{HoldsNoWorld, HoldsWorld}
 use Rattle.cedar_files.specs.ReportText.{IsReportText}
 use Rattle.cedar_files.specs.Roles.{Holdings}
@@ -67,5 +68,21 @@ pub record IsOver (entities : List ℕ) (old new : ReadyTree) : Type 0 where
 pub record AreRefusedOver (entities : List ℕ) (engine : ReadyTree) (refusal : Refusal) (line : List ℕ) : Type 0 where
   pub why : FileRefusal
   pub has_fault : HoldsNoWorld engine.schema (Some entities) why
+  pub is_refusal : IsRefusalOf Entities why refusal
+  pub is_line : IsRefusalLine Entities why line
+
+-- The new engine has the schema, the policies and the settings of the old one, and the entities that the changes hold for the schema
+-- after the entities of the old one (own; Cedar documentation, entities and context in JSON).
+pub record IsChanged (changes : List ℕ) (old new : ReadyTree) : Type 0 where
+  pub schema : new.schema ≡ old.schema
+  pub policies : new.policies ≡ old.policies
+  pub settings : new.settings ≡ old.settings
+  pub is_world : HoldChanges old.schema changes old.world new.world
+
+-- The changes hold no entities for the schema and the entities of the engine: this is why, and this is the line that says so, which
+-- names the entities (own).
+pub record AreChangesRefused (changes : List ℕ) (engine : ReadyTree) (refusal : Refusal) (line : List ℕ) : Type 0 where
+  pub why : FileRefusal
+  pub has_fault : HoldNoChanges engine.schema changes engine.world why
   pub is_refusal : IsRefusalOf Entities why refusal
   pub is_line : IsRefusalLine Entities why line

@@ -1,4 +1,4 @@
-//! Explains why texts make no engine.
+//! Explains why texts make no engine, and why changes of entities are refused.
 ghost use Rattle.std.specs.Prelude.{◌<◌};
 ghost use Rattle.std.specs.Option.{MatchOption};
 ghost use Rattle.cedar_c.specs.Explaining.{IsFormat};
@@ -6,7 +6,7 @@ ghost use Rattle.cedar_c.specs.Explaining.{IsFormat};
 use crate::texts::Texts;
 use cedar_check_spec::Settings;
 use cedar_files::FileNames;
-use cedar_files_diagnostics::{Format, explain_files};
+use cedar_files_diagnostics::{Format, explain_changes, explain_files};
 use std::alloc::{AllocError, Global};
 
 /// The form of this number: 0 words for a person, 1 lines of JSON.
@@ -34,4 +34,18 @@ pub(crate) fn explanation(
         entities: None,
     };
     explain_files(alloc, texts, names, settings, format)
+}
+
+/// The explanation of changes that are refused with a number for the schema, of length 0 where changes do not get the number.
+pub(crate) fn explanation_of_changes(
+    alloc: Global,
+    schema: &[u8],
+    changes: &[u8],
+    number: u32,
+    format: Format,
+) -> Result<Vec<u8>, AllocError> {
+    match u16::try_from(number) {
+        Ok(number) => explain_changes(alloc, schema, changes, number, format),
+        Err(_) => Ok(Vec::new(alloc)),
+    }
 }

@@ -11,7 +11,7 @@ ghost use Rattle.cedar_c.specs.declared.slot.Slot.TheVariants.{Empty};
 ghost use Rattle.cedar_c.specs.Answers.{AnswersLines, AnswersOne, LeadsTo};
 ghost use Rattle.cedar_c.specs.Buffers.{IsGiven, IsTooLong};
 ghost use Rattle.cedar_c.specs.Deciding.{AnswersParts, ArePartsRefused, IsDecided, parts};
-ghost use Rattle.cedar_c.specs.Publishing.{AreRefusedOver, HaveFaults, IsOver, IsRefusedFirst, no_refusal};
+ghost use Rattle.cedar_c.specs.Publishing.{AreChangesRefused, AreRefusedOver, HaveFaults, IsChanged, IsOver, IsRefusedFirst, no_refusal};
 ghost use Rattle.cedar_c.specs.SettingBits.{AreSettings};
 ghost use Rattle.cedar_c.specs.Statuses.{IsOneOf};
 ghost use Rattle.cedar_c.specs.Texts.{held};
@@ -42,7 +42,7 @@ use base_loose::Loose;
 use buffer::give;
 pub use crossing::handle_crosses;
 use decided::Decided;
-use explaining::{explanation, format_of};
+use explaining::{explanation, explanation_of_changes, format_of};
 use handle::Handle;
 use new_handle::NewHandle;
 use parts::{RequestBytes, UidBytes};
@@ -162,6 +162,41 @@ pub extern "C" fn cedar_raw_publish_entities(
     }
 }
 
+/// Reads changes of entities, and has the handle lead to an engine of the same policies over the entities after them. The policies are not
+/// read again, and other handles that share the old engine keep it. Otherwise the handle is as before, and the text says why.
+#[unsafe(no_mangle)]
+pub extern "C" fn cedar_raw_publish_changes(
+    alloc: Global,
+    place: &mut Handle,
+    changes: &[u8],
+    refusal: &mut Refusal,
+    text: &mut [u8],
+    written: &mut usize,
+) -> u32
+    ensures ok { result ≡ 0 → LeadsTo (λ old. LeadsTo (IsChanged changes.now old) place.new.value) place.old.value }
+    ensures same { result ≢ 0 → place.new.value ≡ place.old.value }
+    ensures refused { result ≡ 2 → LeadsTo (λ old. (line : List ℕ) × AreChangesRefused changes.now old refusal.new line
+        × IsGiven line text.old text.new written.new) place.old.value }
+    ensures none { result ≡ 5 → place.old.value ≡ Empty }
+    ensures unrefused { result ≢ 2 → refusal.new ≡ no_refusal }
+    ensures untouched { result ≢ 2 → (text.new ≡ text.old) × (written.new ≡ 0) }
+    ensures known { IsOneOf (0 ∷ 1 ∷ 2 ∷ 5 ∷ []) result }
+{
+    *written = 0;
+    *refusal = Refusal::none();
+    let slot = place.slot();
+    let Slot::Full(current) = slot else {
+        return NO_ENGINE;
+    };
+    match current.changed(alloc, changes) {
+        Ok(changed) => {
+            *slot = Slot::Full(changed);
+            OK
+        }
+        Err(why) => current.refuse_changes(alloc, changes, why, refusal, text, written),
+    }
+}
+
 /// Gives the report on policies against a schema, or the line that refuses a file, as `cedar validate` prints them.
 #[unsafe(no_mangle)]
 pub extern "C" fn cedar_raw_validate(
@@ -236,6 +271,37 @@ pub extern "C" fn cedar_raw_explain(
         entities,
     };
     match explanation(alloc, &texts, settings, format) {
+        Ok(told) => give(&told, text, written),
+        Err(_) => MEMORY,
+    }
+}
+
+/// Explains to a person, or in JSON lines, why changes of entities are refused with a number for a schema. The text has length 0 where
+/// changes do not get the number.
+#[unsafe(no_mangle)]
+pub extern "C" fn cedar_raw_explain_changes(
+    alloc: Global,
+    schema: &[u8],
+    changes: &[u8],
+    number: u32,
+    format: u32,
+    text: &mut [u8],
+    written: &mut usize,
+) -> u32
+    ensures rest { result ≡ 0 → drop written.new text.new ≡ drop written.new text.old }
+    ensures fits { result ≡ 0 → written.new ≤ length text.old }
+    ensures room { result ≡ 6 → length text.old < written.new }
+    ensures known_argument { result ≢ 4 → format < 2 }
+    ensures argument { result ≡ 4 → 1 < format }
+    ensures untouched { result ≢ 0 → text.new ≡ text.old }
+    ensures unwritten { IsOneOf (1 ∷ 4 ∷ []) result → written.new ≡ 0 }
+    ensures known { IsOneOf (0 ∷ 1 ∷ 4 ∷ 6 ∷ []) result }
+{
+    *written = 0;
+    let Some(format) = format_of(format) else {
+        return ARGUMENT;
+    };
+    match explanation_of_changes(alloc, schema, changes, number, format) {
         Ok(told) => give(&told, text, written),
         Err(_) => MEMORY,
     }

@@ -1,13 +1,14 @@
 //! Reads what is published, and says why nothing is.
 ghost use Rattle.std.specs.Prelude.{List, ℕ, ◌≡◌, ◌≢◌, [], ◌∷◌, Some, IfErr, IfOk};
 ghost use Rattle.cedar_files.specs.Authorization.{HoldAll};
+ghost use Rattle.cedar_files.specs.ChangesText.{HoldNoChanges};
 ghost use Rattle.cedar_files.specs.EntitiesFile.{HoldsNoWorld};
 ghost use Rattle.cedar_files.specs.Faulty.{AreFaulty};
 ghost use Rattle.cedar_files.specs.Standing.{IsRefusalLine};
 ghost use Rattle.cedar_files.specs.Unprepared.{IsUnprepared};
 ghost use Rattle.cedar_files.specs.Unread.{IfRefused};
 ghost use Rattle.cedar_c.specs.Buffers.{IsGiven};
-ghost use Rattle.cedar_c.specs.Publishing.{AreRefusedOver, HaveFaults, IsOver, IsRefusalOf, IsRefusedFirst};
+ghost use Rattle.cedar_c.specs.Publishing.{AreChangesRefused, AreRefusedOver, HaveFaults, IsChanged, IsOver, IsRefusalOf, IsRefusedFirst};
 ghost use Rattle.cedar_c.specs.Statuses.{IsOneOf};
 ghost use Rattle.cedar_c.specs.Texts.{held_by};
 
@@ -19,7 +20,8 @@ use crate::texts::Texts;
 use cedar_auth::{NotValidated, ValidationFault};
 use cedar_check_spec::Settings;
 use cedar_files::{
-    FileRefusal, Role, Unprepared, Unread, read_all, read_over, refusal_line, report_text,
+    FileRefusal, Role, Unprepared, Unread, read_all, read_changed, read_over, refusal_line,
+    report_text,
 };
 use std::alloc::Global;
 
@@ -61,6 +63,22 @@ fn give_refusal(
         }
         Err(_) => MEMORY,
     }
+}
+
+// Gives the line that refuses the entities.
+fn give_entities_refusal(
+    alloc: Global,
+    why: FileRefusal,
+    refusal: &mut Refusal,
+    text: &mut [u8],
+    written: &mut usize,
+) -> u32
+    ensures refused { result ≡ 2 → (line : List ℕ) × IsRefusalOf Role.Entities why refusal.new × IsRefusalLine Role.Entities why line
+        × IsGiven line text.old text.new written.new }
+    ensures others { result ≢ 2 → (refusal.new ≡ refusal.old) × (text.new ≡ text.old) × (written.new ≡ written.old) }
+    ensures known { IsOneOf (1 ∷ 2 ∷ []) result }
+{
+    give_refusal(alloc, Role::Entities, why, refusal, text, written)
 }
 
 // Gives the report on policies that have faults.
@@ -151,14 +169,45 @@ impl Engine {
         ensures known { IsOneOf (1 ∷ 2 ∷ []) result }
     {
         match why {
-            Unread::Refused(why) => give_refusal(
-                alloc,
-                Role::Entities,
-                why,
-                refusal,
-                text,
-                written,
-            ),
+            Unread::Refused(why) => give_entities_refusal(alloc, why, refusal, text, written),
+            Unread::Memory => MEMORY,
+            Unread::Unnamed | Unread::Device => unreachable!(),
+        }
+    }
+
+    /// An engine of the same policies over the entities after the changes of these bytes.
+    pub(crate) fn changed(&self, alloc: Global, changes: &[u8]) -> Result<Engine, Unread>
+        ensures ok { IfOk result (IsChanged changes.now self.now) }
+        ensures refused { IfErr result (λ unread. IfRefused unread (λ why. HoldNoChanges self.now.schema changes.now self.now.world why)) }
+        ensures others { IfErr result (λ unread. (unread ≢ Unread.Unnamed) × (unread ≢ Unread.Device)) }
+    {
+        let ready = read_changed(alloc, &self.ready, changes)?;
+        match Engine::new(alloc, ready) {
+            Ok(engine) => Ok(engine),
+            Err(_) => Err(Unread::Memory),
+        }
+    }
+
+    /// Says why the bytes are not changes for the schema and the entities. The file of the refusal is that of the entities.
+    pub(crate) fn refuse_changes(
+        &self,
+        alloc: Global,
+        changes: &[u8],
+        why: Unread,
+        refusal: &mut Refusal,
+        text: &mut [u8],
+        written: &mut usize,
+    ) -> u32
+        requires refused { IfRefused why (λ why. HoldNoChanges self.now.schema changes.now self.now.world why) }
+        requires others { (why ≢ Unread.Unnamed) × (why ≢ Unread.Device) }
+        ensures refused { result ≡ 2 → (line : List ℕ) × AreChangesRefused changes.now self.now refusal.new line
+            × IsGiven line text.old text.new written.new }
+        ensures unrefused { result ≢ 2 → refusal.new ≡ refusal.old }
+        ensures untouched { result ≢ 2 → (text.new ≡ text.old) × (written.new ≡ written.old) }
+        ensures known { IsOneOf (1 ∷ 2 ∷ []) result }
+    {
+        match why {
+            Unread::Refused(why) => give_entities_refusal(alloc, why, refusal, text, written),
             Unread::Memory => MEMORY,
             Unread::Unnamed | Unread::Device => unreachable!(),
         }

@@ -1,8 +1,8 @@
 /* cedar.h: the engine of Bobbinjade for C and C++. docs/EMBEDDING.md has examples; the statuses are below.
  *
  * A handle leads to an engine. cedar_new makes a handle that leads nowhere, cedar_publish has it lead to an engine of the given files,
- * cedar_publish_entities has it lead to one of the same policies over other entities, cedar_share has a second handle lead to the same
- * engine, and cedar_free frees a handle. The last handle frees the engine.
+ * cedar_publish_entities has it lead to one of the same policies over other entities, cedar_publish_changes to one over changed entities,
+ * cedar_share has a second handle lead to the same engine, and cedar_free frees a handle. The last handle frees the engine.
  *
  * Threads: one call at a time uses a handle. Different handles may be used at the same time, also where they share an engine. A handle
  * may move to another thread, if a lock, a start or a join orders that. Publishing to a handle changes nothing for the handles that
@@ -11,8 +11,8 @@
  * Memory: a call reads its bytes only while it runs, and keeps none of them. No argument that is written overlaps another. Handles are
  * not copied. The library asks malloc, realloc and free for memory. A call that returns CEDAR_MEMORY has changed nothing.
  *
- * Stack: 4 MiB for cedar_explain, 512 KiB for cedar_publish, cedar_publish_entities, cedar_validate and cedar_free, 64 KiB for the other
- * calls. Do not call from a signal handler, nor in the forked child of a process with several threads. No call starts a thread, waits, or
+ * Stack: 4 MiB for cedar_explain and cedar_explain_changes, 512 KiB for cedar_publish, cedar_publish_entities, cedar_publish_changes,
+ * cedar_validate and cedar_free, 64 KiB for the other calls. Do not call from a signal handler, nor in the forked child of a process with several threads. No call starts a thread, waits, or
  * reads a file. */
 #ifndef CEDAR_H
 #define CEDAR_H
@@ -37,13 +37,13 @@ enum {
     CEDAR_NO_REQUEST = 7  /* cedar_decide: the request is refused, with the number in `refused` */
 };
 
-/* The files of a refusal. */
+/* The files of a refusal. Changes of entities are refused as the entities. */
 enum { CEDAR_SCHEMA = 1, CEDAR_POLICIES = 2, CEDAR_LINKS = 3, CEDAR_ENTITIES = 4 };
 
 /* The settings of cedar_files: decimal(..) accepts any string, and may fail when a request is answered. */
 enum { CEDAR_ANY_DECIMAL = 1 };
 
-/* The formats of cedar_explain: words for people, or a JSON object on each line. */
+/* The formats of cedar_explain and cedar_explain_changes: words for people, or a JSON object on each line. */
 enum { CEDAR_WORDS = 0, CEDAR_JSON = 1 };
 
 /* The offset of a refusal that has no place. */
@@ -110,11 +110,15 @@ uint32_t cedar_raw_publish(cedar_engine *engine, const void *schema, size_t sche
                            cedar_raw_refusal *refusal, void *text, size_t room, size_t *written);
 uint32_t cedar_raw_publish_entities(cedar_engine *engine, const void *entities, size_t length, cedar_raw_refusal *refusal, void *text,
                                     size_t room, size_t *written);
+uint32_t cedar_raw_publish_changes(cedar_engine *engine, const void *changes, size_t length, cedar_raw_refusal *refusal, void *text,
+                                   size_t room, size_t *written);
 uint32_t cedar_raw_validate(const void *schema, size_t schema_length, const void *policies, size_t policies_length, const void *links,
                             size_t links_length, uint32_t settings, void *text, size_t room, size_t *written);
 uint32_t cedar_raw_explain(const void *schema, size_t schema_length, const void *policies, size_t policies_length, const void *links,
                            size_t links_length, const void *entities, size_t entities_length, uint32_t settings, uint32_t format,
                            void *text, size_t room, size_t *written);
+uint32_t cedar_raw_explain_changes(const void *schema, size_t schema_length, const void *changes, size_t changes_length, uint32_t number,
+                                   uint32_t format, void *text, size_t room, size_t *written);
 uint32_t cedar_raw_share(cedar_engine *engine, cedar_engine *other);
 uint32_t cedar_raw_answer(cedar_engine *engine, const void *lines, size_t length, void *text, size_t room, size_t *written);
 uint32_t cedar_raw_answer_line(cedar_engine *engine, const void *line, size_t length, void *text, size_t room, size_t *written);
@@ -225,6 +229,25 @@ static inline uint32_t cedar_publish_entities(cedar_engine *engine, cedar_bytes 
     return cedar_written(status, text, used);
 }
 
+/* Reads changes of entities, {"upsert":[entry, ..],"remove":[uid, ..]} as docs/DATA.md has them, and has the handle lead to an engine of the
+ * same schema, policies, links and settings over the entities after them. Neither the policies nor the other entities are read again, and
+ * other handles that shared the old engine keep it. With another status than CEDAR_OK the handle leads where it led, and with
+ * CEDAR_NO_ENGINE nothing was published to it. A refusal names the entities, CEDAR_ENTITIES: the text is the line that the program prints
+ * of an entities file; where it does not fit, `written` is the room that it needs. cedar_explain_changes says why in words. `refusal` and
+ * `text` may be null. */
+static inline uint32_t cedar_publish_changes(cedar_engine *engine, cedar_bytes changes, cedar_refusal *refusal, cedar_buffer *text) {
+    char no_room = 0;
+    cedar_buffer spare, *used = cedar_usable(text, &spare, &no_room);
+    cedar_raw_refusal why = {0, 0, CEDAR_NO_OFFSET};
+    uint32_t status = CEDAR_ARGUMENT;
+    if (engine && engine->at && (!refusal || refusal->size == sizeof *refusal)) {
+        status = cedar_raw_publish_changes(engine, cedar_address(changes), cedar_length(changes), &why, used->at, used->room,
+                                           &used->written);
+        cedar_why(status, refusal, &why);
+    }
+    return cedar_written(status, text, used);
+}
+
 /* Validates the policies, and writes the report or the line of a refusal. It does not read `entities`. */
 static inline uint32_t cedar_validate(const cedar_files *files, cedar_buffer *text) {
     char no_room = 0;
@@ -250,6 +273,16 @@ static inline uint32_t cedar_explain(const cedar_files *files, uint32_t format, 
                                    cedar_address(files->entities), cedar_length(files->entities), files->settings, format, used->at,
                                    used->room, &used->written);
     }
+    return cedar_written(status, text, used);
+}
+
+/* Says in words why changes of entities are refused: `number` is that of the refusal, and the schema that of the engine. The text has no
+ * bytes where changes do not get the number, and where memory runs out, with CEDAR_MEMORY. */
+static inline uint32_t cedar_explain_changes(cedar_bytes schema, cedar_bytes changes, uint32_t number, uint32_t format, cedar_buffer *text) {
+    char no_room = 0;
+    cedar_buffer spare, *used = cedar_usable(text, &spare, &no_room);
+    uint32_t status = cedar_raw_explain_changes(cedar_address(schema), cedar_length(schema), cedar_address(changes), cedar_length(changes),
+                                                number, format, used->at, used->room, &used->written);
     return cedar_written(status, text, used);
 }
 

@@ -50,6 +50,7 @@ def modes(example):
     parts = [parts_of(it) for it in requests.splitlines()]
     cut = [(fields + b'\n', answer) for fields, answer in zip(parts, wanted.splitlines(True)) if fields]
     return [('batch', requests, wanted), ('lines', requests, wanted), ('entities', requests, wanted),
+            ('changes', requests, wanted),
             ('parts', b''.join(it[0] for it in cut), b''.join(it[1] for it in cut)),
             ('validate', b'', content(example, 'report.jsonl')), ('words', b'', b'')]
 

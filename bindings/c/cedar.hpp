@@ -4,9 +4,9 @@
  *   bool may = engine.decide({{"User", "ann"}, {"Action", "write"}, {"Notebook", "plans"}});
  *
  * Any number of threads may use one Engine at the same time. A request takes no lock: it takes a handle out of an array of atomic
- * places. `publish` swaps the engine while requests run, and `publish_entities` its entities alone. Each answer is that of an engine that
- * was current during its call, and an engine that is no longer current is freed with its last request. A move, an assignment and the
- * destructor need the Engine alone. */
+ * places. `publish` swaps the engine while requests run, `publish_entities` its entities alone, and `publish_changes` changes some of
+ * them. Each answer is that of an engine that was current during its call, and an engine that is no longer current is freed with its last
+ * request. A move, an assignment and the destructor need the Engine alone. */
 #ifndef CEDAR_HPP
 #define CEDAR_HPP
 #include "cedar.h"
@@ -181,6 +181,23 @@ inline std::optional<std::uint64_t> line_of(const std::string &explanation) {
     throw Refusal(why, line_of(explained(files, CEDAR_JSON)), text, explained(files, CEDAR_WORDS));
 }
 
+inline std::string explained_changes(std::string_view schema, std::string_view changes, std::uint32_t number, std::uint32_t format) {
+    std::string text;
+    std::uint32_t status = grown(text, 4096, [&](cedar_buffer &buffer) {
+        return cedar_explain_changes(bytes(schema), bytes(changes), number, format, &buffer);
+    });
+    if (status != CEDAR_OK) {
+        fail(status);
+    }
+    return text;
+}
+
+/* Throws that changes of entities are refused for this schema. */
+[[noreturn]] inline void refuse_changes(std::string_view schema, std::string_view changes, const cedar_refusal &why, const std::string &text) {
+    throw Refusal(why, line_of(explained_changes(schema, changes, why.number, CEDAR_JSON)), text,
+                  explained_changes(schema, changes, why.number, CEDAR_WORDS));
+}
+
 /* Reads an answer line. */
 class Reader {
 public:
@@ -316,12 +333,10 @@ public:
         sweep();
     }
 
-    /* The schema of the current engine, by which refused entities are explained. */
-    std::shared_ptr<const std::string> schema() {
+    /* Has a handle lead to the current engine, and gives the schema of that engine, by which refused entities are explained. */
+    std::shared_ptr<const std::string> schema_of(Shared &shared) {
         std::lock_guard<std::mutex> guard(lock_);
-        if (!schema_) {
-            throw Closed();
-        }
+        lead(shared);
         return schema_;
     }
 
@@ -403,8 +418,16 @@ private:
             }
         }
         std::lock_guard<std::mutex> guard(lock_);
+        lead(shared);
+    }
+
+    /* The same where the handle is there. The caller has the lock. */
+    void lead(Shared &shared) {
         if (version_.load() == CLOSED) {
             throw Closed();
+        }
+        if (shared.version == version_.load()) {
+            return;
         }
         if (std::uint32_t status = cedar_share(&main_, &shared.handle)) {
             fail(status);
@@ -520,21 +543,31 @@ public:
     void publish_entities(std::string_view entities) {
         detail::Core &core = open();
         auto publishing = core.publishing();
-        detail::Lease lease(core);
-        cedar_engine &handle = (*lease).handle;
-        auto schema = core.schema();
-        cedar_refusal why = {sizeof why, 0, 0, 0};
-        std::string text;
-        std::uint32_t status = detail::grown(text, 256, [&](cedar_buffer &buffer) {
-            return cedar_publish_entities(&handle, detail::bytes(entities), &why, &buffer);
-        });
-        if (status == CEDAR_REFUSED) {
-            detail::refuse(detail::raw({*schema, {}, {}, entities}), why, text);
-        }
-        if (status != CEDAR_OK) {
-            detail::fail(status);
-        }
-        core.swap(handle, std::move(schema));
+        over(
+            [&](cedar_engine &handle, cedar_refusal &why, cedar_buffer &buffer) {
+                return cedar_publish_entities(&handle, detail::bytes(entities), &why, &buffer);
+            },
+            [&](const std::string &schema, const cedar_refusal &why, const std::string &text) {
+                detail::refuse(detail::raw({schema, {}, {}, entities}), why, text);
+            },
+            core);
+    }
+
+    /* Reads changes of entities, {"upsert":[entry, ..],"remove":[uid, ..]}, and has all later calls answer over the entities after them. What
+     * they do not name is not read again. Where it throws, nothing has changed. Requests do not wait for it; another publisher waits.
+     * Throws Refusal, OutOfMemory, NoEngine and Closed. */
+    void publish_changes(std::string_view changes) {
+        detail::Core &core = open();
+        auto publishing = core.publishing();
+        change(changes, core);
+    }
+
+    /* Another engine, of the same policies, over the entities after changes, for example those that a request brings with it. This engine is
+     * as before. The other one is freed with its last use. Throws what publish_changes throws. */
+    Engine with_changes(std::string_view changes) const {
+        Engine other;
+        change(changes, *other.core_);
+        return other;
     }
 
     /* Whether a request is allowed. It makes no text, so it is the fastest call. Throws RequestRefusal where the request is refused. */
@@ -605,6 +638,36 @@ private:
         if (status != CEDAR_OK) {
             detail::fail(status);
         }
+    }
+
+    /* Publishes to a handle of the current engine, which then becomes the main one of `to`; or says why the text is refused. */
+    template <class Call, class Refuse> void over(Call call, Refuse refuse, detail::Core &to) const {
+        detail::Core &core = open();
+        detail::Lease lease(core);
+        auto schema = core.schema_of(*lease);
+        cedar_refusal why = {sizeof why, 0, 0, 0};
+        std::string text;
+        std::uint32_t status = detail::grown(text, 256, [&](cedar_buffer &buffer) { return call((*lease).handle, why, buffer); });
+        if (status == CEDAR_REFUSED) {
+            refuse(*schema, why, text);
+        }
+        if (status != CEDAR_OK) {
+            detail::fail(status);
+        }
+        to.swap((*lease).handle, std::move(schema));
+        (*lease).version = detail::Core::NOTHING;
+    }
+
+    /* The same for changes of entities. */
+    void change(std::string_view changes, detail::Core &to) const {
+        over(
+            [&](cedar_engine &handle, cedar_refusal &why, cedar_buffer &buffer) {
+                return cedar_publish_changes(&handle, detail::bytes(changes), &why, &buffer);
+            },
+            [&](const std::string &schema, const cedar_refusal &why, const std::string &text) {
+                detail::refuse_changes(schema, changes, why, text);
+            },
+            to);
     }
 
     template <class Call> std::string text_of(std::size_t room, Call call) const {

@@ -3,6 +3,9 @@
 
 #include <stdio.h>
 #include <stdlib.h>
+#include <string.h>
+
+static cedar_bytes bytes(const char *text) { return (cedar_bytes){text, strlen(text)}; }
 
 /* Reads a file of the folder. A file that is not there has no bytes. */
 static cedar_bytes content(const char *folder, const char *name) {
@@ -78,6 +81,24 @@ int main(int count, char **words) {
     if (status == CEDAR_REFUSED) {
         cedar_files refused = {sizeof refused, files.schema, {NULL, 0}, {NULL, 0}, entities, 0, 0};
         print_why(&refused);
+    }
+
+    /* One user is stored, and another is gone. What the changes do not name stays as it is. */
+    cedar_bytes changes = bytes("{\"upsert\":[{\"uid\":{\"type\":\"User\",\"id\":\"dora\"}}],\"remove\":[{\"type\":\"User\",\"id\":\"bob\"}]}");
+    status = cedar_publish_changes(&engine, changes, NULL, NULL);
+
+    /* A request that brings its entities: a handle is shared, changed, asked and freed. No other request sees these entities. */
+    cedar_engine once;
+    if (status == CEDAR_OK && (status = cedar_new(&once)) == CEDAR_OK) {
+        status = cedar_share(&engine, &once);
+        if (status == CEDAR_OK) {
+            status = cedar_publish_changes(&once, bytes("{\"upsert\":[{\"uid\":{\"type\":\"User\",\"id\":\"ann\"}}]}"), NULL, NULL);
+        }
+        if (status == CEDAR_OK) {
+            status = cedar_decide(&once, &request, &decision, NULL);
+        }
+        printf("%s\n", status == CEDAR_OK && decision.allow ? "allow" : "deny");
+        cedar_free(&once);
     }
     cedar_free(&engine);
     const cedar_bytes read[] = {files.schema, files.policies, files.links, files.entities, entities, lines};

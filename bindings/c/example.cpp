@@ -30,6 +30,13 @@ int main(int count, char **words) {
         // Entities that changed are read alone, and the policies are not read again. Threads may ask meanwhile.
         engine.publish_entities(content(folder + "/entities.json"));
 
+        // One user is stored, and another is gone. What the changes do not name stays as it is.
+        engine.publish_changes(R"({"upsert":[{"uid":{"type":"User","id":"dora"}}],"remove":[{"type":"User","id":"bob"}]})");
+
+        // A request that brings its entities. No other request sees them.
+        cedar::Engine once = engine.with_changes(R"({"upsert":[{"uid":{"type":"User","id":"ann"}}]})");
+        std::cout << (once.decide(request) ? "allow" : "deny") << '\n';
+
         // Policies that are refused change nothing.
         try {
             engine.publish({schema, "permit(", links, entities});

@@ -8,7 +8,7 @@
 //	})
 //
 // Any number of goroutines may use an Engine. A request takes no lock, and Publish swaps the files while requests run, PublishEntities the
-// entities alone. Each answer is that of files that were current during its call.
+// entities alone, and PublishChanges changes some of them. Each answer is that of files that were current during its call.
 package bobbinjade
 
 import (
@@ -113,13 +113,41 @@ func (e *Engine) Publish(files Files) error {
 // current. These are not read again. Requests do not wait for it; Publish waits with its swap. The error is *Refusal, ErrMemory or
 // ErrClosed; then nothing has changed.
 func (e *Engine) PublishEntities(entities []byte) error {
+	return e.swapEntities(func(h *handle, schema []byte) error { return h.publishEntities(entities, schema) })
+}
+
+// PublishChanges reads changes of entities, {"upsert":[entry, ..],"remove":[uid, ..]}, and has all later calls answer over the entities after
+// them. What they do not name is not read again. Requests do not wait for it; another publisher waits. The error is *Refusal, ErrMemory or
+// ErrClosed; then nothing has changed.
+func (e *Engine) PublishChanges(changes []byte) error {
+	return e.swapEntities(func(h *handle, schema []byte) error { return h.publishChanges(changes, schema) })
+}
+
+// WithChanges makes another engine, of the same policies, over the entities after changes, for example those that a request brings with it.
+// This engine is as before. The other one is freed by its Close. The error is that of PublishChanges.
+func (e *Engine) WithChanges(changes []byte) (*Engine, error) {
+	old, h, err := e.take(context.Background())
+	if err != nil {
+		return nil, err
+	}
+	if err := h.publishChanges(changes, old.schema); err != nil {
+		old.give(h)
+		return nil, err
+	}
+	other := &Engine{}
+	other.current.Store(&version{main: h, schema: old.schema})
+	return other, nil
+}
+
+// swapEntities publishes to a handle of the current version, which then takes the place of that version.
+func (e *Engine) swapEntities(publish func(h *handle, schema []byte) error) error {
 	e.lock.Lock()
 	defer e.lock.Unlock()
 	old, h, err := e.take(context.Background())
 	if err != nil {
 		return err
 	}
-	if err := h.publishEntities(entities, old.schema); err != nil {
+	if err := publish(h, old.schema); err != nil {
 		old.give(h)
 		return err
 	}

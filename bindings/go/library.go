@@ -279,22 +279,47 @@ func (h *handle) publishEntities(entities, schema []byte) error {
 		return C.cedar_raw_publish_entities(&h.slot.engine, from, length, &why, at, room, written)
 	})
 	runtime.KeepAlive(h)
-	switch status {
-	case C.CEDAR_OK:
-		return nil
-	case C.CEDAR_REFUSED:
+	if status == C.CEDAR_REFUSED {
 		return refusal(&Files{Schema: schema, Entities: entities}, &why)
+	}
+	return failedUnlessDone(status)
+}
+
+// publishChanges has the handle lead to an engine of the same policies over changed entities. The schema, which is that of its engine,
+// explains changes that are refused.
+func (h *handle) publishChanges(changes, schema []byte) error {
+	var why C.cedar_raw_refusal
+	from, length := address(changes)
+	status, _ := grown(256, func(at unsafe.Pointer, room C.size_t, written *C.size_t) C.uint32_t {
+		return C.cedar_raw_publish_changes(&h.slot.engine, from, length, &why, at, room, written)
+	})
+	runtime.KeepAlive(h)
+	if status == C.CEDAR_REFUSED {
+		return refusalWith(func(format C.uint32_t) ([]byte, error) { return explainedChanges(schema, changes, why.number, format) }, &why)
+	}
+	return failedUnlessDone(status)
+}
+
+// failedUnlessDone gives the error of a status that needs no further words, and none where the call has done its work.
+func failedUnlessDone(status C.uint32_t) error {
+	if status == C.CEDAR_OK {
+		return nil
 	}
 	return failed(status)
 }
 
 // refusal gives the error for a refused file.
 func refusal(files *Files, why *C.cedar_raw_refusal) error {
-	words, err := explained(files, C.CEDAR_WORDS)
+	return refusalWith(func(format C.uint32_t) ([]byte, error) { return explained(files, format) }, why)
+}
+
+// refusalWith gives the error for what is refused, with an explanation in each format.
+func refusalWith(explained func(format C.uint32_t) ([]byte, error), why *C.cedar_raw_refusal) error {
+	words, err := explained(C.CEDAR_WORDS)
 	if err != nil {
 		return err
 	}
-	data, err := explained(files, C.CEDAR_JSON)
+	data, err := explained(C.CEDAR_JSON)
 	if err != nil {
 		return err
 	}
@@ -308,6 +333,15 @@ func refusal(files *Files, why *C.cedar_raw_refusal) error {
 		offset = int64(why.offset)
 	}
 	return &Refusal{File: File(why.file), Number: uint32(why.number), Offset: offset, Line: place.Line, Words: string(words)}
+}
+
+// explainedChanges says why changes of entities are refused with this number, in this format.
+func explainedChanges(schema, changes []byte, number, format C.uint32_t) ([]byte, error) {
+	schemaAt, schemaLength := address(schema)
+	changesAt, changesLength := address(changes)
+	return done(grown(4096, func(at unsafe.Pointer, room C.size_t, written *C.size_t) C.uint32_t {
+		return C.cedar_raw_explain_changes(schemaAt, schemaLength, changesAt, changesLength, number, format, at, room, written)
+	}))
 }
 
 // explained says why files are refused or have faults, in this format.

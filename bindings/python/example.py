@@ -27,6 +27,14 @@ def main():
     # Entities that changed are read alone, and the policies are not read again. Threads may ask meanwhile.
     engine.publish_entities(content('entities.json'))
 
+    # One user is stored, and another is gone. What the changes do not name stays as it is.
+    engine.publish_changes({'upsert': [{'uid': {'type': 'User', 'id': 'dora'}}], 'remove': [{'type': 'User', 'id': 'bob'}]})
+
+    # A request that brings its entities. No other request sees them.
+    with engine.with_changes({'upsert': [{'uid': {'type': 'User', 'id': 'ann'}}]}) as once:
+        response = once.authorize('User::"ann"', 'Action::"write"', 'Notebook::"plans"')
+    print(response.decision)
+
     # Policies that are refused change nothing.
     try:
         engine.publish(files[0], 'permit(', files[2])

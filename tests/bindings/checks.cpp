@@ -1,6 +1,8 @@
 // What cedar.hpp promises beyond the answers: checks FOLDER, where FOLDER is examples/.
 #include "cedar.hpp"
 
+#include "changes.h"
+
 #include <cstdio>
 #include <fstream>
 #include <functional>
@@ -85,6 +87,41 @@ static void check_entities(const std::string &folder) {
     engine.close();
     CHECK(thrown<cedar::Closed>([&] { engine.publish_entities(entities); }));
     CHECK(thrown<cedar::Closed>([&] { cedar::Engine moved(std::move(engine)); engine.publish_entities(entities); }));
+}
+
+static void check_changes() {
+    const cedar::Request ann = {{"User", "ann"}, {"Action", "view"}, {"Group", "staff"}}, bob = {{"User", "bob"}, ann.action, ann.resource};
+    cedar::Engine engine;
+    CHECK(thrown<cedar::NoEngine>([&] { engine.publish_changes("{}"); }) && thrown<cedar::NoEngine>([&] { engine.with_changes("{}"); }));
+    engine.publish({CHANGES_SCHEMA, CHANGES_POLICIES, {}, CHANGES_ENTITIES});
+    CHECK(!engine.decide(ann) && engine.decide(bob));
+    // A request that brings its entities: no other request sees them.
+    {
+        cedar::Engine other = engine.with_changes(UPSERT(ANN));
+        CHECK(other.decide(ann) && other.decide(bob) && !engine.decide(ann));
+        other.publish_changes(REMOVE(UID("User", "bob")));
+        CHECK(!other.decide(bob) && engine.decide(bob));
+    }
+    CHECK(!engine.decide(ann) && engine.decide(bob));
+    engine.publish_changes(UPSERT(ANN));
+    CHECK(engine.decide(ann) && engine.is_authorized(ann).determining == std::vector<std::string>{"staff"});
+    cedar::Engine before = engine.with_changes("{}");
+    engine.publish_changes(REMOVE(UID("User", "ann")));
+    CHECK(!engine.decide(ann) && engine.decide(bob) && before.decide(ann));
+    for (const auto &it : REFUSED_CHANGES) {
+        for (auto &call : {std::function<void()>([&] { engine.publish_changes(it.text); }), {[&] { engine.with_changes(it.text); }}}) {
+            auto refusal = thrown<cedar::Refusal>(call);
+            CHECK(refusal && refusal->file == CEDAR_ENTITIES && refusal->number == it.number && !refusal->offset);
+            CHECK(refusal && refusal->words.rfind("error[" + std::to_string(it.number) + "]: ", 0) == 0);
+            CHECK(refusal && refusal->text == "{\"file\":\"entities\",\"refused\":" + std::to_string(it.number) + "}\n");
+            CHECK(!engine.decide(ann) && engine.decide(bob));
+        }
+    }
+    engine.publish_changes(UPSERT(ENTRY("Group", "team", "{}", "")));
+    CHECK(!engine.decide(bob) && before.decide(bob));
+    engine.close();
+    CHECK(thrown<cedar::Closed>([&] { engine.publish_changes("{}"); }) && thrown<cedar::Closed>([&] { engine.with_changes("{}"); }));
+    CHECK(before.decide(ann) && before.decide(bob));
 }
 
 static void check_faults() {
@@ -184,6 +221,7 @@ int main(int count, char **words) {
     requests = content(folder + "requests.jsonl"), answers = content(folder + "answers.jsonl");
     check_refusals(content(folder + "broken_policies.cedar"));
     check_entities(examples + "/photos/");
+    check_changes();
     check_faults();
     check_room();
     check_escapes();

@@ -82,6 +82,20 @@ static inline int grows(cedar_buffer *buffer) {
 
 static inline cedar_bytes bytes_of(const char *text) { return (cedar_bytes){text, strlen(text)}; }
 
+/* Changes that upsert each of these entities. */
+static inline cedar_bytes upserts(cedar_bytes entities) {
+    char *at = malloc(entities.length + 11);
+    if (!at) {
+        exit(9);
+    }
+    memcpy(at, "{\"upsert\":", 10);
+    if (entities.length) {
+        memcpy(at + 10, entities.at, entities.length);
+    }
+    at[10 + entities.length] = '}';
+    return (cedar_bytes){at, entities.length + 11};
+}
+
 /* Whether a buffer has this text. */
 static inline int has(const cedar_buffer *buffer, cedar_bytes text) {
     return buffer->written == text.length && (text.length == 0 || memcmp(buffer->at, text.at, text.length) == 0);

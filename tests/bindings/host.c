@@ -4,8 +4,10 @@
  *   lines     answers each of them by a call
  *   parts     answers requests by parts: each line has seven fields, with the byte 1F between them
  *   entities  publishes the files with no entities, then the entities alone, and answers the request lines by one call
+ *   changes   publishes the files with no entities, then upserts all entities, and answers the request lines by one call
  *   publish   publishes the files, prints the text of the call, and ends with its status
  *   publish-entities  publishes the files with no entities, then the entities alone, prints the text of that call, and ends with its status
+ *   publish-changes   publishes the files with no entities, then upserts all entities, prints the text of that call, and ends with its status
  *   validate  validates the files, prints the text of the call, and ends with its status
  *   words     explains the files in words; `json` explains them as JSON lines
  *   entities-words    explains the entities in words, by the schema alone */
@@ -80,13 +82,24 @@ static uint32_t publish_without_entities(cedar_engine *engine, cedar_files files
     return cedar_publish(engine, &files, NULL, NULL);
 }
 
+/* Publishes entities over no entities, in one of two ways: all at once, or as changes that upsert each. */
+static uint32_t publish_over(cedar_engine *engine, cedar_bytes entities, int is_change, cedar_buffer *to) {
+    if (!is_change) {
+        return cedar_publish_entities(engine, entities, NULL, to);
+    }
+    cedar_bytes changes = upserts(entities);
+    uint32_t status = cedar_publish_changes(engine, changes, NULL, to);
+    free((void *)changes.at);
+    return status;
+}
+
 static int answered(const cedar_files *files, const char *mode) {
     cedar_engine engine;
-    int ended = 9, is_over = strcmp(mode, "entities") == 0;
+    int ended = 9, is_change = strcmp(mode, "changes") == 0, is_over = is_change || strcmp(mode, "entities") == 0;
     if (cedar_new(&engine) != CEDAR_OK) {
         return 9;
     }
-    if (is_over ? publish_without_entities(&engine, *files) || cedar_publish_entities(&engine, files->entities, NULL, NULL)
+    if (is_over ? publish_without_entities(&engine, *files) || publish_over(&engine, files->entities, is_change, NULL)
                 : cedar_publish(&engine, files, NULL, NULL)) {
         return 9;
     }
@@ -107,15 +120,16 @@ static int answered(const cedar_files *files, const char *mode) {
     return ended;
 }
 
-static int published(const cedar_files *files, int is_over) {
+static int published(const cedar_files *files, const char *mode) {
     cedar_engine engine;
+    int is_over = strcmp(mode, "publish") != 0, is_change = strcmp(mode, "publish-changes") == 0;
     uint32_t status = cedar_new(&engine);
     if (status == CEDAR_OK && is_over && publish_without_entities(&engine, *files) != CEDAR_OK) {
         return 9;
     }
     if (status == CEDAR_OK) {
         do {
-            status = is_over ? cedar_publish_entities(&engine, files->entities, NULL, &text) : cedar_publish(&engine, files, NULL, &text);
+            status = is_over ? publish_over(&engine, files->entities, is_change, &text) : cedar_publish(&engine, files, NULL, &text);
         } while (status != CEDAR_OK && grows(&text));
         cedar_free(&engine);
     }
@@ -139,11 +153,9 @@ int main(int count, char **words) {
     }
     cedar_files files = files_of(words[1]);
     const char *mode = words[2];
-    int is_over = strcmp(mode, "publish-entities") == 0;
+    int is_published = strncmp(mode, "publish", 7) == 0;
     int is_judged = strcmp(mode, "validate") == 0 || strcmp(mode, "json") == 0 || strstr(mode, "words") != NULL;
-    int ended = is_over || strcmp(mode, "publish") == 0 ? published(&files, is_over)
-                : is_judged                             ? judged(&files, mode)
-                                                        : answered(&files, mode);
+    int ended = is_published ? published(&files, mode) : is_judged ? judged(&files, mode) : answered(&files, mode);
     free_files(&files);
     free(text.at);
     return ended;

@@ -53,13 +53,23 @@ static cedar::Files without_entities(cedar::Files files) {
     return files;
 }
 
+// Publishes entities over no entities: all at once, or as changes that upsert each.
+static void publish_over(cedar::Engine &engine, std::string_view entities, const std::string &mode) {
+    if (mode == "changes" || mode == "publish-changes") {
+        engine.publish_changes("{\"upsert\":" + std::string(entities) + "}");
+    } else {
+        engine.publish_entities(entities);
+    }
+}
+
 static int answered(const cedar::Files &files, const std::string &mode) {
     const std::string lines = all(std::cin);
-    cedar::Engine engine(mode == "entities" ? without_entities(files) : files);
-    if (mode == "entities") {
-        engine.publish_entities(files.entities);
+    const bool is_over = mode == "entities" || mode == "changes";
+    cedar::Engine engine(is_over ? without_entities(files) : files);
+    if (is_over) {
+        publish_over(engine, files.entities, mode);
     }
-    if (mode == "batch" || mode == "entities") {
+    if (mode == "batch" || is_over) {
         std::cout << engine.answer(lines);
         return 0;
     }
@@ -92,9 +102,9 @@ int main(int count, char **words) {
             cedar::Engine engine(files);
             return 0;
         }
-        if (mode == "publish-entities" || mode == "entities-words") {
+        if (mode == "publish-entities" || mode == "publish-changes" || mode == "entities-words") {
             cedar::Engine engine(without_entities(files));
-            engine.publish_entities(files.entities);
+            publish_over(engine, files.entities, mode);
             return 0;
         }
         return answered(files, mode);

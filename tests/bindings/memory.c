@@ -5,7 +5,7 @@
 
 extern long granted_before_refusal; /* of refusing.c */
 static cedar_files files, other_files;
-static cedar_bytes lines, line, answers, answer, report, explained;
+static cedar_bytes lines, line, answers, answer, report, explained, all_changes;
 static cedar_engine engine, other;
 static cedar_request request;
 static char room[1 << 16];
@@ -49,6 +49,35 @@ static outcome publishes_refused_entities(void) {
     int is_right = status == CEDAR_REFUSED && refusal.file == CEDAR_ENTITIES && refusal.number == 502
         && has(&text, bytes_of("{\"file\":\"entities\",\"refused\":502}\n"));
     return (outcome){is_right ? CEDAR_OK : status, is_right || (refusal.file == 0 && refusal.number == 0 && text.written == 0)};
+}
+
+/* Changes that change nothing, with any schema. */
+static outcome publishes_changes(void) {
+    const char *changes = "{\"upsert\":[],\"remove\":[{\"type\":\"Ghost\",\"id\":\"g\"}]}";
+    return (outcome){cedar_publish_changes(&engine, bytes_of(changes), NULL, NULL), 1};
+}
+
+/* All entities as changes of the same entities. */
+static outcome publishes_all_as_changes(void) { return (outcome){cedar_publish_changes(&engine, all_changes, NULL, NULL), 1}; }
+
+/* Changes that are no object are refused, with any schema. */
+static outcome publishes_refused_changes(void) {
+    cedar_refusal refusal = {sizeof refusal, 0, 0, 0};
+    cedar_buffer text = text_buffer();
+    uint32_t status = cedar_publish_changes(&engine, bytes_of("[]"), &refusal, &text);
+    int is_right = status == CEDAR_REFUSED && refusal.file == CEDAR_ENTITIES && refusal.number == 502
+        && has(&text, bytes_of("{\"file\":\"entities\",\"refused\":502}\n"));
+    return (outcome){is_right ? CEDAR_OK : status, is_right || (refusal.file == 0 && refusal.number == 0 && text.written == 0)};
+}
+
+/* The words for refused changes are whole, or none. */
+static outcome explains_changes(void) {
+    const char *changes = "{\"upsert\":[{\"uid\":{\"type\":\"Ghost\",\"id\":\"g\"}}]}";
+    const char *begin = "error[503]: an entity has a type that the schema does not declare\n --> changes.json: upsert entry 0 (from 0), Ghost";
+    cedar_buffer text = text_buffer();
+    uint32_t status = cedar_explain_changes(files.schema, bytes_of(changes), 503, CEDAR_WORDS, &text);
+    int is_right = status == CEDAR_OK ? text.written > strlen(begin) && memcmp(room, begin, strlen(begin)) == 0 : text.written == 0;
+    return (outcome){status, is_right};
 }
 
 static outcome validates(void) {
@@ -184,6 +213,7 @@ int main(int count, char **words) {
     report = content(words[1], "report.jsonl");
     line = first_line(lines);
     answer = first_line(answers);
+    all_changes = upserts(files.entities);
     /* An action that is declared by none of the examples would be refused 510, whatever the types are. */
     request = asked("write");
     request.principal_type = bytes_of("Ghost");
@@ -195,6 +225,10 @@ int main(int count, char **words) {
     try_each("publish with faults", publishes_faults);
     try_each("publish entities", publishes_entities);
     try_each("publish entities that are refused", publishes_refused_entities);
+    try_each("publish changes", publishes_changes);
+    try_each("publish all entities as changes", publishes_all_as_changes);
+    try_each("publish changes that are refused", publishes_refused_changes);
+    try_each("explain changes", explains_changes);
     try_each("validate", validates);
     try_explanations();
     try_each("share", shares);
@@ -210,5 +244,6 @@ int main(int count, char **words) {
     free((void *)lines.at);
     free((void *)answers.at);
     free((void *)report.at);
+    free((void *)all_changes.at);
     return counted();
 }

@@ -80,6 +80,17 @@ int main(int count, char **words) {
         }
         return false;
     });
+    const std::string changes = "{\"upsert\":" + entities + "}";
+    try_each("publish changes", [&] { return engine.publish_changes(changes), asks(); });
+    try_each("publish changes that are refused", [&] {
+        try {
+            engine.publish_changes("[]");
+        } catch (const cedar::Refusal &refusal) {
+            return refusal.file == CEDAR_ENTITIES && refusal.number == 502 && !refusal.offset && asks();
+        }
+        return false;
+    });
+    try_each("ask over changes", [&] { return engine.with_changes(changes).answer(requests) == answers && asks(); });
     try_each("validate", [&] { return cedar::validate(files).accepted && cedar::explain(files).empty(); });
     std::printf("%d passed, %d failed\n", passed, failed);
     return failed != 0;

@@ -68,11 +68,31 @@ def main():
             return (refused.file, refused.number, refused.offset) == ('entities', 502, None) and asks(is_refusing)
         return False
 
+    changes = b'{"upsert":' + files[2] + b'}'
+
+    def publishes_changes(is_refusing):
+        engine.publish_changes(changes)
+        return asks(is_refusing)
+
+    def refuses_changes(is_refusing):
+        try:
+            engine.publish_changes('[]')
+        except bobbinjade.Refused as refused:
+            return (refused.file, refused.number, refused.offset) == ('entities', 502, None) and asks(is_refusing)
+        return False
+
+    def asks_over_changes(is_refusing):
+        with engine.with_changes(changes) as other:
+            return other.answer(requests) == answers and asks(is_refusing)
+
     try_each('ask', asks)
     try_each('publish', publishes)
     try_each('publish what is refused', refuses)
     try_each('publish entities', publishes_entities)
     try_each('publish entities that are refused', refuses_entities)
+    try_each('publish changes', publishes_changes)
+    try_each('publish changes that are refused', refuses_changes)
+    try_each('ask over changes', asks_over_changes)
     try_each('validate', lambda _: bobbinjade.validate(*files[:2]).is_accepted and bobbinjade.explain(*files) == '')
     print('%d passed, %d failed' % (COUNTS[True], COUNTS[False]))
     return COUNTS[False] != 0

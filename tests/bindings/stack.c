@@ -85,7 +85,7 @@ static const form other_entities[] = {
 
 static cedar_files files;
 static cedar_engine engine;
-static cedar_bytes asked_line;
+static cedar_bytes asked_line, changes;
 static char room[1 << 16];
 
 static cedar_bytes text_of(const form *form) {
@@ -133,6 +133,11 @@ static void *publishes(void *none) {
 
 static void *publishes_entities(void *none) {
     is_right = cedar_publish_entities(&engine, files.entities, NULL, NULL) == wanted;
+    return none;
+}
+
+static void *publishes_changes(void *none) {
+    is_right = cedar_publish_changes(&engine, changes, NULL, NULL) == wanted;
     return none;
 }
 
@@ -229,12 +234,21 @@ static void close_schema(void) {
     free((void *)files.schema.at);
 }
 
-static void check_entities(const form *form, uint32_t status) {
-    files.entities = text_of(form);
+/* Publishes the entities alone, and then upserts each of them. They are freed. */
+static void check_text(uint32_t status) {
     wanted = status;
     on_a_stack(READING_STACK, publishes_entities);
     CHECK(is_right);
+    changes = upserts(files.entities);
+    on_a_stack(READING_STACK, publishes_changes);
+    CHECK(is_right);
+    free((void *)changes.at);
     free((void *)files.entities.at);
+}
+
+static void check_entities(const form *form, uint32_t status) {
+    files.entities = text_of(form);
+    check_text(status);
 }
 
 /* Publishes entities over deep ones, which are freed then. */
@@ -251,10 +265,7 @@ static void check_all_entities(void) {
     }
     open_schema(&schemas[0]);
     files.entities = chain();
-    wanted = CEDAR_OK;
-    on_a_stack(READING_STACK, publishes_entities);
-    CHECK(is_right);
-    free((void *)files.entities.at);
+    check_text(CEDAR_OK);
     close_schema();
 }
 
@@ -277,12 +288,14 @@ static void print_least(void) {
         free((void *)asked_line.at);
     }
     close_engine();
-    printf("\n| Entities | publish entities |\n|---|---|\n");
+    printf("\n| Entities | publish entities | publish changes |\n|---|---|---|\n");
     for (size_t i = 0; i < COUNT(entities); i++) {
         open_schema(&schemas[i]);
         files.entities = text_of(&entities[i]);
         wanted = CEDAR_OK;
-        printf("| %s | %zu |\n", entities[i].name, least(publishes_entities));
+        changes = upserts(files.entities);
+        printf("| %s | %zu | %zu |\n", entities[i].name, least(publishes_entities), least(publishes_changes));
+        free((void *)changes.at);
         free((void *)files.entities.at);
         close_schema();
     }

@@ -5,7 +5,7 @@
 // Another thread publishes entities alone all the while, which brings no older policies back.
 //
 // Then the entities alone have versions. Ann is in the group of the number of the version, of which there are GROUPS, and each group has a
-// policy.
+// policy. At last changes make these versions, one after another, while another thread asks over changes of its own.
 #include "cedar.hpp"
 
 #include <chrono>
@@ -119,6 +119,18 @@ int main(int count, char **words) {
             } catch (const cedar::Refusal &) {
             }
         });
-    std::printf("%d passed, %d failed\n", passed, 2 - passed);
-    return passed != 2;
+    passed += are_right(
+        seconds, [&] { ask_for_the_group(engine); },
+        [&](long number) { engine.publish_changes("{\"upsert\":" + entities_of(number) + "}"); },
+        [&] {
+            cedar::Engine other = engine.with_changes(R"({"remove":[{"type":"User","id":"ann"}]})");
+            wrong += other.decide({{"User", "ann"}, {"Action", "write"}, {"Group", "0"}});
+            try {
+                engine.publish_changes("[]");
+                wrong++;
+            } catch (const cedar::Refusal &) {
+            }
+        });
+    std::printf("%d passed, %d failed\n", passed, 3 - passed);
+    return passed != 3;
 }

@@ -31,11 +31,12 @@ func main() {
 	defer engine.Close()
 
 	// Any number of goroutines may ask, also while another publishes.
-	response, err := engine.Authorize(context.Background(), bobbinjade.Request{
+	request := bobbinjade.Request{
 		Principal: bobbinjade.UID{Type: "User", ID: "ann"},
 		Action:    bobbinjade.UID{Type: "Action", ID: "write"},
 		Resource:  bobbinjade.UID{Type: "Notebook", ID: "plans"},
-	})
+	}
+	response, err := engine.Authorize(context.Background(), request)
 	if err != nil {
 		log.Fatal(err)
 	}
@@ -52,6 +53,20 @@ func main() {
 	if err := engine.PublishEntities(content("entities.json")); err != nil {
 		log.Fatal(err)
 	}
+
+	// One user is stored, and another is gone. What the changes do not name stays as it is.
+	if err := engine.PublishChanges([]byte(`{"upsert":[{"uid":{"type":"User","id":"dora"}}],"remove":[{"type":"User","id":"bob"}]}`)); err != nil {
+		log.Fatal(err)
+	}
+
+	// A request that brings its entities. No other request sees them.
+	once, err := engine.WithChanges([]byte(`{"upsert":[{"uid":{"type":"User","id":"ann"}}]}`))
+	if err != nil {
+		log.Fatal(err)
+	}
+	defer once.Close()
+	isAllowed, err := once.Decide(context.Background(), request)
+	fmt.Println(isAllowed && err == nil)
 
 	// Policies that are refused change nothing.
 	files.Policies = []byte("permit(")

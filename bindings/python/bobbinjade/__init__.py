@@ -4,8 +4,8 @@
     if engine.authorize('User::"ann"', 'Action::"write"', 'Notebook::"plans"'):
         ..
 
-An Engine is for any number of threads. `Engine.publish` swaps the files while requests run, and
-`Engine.publish_entities` the entities alone."""
+An Engine is for any number of threads. `Engine.publish` swaps the files while requests run,
+`Engine.publish_entities` the entities alone, and `Engine.publish_changes` changes some of them."""
 from .engine import Engine, Erring, Report, Response, explain, validate, version
 from .errors import Closed, Error, Faults, OutOfMemory, Refused, RequestRefused
 

@@ -18,6 +18,7 @@ from .library import LIBRARY, NO_REQUEST, OK, ROOM, SHORT, SIZES, Handle, Text, 
 UID = re.compile(r'([A-Za-z_][A-Za-z0-9_]*(?:::[A-Za-z_][A-Za-z0-9_]*)*)::"([^"\\]*)"')
 Uid = Union[str, 'tuple[str, str]']
 Context = Union[None, str, bytes, Mapping[str, Any]]
+Changes = Union[str, bytes, Mapping[str, Any]]
 
 ANSWER_LINE = SHORT.cedar_raw_answer_line
 DECIDE = SHORT.cedar_raw_decide
@@ -97,11 +98,11 @@ def uid_of(uid: Uid) -> tuple[bytes, Any, bytes, Any]:
     return made
 
 
-def context_of(context: Union[str, bytes, Mapping[str, Any]]) -> bytes:
-    """A context as the library takes it. A number that is not finite has no JSON, and raises ValueError."""
-    if isinstance(context, (str, bytes)):
-        return encoded(context)
-    return JSON(context if isinstance(context, dict) else dict(context)).encode()
+def json_of(given: Union[str, bytes, Mapping[str, Any]]) -> bytes:
+    """A context or changes as the library takes them. A number that is not finite has no JSON, and raises ValueError."""
+    if isinstance(given, (str, bytes)):
+        return encoded(given)
+    return JSON(given if isinstance(given, dict) else dict(given)).encode()
 
 
 class Engine:
@@ -111,9 +112,13 @@ class Engine:
     def __init__(self, schema: Text, policies: Text, entities: Text, links: Optional[Text] = None, any_decimal: bool = False) -> None:
         """Reads and validates the contents of files. Raises Refused, Faults or OutOfMemory."""
         files = files_of(schema, policies, links, entities, any_decimal)
-        self._main: Optional[Handle] = library.published(files)
+        self._begin(library.published(files), files.schema)
+
+    def _begin(self, main: Handle, schema: bytes) -> None:
+        """Begins with a handle to which was published."""
+        self._main: Optional[Handle] = main
         # The schema of the current version, by which refused entities are explained.
-        self._schema = files.schema
+        self._schema = schema
         # Publishers swap one after another. Requests and `close` do not wait for this lock.
         self._publishers = threading.Lock()
         self._lock = threading.Lock()
@@ -142,9 +147,29 @@ class Engine:
         or Closed; then nothing has changed."""
         given = encoded(entities)
         with self._publishers:
-            schema, main = self._schema, self._renewed(Handle())
+            main, schema = self._fresh()
             library.publish_entities(main, schema, given)
             self._swap(main, schema)
+
+    def publish_changes(self, changes: Changes) -> None:
+        """Reads changes of entities, a mapping {'upsert': [entry, ..], 'remove': [uid, ..]} or its JSON, and has all later calls answer over
+        the entities after them. What they do not name is not read again. Requests do not wait for it; another publisher waits. Raises
+        Refused, OutOfMemory or Closed; then nothing has changed."""
+        given = json_of(changes)
+        with self._publishers:
+            main, schema = self._fresh()
+            library.publish_changes(main, schema, given)
+            self._swap(main, schema)
+
+    def with_changes(self, changes: Changes) -> Engine:
+        """Another engine, of the same policies, over the entities after changes, for example those that a request brings with it. This engine
+        is as before. Closing the other one frees it. Raises as `publish_changes` does."""
+        given = json_of(changes)
+        main, schema = self._fresh()
+        library.publish_changes(main, schema, given)
+        other = Engine.__new__(Engine)
+        other._begin(main, schema)
+        return other
 
     def _swap(self, main: Optional[Handle], schema: bytes) -> None:
         """Has a handle, to which was published, take the place of the main one. The caller has the lock of publishers."""
@@ -174,7 +199,7 @@ class Engine:
         who = kept(principal) or uid_of(principal)
         what = kept(action) or uid_of(action)
         where = kept(resource) or uid_of(resource)
-        given = b'' if context is None else context_of(context)
+        given = b'' if context is None else json_of(context)
         handle = self._taken()
         try:
             while True:
@@ -194,7 +219,7 @@ class Engine:
         who = kept(principal) or uid_of(principal)
         what = kept(action) or uid_of(action)
         where = kept(resource) or uid_of(resource)
-        given = b'' if context is None else context_of(context)
+        given = b'' if context is None else json_of(context)
         handle = self._taken()
         try:
             status = DECIDE(handle.at, *who, *what, *where, given, size(len(given)), handle.decision_at, handle.buffer_at, NONE,
@@ -244,13 +269,24 @@ class Engine:
 
     def _renewed(self, handle: Handle) -> Handle:
         with self._lock:
-            if not self._main:
-                raise Closed('the engine is closed')
-            status = LIBRARY.cedar_raw_share(self._main.at, handle.at)
-            if status != OK:
-                raise failed(status)
-            handle.version = self._version
+            self._lead(handle)
         return handle
+
+    def _fresh(self) -> tuple[Handle, bytes]:
+        """A new handle that leads to the current engine, and its schema."""
+        handle = Handle()
+        with self._lock:
+            self._lead(handle)
+            return handle, self._schema
+
+    def _lead(self, handle: Handle) -> None:
+        """Has a handle lead to the current engine. The caller has the lock."""
+        if not self._main:
+            raise Closed('the engine is closed')
+        status = LIBRARY.cedar_raw_share(self._main.at, handle.at)
+        if status != OK:
+            raise failed(status)
+        handle.version = self._version
 
     def _give(self, handle: Handle) -> None:
         """Puts a handle back, or frees it."""

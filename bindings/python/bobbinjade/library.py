@@ -43,8 +43,8 @@ def loaded(kind: type) -> Any:
     folder = os.environ.get('BOBBINJADE_LIB')
     beside = os.path.join(os.path.dirname(os.path.abspath(__file__)), NAME)
     library = kind(os.path.join(folder, NAME) if folder else beside if os.path.exists(beside) else SYSTEM_NAME)
-    for name in ('new', 'publish', 'publish_entities', 'validate', 'explain', 'share', 'answer', 'answer_line', 'decide', 'abi_version',
-                 'version'):
+    for name in ('new', 'publish', 'publish_entities', 'publish_changes', 'validate', 'explain', 'explain_changes', 'share', 'answer',
+                 'answer_line', 'decide', 'abi_version', 'version'):
         getattr(library, 'cedar_raw_' + name).restype = ctypes.c_uint32
     library.cedar_raw_free.restype = None
     if library.cedar_raw_abi_version() != ABI_VERSION:
@@ -105,12 +105,26 @@ def explained(files: Files, form: int) -> str:
     return text.decode()
 
 
-def refused(files: Files, why: Why) -> Refused:
-    """The error for a refused file."""
-    lines = explained(files, 1).splitlines()
+def explained_changes(schema: bytes, changes: bytes, number: int, form: int) -> str:
+    """Why changes of entities are refused with a number: in words (0), or as JSON lines (1)."""
+    words = flat(schema, changes)
+    status, text = grown(4096, lambda *room: LIBRARY.cedar_raw_explain_changes(*words, ctypes.c_uint32(number), ctypes.c_uint32(form), *room))
+    if status != OK:
+        raise failed(status)
+    return text.decode()
+
+
+def refused_with(explain: Callable[[int], str], why: Why) -> Refused:
+    """The error for what is refused, with an explanation of each form."""
+    lines = explain(1).splitlines()
     offset = None if why.offset == NO_OFFSET else why.offset
     line = json.loads(lines[0]).get('line') if lines else None
-    return Refused(FILES.get(why.file, ''), why.number, offset, line, explained(files, 0))
+    return Refused(FILES.get(why.file, ''), why.number, offset, line, explain(0))
+
+
+def refused(files: Files, why: Why) -> Refused:
+    """The error for a refused file."""
+    return refused_with(lambda form: explained(files, form), why)
 
 
 class Handle:
@@ -164,6 +178,17 @@ def publish_entities(handle: Handle, schema: bytes, entities: bytes) -> None:
     status, _ = grown(256, lambda *room: LIBRARY.cedar_raw_publish_entities(handle.at, *words, ctypes.byref(why), *room))
     if status == REFUSED:
         raise refused(files_of(schema, b'', None, entities, False), why)
+    if status != OK:
+        raise failed(status)
+
+
+def publish_changes(handle: Handle, schema: bytes, changes: bytes) -> None:
+    """Has a handle lead to an engine of the same policies over changed entities. `schema` is that of its engine, and explains refused changes."""
+    why = Why()
+    words = flat(changes)
+    status, _ = grown(256, lambda *room: LIBRARY.cedar_raw_publish_changes(handle.at, *words, ctypes.byref(why), *room))
+    if status == REFUSED:
+        raise refused_with(lambda form: explained_changes(schema, changes, why.number, form), why)
     if status != OK:
         raise failed(status)
 

@@ -208,6 +208,93 @@ class Refusals(unittest.TestCase):
         self.assertRegex(bobbinjade.version(), r'^\d+\.\d+\.\d+$')
 
 
+class Changes(unittest.TestCase):
+    """Staff may view. Bob is in the team, and the team in the staff. Ann is not stored."""
+    SCHEMA = json.dumps({'': {
+        'entityTypes': {'Group': {'memberOfTypes': ['Group']},
+                        'User': {'memberOfTypes': ['Group'], 'shape': {'type': 'Record', 'attributes': {'age': {'type': 'Long'}}}}},
+        'actions': {'view': {'appliesTo': {'principalTypes': ['User'], 'resourceTypes': ['Group']}}}}})
+    POLICIES = '@id("staff") permit(principal in Group::"staff", action, resource);'
+
+    @staticmethod
+    def uid(type_name, name):
+        return {'type': type_name, 'id': name}
+
+    def entry(self, type_name, name, parents=(), **attributes):
+        return {'uid': self.uid(type_name, name), 'attrs': attributes, 'parents': [self.uid('Group', it) for it in parents]}
+
+    def setUp(self):
+        entities = [self.entry('Group', 'staff'), self.entry('Group', 'team', ['staff']), self.entry('User', 'bob', ['team'], age=1)]
+        self.ann = self.entry('User', 'ann', ['team'], age=30)
+        self.engine = bobbinjade.Engine(self.SCHEMA, self.POLICIES, json.dumps(entities))
+
+    def who(self, engine):
+        """Who may view: of ann and bob."""
+        return [name for name in ('ann', 'bob') if engine.decide(('User', name), 'Action::"view"', 'Group::"staff"')]
+
+    def test_changes(self):
+        engine = self.engine
+        before = engine.with_changes({})
+        self.assertEqual(self.who(engine), ['bob'])
+        engine.publish_changes({'upsert': [self.ann]})
+        self.assertEqual((self.who(engine), self.who(before)), (['ann', 'bob'], ['bob']))
+        engine.publish_changes(json.dumps({'remove': [self.uid('User', 'ann'), self.uid('User', 'nobody')]}))
+        self.assertEqual(self.who(engine), ['bob'])
+        engine.publish_changes({'upsert': [self.entry('Group', 'team')]})
+        self.assertEqual((self.who(engine), self.who(before)), ([], ['bob']))
+        engine.publish_changes({'upsert': [self.entry('Group', 'team', ['staff']), self.ann], 'remove': [self.uid('User', 'bob')]})
+        self.assertEqual((self.who(engine), self.who(before)), (['ann'], ['bob']))
+        engine.close()
+        self.assertRaises(bobbinjade.Closed, engine.publish_changes, {})
+        self.assertRaises(bobbinjade.Closed, engine.with_changes, {})
+        self.assertEqual(self.who(before), ['bob'])
+
+    def test_refusals(self):
+        ann, team, upsert = self.uid('User', 'ann'), self.entry('Group', 'team', ['team']), lambda *it: {'upsert': list(it)}
+        changes = ((401, upsert(self.ann, self.ann)), (401, {'remove': [ann, ann]}), (402, upsert(team)),
+                   (402, upsert(self.entry('Group', 'staff', ['team']))), (501, '{"upsert":['), (501, ''), (502, '[]'),
+                   (502, {'removed': []}), (502, upsert(1)), (502, {'remove': ['User::"ann"']}), (503, upsert(self.entry('Ghost', 'g'))),
+                   (504, upsert(self.entry('User', 'ann', age='30'))), (505, upsert(self.entry('User', 'ann'))),
+                   (506, upsert(self.entry('Group', 'team', age=1))), (508, {'remove': [self.uid('Action', 'view')]}),
+                   (509, upsert(self.entry('User', 'ann', age=1.5))))
+        for number, given in changes:
+            for call in (self.engine.publish_changes, self.engine.with_changes):
+                with self.assertRaises(bobbinjade.Refused) as raised:
+                    call(given)
+                refused = raised.exception
+                self.assertEqual((refused.file, refused.number, refused.offset), ('entities', number, None), given)
+                self.assertTrue(refused.words.startswith('error[%d]: ' % number), refused.words)
+                self.assertEqual(self.who(self.engine), ['bob'])
+        with self.assertRaises(bobbinjade.Refused) as raised:
+            self.engine.publish_changes(upsert(self.entry('Group', 'g'), self.entry('User', 'ann', age=1, agee=2)))
+        self.assertEqual(raised.exception.words,
+                         'error[506]: an attribute is not declared\n --> changes.json: upsert entry 1 (from 0), User::"ann"\n'
+                         '   = attrs.agee: `User` has age\n   = hint: is `age` meant?\n')
+        self.assertRaises(ValueError, self.engine.publish_changes, {'upsert': [self.entry('User', 'ann', age=float('nan'))]})
+
+    def test_many(self):
+        for number in range(1000):
+            self.engine.publish_changes({'upsert': [self.entry('User', 'u%d' % number, ['team'], age=number)],
+                                         'remove': [self.uid('User', 'u%d' % (number - 1))]})
+        may = [it for it in range(1000) if self.engine.decide(('User', 'u%d' % it), 'Action::"view"', 'Group::"staff"')]
+        self.assertEqual((may, self.who(self.engine)), ([999], ['bob']))
+
+    def test_requests_with_entities(self):
+        for _ in range(10):
+            with self.engine.with_changes({'upsert': [self.ann]}) as other:
+                self.assertEqual((self.who(other), self.who(self.engine)), (['ann', 'bob'], ['bob']))
+                other.publish_changes({'remove': [self.uid('User', 'bob')]})
+                self.assertEqual((self.who(other), self.who(self.engine)), (['ann'], ['bob']))
+            self.assertRaises(bobbinjade.Closed, self.who, other)
+
+    def test_examples(self):
+        for name in names():
+            schema, policies, entities, links = files_of(name)
+            engine = bobbinjade.Engine(schema, policies, '[]', links)
+            engine.publish_changes(b'{"upsert":' + entities + b'}')
+            self.assertEqual(engine.answer(content(name, 'requests.jsonl')), content(name, 'answers.jsonl').decode())
+
+
 class Versions(unittest.TestCase):
     """Eight threads ask while versions are published. The id of the policy of a version is its number; even ones permit, odd ones forbid."""
     COUNT = 1000
@@ -283,6 +370,22 @@ class Versions(unittest.TestCase):
 
         engine = bobbinjade.Engine(json.dumps(self.SCHEMA), policies, entities(0))
         self.swap(engine, lambda number: engine.publish_entities(entities(number)), refuse)
+
+    def test_swaps_of_changes(self):
+        """The same by changes, while another thread asks over changes of its own."""
+        policies = ''.join(self.policies(at, 'principal in Group::"%d"' % at) for at in range(self.COUNT))
+        ann = {'type': 'User', 'id': 'ann'}
+
+        def changes(number):
+            return {'upsert': [{'uid': ann, 'parents': [{'type': 'Group', 'id': str(number % self.COUNT)}]}]}
+
+        def ask_apart():
+            self.assertRaises(bobbinjade.Refused, engine.publish_changes, '[]')
+            with engine.with_changes({'remove': [ann]}) as other:
+                self.assertEqual(other.authorize('User::"ann"', 'Action::"write"', 'Notebook::"plans"').determining, [])
+
+        engine = bobbinjade.Engine(json.dumps(self.SCHEMA), policies, json.dumps(changes(0)['upsert']))
+        self.swap(engine, lambda number: engine.publish_changes(changes(number)), ask_apart)
 
 
 if __name__ == '__main__':

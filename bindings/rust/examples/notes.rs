@@ -22,6 +22,13 @@ fn main() -> Result<(), Box<dyn Error>> {
     // Entities that changed are read alone, and the policies are not read again. Threads may ask meanwhile.
     engine.publish_entities(&content("entities.json")?)?;
 
+    // One user is stored, and another is gone. What the changes do not name stays as it is.
+    engine.publish_changes(br#"{"upsert":[{"uid":{"type":"User","id":"dora"}}],"remove":[{"type":"User","id":"bob"}]}"#)?;
+
+    // A request that brings its entities. No other request sees them.
+    let once = engine.with_changes(br#"{"upsert":[{"uid":{"type":"User","id":"ann"}}]}"#)?;
+    println!("{}", if once.decide(&request)? == Decision::Allow { "allow" } else { "deny" });
+
     // Policies that are refused change nothing.
     if let Err(error) = engine.publish(&Files { policies: b"permit(", ..files }) {
         println!("{error}");

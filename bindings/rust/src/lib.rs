@@ -13,8 +13,8 @@
 //! ```
 //!
 //! An [`Engine`] is `Send`, `Sync` and `Clone`: all clones are one engine. A request takes no lock, and [`Engine::publish`] swaps the
-//! files while requests run, [`Engine::publish_entities`] the entities alone. Each answer is that of files that were current during its
-//! call.
+//! files while requests run, [`Engine::publish_entities`] the entities alone, and [`Engine::publish_changes`] changes some of them. Each
+//! answer is that of files that were current during its call.
 //!
 //! All `unsafe` code is in `src/raw.rs`.
 #![deny(missing_docs)]
@@ -217,14 +217,54 @@ impl Engine {
     pub fn publish_entities(&self, entities: &[u8]) -> Result<(), Error> {
         on_large_stack(|| {
             let _publishing = self.pool.publishing();
-            let (mut lease, schema) = (self.pool.lease()?, self.pool.schema()?);
-            let (mut why, mut text) = (Why::default(), room(256)?);
-            match lease.call(|handle| handle.publish_entities(entities, &mut why, &mut text)) {
-                raw::OK => self.pool.swap(Published { handle: lease.into_handle().ok_or(Error::Closed)?, schema }),
-                raw::REFUSED => Err(refused(&Files { schema: &schema, entities, ..Files::default() }, &why)?),
-                status => Err(Error::of(status)),
-            }
+            self.pool.swap(self.over(
+                |handle, why, text| handle.publish_entities(entities, why, text),
+                |schema, why| refused(&Files { schema, entities, ..Files::default() }, why),
+            )?)
         })
+    }
+
+    /// Reads changes of entities, `{"upsert":[entry, ..],"remove":[uid, ..]}`, and has all later calls answer over the entities after them.
+    /// What they do not name is not read again. Requests do not wait for it; another publisher waits.
+    ///
+    /// # Errors
+    ///
+    /// [`Error::Refused`], [`Error::Memory`] and [`Error::Closed`]. Nothing has changed then.
+    pub fn publish_changes(&self, changes: &[u8]) -> Result<(), Error> {
+        on_large_stack(|| {
+            let _publishing = self.pool.publishing();
+            self.pool.swap(self.changed(changes)?)
+        })
+    }
+
+    /// Another engine, of the same policies, over the entities after changes, for example those that a request brings with it. This engine is
+    /// as before. The other one is freed when it is dropped.
+    ///
+    /// # Errors
+    ///
+    /// Those of [`Engine::publish_changes`].
+    pub fn with_changes(&self, changes: &[u8]) -> Result<Engine, Error> {
+        on_large_stack(|| Ok(Engine { pool: Arc::new(Pool::new(self.changed(changes)?)) }))
+    }
+
+    /// A handle that leads to an engine over the entities after changes.
+    fn changed(&self, changes: &[u8]) -> Result<Published, Error> {
+        self.over(|handle, why, text| handle.publish_changes(changes, why, text), |schema, why| refused_changes(schema, changes, why))
+    }
+
+    /// A handle of the current engine to which a call has published entities. `refuse` gives the error where the call refuses them.
+    fn over(
+        &self,
+        call: impl FnOnce(&mut Handle, &mut Why, &mut Vec<u8>) -> u32,
+        refuse: impl FnOnce(&[u8], &Why) -> Result<Error, Error>,
+    ) -> Result<Published, Error> {
+        let (mut lease, schema) = self.pool.lease_with_schema()?;
+        let (mut why, mut text) = (Why::default(), room(256)?);
+        match lease.call(|handle| call(handle, &mut why, &mut text)) {
+            raw::OK => Ok(Published { handle: lease.into_handle().ok_or(Error::Closed)?, schema }),
+            raw::REFUSED => Err(refuse(&schema, &why)?),
+            status => Err(Error::of(status)),
+        }
     }
 
     /// Whether a request is allowed. It makes no text, so it is the fastest call.
@@ -338,6 +378,20 @@ fn published(files: &Files) -> Result<Published, Error> {
 
 /// The error for a file of these that is refused.
 fn refused(files: &Files, why: &Why) -> Result<Error, Error> {
+    refused_with(why, |format| explained(files, format))
+}
+
+/// The error for changes that are refused for a schema.
+fn refused_changes(schema: &[u8], changes: &[u8], why: &Why) -> Result<Error, Error> {
+    refused_with(why, |format| {
+        let mut text = room(1024)?;
+        let status = raw::explain_changes(schema, changes, why.number, format, &mut text);
+        done(status, text)
+    })
+}
+
+/// The error for what is refused, with an explanation in each format.
+fn refused_with(why: &Why, explained: impl Fn(u32) -> Result<String, Error>) -> Result<Error, Error> {
     let file = match why.file {
         1 => File::Schema,
         2 => File::Policies,
@@ -345,7 +399,7 @@ fn refused(files: &Files, why: &Why) -> Result<Error, Error> {
         _ => File::Entities,
     };
     let offset = (why.offset != u64::MAX).then_some(why.offset);
-    let (line, words) = (answer::line_of(&explained(files, 1)?), explained(files, 0)?);
+    let (line, words) = (answer::line_of(&explained(1)?), explained(0)?);
     Ok(Error::Refused(Box::new(Refusal { file, number: why.number, offset, line, words })))
 }
 

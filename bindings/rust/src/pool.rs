@@ -50,6 +50,11 @@ impl Lease<'_> {
         self.shared.as_mut().map_or(raw::MEMORY, |shared| call(&mut shared.handle))
     }
 
+    /// The number of the version that the handle leads to.
+    fn version(&self) -> Option<u64> {
+        self.shared.as_ref().map(|shared| shared.version)
+    }
+
     /// The handle, which does not go back.
     pub(crate) fn into_handle(mut self) -> Option<Handle> {
         self.shared.take().map(|shared| shared.handle)
@@ -84,9 +89,19 @@ impl Pool {
         self.publishers.lock().unwrap_or_else(PoisonError::into_inner)
     }
 
-    /// The schema of the current engine.
-    pub(crate) fn schema(&self) -> Result<Arc<Vec<u8>>, Error> {
-        self.lock().as_ref().map(|main| Arc::clone(&main.schema)).ok_or(Error::Closed)
+    /// A handle that leads to the current engine, and its schema.
+    pub(crate) fn lease_with_schema(&self) -> Result<(Lease<'_>, Arc<Vec<u8>>), Error> {
+        loop {
+            let lease = self.lease()?;
+            let main = self.lock();
+            let published = main.as_ref().ok_or(Error::Closed)?;
+            // Another engine may have been published in between.
+            if lease.version() == Some(self.current()?) {
+                let schema = Arc::clone(&published.schema);
+                drop(main);
+                return Ok((lease, schema));
+            }
+        }
     }
 
     fn current(&self) -> Result<u64, Error> {

@@ -63,6 +63,15 @@ extern "C" {
         room: usize,
         written: *mut usize,
     ) -> u32;
+    fn cedar_raw_publish_changes(
+        place: *mut Place,
+        changes: *const u8,
+        _: usize,
+        why: *mut Why,
+        text: *mut u8,
+        room: usize,
+        written: *mut usize,
+    ) -> u32;
     fn cedar_raw_validate(
         schema: *const u8,
         _: usize,
@@ -85,6 +94,17 @@ extern "C" {
         entities: *const u8,
         _: usize,
         settings: u32,
+        format: u32,
+        text: *mut u8,
+        room: usize,
+        written: *mut usize,
+    ) -> u32;
+    fn cedar_raw_explain_changes(
+        schema: *const u8,
+        _: usize,
+        changes: *const u8,
+        _: usize,
+        number: u32,
         format: u32,
         text: *mut u8,
         room: usize,
@@ -198,6 +218,15 @@ impl Handle {
         })
     }
 
+    /// Has the handle lead to an engine of the same policies over the entities after these changes.
+    pub(crate) fn publish_changes(&mut self, changes: &[u8], why: &mut Why, text: &mut Vec<u8>) -> u32 {
+        let place: *mut Place = &mut self.place;
+        grown(text, |at, room, written| {
+            // SAFETY: as in `publish`.
+            unsafe { cedar_raw_publish_changes(place, changes.as_ptr(), changes.len(), why, at, room, written) }
+        })
+    }
+
     /// Has `other` lead to the engine of this handle.
     pub(crate) fn share(&mut self, other: &mut Handle) -> u32 {
         // SAFETY: both handles are alive, and differ, since both are borrowed as `&mut`.
@@ -294,6 +323,26 @@ pub(crate) fn explain(files: &Files, format: u32, text: &mut Vec<u8>) -> u32 {
                 files.entities.as_ptr(),
                 files.entities.len(),
                 settings(files),
+                format,
+                at,
+                room,
+                written,
+            )
+        }
+    })
+}
+
+/// Explains why changes of entities are refused with a number: in words (0), or as JSON lines (1).
+pub(crate) fn explain_changes(schema: &[u8], changes: &[u8], number: u32, format: u32, text: &mut Vec<u8>) -> u32 {
+    grown(text, |at, room, written| {
+        // SAFETY: as in `validate`.
+        unsafe {
+            cedar_raw_explain_changes(
+                schema.as_ptr(),
+                schema.len(),
+                changes.as_ptr(),
+                changes.len(),
+                number,
                 format,
                 at,
                 room,

@@ -340,3 +340,27 @@ fn entities_swap_while_requests_run() {
     let engine = Engine::new(&files).unwrap();
     swap(&engine, |number| engine.publish_entities(&entities(number)).unwrap(), || drop(engine.publish_entities(b"{}").unwrap_err()));
 }
+
+/// The same by changes, while another thread asks over changes of its own.
+#[test]
+fn changes_swap_while_requests_run() {
+    const SCHEMA: &[u8] = br#"{"":{"entityTypes":{"Group":{},"User":{"memberOfTypes":["Group"]},"Notebook":{}},
+        "actions":{"write":{"appliesTo":{"principalTypes":["User"],"resourceTypes":["Notebook"]}}}}}"#;
+    let policies: String = (0..VERSIONS).map(|at| version(at).replace("principal", &format!("principal in Group::\"{at}\""))).collect();
+    let changes = |number| {
+        let parent = number % VERSIONS;
+        format!(r#"{{"upsert":[{{"uid":{{"type":"User","id":"ann"}},"parents":[{{"type":"Group","id":"{parent}"}}]}}]}}"#).into_bytes()
+    };
+    let files = Files { schema: SCHEMA, policies: policies.as_bytes(), entities: b"[]", ..Files::default() };
+    let engine = Engine::new(&files).unwrap();
+    engine.publish_changes(&changes(0)).unwrap();
+    swap(
+        &engine,
+        |number| engine.publish_changes(&changes(number)).unwrap(),
+        || {
+            let other = engine.with_changes(br#"{"remove":[{"type":"User","id":"ann"}]}"#).unwrap();
+            assert!(other.is_authorized(&asked("ann", "write")).unwrap().determining.is_empty());
+            drop(engine.publish_changes(b"[]").unwrap_err());
+        },
+    );
+}

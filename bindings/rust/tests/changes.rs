@@ -1,0 +1,127 @@
+//! Changes of entities. Staff may view. Bob is in the team, and the team in the staff. Ann is not stored.
+use std::fs;
+use std::path::PathBuf;
+
+use bobbinjade::{Decision, Engine, Error, File, Files, Request, Uid};
+
+const SCHEMA: &str = r#"{"":{"entityTypes":{"Group":{"memberOfTypes":["Group"]},"User":{"memberOfTypes":["Group"],
+    "shape":{"type":"Record","attributes":{"age":{"type":"Long"}}}}},
+    "actions":{"view":{"appliesTo":{"principalTypes":["User"],"resourceTypes":["Group"]}}}}}"#;
+const POLICIES: &str = "@id(\"staff\") permit(principal in Group::\"staff\", action, resource);";
+
+fn uid(type_name: &str, id: &str) -> String {
+    format!(r#"{{"type":"{type_name}","id":"{id}"}}"#)
+}
+
+fn entry(type_name: &str, id: &str, attrs: &str, parents: &[&str]) -> String {
+    let parents: Vec<_> = parents.iter().map(|it| uid("Group", it)).collect();
+    format!(r#"{{"uid":{},"attrs":{attrs},"parents":[{}]}}"#, uid(type_name, id), parents.join(","))
+}
+
+fn ann() -> String {
+    entry("User", "ann", r#"{"age":30}"#, &["team"])
+}
+
+fn upsert(entries: &[String]) -> String {
+    format!(r#"{{"upsert":[{}]}}"#, entries.join(","))
+}
+
+fn remove(uids: &[String]) -> String {
+    format!(r#"{{"remove":[{}]}}"#, uids.join(","))
+}
+
+fn engine() -> Engine {
+    let bob = entry("User", "bob", r#"{"age":1}"#, &["team"]);
+    let entities = [entry("Group", "staff", "{}", &[]), entry("Group", "team", "{}", &["staff"]), bob].join(",");
+    let entities = format!("[{entities}]");
+    let files = Files { schema: SCHEMA.as_bytes(), policies: POLICIES.as_bytes(), entities: entities.as_bytes(), ..Files::default() };
+    Engine::new(&files).unwrap()
+}
+
+fn may(engine: &Engine, who: &str) -> bool {
+    let request = Request::new(Uid::new("User", who), Uid::new("Action", "view"), Uid::new("Group", "staff"));
+    engine.decide(&request).unwrap() == Decision::Allow
+}
+
+/// Whether ann may view, and whether bob may.
+fn who(engine: &Engine) -> (bool, bool) {
+    (may(engine, "ann"), may(engine, "bob"))
+}
+
+#[test]
+fn the_next_decision_sees_a_change() {
+    let engine = engine();
+    let before = engine.with_changes(b"{}").unwrap();
+    assert_eq!(who(&engine), (false, true));
+    engine.publish_changes(upsert(&[ann()]).as_bytes()).unwrap();
+    assert_eq!((who(&engine), who(&before)), ((true, true), (false, true)));
+    engine.publish_changes(remove(&[uid("User", "ann"), uid("User", "nobody")]).as_bytes()).unwrap();
+    assert_eq!(who(&engine), (false, true));
+    engine.clone().publish_changes(upsert(&[entry("Group", "team", "{}", &[])]).as_bytes()).unwrap();
+    assert_eq!((who(&engine), who(&before)), ((false, false), (false, true)));
+    engine.close();
+    assert_eq!(engine.publish_changes(b"{}"), Err(Error::Closed));
+    assert_eq!(engine.with_changes(b"{}").map(drop), Err(Error::Closed));
+    assert_eq!(who(&before), (false, true));
+}
+
+#[test]
+fn what_is_refused_changes_nothing() {
+    let engine = engine();
+    let changes = [
+        (401, upsert(&[ann(), ann()])),
+        (401, remove(&[uid("User", "ann"), uid("User", "ann")])),
+        (402, upsert(&[entry("Group", "staff", "{}", &["team"])])),
+        (501, String::new()),
+        (501, "{\"upsert\":[".into()),
+        (502, "[]".into()),
+        (502, "{\"removed\":[]}".into()),
+        (503, upsert(&[entry("Ghost", "g", "{}", &[])])),
+        (504, upsert(&[entry("User", "ann", r#"{"age":"30"}"#, &[])])),
+        (505, upsert(&[entry("User", "ann", "{}", &[])])),
+        (506, upsert(&[entry("Group", "team", r#"{"age":1}"#, &[])])),
+        (508, remove(&[uid("Action", "view")])),
+        (509, upsert(&[entry("User", "ann", r#"{"age":1.5}"#, &[])])),
+    ];
+    for (number, text) in changes {
+        for refused in [engine.publish_changes(text.as_bytes()), engine.with_changes(text.as_bytes()).map(drop)] {
+            let Err(Error::Refused(why)) = refused else { panic!("{text}: {refused:?}") };
+            assert_eq!((why.file, why.number, why.offset), (File::Entities, number, None), "{text}");
+            assert!(why.words.starts_with(&format!("error[{number}]: ")), "{}", why.words);
+            assert_eq!(who(&engine), (false, true));
+        }
+    }
+}
+
+#[test]
+fn a_thousand_changes_come_one_after_another() {
+    let engine = engine();
+    for number in 0..1000 {
+        let (next, last) = (format!("u{number}"), format!("u{}", number - 1));
+        let (entry, removed) = (entry("User", &next, r#"{"age":1}"#, &["team"]), uid("User", &last));
+        engine.publish_changes(format!(r#"{{"upsert":[{entry}],"remove":[{removed}]}}"#).as_bytes()).unwrap();
+        assert!(may(&engine, &next) && !may(&engine, &last) && may(&engine, "bob"));
+    }
+}
+
+#[test]
+fn a_request_brings_its_entities() {
+    let engine = engine();
+    for _ in 0..10 {
+        let other = engine.with_changes(upsert(&[ann()]).as_bytes()).unwrap();
+        assert_eq!((who(&other), who(&engine)), ((true, true), (false, true)));
+    }
+}
+
+#[test]
+fn entities_that_are_upserted_answer_as_published_ones() {
+    let folder = PathBuf::from(env!("CARGO_MANIFEST_DIR")).join("../../examples");
+    for name in fs::read_dir(folder).unwrap().map(|it| it.unwrap().path()).filter(|it| it.join("answers.jsonl").exists()) {
+        let bytes = |file: &str| fs::read(name.join(file)).unwrap_or_default();
+        let (schema, policies, links) = (bytes("schema.json"), bytes("policies.cedar"), bytes("links.json"));
+        let files = Files { schema: &schema, policies: &policies, links: &links, entities: b"[]", ..Files::default() };
+        let engine = Engine::new(&files).unwrap();
+        engine.publish_changes(&[b"{\"upsert\":".as_slice(), &bytes("entities.json"), b"}"].concat()).unwrap();
+        assert_eq!(engine.answer(bytes("requests.jsonl")).unwrap().into_bytes(), bytes("answers.jsonl"));
+    }
+}

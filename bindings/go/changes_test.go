@@ -209,3 +209,33 @@ func TestChangesSwapWhileRequestsRun(t *testing.T) {
 		return nil
 	})
 }
+
+func TestAnswersWithChanges(t *testing.T) {
+	engine := staffEngine(t)
+	line := []byte(`{"principal":"User::\"ann\"","action":"Action::\"view\"","resource":"Group::\"staff\""}`)
+	allowed, denied := `{"decision":"allow","determining":["staff"],"erring":[]}`, `{"decision":"deny","determining":[],"erring":[]}`
+	for _, it := range []struct {
+		line, changes []byte
+		wanted        string
+	}{
+		{line, upsert(ann()), allowed},
+		{line, []byte("{}"), denied},
+		{line, upsert(ann(), ann()), `{"refused":401}`},
+		{line, []byte(`{"upsert":1}`), `{"refused":502}`},
+		{line, nil, `{"refused":501}`},
+		{[]byte("{}"), upsert(ann()), `{"refused":502}`},
+	} {
+		for range make([]struct{}, 3) {
+			if text, err := engine.AppendAnswerLineWith([]byte("ab"), it.line, it.changes); err != nil || string(text) != "ab"+it.wanted {
+				t.Error(string(it.changes), string(text), err)
+			}
+			if text, err := engine.AnswerLine(line); err != nil || string(text) != denied {
+				t.Error(string(it.changes), string(text), err)
+			}
+		}
+	}
+	_ = engine.Close()
+	if text, err := engine.AppendAnswerLineWith(nil, line, upsert(ann())); !errors.Is(err, ErrClosed) || len(text) != 0 {
+		t.Error(string(text), err)
+	}
+}

@@ -13,6 +13,7 @@ package bobbinjade
 
 import (
 	"context"
+	"strconv"
 	"strings"
 	"sync"
 	"sync/atomic"
@@ -243,6 +244,27 @@ func (e *Engine) AppendAnswerLine(text, line []byte) ([]byte, error) {
 	}
 	text, err = h.appendAnswer(text, line, 1)
 	v.give(h)
+	return text, err
+}
+
+// AppendAnswerLineWith appends the answer line to one request line over the entities after changes, which hold for this line alone. Changes
+// that are refused have the answer {"refused":N}, as a request that is refused. It is made for requests that bring their entities: no words
+// say why, so that a refusal costs no more than an answer. The text must not overlap the rest. With an error nothing is appended.
+func (e *Engine) AppendAnswerLineWith(text, line, changes []byte) ([]byte, error) {
+	v, h, err := e.take(context.Background())
+	if err != nil {
+		return text, err
+	}
+	number, err := h.change(changes)
+	if err != nil || number != 0 {
+		v.give(h)
+		if number != 0 {
+			text = append(strconv.AppendUint(append(text, `{"refused":`...), uint64(number), 10), '}')
+		}
+		return text, err
+	}
+	text, err = h.appendAnswer(text, line, 1)
+	h.free()
 	return text, err
 }
 

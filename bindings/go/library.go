@@ -300,6 +300,19 @@ func (h *handle) publishChanges(changes, schema []byte) error {
 	return failedUnlessDone(status)
 }
 
+// change is publishChanges for a caller that needs no words: it gives the number for which the changes are refused, or 0.
+func (h *handle) change(changes []byte) (uint32, error) {
+	var why C.cedar_raw_refusal
+	var written C.size_t
+	from, length := address(changes)
+	status := C.cedar_raw_publish_changes(&h.slot.engine, from, length, &why, unsafe.Pointer(&nothing), 0, &written)
+	runtime.KeepAlive(h)
+	if status == C.CEDAR_REFUSED {
+		return uint32(why.number), nil
+	}
+	return 0, failedUnlessDone(status)
+}
+
 // failedUnlessDone gives the error of a status that needs no further words, and none where the call has done its work.
 func failedUnlessDone(status C.uint32_t) error {
 	if status == C.CEDAR_OK {

@@ -119,6 +119,7 @@ int main(int count, char **words) {
             } catch (const cedar::Refusal &) {
             }
         });
+    engine.publish_entities(entities_of(0));
     passed += are_right(
         seconds, [&] { ask_for_the_group(engine); },
         [&](long number) { engine.publish_changes("{\"upsert\":" + entities_of(number) + "}"); },

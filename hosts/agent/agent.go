@@ -16,6 +16,7 @@ type agent struct {
 	log        *logger
 	decisions  *decisionLog
 	mapping    *mapping // nil where the path for ext_authz is off
+	one, lines question // how one request is answered, and request lines
 	limits     limits
 	validating chan struct{} // a place for each validation that runs
 	public     *connections
@@ -25,6 +26,10 @@ type agent struct {
 // newAgent reads the files, and publishes them as the first version.
 func newAgent(settings *config, log *logger) (*agent, error) {
 	it := &agent{metrics: newMetrics(), log: log, limits: settings.limits, validating: make(chan struct{}, settings.limits.validations)}
+	it.one, it.lines = oneRequest, requestLines
+	if settings.hasEntities {
+		it.one, it.lines = oneWithEntities, linesWithEntities
+	}
 	it.reloader = newReloader(it, settings)
 	var err error
 	if it.mapping, err = readMapping(settings.extAuthz); err != nil {

@@ -56,7 +56,7 @@ func (a *agent) authorizeOne(w http.ResponseWriter, r *http.Request) {
 
 // answerOne writes the answer to the request of a room: 200 for an allow, the given status for a deny, and 400 for a refusal.
 func (a *agent) answerOne(w http.ResponseWriter, it *room, deny int) {
-	answer, v, err := a.store.ask(oneRequest, it.answer, it.body)
+	answer, v, err := a.store.ask(a.one, it.answer, it.body)
 	it.answer = answer
 	if err != nil {
 		a.failEngine(w, err)

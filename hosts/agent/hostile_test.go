@@ -359,10 +359,8 @@ func TestBodiesThatBreakOff(t *testing.T) {
 // An answer line of another form than those that are known is not passed on.
 func TestAnAnswerOfAnotherForm(t *testing.T) {
 	it := serveExample(t, "notes")
-	right := oneRequest
-	defer func() { oneRequest = right }()
 	for _, text := range []string{"", "x", `{"decision":"Allow","determining":[],"erring":[]}`} {
-		oneRequest = func(_ *bobbinjade.Engine, to, _ []byte) ([]byte, error) { return append(to, text...), nil }
+		it.one = func(_ *bobbinjade.Engine, to, _ []byte) ([]byte, error) { return append(to, text...), nil }
 		recorder := &recorded{header: http.Header{}}
 		it.answerOne(recorder, takeRoom(), http.StatusOK)
 		if recorder.status != 500 || strings.Contains(recorder.body, "decision") {

@@ -30,7 +30,7 @@ func (a *agent) authorizeLines(w http.ResponseWriter, r *http.Request) {
 		a.failBody(w, err, a.limits.body)
 		return
 	}
-	answer, v, err := a.store.ask(requestLines, it.forAnswers(len(it.body)), it.body)
+	answer, v, err := a.store.ask(a.lines, it.forAnswers(len(it.body)), it.body)
 	it.answer = answer
 	if err != nil {
 		a.failEngine(w, err)
@@ -110,7 +110,7 @@ func (s *stream) take(searched int, isEnd bool) error {
 
 // answer writes the answers to lines, and has them sent at once.
 func (s *stream) answer(lines []byte) error {
-	answer, v, err := s.agent.store.ask(requestLines, s.room.forAnswers(len(lines)), lines)
+	answer, v, err := s.agent.store.ask(s.agent.lines, s.room.forAnswers(len(lines)), lines)
 	s.room.answer = answer
 	if err != nil {
 		return err

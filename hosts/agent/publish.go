@@ -1,6 +1,7 @@
 package main
 
-// PUT /v1/policies and the like, on the listener of --admin: a new version of one file, or of several at once.
+// PUT /v1/policies and the like, on the listener of --admin: a new version of one file, or of several at once. PATCH /v1/entities: changes of
+// entities.
 
 import (
 	"encoding/json"
@@ -40,13 +41,38 @@ func (a *agent) publish(w http.ResponseWriter, r *http.Request, file bobbinjade.
 		a.failBody(w, err, a.limits.files)
 		return
 	}
-	v, err := a.store.publish("put", func(files *bobbinjade.Files) error {
+	v, err := a.store.put(file, body)
+	a.answerPublish(w, r, v, err, began)
+}
+
+// patch publishes a version with the changes of entities that the body is. The answer is like that of publish.
+func (a *agent) patch(w http.ResponseWriter, r *http.Request) {
+	began := time.Now()
+	body, err := readWhole(nil, r, a.limits.files)
+	if err != nil {
+		a.failBody(w, err, a.limits.files)
+		return
+	}
+	v, err := a.store.change("patch", body)
+	a.answerPublish(w, r, v, err, began)
+}
+
+// put publishes a version with a file, or with several.
+func (s *store) put(file bobbinjade.File, body []byte) (*version, error) {
+	if file == bobbinjade.Entities {
+		return s.publishEntities("put", body)
+	}
+	return s.publish("put", func(files *bobbinjade.Files) error {
 		if file == severalFiles {
 			return replaceSeveral(files, body)
 		}
 		*contentOf(files, file) = body
 		return nil
 	})
+}
+
+// answerPublish describes the version that was published, or says why nothing has changed.
+func (a *agent) answerPublish(w http.ResponseWriter, r *http.Request, v *version, err error, began time.Time) {
 	if errors.Is(err, errObject) {
 		a.fail(w, http.StatusBadRequest, "object", errObject.Error())
 		return

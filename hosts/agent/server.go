@@ -9,6 +9,8 @@ import (
 	"net/http"
 	"strings"
 	"time"
+
+	"bobbinjade"
 )
 
 // servers are the listeners of a process.
@@ -154,16 +156,27 @@ func (a *agent) servePublic(w http.ResponseWriter, r *http.Request) {
 // serveAdmin answers a call of the listener for calls that publish.
 func (a *agent) serveAdmin(w http.ResponseWriter, r *http.Request) {
 	file, isOne := publishedPaths[r.URL.Path]
+	isPatch := r.Method == http.MethodPatch && file == bobbinjade.Entities
 	switch {
 	case !isOne:
 		a.serveState(w, r)
-	case r.Method != http.MethodPut:
-		a.failMethod(w, http.MethodPut)
+	case r.Method != http.MethodPut && !isPatch:
+		a.failMethod(w, methodsOf(file))
 	case len(r.Header["Origin"]) > 0:
 		a.fail(w, http.StatusForbidden, "browser", "a page in a browser cannot publish")
+	case isPatch:
+		a.patch(w, r)
 	default:
 		a.publish(w, r, file)
 	}
+}
+
+// methodsOf gives the methods of the path of a file.
+func methodsOf(file bobbinjade.File) string {
+	if file == bobbinjade.Entities {
+		return "PATCH, PUT"
+	}
+	return http.MethodPut
 }
 
 // serveState answers a call that says how the agent is, which both listeners have.

@@ -20,14 +20,15 @@ import (
 // allFiles are the files of an engine, in the order in which it reads them.
 var allFiles = [...]bobbinjade.File{bobbinjade.Schema, bobbinjade.Policies, bobbinjade.Links, bobbinjade.Entities}
 
-// A version is an engine with the files of which it was made. Nothing of it changes.
+// A version is an engine with the files of which it was made. Nothing of it changes. Entities that changes have named since their file was
+// published are not in files.Entities: the store has them.
 type version struct {
 	number    uint64 // from 1, in the order in which they were published
 	engine    *bobbinjade.Engine
 	files     bobbinjade.Files
 	digests   map[bobbinjade.File]string // "sha256:" and hexadecimal digits; none of links that are not there
 	digest    string                     // of all files and settings
-	source    string                     // what published it: start, reload, hangup or put
+	source    string                     // what published it: start, reload, hangup, put or patch
 	published time.Time
 	header    []string // the number, as the header Cedar-Version has it
 }
@@ -51,17 +52,25 @@ func digestOf(content []byte) string {
 	return "sha256:" + hex.EncodeToString(sum[:])
 }
 
-// newVersion makes a version of an engine.
-func newVersion(number uint64, source string, engine *bobbinjade.Engine, files *bobbinjade.Files) *version {
-	v := &version{number: number, engine: engine, files: *files, source: source, published: time.Now().UTC(),
-		digests: map[bobbinjade.File]string{}, header: []string{strconv.FormatUint(number, 10)}}
-	all := sha256.New()
+// digestsOf gives the digests of files.
+func digestsOf(files *bobbinjade.Files) map[bobbinjade.File]string {
+	digests := map[bobbinjade.File]string{}
 	for _, file := range allFiles {
 		content := *contentOf(files, file)
 		if file != bobbinjade.Links || len(content) > 0 {
-			v.digests[file] = digestOf(content)
+			digests[file] = digestOf(content)
 		}
-		_, _ = io.WriteString(all, file.String()+" "+v.digests[file]+"\n")
+	}
+	return digests
+}
+
+// newVersion makes a version of an engine.
+func newVersion(number uint64, source string, engine *bobbinjade.Engine, files *bobbinjade.Files, digests map[bobbinjade.File]string) *version {
+	v := &version{number: number, engine: engine, files: *files, source: source, published: time.Now().UTC(), digests: digests,
+		header: []string{strconv.FormatUint(number, 10)}}
+	all := sha256.New()
+	for _, file := range allFiles {
+		_, _ = io.WriteString(all, file.String()+" "+digests[file]+"\n")
 	}
 	fmt.Fprintf(all, "any-decimal %t\n", files.AnyDecimal)
 	v.digest = "sha256:" + hex.EncodeToString(all.Sum(nil))
@@ -71,6 +80,7 @@ func newVersion(number uint64, source string, engine *bobbinjade.Engine, files *
 // A store has the current version.
 type store struct {
 	lock    sync.Mutex // of publishers
+	changed changedEntities
 	current atomic.Pointer[version]
 }
 
@@ -83,6 +93,10 @@ func (s *store) publish(source string, change func(*bobbinjade.Files) error) (*v
 	number, old := uint64(1), s.current.Load()
 	if old != nil {
 		files, number = old.files, old.number+1
+		var err error
+		if files.Entities, err = s.changed.over(files.Entities); err != nil {
+			return nil, err
+		}
 	}
 	if err := change(&files); err != nil {
 		return nil, err
@@ -91,13 +105,77 @@ func (s *store) publish(source string, change func(*bobbinjade.Files) error) (*v
 	if err != nil {
 		return nil, err
 	}
-	next := newVersion(number, source, engine, &files)
+	s.swap(old, newVersion(number, source, engine, &files, digestsOf(&files)), nil)
+	if old != nil {
+		collect()
+	}
+	return s.current.Load(), nil
+}
+
+// publishEntities makes a version with other entities. The other files are not read again. With an error the current version stays.
+func (s *store) publishEntities(source string, entities []byte) (*version, error) {
+	s.lock.Lock()
+	defer s.lock.Unlock()
+	old := s.current.Load()
+	engine, err := old.engine.WithChanges([]byte("{}"))
+	if err != nil {
+		return nil, err
+	}
+	if err := engine.PublishEntities(entities); err != nil {
+		_ = engine.Close()
+		return nil, err
+	}
+	files := old.files
+	files.Entities = entities
+	s.swap(old, old.next(source, engine, &files, digestOf(entities)), nil)
+	collect()
+	return s.current.Load(), nil
+}
+
+// change makes a version with changed entities. What the changes do not name is not read again. With an error the current version stays. The
+// digest of the entities is that of the last one and the changes: the same changes of the same file give the same digest.
+func (s *store) change(source string, changes []byte) (*version, error) {
+	s.lock.Lock()
+	defer s.lock.Unlock()
+	old := s.current.Load()
+	engine, err := old.engine.WithChanges(changes)
+	if err != nil {
+		return nil, err
+	}
+	read, err := readChanges(changes)
+	if err != nil {
+		_ = engine.Close()
+		return nil, err
+	}
+	all := s.changed
+	if all == nil {
+		all = changedEntities{}
+	}
+	for key, entry := range read {
+		all[key] = entry
+	}
+	digest := digestOf([]byte(old.digests[bobbinjade.Entities] + "\n" + digestOf(changes)))
+	s.swap(old, old.next(source, engine, &old.files, digest), all)
+	return s.current.Load(), nil
+}
+
+// next gives the version after this one, of which the entities alone differ.
+func (v *version) next(source string, engine *bobbinjade.Engine, files *bobbinjade.Files, entities string) *version {
+	digests := map[bobbinjade.File]string{}
+	for file, digest := range v.digests {
+		digests[file] = digest
+	}
+	digests[bobbinjade.Entities] = entities
+	return newVersion(v.number+1, source, engine, files, digests)
+}
+
+// swap has a version take the place of the current one, with the entities that changes have named. The publisher has the lock.
+func (s *store) swap(old, next *version, changed changedEntities) {
+	s.changed = changed
 	s.current.Store(next)
 	if old != nil {
 		_ = old.engine.Close()
-		collect()
 	}
-	return next, nil
 }
 
 // collect has the collector of Go free the handles of old versions that are left in pools. It does not see how large the engine is to which

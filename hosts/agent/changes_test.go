@@ -144,6 +144,28 @@ func TestRefusedChangesChangeNothing(t *testing.T) {
 	}
 }
 
+func TestChangesOfManySizes(t *testing.T) {
+	it := serveExample(t, "photos", "--max-files", "1000000")
+	var users []string
+	for at := 0; at < 20_000; at++ {
+		users = append(users, fmt.Sprintf(`{"uid":{"type":"User","id":"u%d"}}`, at))
+	}
+	for changes, status := range map[string]int{
+		`{"upsert":[` + strings.Join(users, ",") + `]}`:         200,
+		`{"remove":["` + strings.Repeat("a", 1_000_000) + `"]}`: 413,
+		strings.Repeat(" ", 999_998) + `{}`:                     200,
+		strings.Repeat(`{"upsert":`, 90_000):                    422,
+	} {
+		if got := it.patch(changes); got.status != status {
+			t.Error(changes[:20], got.status)
+		}
+		it.isAnswered(friend)
+	}
+	if len(it.store.changed) != len(users) {
+		t.Error(len(it.store.changed))
+	}
+}
+
 // Hundreds of changes while requests run: each answer is that of a version that was current.
 func TestPatchingWhileRequestsRun(t *testing.T) {
 	it := serveExample(t, "photos")

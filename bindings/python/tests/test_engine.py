@@ -287,6 +287,22 @@ class Changes(unittest.TestCase):
                 self.assertEqual((self.who(other), self.who(self.engine)), (['ann'], ['bob']))
             self.assertRaises(bobbinjade.Closed, self.who, other)
 
+    def test_document(self):
+        """The examples of docs/DATA.md."""
+        with open(os.path.join(FOLDER, '..', 'docs', 'DATA.md'), encoding='utf-8') as file:
+            text = file.read()
+        schema, entities, changes = (re.search(r'^#+ %s\n.*?^```json\n(.*?)^```' % heading, text, re.M | re.S)[1]
+                                     for heading in ('Entities, requests and links as JSON', 'Entities', 'Changes of entities'))
+        engine = bobbinjade.Engine(schema, 'permit(principal in Team::"t", action, resource);', entities)
+        refused = re.findall(r'^\| (\d+) \| .* \| `(.*)` \|$', text.split('### Refusals of changes\n')[1].split('\n## ')[0], re.M)
+        self.assertGreater(len(refused), 5)
+        for number, given in refused:
+            with self.assertRaises(bobbinjade.Refused) as raised:
+                engine.publish_changes(given)
+            self.assertEqual(raised.exception.number, int(number), given)
+        engine.publish_changes(changes)
+        self.assertEqual([engine.decide(('User', name), 'Action::"delete"', 'Doc::"d"') for name in ('ann', 'eve')], [False, True])
+
     def test_examples(self):
         for name in names():
             schema, policies, entities, links = files_of(name)

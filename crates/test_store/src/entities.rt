@@ -1,0 +1,72 @@
+//! Uids and entities of the numbers that `choices` makes.
+use crate::choices::{Entry, UIDS};
+use cedar_store::Entity;
+use cedar_value::{Name, Record, SharedText, Text, Uid, Value, ValueSet};
+use std::alloc::{AllocError, Global};
+
+/// The uids, each at its number.
+pub fn all_uids(alloc: Global) -> Result<Vec<Uid>, AllocError> {
+    let mut uids = Vec::new(alloc);
+    for number in 0..UIDS {
+        uids.push(uid(alloc, number)?)?;
+    }
+    Ok(uids)
+}
+
+fn uid(alloc: Global, number: u32) -> Result<Uid, AllocError> {
+    let id = Text::new(format!(in alloc; "{number}")?);
+    let ty = Name::new(alloc, Text::read(alloc, "T")?)?;
+    Ok(Uid { ty, id })
+}
+
+/// Copies of the uids that are chosen.
+pub fn chosen(
+    alloc: Global,
+    uids: &[Uid],
+    numbers: &[Option<u32>],
+) -> Result<Vec<Uid>, AllocError> {
+    let mut found = Vec::new(alloc);
+    for number in numbers {
+        if let Some(uid) = number.and_then(|number| uids.get(number as usize)) {
+            found.push(uid.try_clone(alloc)?)?;
+        }
+    }
+    Ok(found)
+}
+
+/// The set of the uids that are chosen.
+pub fn set_of(
+    alloc: Global,
+    uids: &[Uid],
+    numbers: &[Option<u32>],
+) -> Result<ValueSet, AllocError> {
+    let mut members = Vec::new(alloc);
+    for uid in chosen(alloc, uids, numbers)? {
+        members.push(Value::uid(alloc, uid)?)?;
+    }
+    ValueSet::from_list(members)
+}
+
+fn attributes(alloc: Global, attribute: Option<u32>) -> Result<Record, AllocError> {
+    let Some(number) = attribute else {
+        return Ok(Record::new(alloc));
+    };
+    let key = SharedText::read(alloc, "n")?;
+    let pairs = vec![in alloc; (key, Value::long(number as i64))]?;
+    Ok(Record::from_pairs(pairs)?.unwrap_or(Record::new(alloc)))
+}
+
+/// The entities of the entries, in their order.
+pub fn entities(alloc: Global, uids: &[Uid], entries: &[Entry]) -> Result<Vec<Entity>, AllocError> {
+    let mut list = Vec::new(alloc);
+    for entry in entries {
+        if let Some(uid) = uids.get(entry.uid as usize) {
+            list.push(Entity {
+                uid: uid.try_clone(alloc)?,
+                attrs: attributes(alloc, entry.attribute)?,
+                parents: chosen(alloc, uids, &entry.parents)?,
+            })?;
+        }
+    }
+    Ok(list)
+}

@@ -1,3 +1,4 @@
+pub mod Changing
 pub mod Errors
 pub mod Numbers
 pub mod Private

@@ -1,8 +1,10 @@
 //! The service.
 ghost use Rattle.std.specs.Prelude.{◌≡◌, IfOk, IfErr, OnOk, OnErr, Some, nat_eq, option_copied};
 ghost use Rattle.std.specs.HashMap.{Updates};
+ghost use Rattle.cedar_conform_values.specs.Numbers.{number_of as fault_number};
 ghost use Rattle.cedar_service_law.specs.Service.{first_state, publish, open_job, step, take_answer, published, opened, stepped, taken, refused, Happens};
 ghost use Rattle.cedar_service_law.specs.Jobs.{job_at};
+ghost use Rattle.cedar_service.specs.Changing.{Changes, RefusesChange};
 ghost use Rattle.cedar_service.specs.Errors.{NamesAllowed};
 ghost use Rattle.cedar_service.specs.Numbers.{number_of};
 ghost use Rattle.cedar_service.specs.Runs.{IsRunAt};
@@ -12,6 +14,7 @@ use crate::not_published::NotPublished;
 use crate::response::Response;
 use crate::service_fault::ServiceFault;
 use cedar_auth::Ready;
+use cedar_conform_values::ConformFault;
 use cedar_machine::Resting;
 use std::alloc::{AllocError, Global};
 use std::collections::HashMap;
@@ -52,6 +55,16 @@ fn put_version(place: &mut Arc<Ready, Global>, version: Arc<Ready, Global>)
     ensures { place.new.value ≡ version.value }
 {
     *place = version;
+}
+
+// Why changes of entities are refused.
+fn of_changes(fault: ConformFault) -> ServiceFault
+    ensures { number_of result ≡ fault_number fault }
+{
+    match fault {
+        ConformFault::OutOfMemory => ServiceFault::OutOfMemory,
+        fault => ServiceFault::Changes(fault),
+    }
 }
 
 // Puts a value at a number. Refused when out of memory, and nothing is then put.
@@ -115,6 +128,31 @@ impl Service {
                 fault: ServiceFault::OutOfMemory,
                 ready: failed.value,
             }),
+        }
+    }
+
+    /// Makes the version after changes of entities the current one, and returns its number, one more than the last one's. It has
+    /// the schema, the policies and the settings of the version that was current, and shares them with it. Open jobs keep their
+    /// versions.
+    ///
+    /// The changes are the bytes of a JSON, `{"upsert":[entry, ..],"remove":[uid, ..]}`, as `Ready::with_changes` reads them.
+    ///
+    /// # Errors
+    ///
+    /// 1 when out of memory, 803 where no number is left, and otherwise 401, 402 or 501 to 509 only where the changes have that
+    /// fault at the current version. Nothing is changed then.
+    pub fn change(&mut self, changes: &[u8]) -> Result<u64, ServiceFault>
+        ensures ok { IfOk result (λ n. Changes self.old changes.now n self.new) }
+        ensures refused { IfErr result (λ fault. RefusesChange self.old changes.now (number_of fault)) }
+        ensures unchanged { OnErr result (self.new ≡ self.old) }
+    {
+        let version = match self.current.with_changes(self.alloc, changes) {
+            Ok(version) => version,
+            Err(fault) => return Err(of_changes(fault)),
+        };
+        match self.publish(version) {
+            Ok(number) => Ok(number),
+            Err(refused) => Err(refused.fault),
         }
     }
 

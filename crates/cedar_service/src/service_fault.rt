@@ -13,6 +13,9 @@ pub enum ServiceFault {
     /// 501 to 506 and 509 to 511: the request line has this fault for the current version's schema.
     #[error("{0}")]
     Line(ConformFault),
+    /// 401, 402 and 501 to 509: the changes of entities have this fault at the current version.
+    #[error("{0}")]
+    Changes(ConformFault),
     /// 801: the number was given to no job, or its job was taken.
     #[error("there is no such job")]
     NoSuchJob,
@@ -35,6 +38,7 @@ impl ServiceFault {
         match self {
             ServiceFault::OutOfMemory => 1,
             ServiceFault::Line(fault) => fault.number(),
+            ServiceFault::Changes(fault) => fault.number(),
             ServiceFault::NoSuchJob => 801,
             ServiceFault::NotFinished => 802,
             ServiceFault::NoMoreNumbers => 803,

@@ -1,6 +1,7 @@
 //! The calls of a service, each of which is an event of its history with its reply: what the call gives, or the number of its
 //! refusal.
-ghost use Rattle.std.specs.Prelude.{IfOk, IfErr};
+ghost use Rattle.std.specs.Prelude.{◌≡◌, IfOk, IfErr, OnErr};
+ghost use Rattle.cedar_service.specs.Changing.{Changes, RefusesChange};
 ghost use Rattle.cedar_service_law.specs.Service.{publish, open_job, step, take_answer, published, opened, stepped, taken, refused, Happens};
 
 use cedar_auth::Ready;
@@ -14,6 +15,18 @@ pub fn publish_version(service: &mut Service, ready: Ready) -> Result<u64, u16>
     match service.publish(ready) {
         Ok(number) => Ok(number),
         Err(refused) => Err(refused.fault.number()),
+    }
+}
+
+/// Makes the version after changes of entities the current one, and gives its number.
+pub fn change_entities(service: &mut Service, changes: &[u8]) -> Result<u64, u16>
+    ensures ok { IfOk result (λ n. Changes service.old changes.now n service.new) }
+    ensures refused { IfErr result (λ n. RefusesChange service.old changes.now n) }
+    ensures unchanged { OnErr result (service.new ≡ service.old) }
+{
+    match service.change(changes) {
+        Ok(version) => Ok(version),
+        Err(fault) => Err(fault.number()),
     }
 }
 

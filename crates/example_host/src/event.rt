@@ -12,6 +12,8 @@ pub enum Event<'l> {
     Running(JobId),
     /// `take JOB`
     Take(JobId),
+    /// `change CHANGES`: changes of entities, as JSON.
+    Change(&'l [u8]),
     /// `publish POLICIES ENTITIES`: the names of two files.
     Publish(&'l str, &'l str),
 }
@@ -39,6 +41,9 @@ fn of_words<'l>(word: &str, rest: &'l str) -> Option<Event<'l>> {
 pub fn read_event(line: &[u8]) -> Option<Event<'_>> {
     if let Some(request) = line.strip_prefix(b"open ") {
         return Some(Event::Open(request));
+    }
+    if let Some(changes) = line.strip_prefix(b"change ") {
+        return Some(Event::Change(changes));
     }
     let text = str::from_utf8(line).ok()?;
     let (word, rest) = text.split_once(' ')?;

@@ -1,7 +1,7 @@
 //! The host: replies to event lines.
 ghost use Rattle.std.specs.Prelude.{◌-◌, ◌<◌, ◌^◌};
 
-use crate::calls::{open_line, publish_version, step_once, take_response};
+use crate::calls::{change_entities, open_line, publish_version, step_once, take_response};
 use crate::event::{Event, read_event};
 use crate::names::Names;
 use crate::no_version::NoVersion;
@@ -52,6 +52,7 @@ impl<'a, R: std::rt::Files + AllocGlobal> Hosting<'a, R> {
             Event::Step(job) => stepped(alloc, step_once(service, job)),
             Event::Running(job) => running(alloc, service, job),
             Event::Take(job) => taken(alloc, take_response(service, job)),
+            Event::Change(changes) => published(alloc, change_entities(service, changes)),
             Event::Publish(policies, entities) => self.publish(alloc, service, policies, entities),
         }
     }

@@ -1,0 +1,3 @@
+// The planners read and write everything.
+@id("team")
+permit(principal, action, resource) when { principal in Team::"planners" };

@@ -82,6 +82,8 @@ static const form other_entities[] = {
 };
 /* So many users are each a child of the next. */
 #define CHAIN 20000
+/* Changes keep a set for each group of a chain, so they take memory by the square of its length. */
+#define CHANGED_CHAIN 1000
 
 static cedar_files files;
 static cedar_engine engine;
@@ -107,15 +109,15 @@ static cedar_bytes text_of(const form *form) {
     return (cedar_bytes){at, length};
 }
 
-/* Entities of users in a chain. */
-static cedar_bytes chain(void) {
-    char *at = malloc((size_t)CHAIN * 100 + 2), *to = at;
+/* Entities of users in a chain of this length. */
+static cedar_bytes chain(int length) {
+    char *at = malloc((size_t)length * 100 + 2), *to = at;
     if (!at) {
         exit(9);
     }
-    for (int i = 0; i < CHAIN; i++) {
+    for (int i = 0; i < length; i++) {
         to += sprintf(to, "%c{\"uid\":{\"type\":\"User\",\"id\":\"%d\"},\"attrs\":{\"a\":[]}", i ? ',' : '[', i);
-        to += i + 1 < CHAIN ? sprintf(to, ",\"parents\":[{\"type\":\"User\",\"id\":\"%d\"}]}", i + 1) : sprintf(to, "}");
+        to += i + 1 < length ? sprintf(to, ",\"parents\":[{\"type\":\"User\",\"id\":\"%d\"}]}", i + 1) : sprintf(to, "}");
     }
     *to++ = ']';
     return (cedar_bytes){at, (size_t)(to - at)};
@@ -264,7 +266,12 @@ static void check_all_entities(void) {
         close_schema();
     }
     open_schema(&schemas[0]);
-    files.entities = chain();
+    files.entities = chain(CHAIN);
+    wanted = CEDAR_OK;
+    on_a_stack(READING_STACK, publishes_entities);
+    CHECK(is_right);
+    free((void *)files.entities.at);
+    files.entities = chain(CHANGED_CHAIN);
     check_text(CEDAR_OK);
     close_schema();
 }

@@ -89,6 +89,7 @@ pub(crate) fn quoted_string(text: &str) -> Option<(QuotedText<'_>, &str)>
 }
 
 // What follows a quotation mark that is written with a backslash.
+#[inline(always)]
 fn after_escaped_quote(text: &str) -> Option<&str>
     ensures { IfSome result (λ rest. text.now ≡ 92 ∷ 34 ∷ rest.now) }
 {
@@ -115,14 +116,19 @@ fn plain_length(bytes: &[u8]) -> usize
     bytes.len()
 }
 
-// Whether a string writes the byte as itself (RFC 8259, section 7).
+// Whether a string writes the byte as itself (RFC 8259, section 7). Two comparisons are enough for most bytes.
 fn is_plain(byte: u8) -> bool
     ensures { result ≡ is_plain byte }
 {
-    byte != b'"' && byte != b'\\' && byte >= b' '
+    if byte > b'"' {
+        byte != b'\\'
+    } else {
+        byte == b' ' || byte == b'!'
+    }
 }
 
 /// After a value: the next member, whose key follows the comma, or the brace that closes the object.
+#[inline(always)]
 pub(crate) fn past_comma(text: &str) -> Option<&str>
     ensures value { IfSome result (λ rest. begins_colon (lex between text.now) ≡ false) }
     ensures rest { IfSome result (λ rest. punctuate after_value (lex between text.now) ≡ tokens rest.now) }

@@ -1,13 +1,13 @@
 -- The world after a call of more changes.
 --     told_after, entry_after, parents_after      what it says of a uid
 --     links_kept, links_changed      what a store keeps after the call
-use Rattle.std.proofs.Common.{◌≡◌, ℕ, inl, inr, ⊎_elim, List, Bool, true, false, ◌||◌, Option, Some, None, is_some, refl, sym, ap, subst, ◌∙◌, Contains, IsTrue}
+use Rattle.std.proofs.Common.{◌≡◌, ℕ, inl, inr, ⊎_elim, ◌⊎◌, List, Bool, true, false, not, ◌&&◌, ◌||◌, Option, Some, None, is_some, refl, sym, ap, subst, ◌∙◌, Contains, IsTrue}
 use Rattle.std.specs.BTreeSet.{BTreeSet, contains}
 use Rattle.std.specs.List.{list_any}
 use Rattle.indexmap.specs.IndexMap.{IndexMap, get}
 use Rattle.base_reach.specs.Closure.{one_link}
 use Rattle.base_reach.proofs.Chains.{first_link, chain_among}
-use Rattle.base_reach.proofs.Listed.{nowhere}
+use Rattle.base_reach.proofs.Listed.{either_true, nowhere, or_left, or_right}
 use Rattle.cedar_value.specs.Datum.{same_uid}
 use Rattle.cedar_value.specs.Order.{uid_cmp}
 use Rattle.cedar_value.specs.World.{EntityTree, World, Below, entry_of, parents_of, has_entity}
@@ -17,8 +17,8 @@ use Rattle.cedar_store.specs.Entities.{uids_of}
 use Rattle.cedar_store.specs.Private.Based.{BaseTree, IsMarked}
 use Rattle.cedar_store.specs.Private.Called.{AreApart, AreMarkedToo, AreSettledAnew, DoLinksStay, IsAfterCall, IsCycleThere, IsLinked}
 use Rattle.cedar_store.specs.Private.Changing.{AreChangesDistinct, ChangeTree, EachChange, IsChangeOfUid, change_of, upsert_in}
-use Rattle.cedar_store.specs.Private.Kept.{AreAncestors, in_row}
-use Rattle.cedar_store.specs.Private.Overlaid.{AreMarked, AreParentsKnown, IsNamed, IsNumbered, IsOverlaid, IsSettled, world_over}
+use Rattle.cedar_store.specs.Private.Kept.{AreAncestors, in_row, number_in}
+use Rattle.cedar_store.specs.Private.Overlaid.{AreMarked, AreParentsKnown, IsNumbered, IsOverlaid, IsSettled, world_over}
 use Rattle.cedar_store.specs.declared.store_fault.StoreFault.{StoreFault}
 use Rattle.cedar_store.specs.declared.store_fault.StoreFault.TheVariants.{OutOfMemory, DuplicateEntity, Cycle}
 use Rattle.cedar_store.proofs.ChangedLemmas.{entry_named, entry_unnamed}
@@ -42,6 +42,16 @@ no_both : (b : Bool) → b ≡ true → b ≡ false → ⊥
 no_both true t f = cc
 no_both false t f = cc
 
+first_or_second : (a c : Bool) → (a && not c) ≡ false → (a ≡ false) ⊎ (c ≡ true)
+first_or_second true true h = inr refl
+first_or_second true false h = cc
+first_or_second false c h = inl refl
+
+not_second : (a c : Bool) → (a && not c) ≡ true → c ≡ true → ⊥
+not_second true true h t = cc
+not_second true false h t = cc
+not_second false c h t = cc
+
 some_entry : (o : Option EntityTree) (p : Uid) → Contains (parents_in o) p → (e : EntityTree) × (o ≡ Some e)
 some_entry None p m = absurd (nowhere p m)
 some_entry (Some e) p m = (e, refl)
@@ -61,6 +71,10 @@ module _ (w : World) (old new : List ChangeTree) (removed : List Uid) (upserted 
   -- what the call does not name has the parents that it had
   pub parents_kept : (u : Uid) → is_changed removed upserted u ≡ false → parents_of (world_over w new) u ≡ parents_of (world_over w old) u
   parents_kept u is = ap parents_in (entry_after u ∙ entry_unnamed (world_over w old) removed upserted u is)
+
+  -- what the call names has the parents of the entity that it upserts
+  pub parents_called : (u : Uid) → is_changed removed upserted u ≡ true → parents_of (world_over w new) u ≡ parents_of upserted u
+  parents_called u is = ap parents_in (entry_after u ∙ entry_named (world_over w old) removed upserted u is)
 
   -- what the call names and has a parent is upserted
   pub parent_upserted : (u p : Uid) → is_changed removed upserted u ≡ true → Contains (parents_of (world_over w new) u) p → (e : EntityTree) × (entry_of upserted u ≡ Some e)
@@ -99,28 +113,47 @@ module _ {S : Type 0} (b : BaseTree) (old new : List ChangeTree) (removed : List
   known_by sets_new u p e true is keeps here entity m = here (sym (after.upserts u is) ∙ entity)
   known_by sets_new u p e false is keeps here entity m = keeps p (kept.parents u p e (ap upsert_in (sym (after.kept u is)) ∙ entity) m)
 
-  marked_by : (u : Uid) (t : Bool) → is_named u ≡ t → ((x : Uid) → IsTrue (in_row b.keys marks x) → IsTrue (in_row b.keys marks_new x)) → (is_named u ≡ true → IsTrue (in_row b.keys marks_new u)) → IsNamed new u → IsNumbered b u → IsTrue (in_row b.keys marks_new u)
-  marked_by u true is keeps here there number = here is
-  marked_by u false is keeps here there number = keeps u (kept.marked u (subst (λ o. IsTrue (is_some o)) (after.kept u is) there) number)
+  kept_parents : (u : Uid) → is_named u ≡ false → parents_of (world_over b.world new) u ≡ parents_of (world_over b.world old) u
+  kept_parents = parents_kept b.world old new removed upserted distinct named distinct_new named_new after
 
-  module _ (same_marks : (u : Uid) → in_row b.keys marks_new u ≡ in_row b.keys marks u) (stay : DoLinksStay b sets removed upserted) where
+  module _ (same_marks : (u : Uid) → in_row b.keys marks_new u ≡ in_row b.keys marks u) (stay : DoLinksStay b old sets removed upserted) where
     known_still : AreParentsKnown b new sets
     known_still u p e entity m = known_by sets u p e (is_named u) refl (λ q l. l) (λ is. stay.known u p e is m) entity m
 
-    none_high_new : (c x : Uid) → Below (world_over b.world new) x c → is_named c ≡ true → ⊥
-    none_high_new c x chain is = stay.apart c is (high_linked b new sets distinct_new named_new numbered known_still x c chain)
+    -- what something is below keeps its parents
+    linked_by : (u : Uid) (t : Bool) → is_named u ≡ t → IsLinked b sets u → parents_of (world_over b.world new) u ≡ parents_of (world_over b.world old) u
+    linked_by u true is linked = parents_called b.world old new removed upserted distinct named distinct_new named_new after u is ∙ stay.same u is linked
+    linked_by u false is linked = kept_parents u is
 
-    none_high_old : (c x : Uid) → Below (world_over b.world old) x c → is_named c ≡ true → ⊥
-    none_high_old c x chain is = stay.apart c is (high_linked b old sets distinct named numbered kept.parents x c chain)
+    linked_same : (u : Uid) → IsLinked b sets u → parents_of (world_over b.world new) u ≡ parents_of (world_over b.world old) u
+    linked_same u linked = linked_by u (is_named u) refl linked
 
-    same_links : (u : Uid) → is_named u ≡ false → parents_of (world_over b.world new) u ≡ parents_of (world_over b.world old) u
-    same_links = parents_kept b.world old new removed upserted distinct named distinct_new named_new after
+    abbrev is_known : Uid → Bool
+    is_known u = is_some (get same_uid sets u) || is_some (number_in b.keys u)
 
-    settled_by : (u : Uid) (s : BTreeSet Uid) (t : Bool) → is_named u ≡ t → get same_uid sets u ≡ Some s → AreAncestors (world_over b.world new) u (contains uid_cmp s)
-    settled_by u s true is found = absurd (stay.apart u is (inl (ap is_some found)))
+    known_linked : (u : Uid) → IsLinked b sets u → is_known u ≡ true
+    known_linked u (inl settled) = or_left (is_some (get same_uid sets u)) (is_some (number_in b.keys u)) settled
+    known_linked u (inr number) = or_right (is_some (get same_uid sets u)) (is_some (number_in b.keys u)) number
+
+    -- what the call names and nothing is below
+    abbrev is_moved : Uid → Bool
+    is_moved u = is_named u && not (is_known u)
+
+    same_links : (u : Uid) → is_moved u ≡ false → parents_of (world_over b.world new) u ≡ parents_of (world_over b.world old) u
+    same_links u h =
+        ⊎_elim (λ is. kept_parents u is) (λ is. linked_same u (either_true (is_some (get same_uid sets u)) (is_some (number_in b.keys u)) is)) (first_or_second (is_named u) (is_known u) h)
+
+    none_high_new : (c x : Uid) → Below (world_over b.world new) x c → is_moved c ≡ true → ⊥
+    none_high_new c x chain is = not_second (is_named c) (is_known c) is (known_linked c (high_linked b new sets distinct_new named_new numbered known_still x c chain))
+
+    none_high_old : (c x : Uid) → Below (world_over b.world old) x c → is_moved c ≡ true → ⊥
+    none_high_old c x chain is = not_second (is_named c) (is_known c) is (known_linked c (high_linked b old sets distinct named numbered kept.parents x c chain))
+
+    settled_by : (u : Uid) (s : BTreeSet Uid) (t : Bool) → is_moved u ≡ t → get same_uid sets u ≡ Some s → AreAncestors (world_over b.world new) u (contains uid_cmp s)
+    settled_by u s true is found = absurd (not_second (is_named u) (is_known u) is (known_linked u (inl (ap is_some found))))
     settled_by u s false is found = λ v. (let told = kept.settled u s found v in (
-      λ t. chain_stays (world_over b.world new) (world_over b.world old) is_named (λ x h. sym (same_links x h)) u v is none_high_old (told.0 t),
-      λ chain. told.1 (chain_stays (world_over b.world old) (world_over b.world new) is_named same_links u v is none_high_new chain),
+      λ t. chain_stays (world_over b.world new) (world_over b.world old) is_moved (λ x h. sym (same_links x h)) u v is none_high_old (told.0 t),
+      λ chain. told.1 (chain_stays (world_over b.world old) (world_over b.world new) is_moved same_links u v is none_high_new chain),
     ))
 
     marked_still : (p : Uid) → IsMarked b marks_new p → IsMarked b marks p
@@ -129,9 +162,9 @@ module _ {S : Type 0} (b : BaseTree) (old new : List ChangeTree) (removed : List
 
     pub links_kept : IsOverlaid b new marks_new sets
     links_kept = record {
-      acyclic = λ u chain. (let c = cycle_named (world_over b.world old) (world_over b.world new) is_named same_links kept.acyclic u chain in none_high_new c.0 c.0 c.2 c.1);
-      marked = λ u there number. marked_by u (is_named u) refl (λ x t. same_marks x ∙ t) (λ is. absurd (stay.apart u is (inr number))) there number;
-      settled = λ u s found. settled_by u s (is_named u) refl found;
+      acyclic = λ u chain. (let c = cycle_named (world_over b.world old) (world_over b.world new) is_moved same_links kept.acyclic u chain in none_high_new c.0 c.0 c.2 c.1);
+      marked = λ u number. ⊎_elim (λ there. inl (same_marks u ∙ there)) (λ same. inr (linked_same u (inr number) ∙ same)) (kept.marked u number);
+      settled = λ u s found. settled_by u s (is_moved u) refl found;
       parents = known_still;
       below_marked = λ p number marked. kept.below_marked p number (marked_still p marked);
     }
@@ -159,8 +192,12 @@ module _ {S : Type 0} (b : BaseTree) (old new : List ChangeTree) (removed : List
     known_anew : AreParentsKnown b new sets_new
     known_anew u p e entity m = known_by sets_new u p e (is_named u) refl linked_still (λ is. anew.parents u p (listed u e is) (upserted_parent u p e is m)) entity m
 
+    marked_by : (u : Uid) (t : Bool) → is_named u ≡ t → IsNumbered b u → IsTrue (in_row b.keys marks_new u) ⊎ (parents_of (world_over b.world new) u ≡ parents_of b.world u)
+    marked_by u true is number = inl (too.named u is number)
+    marked_by u false is number = ⊎_elim (λ there. inl (too.kept u there)) (λ same. inr (kept_parents u is ∙ same)) (kept.marked u number)
+
     marked_anew : AreMarked b new marks_new
-    marked_anew u there number = marked_by u (is_named u) refl too.kept (λ is. too.named u is number) there number
+    marked_anew u number = marked_by u (is_named u) refl number
 
     settled_here : (c x : Uid) → is_named c ≡ true → Below (world_over b.world new) x c → IsSettled sets_new c
     settled_here c x is chain =
@@ -178,7 +215,7 @@ module _ {S : Type 0} (b : BaseTree) (old new : List ChangeTree) (removed : List
 
     pub links_changed : IsOverlaid b new marks_new sets_new
     links_changed = record {
-      acyclic = λ u chain. (let c = cycle_named (world_over b.world old) (world_over b.world new) is_named (parents_kept b.world old new removed upserted distinct named distinct_new named_new after) kept.acyclic u chain in none_cyclic c.0 c.1 c.2);
+      acyclic = λ u chain. (let c = cycle_named (world_over b.world old) (world_over b.world new) is_named kept_parents kept.acyclic u chain in none_cyclic c.0 c.1 c.2);
       marked = marked_anew;
       settled = anew.settled;
       parents = known_anew;

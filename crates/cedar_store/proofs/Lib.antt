@@ -1,7 +1,7 @@
 pub mod Above
+pub mod AboveNear
 pub mod AfterCall
 pub mod Apart
-pub mod BitRows
 pub mod Branches
 pub mod ChangedLemmas
 pub mod ChangesCrossing
@@ -13,8 +13,6 @@ pub mod Gathered
 pub mod Linked
 pub mod Marked
 pub mod MarkedToo
-pub mod Masks
-pub mod Meets
 pub mod Members
 pub mod MoreChanges
 pub mod NoChanges

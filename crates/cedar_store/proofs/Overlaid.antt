@@ -1,7 +1,7 @@
 -- A world over changes: the entity and the parents of a uid, and what is above an entity.
 --     over_unnamed, over_named      the entity with a uid
 --     parents_unnamed, parents_named      its direct parents
---     below_apart      what is named by no change, and is below nothing that is, is below what it was
+--     below_apart      what keeps its parents, as all that it is below does, is below what it was
 --     below_parents      an entity is below its direct parents and what they are below
 --     world_over-none      the world over no changes
 use Rattle.std.proofs.Common.{◌≡◌, ◌↔◌, ℕ, ◌⊎◌, inl, inr, ⊎_elim, List, [], ◌∷◌, filter, Bool, true, false, Option, Some, None, unwrap_or, is_some, option_copied, Bor, refl, sym, ap, subst, ◌∙◌, Contains, IsTrue}
@@ -40,10 +40,6 @@ module _ (w : World) (cs : List ChangeTree) (distinct : AreChangesDistinct cs) (
   pub parents_named : (c : ChangeTree) → change_of cs u ≡ Some c → parents_of (world_over w cs) u ≡ parents_in c.entity
   parents_named c is = ap parents_in (over_named c is)
 
-pub unnamed : (o : Option ChangeTree) → ¬ IsTrue (is_some o) → o ≡ None
-unnamed None h = refl
-unnamed (Some c) h = absurd (h refl)
-
 -- ---- no changes
 
 keeps_all : (w : World) → filter (λ (e : EntityTree). true) w ≡ w
@@ -63,23 +59,21 @@ below_parents w u v = (λ c. first c, λ h. ⊎_elim (λ is. one_link (subst (Co
     first (one_link {v = v} l) = (v, l, inl refl)
     first (more_links {p = p} l rest) = (p, l, inr rest)
 
--- no change names the uid, or what it is below
+-- the uid, and what it is below, have the parents that they had
 abbrev pub IsApart : World → List ChangeTree → Uid → Type 0
-IsApart w cs u = (change_of cs u ≡ None) × ((x : Uid) → Below w u x → change_of cs x ≡ None)
+IsApart w cs u = (parents_of (world_over w cs) u ≡ parents_of w u) × ((x : Uid) → Below w u x → parents_of (world_over w cs) x ≡ parents_of w x)
 
-module _ (w : World) (cs : List ChangeTree) (distinct : AreChangesDistinct cs) (named : EachChange IsChangeOfUid cs) where
+module _ (w : World) (cs : List ChangeTree) where
   apart_parent : (u p : Uid) → IsApart w cs u → Contains (parents_of w u) p → IsApart w cs p
   apart_parent u p apart m = (apart.1 p (one_link m), λ x c. apart.1 x (more_links m c))
 
   chain_before : {u v : Uid} → Below (world_over w cs) u v → IsApart w cs u → Below w u v
-  chain_before (one_link {u = u} {v = v} l) apart = one_link (subst (λ ps. Contains ps v) (parents_unnamed w cs distinct named u apart.0) l)
-  chain_before (more_links {u = u} {p = p} l rest) apart =
-      let m = subst (λ ps. Contains ps p) (parents_unnamed w cs distinct named u apart.0) l in more_links m (chain_before rest (apart_parent u p apart m))
+  chain_before (one_link {u = u} {v = v} l) apart = one_link (subst (λ ps. Contains ps v) apart.0 l)
+  chain_before (more_links {u = u} {p = p} l rest) apart = let m = subst (λ ps. Contains ps p) apart.0 l in more_links m (chain_before rest (apart_parent u p apart m))
 
   chain_after : {u v : Uid} → Below w u v → IsApart w cs u → Below (world_over w cs) u v
-  chain_after (one_link {u = u} {v = v} l) apart = one_link (subst (λ ps. Contains ps v) (sym (parents_unnamed w cs distinct named u apart.0)) l)
-  chain_after (more_links {u = u} {p = p} l rest) apart =
-      more_links (subst (λ ps. Contains ps p) (sym (parents_unnamed w cs distinct named u apart.0)) l) (chain_after rest (apart_parent u p apart l))
+  chain_after (one_link {u = u} {v = v} l) apart = one_link (subst (λ ps. Contains ps v) (sym apart.0) l)
+  chain_after (more_links {u = u} {p = p} l rest) apart = more_links (subst (λ ps. Contains ps p) (sym apart.0) l) (chain_after rest (apart_parent u p apart l))
 
   pub below_apart : (u v : Uid) → IsApart w cs u → Below (world_over w cs) u v ↔ Below w u v
   below_apart u v apart = (λ c. chain_before c apart, λ c. chain_after c apart)
@@ -94,7 +88,7 @@ module _ {S : Type 0} (b : BaseTree) (cs : List ChangeTree) (marks : List ℕ) (
     (numbered : (u v : Uid) → Below b.world u v → IsNumbered b v) (kept : IsOverlaid b cs marks sets) where
   -- a row that has no mark in common is right
   pub row_apart : (u : Uid) → change_of cs u ≡ None → ((x : Uid) → IsTrue (in_row b.keys marks x) → ¬ Below b.world u x) → IsApart b.world cs u
-  row_apart u none right = (none, λ x c. unnamed (change_of cs x) (λ there. right x (kept.marked x there (numbered u x c)) c))
+  row_apart u none right = (parents_unnamed b.world cs distinct named u none, λ x c. ⊎_elim (λ there. absurd (right x there c)) (λ same. same) (kept.marked x (numbered u x c)))
 
   parent_case : (z p : Uid) (o : Option ChangeTree) (e : Option EntityTree) → change_of cs z ≡ o → upsert_in o ≡ e → Contains (parents_of (world_over b.world cs) z) p → IsSettled sets p ⊎ IsNumbered b p
   parent_case z p None e is entity m = inr (numbered z p (one_link (subst (λ ps. Contains ps p) (parents_unnamed b.world cs distinct named z is) m)))
@@ -106,8 +100,8 @@ module _ {S : Type 0} (b : BaseTree) (cs : List ChangeTree) (marks : List ℕ) (
   pub parent_apart : (z p : Uid) → Contains (parents_of (world_over b.world cs) z) p → ¬ IsSettled sets p → IsApart b.world cs p
   parent_apart z p m unsettled =
       let number : IsNumbered b p = ⊎_elim (λ settled. absurd (unsettled settled)) (λ n. n) (parent_case z p (change_of cs z) (upsert_in (change_of cs z)) refl refl m) in (
-        unnamed (change_of cs p) (λ there. unsettled (kept.below_marked p number (inl (kept.marked p there number)))),
-        λ x c. unnamed (change_of cs x) (λ there. unsettled (kept.below_marked p number (inr (x, kept.marked x there (numbered p x c), c)))),
+        ⊎_elim (λ there. absurd (unsettled (kept.below_marked p number (inl there)))) (λ same. same) (kept.marked p number),
+        λ x c. ⊎_elim (λ there. absurd (unsettled (kept.below_marked p number (inr (x, there, c))))) (λ same. same) (kept.marked x (numbered p x c)),
       )
 
 -- ---- sets of values

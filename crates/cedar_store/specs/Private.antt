@@ -8,5 +8,4 @@ pub mod Gained
 pub mod Gathered
 pub mod Hashed
 pub mod Kept
-pub mod Mask
 pub mod Overlaid

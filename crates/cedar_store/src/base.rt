@@ -10,19 +10,18 @@ ghost use Rattle.cedar_store.specs.Private.Based.{IsMarked};
 ghost use Rattle.cedar_store.specs.Private.Gathered.{Gathers, KeepsFirst};
 ghost use Rattle.cedar_store.specs.Private.Kept.{in_row, number_in};
 
+use crate::ahead::{is_ahead, is_any_ahead, is_mark_ahead, is_mark_ahead_of, row_ahead};
 use crate::ancestors::push_members;
 use crate::entity::Entity;
 use crate::entity_table::EntityTable;
 use crate::gathering::gather_members;
-use crate::links::links_of;
-use crate::marks::have_common;
-use crate::mask::meets;
-use crate::numbers::{Numbers, has_uid};
-use crate::rows::{all_rows, row_of};
+use crate::links::{links_of, number_graph, parent_numbers};
+use crate::numbers::Numbers;
+use crate::rows::all_rows;
 use crate::store_fault::StoreFault;
 use crate::uid_hashing::UidHashing;
 use base_reach::Links;
-use base_search::Row;
+use base_search::{Lists, Row};
 use cedar_value::{Hierarchy, Record, Uid, ValueSet};
 use std::alloc::{AllocError, Global};
 use std::marker::Model;
@@ -30,12 +29,14 @@ use std::marker::Model;
 /// Entities that were read whole, with what is above each of them. Contracts see the list of the entities, in the order in which they
 /// were handed in, and the uids that have a number.
 ///
-/// Each uid that has something below it has a number, in the order in which the uids are first named as parents. Each entity
-/// has a row of bits with the numbers of all that it is below.
+/// Each uid that has something below it has a number, in the order in which the uids are first named as parents, and a row of bits
+/// with the numbers of all that it is below. Each entity has the numbers of its parents: it is below these, and what these are
+/// below.
 #[derive(Drop)]
 pub(crate) struct Base {
     table: EntityTable,
     numbers: Numbers,
+    parents: Lists,
     rows: Vec<Row>,
 }
 
@@ -44,7 +45,7 @@ impl Model for Base {
     ghost use Rattle.cedar_value.specs.Private.DatumCode.{datum_code};
     ghost use Rattle.cedar_store.specs.Entities.{IsAcyclic};
     ghost use Rattle.cedar_store.specs.Private.Based.{BaseTree};
-    ghost use Rattle.cedar_store.specs.Private.Kept.{AreRows};
+    ghost use Rattle.cedar_store.specs.Private.Kept.{AreParentNumbers, AreRows};
 
     ghost Value = { BaseTree };
 
@@ -52,16 +53,17 @@ impl Model for Base {
 
     ghost view = { λ b. record { world = b.table; keys = b.numbers.keys } };
 
-    ghost invariant = { λ b. AreRows b.numbers.keys b.table b.rows.items × IsAcyclic b.table };
+    ghost invariant = { λ b. AreRows b.numbers.keys b.table b.rows.items × IsAcyclic b.table × AreParentNumbers b.numbers.keys b.table b.parents };
 }
 
 impl Base {
     /// The store of these entities (Cedar language reference, entities and hierarchy).
     ///
-    /// Time is the number of links times the words of a row, whatever the order of the entities, and memory is the words of all
-    /// rows. A row has a bit for each parent up to the last of those that the entity is below, in the order in which they are
-    /// first named. Entities in 1,000 groups take 125 bytes each at most, but a chain of entities, each in the next, takes an
-    /// eighth of the square of its length.
+    /// Time is the number of links, and of those between entities with members the words of a row in addition, whatever the order of
+    /// the entities. Memory is the words of all rows, and eight bytes for each link. Only an entity with members has a row, which has
+    /// a bit for each parent up to the last of those that the entity is below, in the order in which they are first named. A thousand
+    /// groups have rows of 125 bytes each at most, but a chain of entities, each in the next, takes an eighth of the square of its
+    /// length.
     ///
     /// # Errors
     ///
@@ -74,11 +76,13 @@ impl Base {
         ensures refused { IfErr result (IsThere entities.items) }
     {
         let table = EntityTable::new(alloc, entities)?;
-        let (numbers, graph) = links_of(alloc, &table)?;
+        let (numbers, parents) = links_of(alloc, &table)?;
+        let graph = number_graph(alloc, &table, &numbers, &parents)?;
         let rows = all_rows(alloc, &table, &numbers, &graph)?;
         Ok(Base {
             table,
             numbers,
+            parents,
             rows,
         })
     }
@@ -126,10 +130,8 @@ impl Base {
     pub(crate) fn is_below_marked(&self, low: &Uid, marks: &Row) -> bool
         ensures { result ≡ false → (x : Uids) → IsTrue (in_row self.now.keys marks.now x) → ¬ Below self.now.world low.now x }
     {
-        match row_of(&self.table, &self.rows, low) {
-            Some(row) => have_common(row, marks),
-            None => false,
-        }
+        let near = parent_numbers(&self.table, &self.parents, low);
+        is_mark_ahead(&self.rows, near, marks)
     }
 
     /// Appends each uid with a number that is marked, or is below a uid that is marked.
@@ -142,7 +144,7 @@ impl Base {
         ensures marked { OnOk result ((p : Uids) → IsTrue (is_some (number_in self.now.keys p)) → IsMarked self.now marks.now p → Contains (lent found.new.items) p) }
     {
         for (number, uid) in self.numbers.as_slice().iter().enumerate() {
-            if self.may_be_marked(number, uid, marks) {
+            if self.may_be_marked(number, marks) {
                 found.push(uid)?;
             }
         }
@@ -150,20 +152,21 @@ impl Base {
     }
 
     // Whether the uid of this number is marked, or may be below a uid that is marked. Where it is not said to be, it is neither.
-    fn may_be_marked(&self, number: usize, uid: &Uid, marks: &Row) -> bool
-        ensures { result ≡ false → number_in self.now.keys uid.now ≡ Some number → ¬ IsMarked self.now marks.now uid.now }
+    fn may_be_marked(&self, number: usize, marks: &Row) -> bool
+        ensures { result ≡ false → (u : Uids) → number_in self.now.keys u ≡ Some number → ¬ IsMarked self.now marks.now u }
     {
-        marks.has(number) || self.is_below_marked(uid, marks)
+        is_mark_ahead_of(&self.rows, number, marks)
     }
 
     /// Appends each uid that `low` is below, once (Cedar language reference, hierarchy). An entity that is not in the store is
     /// below nothing.
     ///
-    /// Time grows with the words of the row of `low` and the number of uids that are appended.
+    /// Time grows with the words of the rows of the parents of `low` and the number of uids that are appended. Takes the memory of
+    /// a row while it runs.
     ///
     /// # Errors
     ///
-    /// Fails only when out of memory, where the list has to grow. The list is then as it was.
+    /// Fails only when out of memory. The list is then as it was.
     pub(crate) fn ancestors<'s>(
         &'s self,
         low: &Uid,
@@ -172,10 +175,9 @@ impl Base {
         ensures adds { OnOk result (AddsAncestors self.now.world low.now found.old.items found.new.items) }
         ensures refused { OnErr result (found.new.items ≡ found.old.items) }
     {
-        match row_of(&self.table, &self.rows, low) {
-            Some(row) => push_members(&self.numbers, row, found),
-            None => Ok(()),
-        }
+        let near = parent_numbers(&self.table, &self.parents, low);
+        let row = row_ahead(*found.allocator(), &self.rows, near)?;
+        push_members(&self.numbers, &row, found)
     }
 
     /// Appends each uid that `low` is below, unless it is one of those that were appended since the list had the length `begun`.
@@ -189,10 +191,9 @@ impl Base {
         ensures kept { KeepsFirst begun found.old.items found.new.items }
         ensures gathers { OnOk result (Gathers begun found.old.items found.new.items (λ v. Below self.now.world low.now v)) }
     {
-        match row_of(&self.table, &self.rows, low) {
-            Some(row) => gather_members(&self.numbers, row, found, begun),
-            None => Ok(()),
-        }
+        let near = parent_numbers(&self.table, &self.parents, low);
+        let row = row_ahead(*found.allocator(), &self.rows, near)?;
+        gather_members(&self.numbers, &row, found, begun)
     }
 }
 
@@ -211,16 +212,12 @@ impl Hierarchy for Base {
     }
 
     fn is_below(&self, low: &Uid, high: &Uid) -> bool {
-        match row_of(&self.table, &self.rows, low) {
-            Some(row) => has_uid(&self.numbers, row, high),
-            None => false,
-        }
+        let near = parent_numbers(&self.table, &self.parents, low);
+        is_ahead(&self.numbers, &self.rows, near, high)
     }
 
     fn is_below_any(&self, low: &Uid, highs: &ValueSet) -> bool {
-        match row_of(&self.table, &self.rows, low) {
-            Some(row) => meets(&self.numbers, row.words(), highs),
-            None => false,
-        }
+        let near = parent_numbers(&self.table, &self.parents, low);
+        is_any_ahead(&self.numbers, &self.rows, near, highs)
     }
 }

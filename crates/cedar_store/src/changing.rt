@@ -33,8 +33,8 @@ pub(crate) struct Kept {
 
 /// What a store keeps after more changes.
 ///
-/// Where nothing is below a uid that the call names, only the marks are copied, and the sets are shared. Else each set is made
-/// anew: all links above its uid are followed.
+/// Where each uid that the call names and something is below keeps its parents, only the marks are copied, and the sets are shared.
+/// Else each set is made anew: all links above its uid are followed.
 ///
 /// # Errors
 ///
@@ -53,7 +53,11 @@ pub(crate) fn changed(
         ≡ entry_of (changed_world (world_over overlay.now.base.now.world overlay.now.changes.now) removed.now upserted) u) }
     ensures refused { IfErr result (IsThereInChanges (world_over overlay.now.base.now.world overlay.now.changes.now) removed.now upserted) }
 {
-    if do_links_stay(overlay.base, overlay.settled, removed, &upserted) {
+    let links = ChangedLinks {
+        base: overlay.base,
+        changes: overlay.changes,
+    };
+    if do_links_stay(&links, overlay.settled, removed, &upserted) {
         with_links_kept(alloc, overlay, settled, removed, upserted)
     } else {
         with_links_changed(alloc, overlay, removed, upserted)
@@ -70,7 +74,7 @@ fn with_links_kept(
 ) -> Result<Kept, StoreFault>
     requires overlaid { IsOverlaid overlay.now.base.now overlay.now.changes.now overlay.now.marks.now overlay.now.settled.now }
     requires same { settled.now.value ≡ overlay.now.settled.now }
-    requires stay { DoLinksStay overlay.now.base.now overlay.now.settled.now removed.now upserted }
+    requires stay { DoLinksStay overlay.now.base.now overlay.now.changes.now overlay.now.settled.now removed.now upserted }
     ensures overlaid { IfOk result (λ k. IsOverlaid overlay.now.base.now k.changes k.marks k.settled.value) }
     ensures entries { IfOk result (λ k. (u : Uids) → entry_of (world_over overlay.now.base.now.world k.changes) u
         ≡ entry_of (changed_world (world_over overlay.now.base.now.world overlay.now.changes.now) removed.now upserted) u) }

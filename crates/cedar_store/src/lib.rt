@@ -13,6 +13,7 @@
 //! what an entity is below as a row of bits, [`PlainStore`] as a set of uids. Both have the same contract.
 #![tactic(auto)]
 
+mod ahead;
 mod ancestors;
 mod base;
 mod call_marks;
@@ -29,7 +30,6 @@ mod gathering;
 mod links;
 mod links_stay;
 mod marks;
-mod mask;
 mod more_changes;
 mod numbers;
 mod overlay;

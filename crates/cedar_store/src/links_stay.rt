@@ -1,34 +1,50 @@
 //! Whether a call of more changes leaves alone what anything else is below.
 ghost use Rattle.std.specs.Prelude.{◌≡◌, ◌↔◌, Contains, IsTrue};
 ghost use Rattle.cedar_value.specs.declared.uid.Uid.{Uid as Uids};
-ghost use Rattle.cedar_store.specs.Private.Called.{DoLinksStay, IsLinked};
+ghost use Rattle.cedar_store.specs.Private.Called.{DoLinksStay, DoParentsStay, IsLinked};
 
 use crate::base::Base;
+use crate::changed_links::ChangedLinks;
 use crate::entity_table::EntityTable;
 use crate::settled::Settled;
+use base_reach::Links;
 use cedar_value::Uid;
 
-/// Whether nothing is below a uid that the call names, and each parent of the entities that it upserts has a set or a number.
-/// Looks up each of these uids, and takes no memory.
+/// Whether each uid that the call names and something is below keeps its parents, in their order, and each parent of the entities
+/// that it upserts has a set or a number. Looks up each of these uids, and takes no memory.
 pub(crate) fn do_links_stay(
-    base: &Base,
+    links: &ChangedLinks<'_>,
     settled: &Settled,
     removed: &[Uid],
     upserted: &EntityTable,
 ) -> bool
-    ensures { IsTrue result → DoLinksStay base.now settled.now removed.now upserted.now }
+    ensures { IsTrue result → DoLinksStay links.now.base.now links.now.changes.now settled.now removed.now upserted.now }
 {
     for uid in removed {
-        if is_linked(base, settled, uid) {
+        if !do_parents_stay(links, settled, upserted, uid) {
             return false;
         }
     }
     for entity in upserted.entities() {
-        if is_linked(base, settled, &entity.uid) || !are_linked(base, settled, &entity.parents) {
+        if !do_parents_stay(links, settled, upserted, &entity.uid)
+            || !are_linked(links.base, settled, &entity.parents)
+        {
             return false;
         }
     }
     true
+}
+
+// Whether nothing is below a uid that the call names, or the uid keeps its parents, in their order.
+fn do_parents_stay(
+    links: &ChangedLinks<'_>,
+    settled: &Settled,
+    upserted: &EntityTable,
+    uid: &Uid,
+) -> bool
+    ensures { IsTrue result → DoParentsStay links.now.base.now links.now.changes.now settled.now upserted.now uid.now }
+{
+    !is_linked(links.base, settled, uid) || upserted.links(uid) == links.links(uid)
 }
 
 // Whether each uid has a number or a set.

@@ -18,8 +18,8 @@ use std::alloc::AllocError;
 /// The entities that were read whole, and the changes over them.
 ///
 /// What an entity is below is found without memory and in one step up: `settled` has the set of what each parent is below whose row of
-/// bits the changes have made wrong, and the row is right for each other parent. `marks` has the numbers of the uids that changes
-/// name: a row that has none of them in common is right.
+/// bits the changes have made wrong, and the row is right for each other parent. `marks` has the number of each uid that
+/// changes gave other parents: a row that has none of them in common is right.
 #[derive(Clone, Copy)]
 pub(crate) struct Overlay<'s> {
     pub(crate) base: &'s Base,

@@ -50,10 +50,11 @@ impl Model for Store {
 impl Store {
     /// The store of these entities (Cedar language reference, entities and hierarchy).
     ///
-    /// Time is the number of links times the words of a row, whatever the order of the entities, and memory is the words of all
-    /// rows. A row has a bit for each parent up to the last of those that the entity is below, in the order in which they are
-    /// first named. Entities in 1,000 groups take 125 bytes each at most, but a chain of entities, each in the next, takes an
-    /// eighth of the square of its length.
+    /// Time is the number of links, and of those between entities with members the words of a row in addition, whatever the order of
+    /// the entities. Memory is the words of all rows, and eight bytes for each link. Only an entity with members has a row, which has
+    /// a bit for each parent up to the last of those that the entity is below, in the order in which they are first named. A thousand
+    /// groups have rows of 125 bytes each at most, but a chain of entities, each in the next, takes an eighth of the square of its
+    /// length.
     ///
     /// # Errors
     ///
@@ -80,8 +81,9 @@ impl Store {
     /// The store of the entities after changes: without those that are removed, and with those that are upserted in place of what had
     /// their uids (Cedar's crate, upsert and removal of entities). This store stays as it is, and both share what they have in common.
     ///
-    /// Where nothing is below a uid that is removed or upserted, the time grows with the uids that the changes name and the parents
-    /// of what they upsert, and a row of bits is copied. Else the links above each uid whose row has become wrong are followed again.
+    /// Where each uid that is removed or upserted has nothing below it, or keeps its parents in their order, the time grows with the
+    /// uids that the changes name and the parents of what they upsert, and a row of bits is copied. Else the links above each uid
+    /// whose row has become wrong are followed again.
     ///
     /// # Errors
     ///
@@ -121,12 +123,13 @@ impl Store {
     /// Appends each uid that `low` is below, once (Cedar language reference, hierarchy). An entity that is not in the store is
     /// below nothing.
     ///
-    /// Time grows with the words of the row of `low` and the number of uids that are appended. Where changes name the entity, or
-    /// something that it may be below, and it has more parents than one, time grows with the square of that number.
+    /// Time grows with the words of the rows of the parents of `low` and the number of uids that are appended. Where changes name the
+    /// entity, or something that it may be below, and it has more parents than one, time grows with the square of that number. Takes
+    /// the memory of a row while it runs.
     ///
     /// # Errors
     ///
-    /// Fails only when out of memory, where the list has to grow. The list is then as it was.
+    /// Fails only when out of memory. The list is then as it was.
     pub fn ancestors<'s>(&'s self, low: &Uid, found: &mut Vec<&'s Uid>) -> Result<(), AllocError>
         ensures adds { OnOk result (AddsAncestors self.now low.now found.old.items found.new.items) }
         ensures refused { OnErr result (found.new.items ≡ found.old.items) }

@@ -86,6 +86,18 @@ impl Choices {
         }
     }
 
+    /// A change of an attribute alone: it upserts one of the entities with the parents that it has. None where the choice is past
+    /// the last entity.
+    pub fn attribute_change(&mut self, entries: &[Entry]) -> Option<Change> {
+        let place = self.below(UIDS) as usize;
+        let attribute = self.uid_in(2);
+        let entry = entries.get(place).copied()?;
+        Some(Change {
+            removed: [None, None],
+            upserted: [Some(Entry { attribute, ..entry }), None],
+        })
+    }
+
     // A uid, once in so many times.
     fn uid_in(&mut self, times: u32) -> Option<u32> {
         let uid = self.below(UIDS);

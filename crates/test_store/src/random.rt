@@ -1,5 +1,5 @@
 //! A store that is changed again and again, and a plain store that is built anew each time: both answer each question alike.
-use crate::choices::{Choices, UIDS};
+use crate::choices::{Change, Choices, UIDS};
 use crate::entities::{all_uids, set_of};
 use crate::versions::Version;
 use cedar_store::StoreFault;
@@ -18,6 +18,7 @@ struct Run {
     accepted: u32,
     repeated: u32,
     cyclic: u32,
+    of_attributes: u32,
 }
 
 impl Run {
@@ -28,7 +29,19 @@ impl Run {
             accepted: 0,
             repeated: 0,
             cyclic: 0,
+            of_attributes: 0,
         })
+    }
+
+    /// The next change, once in four times of an attribute alone.
+    fn next_change(&mut self) -> Change {
+        if self.choices.below(4) == 0 {
+            if let Some(change) = self.choices.attribute_change(&self.version.entries) {
+                self.of_attributes = self.of_attributes.wrapping_add(1);
+                return change;
+            }
+        }
+        self.choices.change()
     }
 
     /// Counts a refusal by its number.
@@ -58,7 +71,7 @@ impl Run {
 
 /// Makes a change. What was there before answers as before, whether the change is refused or not.
 fn step(rt: &impl Abort, alloc: Global, uids: &[Uid], run: &mut Run) -> Result<(), Fail> {
-    let change = run.choices.change();
+    let change = run.next_change();
     let highs = set_of(alloc, uids, run.choices.three_uids().as_slice())?;
     let low = run.choices.below(UIDS);
     let changed = run.version.changed(rt, alloc, uids, &change);
@@ -92,11 +105,12 @@ fn random_changes_are_as_in_a_plain_store(rt: HostRuntime) -> Result<(), Fail> {
         STEPS
     );
     assert!(rt;
-        run.accepted > 1000 && run.repeated > 1000 && run.cyclic > 1000,
-        "{} {} {}",
+        run.accepted > 1000 && run.repeated > 1000 && run.cyclic > 1000 && run.of_attributes > 1000,
+        "{} {} {} {}",
         run.accepted,
         run.repeated,
-        run.cyclic
+        run.cyclic,
+        run.of_attributes
     );
     Ok(())
 }

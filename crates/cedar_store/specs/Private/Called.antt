@@ -43,9 +43,13 @@ pub record AreMarkedToo (b : BaseTree) (removed : List Uid) (upserted : World) (
 abbrev pub IsLinked : {S : Type 0} → BaseTree → IndexMap Uid (BTreeSet Uid) S → Uid → Type 0
 IsLinked b sets u = IsSettled sets u ⊎ IsNumbered b u
 
--- nothing is below a uid that the call names, and each parent of what it upserts is known
-pub record DoLinksStay {S : Type 0} (b : BaseTree) (sets : IndexMap Uid (BTreeSet Uid) S) (removed : List Uid) (upserted : World) : Type 0 where
-  pub apart : (u : Uid) → is_changed removed upserted u ≡ true → ¬ IsLinked b sets u
+-- what something is below has the same parents before and after the call
+abbrev pub DoParentsStay : {S : Type 0} → BaseTree → List ChangeTree → IndexMap Uid (BTreeSet Uid) S → World → Uid → Type 0
+DoParentsStay b cs sets upserted u = IsLinked b sets u → parents_of upserted u ≡ parents_of (world_over b.world cs) u
+
+-- what something is below and the call names keeps its parents, and each parent of what the call upserts is known
+pub record DoLinksStay {S : Type 0} (b : BaseTree) (cs : List ChangeTree) (sets : IndexMap Uid (BTreeSet Uid) S) (removed : List Uid) (upserted : World) : Type 0 where
+  pub same : (u : Uid) → is_changed removed upserted u ≡ true → DoParentsStay b cs sets upserted u
   pub known : (u p : Uid) (e : EntityTree) → entry_of upserted u ≡ Some e → Contains e.parents p → IsLinked b sets p
 
 -- the sets are right, and there is one for each uid that must have one after the call

@@ -4,7 +4,7 @@ use Rattle.std.specs.BTreeSet.{BTreeSet, contains}
 use Rattle.indexmap.specs.IndexMap.{IndexMap, get}
 use Rattle.cedar_value.specs.Datum.{same_uid}
 use Rattle.cedar_value.specs.Order.{uid_cmp}
-use Rattle.cedar_value.specs.World.{EntityTree, World}
+use Rattle.cedar_value.specs.World.{EntityTree, World, parents_of}
 use Rattle.cedar_value.specs.declared.uid.Uid.{Uid}
 use Rattle.cedar_store.specs.Changes.{changed}
 use Rattle.cedar_store.specs.Entities.{IsAcyclic}
@@ -28,9 +28,9 @@ IsSettled sets u = IsTrue (is_some (get same_uid sets u))
 abbrev pub IsNumbered : BaseTree → Uid → Type 0
 IsNumbered b u = IsTrue (is_some (number_in b.keys u))
 
--- each uid with a number that changes name is marked
+-- each uid with a number is marked, or has the parents that it had before the changes
 abbrev pub AreMarked : BaseTree → List ChangeTree → List ℕ → Type 0
-AreMarked b cs marks = (u : Uid) → IsNamed cs u → IsNumbered b u → IsTrue (in_row b.keys marks u)
+AreMarked b cs marks = (u : Uid) → IsNumbered b u → IsTrue (in_row b.keys marks u) ⊎ (parents_of (world_over b.world cs) u ≡ parents_of b.world u)
 
 -- each set that is kept has what its uid is below
 abbrev pub AreSettled : {S : Type 0} → World → IndexMap Uid (BTreeSet Uid) S → Type 0

@@ -1,13 +1,11 @@
-use Rattle.cedar_store.proofs.BitRows.{none_marked, row_above, row_nothing}
+use Rattle.cedar_store.proofs.AboveNear.{above_of, none_ahead_marked}
 use Rattle.cedar_store.proofs.base.Base.is_below_marked.Goals as goal
 
-pub returns-in-Some : goal.returns-in-Some
-returns-in-Some c =
+pub returns : goal.returns
+returns c =
     let keys = c.self.inside.numbers.keys in
-    let above = row_above keys c.self.inside.table c.self.inside.rows.items c.deref.result.now c.args.low.now c.self.invariant.0 c.deref.ensures.value c.in-Some.row.now c.in-Some.ensures.found in
-    rw (← c.self.view_is) (λ clear. none_marked keys c.self.inside.table c.args.low.now c.in-Some.row.now c.args.marks.now above (c.have_common.ensures clear))
-
-pub returns-in-None : goal.returns-in-None
-returns-in-None c =
-    let none = row_nothing c.self.inside.numbers.keys c.self.inside.table c.self.inside.rows.items c.deref.result.now c.args.low.now c.self.invariant.0 c.deref.ensures.value c.in-None.ensures.absent in
-    rw (← c.self.view_is) (λ clear x marked. none x)
+    let w = c.self.inside.table in
+    let rows = c.deref.result.now in
+    let near = c.parent_numbers-near.result.now in
+    let above = above_of keys w c.self.inside.parents c.self.inside.rows.items rows c.self.invariant.0 c.self.invariant.2 c.deref.ensures.value c.args.low.now near c.parent_numbers-near.ensures in
+    rw (← c.self.view_is) (λ clear. none_ahead_marked keys w rows near c.args.marks.now c.args.low.now above (c.is_mark_ahead.ensures clear))

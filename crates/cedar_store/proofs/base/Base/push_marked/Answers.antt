@@ -26,7 +26,7 @@ loop-number-preserved c =
           let keeps = pushed_keeps c.loop-number.found.items w.push.new.self.items _ new in
           rw (w.found-is) (λ p m. keeps p (c.loop-number.invariant.0 p m), gather b c.args.marks.now i uid c.loop-number.found.items w.push.new.self.items at c.loop-number.invariant.1 keeps (λ marked. pushed_there c.loop-number.found.items w.push.new.self.items _ new)))
       | else-may_be_marked w ↦
-          rw (w.found-is) (c.loop-number.invariant.0, gather b c.args.marks.now i uid c.loop-number.found.items c.loop-number.found.items at c.loop-number.invariant.1 (λ p m. m) (λ marked. absurd (c.may_be_marked.ensures w.if-may_be_marked.false at marked)))
+          rw (w.found-is) (c.loop-number.invariant.0, gather b c.args.marks.now i uid c.loop-number.found.items c.loop-number.found.items at c.loop-number.invariant.1 (λ p m. m) (λ marked. absurd (c.may_be_marked.ensures w.if-may_be_marked.false uid at marked)))
     ]
 
 pub returns-clause-kept : goal.returns-clause-kept

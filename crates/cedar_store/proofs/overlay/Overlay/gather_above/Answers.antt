@@ -25,4 +25,4 @@ returns-in-None-clause-gathers c =
     let distinct = c.facts-2.ensures.distinct in
     let named = c.facts-2.ensures.named in
     let apart = parent_apart b cs c.args.self.now.marks.now sets distinct named c.facts.ensures.numbered c.requires.overlaid c.requires.parent.0 p c.requires.parent.1 (open_set sets p c.get.result c.get.ensures.value c.in-None.is) in
-    on_ok_weaker c.gather_ancestors.result (Gathers-as c.args.begun c.args.found.now.items c.gather_ancestors.new.found.items (λ v. Below b.world p v) (λ v. Below (world_over b.world cs) p v) (λ v. (let same = below_apart b.world cs distinct named p v apart in (same.1, same.0)))) c.gather_ancestors.ensures.gathers
+    on_ok_weaker c.gather_ancestors.result (Gathers-as c.args.begun c.args.found.now.items c.gather_ancestors.new.found.items (λ v. Below b.world p v) (λ v. Below (world_over b.world cs) p v) (λ v. (let same = below_apart b.world cs p v apart in (same.1, same.0)))) c.gather_ancestors.ensures.gathers

@@ -10,5 +10,5 @@ returns-in-None c =
     let distinct = c.facts-2.ensures.distinct in
     let named = c.facts-2.ensures.named in
     let apart = parent_apart b cs c.args.self.now.marks.now sets distinct named c.facts.ensures.numbered c.requires.overlaid c.requires.parent.0 p c.requires.parent.1 (open_set sets p c.get.result c.get.ensures.value c.in-None.is) in
-    let same = below_apart b.world cs distinct named p c.args.high.now apart in
+    let same = below_apart b.world cs p c.args.high.now apart in
     (λ t. same.1 (c.is_below.ensures.chain.0 t), λ d. c.is_below.ensures.chain.1 (same.0 d))

@@ -21,4 +21,4 @@ returns-in-None c =
     let distinct = c.facts-2.ensures.distinct in
     let named = c.facts-2.ensures.named in
     let apart = parent_apart b cs c.args.self.now.marks.now sets distinct named c.facts.ensures.numbered c.requires.overlaid c.requires.parent.0 p c.requires.parent.1 (open_set sets p c.get.result c.get.ensures.value c.in-None.is) in
-    any_same (world_over b.world cs) b.world p c.args.highs.now c.is_below_any.result (λ v. below_apart b.world cs distinct named p v apart) c.is_below_any.ensures.chain
+    any_same (world_over b.world cs) b.world p c.args.highs.now c.is_below_any.result (λ v. below_apart b.world cs p v apart) c.is_below_any.ensures.chain

@@ -19,6 +19,7 @@ mod chain;
 mod chain_level;
 mod constructors;
 mod expression_parser;
+mod leaves;
 mod lookup;
 
 pub use expression_parser::parse_expression;

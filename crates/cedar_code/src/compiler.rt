@@ -29,10 +29,11 @@ pub fn compile(alloc: Global, expression: &Expr) -> Result<Code, CodeFault>
     ensures too_long { result ≡ Err CodeFault.TooLong → most_instructions < length (code_of expression.now) }
     ensures fits { IfOk result (λ c. length c.instructions ≤ most_instructions) }
 {
-    if instruction_count(expression) > MOST_INSTRUCTIONS {
+    let count = instruction_count(expression);
+    if count > MOST_INSTRUCTIONS {
         return Err(CodeFault::TooLong);
     }
-    let mut instructions = Vec::new(alloc);
+    let mut instructions = Vec::with_capacity(alloc, count)?;
     emit(alloc, &mut instructions, expression)?;
     let height = greatest_height(expression);
     let sets = literal_sets(alloc, &instructions)?;

@@ -3,16 +3,18 @@ ghost use Rattle.std.specs.Prelude.{◌≡◌, IfOk};
 ghost use Rattle.cedar_value.specs.Glance.{datum_seen};
 
 use cedar_ext::Decimal;
-use cedar_value::{Glance, Value};
+use cedar_value::{Glance, Uid, Value};
 use std::alloc::{AllocError, Global};
 use std::marker::Model;
 
-// A plain value is in the instruction itself, another value in a box. So an instruction is small, and a plain value is at hand.
+// A plain value is in the instruction itself, another value in a box. So an instruction is small, and a plain value is at hand. Most
+// boxed literals are uids, which are in a box of their own, without that of a value.
 #[derive(Drop)]
 enum Kept {
     Boolean(bool),
     Long(i64),
     Decimal(Decimal),
+    Uid(Box<Uid>),
     Boxed(Box<Value>),
 }
 
@@ -43,6 +45,7 @@ impl Literal {
             Glance::Boolean(truth) => Kept::Boolean(truth),
             Glance::Long(number) => Kept::Long(number),
             Glance::Decimal(number) => Kept::Decimal(*number),
+            Glance::Uid(entity) => Kept::Uid(Box::new(alloc, entity.try_clone(alloc)?)?),
             _ => Kept::Boxed(Box::new(alloc, value.try_clone(alloc)?)?),
         };
         Ok(Literal { kept })
@@ -57,6 +60,7 @@ impl Literal {
             Kept::Boolean(truth) => Glance::Boolean(*truth),
             Kept::Long(number) => Glance::Long(*number),
             Kept::Decimal(number) => Glance::Decimal(number),
+            Kept::Uid(entity) => Glance::Uid(entity),
             Kept::Boxed(value) => value.as_ref().glance(),
         }
     }

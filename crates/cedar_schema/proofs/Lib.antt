@@ -10,6 +10,7 @@ pub mod InsertedKeys
 pub mod NameEnds
 pub mod NamedTypes
 pub mod Numbered
+pub mod PlaceLemmas
 pub mod ResolvedNames
 pub mod TypeLemmas
 pub mod WrittenLemmas

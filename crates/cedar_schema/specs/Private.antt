@@ -3,5 +3,6 @@ pub mod Answers
 pub mod Kept
 pub mod KeptSchema
 pub mod NamedForms
+pub mod Places
 pub mod ReadsApplies
 pub mod SettingView

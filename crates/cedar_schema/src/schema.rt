@@ -3,6 +3,7 @@ ghost use Rattle.std.specs.Prelude.{◌≡◌, ◌≢◌, ◌↔◌, IfOk, IfErr
 ghost use Rattle.cedar_schema_json.specs.declared.schema_fault.SchemaFault.TheVariants.{OutOfMemory};
 ghost use Rattle.cedar_schema_spec.specs.Declarations.{IsAction, IsActionType};
 ghost use Rattle.cedar_schema.specs.Denotes.{BytesAreRefusedWith, BytesDenote};
+ghost use Rattle.cedar_schema.specs.Positions.{IsEnvironmentAt};
 ghost use Rattle.cedar_schema.specs.Private.Answers.{Answers};
 ghost use Rattle.cedar_schema_spec.specs.Descents.{ActionDescends, ActionTypeDescends, EntityTypeDescends, TypeDescends};
 ghost use Rattle.cedar_schema_spec.specs.SchemaTree.{HasEnvironment, HasNoEnvironment, action_at, environments_of, shape_of};
@@ -17,6 +18,7 @@ mod environment;
 mod graph;
 pub(crate) mod members;
 mod numbers;
+mod place;
 pub(crate) mod reading;
 mod rows;
 
@@ -24,6 +26,7 @@ use crate::schema::ancestors::types_above;
 use crate::schema::descents::Descents;
 use crate::schema::entity_type::EntityType;
 use crate::schema::environment::environments_of;
+use crate::schema::place::{is_at, place_of};
 use crate::schema::reading::read_schema;
 use crate::schema::rows::{action_rows, action_types, some_descends, type_rows};
 pub use action::Action;
@@ -206,6 +209,29 @@ impl Schema {
         } else {
             None
         }
+    }
+
+    /// The position, in [`Schema::environments`], of the environment of an action with a type of principals and a type of resources.
+    /// None exactly where there is no such environment. It is looked for at the position `guess` first, and otherwise found with as many
+    /// comparisons as the logarithm of the number of environments. Takes no memory.
+    pub fn environment(
+        &self,
+        action: &Uid,
+        principal: &Name,
+        resource: &Name,
+        guess: usize,
+    ) -> Option<usize>
+        ensures { MatchOption result
+            (HasNoEnvironment self.now.actions action.now principal.now resource.now)
+            (IsEnvironmentAt (environments_of self.now.actions) action.now principal.now resource.now) }
+    {
+        // The environments ascend, each once.
+        self.well_formedness();
+        let environments = self.environments();
+        if is_at(environments, guess, action, principal, resource) {
+            return Some(guess);
+        }
+        place_of(environments, action, principal, resource)
     }
 
     // Whether the one entity type descends from the other through links of `memberOfTypes`.

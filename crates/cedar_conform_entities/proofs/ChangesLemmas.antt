@@ -1,5 +1,5 @@
 -- From the parts of changes that are read to the store after them.
-use Rattle.std.proofs.Common.{◌≡◌, ℕ, suc, Bool, true, false, inl, inr, ⊎_elim, List, [], ◌∷◌, ◌++◌, length, map, Contains, Option, Some, None, MatchOption, Result, Ok, Err, IfOk, IfErr, OnOk, refl, sym, subst, ◌∙◌, append_assoc, append-nil}
+use Rattle.std.proofs.Common.{◌≡◌, ℕ, suc, Bool, true, false, inl, inr, ⊎_elim, List, [], ◌∷◌, ◌++◌, length, map, Contains, Option, Some, None, MatchOption, Result, Ok, Err, MatchResult, IfOk, IfErr, OnOk, refl, sym, subst, ◌∙◌, append_assoc, append-nil}
 use Rattle.std.specs.BTreeSet.{BTreeSet, IsEmpty}
 use Rattle.serde_json.specs.Data.{Data, Items, no_items, item}
 use Rattle.serde_json.specs.Find.{as_array}
@@ -8,10 +8,10 @@ use Rattle.base_reach.proofs.Listed.{nowhere, first_or_later}
 use Rattle.cedar_conform_values.specs.Objects.{has_only}
 use Rattle.cedar_conform_values.specs.declared.conform_fault.ConformFault.{ConformFault}
 use Rattle.cedar_conform_values.specs.declared.conform_fault.ConformFault.TheVariants.{OutOfMemory, DuplicateEntity, Cycle, Shape, ActionDiffers}
-use Rattle.cedar_conform_entities.specs.Changes.{is_change_key, upserts_in, removals_in, WritesChanges, IsRemovedTwice, IsActionUid, DenotesChanges, BytesDenoteChanged, ChangedWorldsConform, HasChangesFault, BytesHaveChangesFault}
+use Rattle.cedar_conform_entities.specs.Changes.{is_change_key, upserts_in, removals_in, WritesChanges, IsRemovedTwice, IsActionUid, DenotesChanges, DenotesChangedWorld, BytesDenoteChanged, ChangedWorldsConform, upserts_only, HasChangesFault, BytesHaveChangesFault}
 use Rattle.cedar_conform_entities.specs.Changes as changes
 use Rattle.cedar_conform_entities.specs.Denotes.{DenoteEntities, no_entries, an_entity, an_action}
-use Rattle.cedar_conform_entities.specs.Entries.{AreUids, IsUidOf, SomeWrites, TwoWrite}
+use Rattle.cedar_conform_entities.specs.Entries.{AreUids, no_uids, IsUidOf, SomeWrites, TwoWrite}
 use Rattle.cedar_conform_entities.specs.Private.Changing.{IsNoted, RefusesNoted, uid_of_entry, appended, OnceBut, AreUpserts, AreRemovals, HasRemovalsFault, an_action as removes_action, twice, RefusesRemovals, RefusesChanges, AreChangesOf, HasStoreChangesFault}
 use Rattle.cedar_conform_entities.specs.Private.Parts.{IsEntry, Refuses, RefusesEntry}
 use Rattle.cedar_conform_entities.specs.Private.Progress.{IsItem, HasListFault, of_entry, written_twice, RefusesList, Twice}
@@ -189,32 +189,66 @@ twice_written (an_entity {d = d} h more) u (inl (same, m)) = inl (subst (IsUidOf
 twice_written (an_entity h more) u (inr t) = inr (twice_written more u t)
 twice_written (an_action h more) u t = inr (twice_written more u t)
 
-module _ (s : SchemaTree) (bytes : List ℕ) (w : World) (removed : List Uid) (upserted : World) (read : AreChangesOf s bytes removed upserted) where
-  store_fault : (f : ConformFault) → HasStoreChangesFault w removed upserted f → (f ≡ OutOfMemory → ⊥) → BytesHaveChangesFault s w bytes f
+module _ (s : SchemaTree) (d : Data) (w : World) (removed : List Uid) (upserted : World) (read : DenotesChanges s d removed upserted) where
+  store_fault : (f : ConformFault) → HasStoreChangesFault w removed upserted f → (f ≡ OutOfMemory → ⊥) → HasChangesFault s w d f
   store_fault OutOfMemory h other = absurd (other refl)
-  store_fault (DuplicateEntity u) h other = absurd (read.2.distinct u (twice_written read.2.denoted u (places_twice (uids_of upserted) u h.0 h.1 h.2 h.3 h.4)))
-  store_fault (Cycle u) h other = inr (read.0, read.1, changes.below_itself read.2 h)
+  store_fault (DuplicateEntity u) h other = absurd (read.distinct u (twice_written read.denoted u (places_twice (uids_of upserted) u h.0 h.1 h.2 h.3 h.4)))
+  store_fault (Cycle u) h other = changes.below_itself read h
   store_fault _ h other = absurd h
 
+  pub world_changed : (result : Result World ConformFault) → IfOk result (λ v. HaveSameEntities v (changed w removed upserted)) → IfOk result AreUidsDistinct → IfOk result IsAcyclic → IfOk result (DenotesChangedWorld s d w)
+  world_changed (Ok v) is distinct acyclic = record {
+    removed = removed;
+    upserted = upserted;
+    changes = read;
+    entities = is;
+    once = distinct;
+    acyclic = acyclic;
+  }
+  world_changed (Err f) is distinct acyclic = tt
+
+  pub world_refused : (result : Result World ConformFault) → IfErr result (HasStoreChangesFault w removed upserted) → IfErr result (λ f. (f ≡ OutOfMemory → ⊥) → HasChangesFault s w d f)
+  world_refused (Ok v) h = tt
+  world_refused (Err f) h = store_fault f h
+
+pub world_conforms : (s : SchemaTree) (d : Data) (w : World) → ChangedWorldsConform → AreParentsDeclared s → AreTypesApart s → IsHierarchy s → (result : Result World ConformFault) → IfOk result (DenotesChangedWorld s d w) → Conforms s w → IfOk result (Conforms s)
+world_conforms s d w law declared apart hierarchy (Ok v) h before = law s d w v declared apart hierarchy before h
+world_conforms s d w law declared apart hierarchy (Err f) h before = tt
+
+module _ (s : SchemaTree) (bytes : List ℕ) (w : World) (removed : List Uid) (upserted : World) (read : AreChangesOf s bytes removed upserted) where
   pub store_changed : (result : Result World ConformFault) → IfOk result (λ v. HaveSameEntities v (changed w removed upserted)) → IfOk result AreUidsDistinct → IfOk result IsAcyclic → IfOk result (BytesDenoteChanged s bytes w)
-  store_changed (Ok v) is distinct acyclic = (
-    read.0,
-    read.1,
-    record {
-      removed = removed;
-      upserted = upserted;
-      changes = read.2;
-      entities = is;
-      once = distinct;
-      acyclic = acyclic;
-    },
-  )
+  store_changed (Ok v) is distinct acyclic = (read.0, read.1, world_changed s read.0 w removed upserted read.2 (Ok v) is distinct acyclic)
   store_changed (Err f) is distinct acyclic = tt
 
   pub store_refused : (result : Result World ConformFault) → IfErr result (HasStoreChangesFault w removed upserted) → IfErr result (λ f. (f ≡ OutOfMemory → ⊥) → BytesHaveChangesFault s w bytes f)
   store_refused (Ok v) h = tt
-  store_refused (Err f) h = store_fault f h
+  store_refused (Err f) h = λ other. inr (read.0, read.1, world_refused s read.0 w removed upserted read.2 (Err f) h other)
 
 pub store_conforms : (s : SchemaTree) (bytes : List ℕ) (w : World) → ChangedWorldsConform → AreParentsDeclared s → AreTypesApart s → IsHierarchy s → (result : Result World ConformFault) → IfOk result (BytesDenoteChanged s bytes w) → Conforms s w → IfOk result (Conforms s)
 store_conforms s bytes w law declared apart hierarchy (Ok v) h before = law s h.0 w v declared apart hierarchy before h.2
 store_conforms s bytes w law declared apart hierarchy (Err f) h before = tt
+
+-- ---- entries that are upserted alone
+
+only_keys : (d : Data) → has_only is_change_key (upserts_only d) ≡ true
+unfolding is_change_key
+only_keys d = refl
+
+none_removed : (s : SchemaTree) → AreRemovals s []
+none_removed s = record { no_actions = λ u m. absurd (nowhere u m); once = λ u h. places_twice [] u h.0 h.1 h.2 h.3 h.4 }
+
+module _ (s : SchemaTree) (d : Data) where
+  pub no_entries_refused : None ≡ as_array d → RefusesChanges s (upserts_only d) Shape
+  no_entries_refused e = upserts_missing s (upserts_only d) e
+
+  module _ (entries : Items) (list : Some entries ≡ as_array d) where
+    pub upserts_only_refused : (f : ConformFault) → RefusesList s entries f → RefusesChanges s (upserts_only d) f
+    upserts_only_refused = entries_refused s (upserts_only d) entries no_items [] (only_keys d) list refl no_uids
+
+    pub upserts_only_denoted : (upserted : World) → AreUpserts s entries upserted → DenotesChanges s (upserts_only d) [] upserted
+    upserts_only_denoted upserted h = changes_denoted s (upserts_only d) entries no_items [] (only_keys d) list refl no_uids [] upserted refl (none_removed s) h
+
+    pub upserts_only_read : {V : Type 0} (entities : V → World) (result : Result V ConformFault) → MatchResult result (λ v. AreUpserts s entries (entities v)) (RefusesList s entries)
+        → MatchResult result (λ v. DenotesChanges s (upserts_only d) [] (entities v)) (RefusesChanges s (upserts_only d))
+    upserts_only_read entities (Ok v) h = upserts_only_denoted (entities v) h
+    upserts_only_read entities (Err f) h = upserts_only_refused f h

@@ -4,7 +4,7 @@ mod ChangesLemmas
 mod ComingLemmas
 mod Conforming
 mod Denoted
-mod EntryLemmas
+pub mod EntryLemmas
 mod Exact
 mod ListLemmas
 mod OnceLemmas

@@ -2,7 +2,7 @@
 use Rattle.std.specs.Prelude.{◌≡◌, ◌⊎◌, ◌||◌, ℕ, ◌<◌, Bool, true, codes, List, Some, None, Contains, MatchOption, unwrap_or}
 use Rattle.std.specs.List.{slice_get}
 use Rattle.std.specs.Str.{bytes_eq}
-use Rattle.serde_json.specs.Data.{Data, array, Items, no_items}
+use Rattle.serde_json.specs.Data.{Data, array, object, Items, no_items, no_members, member}
 use Rattle.serde_json.specs.Find.{get, as_array, get_item}
 use Rattle.base_json.specs.JsonTree.{json_of}
 use Rattle.cedar_conform_values.specs.Objects.{has_only}
@@ -33,6 +33,10 @@ upserts_in d = unwrap_or (get (codes "upsert") d) (array no_items)
 -- The uids that are removed, none where the key is absent (own; Cedar's crate, `Entities::remove_entities`).
 abbrev pub removals_in : Data → Data
 removals_in d = unwrap_or (get (codes "remove") d) (array no_items)
+
+-- The JSON of changes that upserts these entries, and removes nothing (own).
+abbrev pub upserts_only : Data → Data
+upserts_only entries = object (member (codes "upsert") entries no_members)
 
 -- A JSON writes changes: it is an object without other keys, a list of entries to upsert, and a list of uids to remove, each as an
 -- object (own).

@@ -111,7 +111,8 @@ fn items_at<'j>(json: &'j Json, key: &str) -> Option<&'j [Json]>
     }
 }
 
-fn change_store(
+// The store after the changes.
+pub(crate) fn change_store(
     alloc: Global,
     store: &Store,
     removed: &[Uid],

@@ -9,7 +9,8 @@
 //!
 //! [`read_entities`] is lent the bytes; [`read_entities_owned`] owns them, and frees what it has read.
 //!
-//! [`read_changes`] reads changes of a store: entities to upsert, and uids to remove.
+//! [`read_changes`] reads changes of a store: entities to upsert, and uids to remove. [`upsert_entities`] upserts entries of a JSON
+//! that has been read, such as those that come with a request.
 //!
 //! A list of entries is read one by one: first what an entry writes, whatever the schema is, then what it means for the schema.
 //! The schema's actions are in every store, before the entities. A world that is read conforms to the schema, which is a
@@ -28,6 +29,7 @@ mod list;
 mod noted;
 mod objects;
 mod removals;
+mod upserting;
 mod upserts;
 mod written;
 
@@ -38,3 +40,4 @@ pub use laws::{
     changed_worlds_are_exact, changed_worlds_conform, denoted_worlds_are_exact,
     denoted_worlds_conform, sound_entities_conform,
 };
+pub use upserting::upsert_entities;

@@ -51,7 +51,7 @@ module _ (may : List ℕ → Bool) (k : List ℕ) (d : Data) where
 
 -- ---- a member more
 
-apart : (a b : List ℕ) → bytes_eq a b ≡ false → a ≡ b → ⊥
+pub apart : (a b : List ℕ) → bytes_eq a b ≡ false → a ≡ b → ⊥
 apart a b f e = false≢true (sym f ∙ (bytes_eq-Decides a b).1 e)
 
 module _ (k : List ℕ) (v : LentValue) (ms : Members) (f : Fields) (are : AreFieldsOf ms f) where

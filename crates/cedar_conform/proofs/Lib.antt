@@ -3,5 +3,8 @@ pub mod FieldLemmas
 pub mod FitLemmas
 pub mod LinkLemmas
 pub mod PartsLemmas
+pub mod PlacedContexts
 pub mod QuotedUids
 pub mod RequestLemmas
+pub mod WithEntitiesLemmas
+pub mod WithoutKey

@@ -28,7 +28,7 @@ use Rattle.cedar_conform.proofs.EnvironmentSources.{one_context, action_declared
 
 -- ---- what a JSON denotes fits
 
-denoted_fits : ReadValuesBelong → (s : SchemaTree) (d : Data) (q : Request) → Denotes s d q → Fits s q
+pub denoted_fits : ReadValuesBelong → (s : SchemaTree) (d : Data) (q : Request) → Denotes s d q → Fits s q
 denoted_fits belong s d q h = (
   record { action = q.action; principal = q.principal.ty; resource = q.resource.ty; context = h.context_type },
   record {
@@ -68,7 +68,7 @@ answer_of_members s line None (Err f) is h = λ other. subst (λ o. MatchOption 
 answer_of_members s line (Some ms) (Ok q) is h = subst (λ o. MatchOption o ⊥ (λ x. Denotes s x q)) (sym is) h
 answer_of_members s line (Some ms) (Err f) is h = λ other. subst (λ o. MatchOption o (f ≡ Json) (λ x. HasFault s x f)) (sym is) (h other)
 
-no_keys : (d : Data) (o : Option Members) → as_object d ≡ o → o ≡ None → unwrap_or (option_map (are_only is_request_key) o) false ≡ false
+pub no_keys : (d : Data) (o : Option Members) → as_object d ≡ o → o ≡ None → unwrap_or (option_map (are_only is_request_key) o) false ≡ false
 no_keys d o e n = ap (λ x. unwrap_or (option_map (are_only is_request_key) x) false) n
 
 pub no_object : (s : SchemaTree) (line : List ℕ) (f : ConformFault) → IsNoObjectFault line f → LineHasFault s line f

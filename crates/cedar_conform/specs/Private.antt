@@ -3,3 +3,4 @@ pub mod Answers
 pub mod Fields
 pub mod PartsAnswers
 pub mod Refusals
+pub mod WithEntities

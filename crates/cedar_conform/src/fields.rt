@@ -59,9 +59,9 @@ impl<'l> Fields<'l> {
         }
     }
 
-    // Adds a member.
+    /// Adds a member.
     #[inline(always)]
-    fn put(&mut self, key: &str, value: LentValue<'l>)
+    pub(crate) fn put(&mut self, key: &str, value: LentValue<'l>)
         ensures { (ms : Members) → AreFieldsOf ms self.old → AreFieldsOf (put key.now (lent_view value.entry) ms) self.new }
     {
         if key == "principal" {

@@ -9,13 +9,18 @@
 //! ```
 //!
 //! To read many lines, use [`read_request_with`], whose [`RequestReader`] is kept from line to line. A host without lines gives the parts
-//! of a request to [`read_request_parts`]. Entities are read by
+//! of a request to [`read_request_parts`]. [`read_fitting_request`] and [`read_fitting_parts`] do the same, and also give the position of
+//! the request's environment in the schema. Lines that bring entities of their own are read with [`read_request_with_entities`]
+//! (`specs/RequestsWithEntities.antt`). Entities are read by
 //! cedar_conform_entities, values and uids by cedar_conform_values.
 #![tactic(auto)]
 
 mod context;
 mod fields;
+mod fields_with_entities;
 mod fitting;
+mod fitting_request;
+mod guesses;
 mod laws;
 mod links;
 mod names;
@@ -24,21 +29,27 @@ mod plain_request;
 mod request;
 mod request_reader;
 mod request_rooms;
+mod request_with_entities;
 mod uid_room;
 mod uids;
 
 pub use cedar_conform_entities::{
     changed_worlds_are_exact, changed_worlds_conform, denoted_worlds_are_exact,
     denoted_worlds_conform, read_changes, read_entities, read_entities_owned,
-    sound_entities_conform,
+    sound_entities_conform, upsert_entities,
 };
 pub use cedar_conform_values::{
     ConformFault, is_member, is_record_member, one_written_uid, read_record, read_value,
     read_values_belong, uid_of_object, written_uid,
 };
 pub use fitting::fits;
-pub use laws::{denoted_requests_fit, one_request};
+pub use fitting_request::FittingRequest;
+pub use laws::{
+    denoted_requests_fit, one_request, plain_lines_mean_the_same, requests_with_entities_fit,
+    worlds_for_requests_conform,
+};
 pub use links::read_links;
-pub use parts::{RequestParts, UidParts, read_request_parts};
-pub use request::{read_request, read_request_with};
+pub use parts::{RequestParts, UidParts, read_fitting_parts, read_request_parts};
+pub use request::{read_fitting_request, read_request, read_request_with};
 pub use request_reader::RequestReader;
+pub use request_with_entities::read_request_with_entities;

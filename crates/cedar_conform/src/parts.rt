@@ -8,10 +8,12 @@ ghost use Rattle.cedar_schema_types.specs.Types.{is_record};
 ghost use Rattle.cedar_schema_spec.specs.Conformance.{Fits};
 ghost use Rattle.cedar_conform_values.specs.Values.{value_read};
 ghost use Rattle.cedar_conform_values.specs.declared.conform_fault.ConformFault.TheVariants.{Json as JsonFault, OutOfMemory, Shape as ShapeFault};
+ghost use Rattle.cedar_conform.specs.Places.{IsPlacedAt};
 ghost use Rattle.cedar_conform.specs.Parts.{AreNamed, PartsDenote, PartsHaveFault, context_json, parts_of, uid_of};
 ghost use Rattle.cedar_conform.specs.Private.PartsAnswers.{AreUidsOf, IsUidOf};
 
 use crate::context::{absent_context, record_type};
+use crate::fitting_request::FittingRequest;
 use crate::names::Names;
 use crate::request::{RequestUids, context_type};
 use crate::request_reader::RequestReader;
@@ -72,16 +74,46 @@ pub fn read_request_parts(
     request_of_parts(alloc, schema, parts, reader)
 }
 
+/// Like [`read_request_parts`], and gives the position of the environment of the request too.
+///
+/// # Errors
+///
+/// Those of [`read_request_parts`].
+pub fn read_fitting_parts(
+    alloc: Global,
+    schema: &Schema,
+    parts: &RequestParts<'_>,
+    reader: &mut RequestReader,
+) -> Result<FittingRequest, ConformFault>
+    ensures denotes { IfOk result (λ found. PartsDenote schema.now (parts_of parts.now) found.request) }
+    ensures fits { IfOk result (λ found. Fits schema.now found.request) }
+    ensures placed { IfOk result (λ found. IsPlacedAt schema.now found.request found.environment) }
+    ensures only { (q : RequestTree) → PartsDenote schema.now (parts_of parts.now) q → MatchResult result (λ found. found.request ≡ q) (λ e. e ≡ OutOfMemory) }
+    ensures refused { IfErr result (λ e. e ≢ OutOfMemory → PartsHaveFault schema.now (parts_of parts.now) e) }
+{
+    // As in `read_request_parts`.
+    schema.well_formedness();
+    read_values_belong();
+    match request_of_parts(alloc, schema, parts, reader) {
+        Ok(request) => Ok(FittingRequest {
+            request,
+            environment: reader.rooms.environment,
+        }),
+        Err(fault) => Err(fault),
+    }
+}
+
 fn request_of_parts(
     alloc: Global,
     schema: &Schema,
     parts: &RequestParts<'_>,
     reader: &mut RequestReader,
 ) -> Result<Request, ConformFault>
-    ensures { MatchResult result (PartsDenote schema.now (parts_of parts.now)) (λ e. e ≢ OutOfMemory → PartsHaveFault schema.now (parts_of parts.now) e) }
+    ensures answer { MatchResult result (PartsDenote schema.now (parts_of parts.now)) (λ e. e ≢ OutOfMemory → PartsHaveFault schema.now (parts_of parts.now) e) }
+    ensures placed { IfOk result (λ q. IsPlacedAt schema.now q reader.new.rooms.environment) }
 {
     let uids = uids_of_parts(alloc, &mut reader.names, &mut reader.rooms, parts)?;
-    let ty = context_type(schema, &uids)?;
+    let ty = context_type(schema, &mut reader.rooms, &uids)?;
     let context = read_context_bytes(alloc, ty, parts.context, &mut reader.json)?;
     Ok(Request {
         principal: uids.principal,

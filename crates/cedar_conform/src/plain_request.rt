@@ -1,7 +1,8 @@
 //! Requests without a context whose uids are in the plain form.
-ghost use Rattle.std.specs.Prelude.{◌≡◌, ◌≢◌, Some, MatchResult};
+ghost use Rattle.std.specs.Prelude.{◌≡◌, ◌≢◌, Some, IfOk, MatchResult};
 ghost use Rattle.serde_json.specs.Data.{Members, object, string};
 ghost use Rattle.cedar_conform_values.specs.declared.conform_fault.ConformFault.TheVariants.{OutOfMemory, Shape as ShapeFault};
+ghost use Rattle.cedar_conform.specs.Places.{IsPlacedAt};
 ghost use Rattle.cedar_conform.specs.Private.Answers.{IsAnswer};
 ghost use Rattle.cedar_conform.specs.Private.Fields.{AreFieldsOf, AreWritten, LacksIn, LacksOne, WrittenIn, quoted_fields};
 
@@ -24,10 +25,11 @@ pub(crate) fn plain_request(
     rooms: &mut RequestRooms,
     values: &ThreeQuoted<'_>,
 ) -> Result<Request, ConformFault>
-    ensures { (ms : Members) → AreFieldsOf ms (quoted_fields values.now) → IsAnswer schema.now (object ms) result }
+    ensures answer { (ms : Members) → AreFieldsOf ms (quoted_fields values.now) → IsAnswer schema.now (object ms) result }
+    ensures placed { IfOk result (λ q. IsPlacedAt schema.now q rooms.new.environment) }
 {
     let uids = plain_uids(alloc, names, rooms, values)?;
-    let ty = context_type(schema, &uids)?;
+    let ty = context_type(schema, rooms, &uids)?;
     let context = read_context(alloc, ty, &None)?;
     Ok(Request {
         principal: uids.principal,

@@ -1,22 +1,25 @@
 //! Requests from JSON.
-ghost use Rattle.std.specs.Prelude.{◌≡◌, ◌≢◌, None, IfErr, IfOk, IsTrue, MatchOption, MatchResult, option_and_then};
+ghost use Rattle.std.specs.Prelude.{◌≡◌, ◌≢◌, None, IfErr, IfOk, IsTrue, MatchOption, MatchResult, OnOk, option_and_then};
 ghost use Rattle.serde_json.specs.Data.{Members, no_members, object};
 ghost use Rattle.serde_json.specs.Find.{as_object};
 ghost use Rattle.base_json.specs.JsonTree.{json_of};
 ghost use Rattle.base_json.specs.Members.{members_to_come};
 ghost use Rattle.cedar_schema_spec.specs.Conformance.{Fits};
 ghost use Rattle.cedar_schema_types.specs.Types.{is_record};
-ghost use Rattle.cedar_schema_spec.specs.SchemaTree.{HasEnvironment, HasNoEnvironment};
+ghost use Rattle.cedar_schema_spec.specs.SchemaTree.{HasEnvironment, HasNoEnvironment, environments_of};
+ghost use Rattle.cedar_schema.specs.Positions.{IsEnvironmentAt};
 ghost use Rattle.cedar_value.specs.declared.request.Request.{Request as RequestTree};
 ghost use Rattle.cedar_conform_values.specs.Reads.{ReadsRecord};
 ghost use Rattle.cedar_conform_values.specs.Values.{value_read};
 ghost use Rattle.cedar_conform_values.specs.declared.conform_fault.ConformFault.TheVariants.{OutOfMemory, Shape as ShapeFault};
+ghost use Rattle.cedar_conform.specs.Places.{IsPlacedAt};
 ghost use Rattle.cedar_conform.specs.Requests.{HasUidsFault, LineDenotes, LineHasFault};
 ghost use Rattle.cedar_conform.specs.Private.Answers.{IsAnswer, IsLineAnswer, IsNoJson, IsNoObjectFault};
 ghost use Rattle.cedar_conform.specs.Private.Fields.{AreFieldsOf, AreWritten, LacksIn, LacksOne, WrittenIn, begun_fields, context_in, data_in};
 
 use crate::context::{absent_context, record_type};
 use crate::fields::Fields;
+use crate::fitting_request::FittingRequest;
 use crate::names::Names;
 use crate::plain_request::plain_request;
 use crate::request_reader::RequestReader;
@@ -78,13 +81,44 @@ pub fn read_request_with(
     read_line(alloc, schema, line, reader)
 }
 
+/// Like [`read_request_with`], and gives the position of the environment of the request too.
+///
+/// # Errors
+///
+/// Those of [`read_request`].
+pub fn read_fitting_request(
+    alloc: Global,
+    schema: &Schema,
+    line: &[u8],
+    reader: &mut RequestReader,
+) -> Result<FittingRequest, ConformFault>
+    ensures denotes { IfOk result (λ found. LineDenotes schema.now line.now found.request) }
+    ensures fits { IfOk result (λ found. Fits schema.now found.request) }
+    ensures placed { IfOk result (λ found. IsPlacedAt schema.now found.request found.environment) }
+    ensures only { (q : RequestTree) → LineDenotes schema.now line.now q → MatchResult result (λ found. found.request ≡ q) (λ e. e ≡ OutOfMemory) }
+    ensures refused { IfErr result (λ e. e ≢ OutOfMemory → LineHasFault schema.now line.now e) }
+{
+    // As in `read_request_with`.
+    schema.well_formedness();
+    read_values_belong();
+    one_written_uid();
+    match read_line(alloc, schema, line, reader) {
+        Ok(request) => Ok(FittingRequest {
+            request,
+            environment: reader.rooms.environment,
+        }),
+        Err(fault) => Err(fault),
+    }
+}
+
 fn read_line(
     alloc: Global,
     schema: &Schema,
     line: &[u8],
     reader: &mut RequestReader,
 ) -> Result<Request, ConformFault>
-    ensures { IsLineAnswer schema.now line.now result }
+    ensures answer { IsLineAnswer schema.now line.now result }
+    ensures placed { IfOk result (λ q. IsPlacedAt schema.now q reader.new.rooms.environment) }
 {
     let RequestReader { json, names, rooms } = reader;
     if let Some(mut members) = json.members(line)? {
@@ -93,8 +127,8 @@ fn read_line(
     Err(no_object_fault(alloc, line, json))
 }
 
-// Why a line that is not a JSON object is refused.
-fn no_object_fault(alloc: Global, line: &[u8], reader: &mut JsonReader) -> ConformFault
+/// Why a line that is not a JSON object is refused.
+pub(crate) fn no_object_fault(alloc: Global, line: &[u8], reader: &mut JsonReader) -> ConformFault
     requires { option_and_then as_object (json_of line.now) ≡ None }
     ensures { result ≢ OutOfMemory → IsNoObjectFault line.now result }
 {
@@ -117,7 +151,8 @@ fn request_of_members(
     rooms: &mut RequestRooms,
     members: &mut MemberReader<'_>,
 ) -> Result<Request, ConformFault>
-    ensures { MatchOption (members_to_come no_members members.old) (IsNoJson result) (λ ms. IsAnswer schema.now (object ms) result) }
+    ensures answer { MatchOption (members_to_come no_members members.old) (IsNoJson result) (λ ms. IsAnswer schema.now (object ms) result) }
+    ensures placed { IfOk result (λ q. IsPlacedAt schema.now q rooms.new.environment) }
 {
     let Some(values) = members.next_three("principal", "action", "resource") else {
         return request_of_rest(alloc, schema, names, rooms, None, members);
@@ -139,8 +174,9 @@ fn request_of_rest<'l>(
     values: Option<ThreeQuoted<'l>>,
     members: &mut MemberReader<'l>,
 ) -> Result<Request, ConformFault>
-    ensures { (old : Members) → AreFieldsOf old (begun_fields values.entry)
+    ensures answer { (old : Members) → AreFieldsOf old (begun_fields values.entry)
         → MatchOption (members_to_come old members.old) (IsNoJson result) (λ ms. IsAnswer schema.now (object ms) result) }
+    ensures placed { IfOk result (λ q. IsPlacedAt schema.now q rooms.new.environment) }
 {
     let mut fields = Fields::begun(values);
     match fields.read(alloc, members) {
@@ -152,20 +188,22 @@ fn request_of_rest<'l>(
     }
 }
 
-fn request_of(
+/// The request of the values at its keys.
+pub(crate) fn request_of(
     alloc: Global,
     schema: &Schema,
     names: &mut Names,
     rooms: &mut RequestRooms,
     fields: &Fields<'_>,
 ) -> Result<Request, ConformFault>
-    ensures { (ms : Members) → AreFieldsOf ms fields.now → IsAnswer schema.now (object ms) result }
+    ensures answer { (ms : Members) → AreFieldsOf ms fields.now → IsAnswer schema.now (object ms) result }
+    ensures placed { IfOk result (λ q. IsPlacedAt schema.now q rooms.new.environment) }
 {
     if !fields.are_known {
         return Err(ConformFault::Shape);
     }
     let uids = read_uids(alloc, names, rooms, fields)?;
-    let ty = context_type(schema, &uids)?;
+    let ty = context_type(schema, rooms, &uids)?;
     let context = read_context(alloc, ty, &fields.context)?;
     Ok(Request {
         principal: uids.principal,
@@ -213,19 +251,30 @@ fn uid_in(
     }
 }
 
-/// The type of the context in the environment of the uids.
+/// The type of the context in the environment of the uids. The room keeps the position of this environment.
 pub(crate) fn context_type<'s>(
     schema: &'s Schema,
+    rooms: &mut RequestRooms,
     uids: &RequestUids,
 ) -> Result<&'s Type, ConformFault>
-    ensures { MatchResult result
+    ensures found { MatchResult result
         (λ t. HasEnvironment schema.now.actions uids.now.action uids.now.principal.ty uids.now.resource.ty t.now × IsTrue (is_record t.now))
         (HasUidsFault schema.now uids.now.principal uids.now.action uids.now.resource) }
+    ensures placed { OnOk result (IsEnvironmentAt (environments_of schema.now.actions) uids.now.action uids.now.principal.ty uids.now.resource.ty rooms.new.environment) }
 {
     // The context of each environment of a schema is a record type.
     schema.well_formedness();
-    match schema.context(&uids.action, &uids.principal.ty, &uids.resource.ty) {
-        Some(ty) => Ok(ty),
+    let slot = rooms.slot(&uids.action);
+    match schema.environment(
+        &uids.action,
+        &uids.principal.ty,
+        &uids.resource.ty,
+        rooms.guesses.get(slot),
+    ) {
+        Some(position) => {
+            rooms.keep_environment(slot, position);
+            Ok(&schema.environments()[position].context)
+        }
         None => Err(uids_fault(schema, uids)),
     }
 }

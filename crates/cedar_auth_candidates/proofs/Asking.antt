@@ -7,7 +7,8 @@ use Rattle.cedar_value.specs.Datum.{same_uid}
 use Rattle.cedar_value.specs.Private.Equality.{same_uid-Decides}
 use Rattle.cedar_value.specs.World.{World, Below}
 use Rattle.cedar_value.specs.declared.uid.Uid.{Uid}
-use Rattle.cedar_auth_candidates.specs.Private.Kept.{Holds}
+use Rattle.base_bits.specs.Bits.{has_bit}
+use Rattle.cedar_auth_candidates.specs.Private.Kept.{Holds, LacksBits}
 
 abbrev items_in : Option (Vec ℕ) → List ℕ
 items_in found = unwrap_or (option_map (λ v. v.items) found) []
@@ -36,4 +37,24 @@ pub asked_all : (w : World) (e : Uid) (all : List (Uid × Vec ℕ)) (ks : List �
 asked_all w e all ks holds u below k m = ⊎_elim (λ h. h) nothing (holds u below k m)
   where
     nothing : Contains [] k → Contains ks k
+    nothing (i, low, d) = absurd (omega arith)
+
+-- ---- bits
+
+-- what is kept under a uid has no bit, or is kept by the entries that are left
+abbrev pub LacksOrLeft : List ℕ → List (Uid × Vec ℕ) → List (Uid × Vec ℕ) → Type 0
+LacksOrLeft row all left = (u : Uid) (k : ℕ) → Contains (list_in all u) k → (has_bit row k ≡ false) ⊎ Contains (list_in left u) k
+
+-- one entry further, whose positions have no bit
+pub lacks_more : (row : List ℕ) (all left : List (Uid × Vec ℕ)) (x : Uid) (v : Vec ℕ) → LacksBits row v.items → LacksOrLeft row all ((x, v) ∷ left) → LacksOrLeft row all left
+lacks_more row all left x v lacks before u k m = ⊎_elim (λ h. inl h) (λ h. at (same_uid u x) refl h) (before u k m)
+  where
+    at : (b : Bool) → same_uid u x ≡ b → Contains (items_in (cond (same_uid u x) (Some v) (lookup (same_uid u) left))) k → (has_bit row k ≡ false) ⊎ Contains (list_in left u) k
+    at true same h = inl (lacks k (subst (λ (b : Bool). Contains (items_in (cond b (Some v) (lookup (same_uid u) left))) k) same h))
+    at false other h = inr (subst (λ (b : Bool). Contains (items_in (cond b (Some v) (lookup (same_uid u) left))) k) other h)
+
+pub lacks_all : (row : List ℕ) (all : List (Uid × Vec ℕ)) → LacksOrLeft row all [] → (u : Uid) → LacksBits row (list_in all u)
+lacks_all row all holds u k m = ⊎_elim (λ h. h) nothing (holds u k m)
+  where
+    nothing : Contains [] k → has_bit row k ≡ false
     nothing (i, low, d) = absurd (omega arith)

@@ -1,5 +1,6 @@
 -- What is kept for an environment has just its candidates.
-use Rattle.std.proofs.Common.{◌≡◌, ℕ, Bool, true, false, cond, List, [], ◌∷◌, map, length, Contains, Option, Some, None, refl, sym, ap, subst, ◌∙◌}
+use Rattle.std.proofs.Common.{◌≡◌, ℕ, Bool, true, false, cond, List, [], ◌∷◌, map, length, slice_get, Contains, IsSome, Option, Some, None, refl, sym, ap, subst, ◌∙◌}
+use Rattle.std.proofs.lemmas.Option.{slice_get-map, slice_get_within, get_or_from_slice_get}
 use Rattle.std.proofs.lemmas.Map.Views.{tells_apart}
 use Rattle.std.specs.BTreeMap.{get, is_at}
 use Rattle.std.specs.List.{range_with_len}
@@ -15,10 +16,10 @@ use Rattle.cedar_schema_spec.specs.declared.environment.Environment.{Environment
 use Rattle.cedar_schema_spec.specs.SchemaTree.{SchemaTree, ActionTree, action_at, environments_of}
 use Rattle.cedar_check_spec.specs.Candidates.{MayMeet, Meets, IsCandidate}
 use Rattle.cedar_auth_spec.specs.Candidates.{AreCandidates}
-use Rattle.cedar_auth_candidates.specs.Candidates.{AreCandidatesFor, CandidatesTree, IsKeptFor, listing_at}
+use Rattle.cedar_auth_candidates.specs.Candidates.{AreCandidatesFor, IsKeptFor, listing_at}
 use Rattle.cedar_auth_candidates.specs.declared.row.Row.{Row}
-use Rattle.cedar_auth_candidates.specs.Index.{IndexTree, IsIndexOf, IsListingBy, ListingTree}
-use Rattle.cedar_auth_candidates.specs.Private.Sifting.{Cells, RowCells, Rows, SiftedBy, OfAction, ByAction, candidates_tree, cell_at, row_entries}
+use Rattle.cedar_auth_candidates.specs.Index.{IndexTree, IsIndexOf, ListingTree}
+use Rattle.cedar_auth_candidates.specs.Private.Sifting.{AreCellsOf, Cells, HaveCells, RowCells, Rows, SiftedBy, OfAction, ByAction, candidates_tree, cell_at, cell_of, row_entries}
 use Rattle.cedar_auth_candidates.proofs.Environments.{found_at, looked_up}
 use Rattle.base_reach.proofs.Listed.{here, there}
 use Rattle.cedar_auth_candidates.proofs.Makings.{IsMaking, making_end}
@@ -59,8 +60,8 @@ in_row n m (Some row) =
     ∙ in_cells m (get text_cmp row.cells.value n)
 
 -- what contracts see at an action and two types is what is kept there
-pub listing_is : (index : IndexTree) (rows : Rows) (u : Uid) (n m : List ℕ) → listing_at (candidates_tree index rows) u n m ≡ cell_at rows u n m
-listing_is index rows u n m =
+pub listing_is : (index : IndexTree) (rows : Rows) (cells : List ListingTree) (u : Uid) (n m : List ℕ) → listing_at (candidates_tree index rows cells) u n m ≡ cell_at rows u n m
+listing_is index rows cells u n m =
     ap (λ (o : Option (List (List ℕ × List (List ℕ × ListingTree)))).
     option_and_then (λ (cells : List (List ℕ × ListingTree)). lookup (is_at (text_cmp m)) cells)
     (option_and_then (λ (row : List (List ℕ × List (List ℕ × ListingTree))). lookup (is_at (text_cmp n)) row) o))
@@ -100,11 +101,32 @@ kept_for s ps index rows by up env listed =
       listed = listing;
     }
 
-pub candidates_for : (s : SchemaTree) (ps : List PolicyTree) (index : IndexTree) (rows : Rows) → IsIndexOf ps index → ByAction s ps index rows → IsStrictlySortedBy uid_cmp (keys_of s.actions)
-    → AreCandidatesFor s ps (candidates_tree index rows)
-candidates_for s ps index rows indexed by up = record {
+-- there is something for each environment of the schema
+pub have_cells : (s : SchemaTree) (ps : List PolicyTree) (index : IndexTree) (rows : Rows) → ByAction s ps index rows → IsStrictlySortedBy uid_cmp (keys_of s.actions) → HaveCells rows (environments_of s.actions)
+have_cells s ps index rows by up env listed = subst IsSome (sym (kept_for s ps index rows by up env listed).is) refl
+
+some_of : {A : Type 0} (o : Option A) (p : Option A) → option_map Some o ≡ Some p → o ≡ p
+some_of None p h = cc
+some_of (Some x) p h = cc
+
+-- what is kept for the environment at a position is at this position
+pub cell_is : (rows : Rows) (environments : List Environment) (cells : List ListingTree) → AreCellsOf rows environments cells → (position : ℕ) (env : Environment)
+    → slice_get environments position ≡ Some env → slice_get cells position ≡ cell_of rows env
+cell_is rows environments cells are position env at =
+    some_of (slice_get cells position) (cell_of rows env)
+    (sym (slice_get-map Some cells position) ∙ ap (λ (os : List (Option ListingTree)). slice_get os position) (sym are)
+    ∙ slice_get-map (cell_of rows) environments position ∙ ap (option_map (cell_of rows)) at)
+
+there_at : {A : Type 0} (xs : List A) (k : ℕ) (x : A) → slice_get xs k ≡ Some x → Contains xs x
+there_at xs k x at = (k, slice_get_within xs k x at, get_or_from_slice_get xs k x x at)
+
+pub candidates_for : (s : SchemaTree) (ps : List PolicyTree) (index : IndexTree) (rows : Rows) (cells : List ListingTree) → IsIndexOf ps index → ByAction s ps index rows → IsStrictlySortedBy uid_cmp (keys_of s.actions)
+    → AreCellsOf rows (environments_of s.actions) cells → AreCandidatesFor s ps (candidates_tree index rows cells)
+candidates_for s ps index rows cells indexed by up are = record {
   indexed = indexed;
-  kept = λ env listed. subst (λ (o : Option ListingTree). IsKeptFor s ps index env o) (sym (listing_is index rows env.action env.principal env.resource)) (kept_for s ps index rows by up env listed);
+  kept = λ env listed. subst (λ (o : Option ListingTree). IsKeptFor s ps index env o) (sym (listing_is index rows cells env.action env.principal env.resource)) (kept_for s ps index rows by up env listed);
+  placed = λ position env at. subst (λ (o : Option ListingTree). IsKeptFor s ps index env o) (sym (cell_is rows (environments_of s.actions) cells are position env at))
+      (kept_for s ps index rows by up env (there_at (environments_of s.actions) position env at));
 }
 
 -- ---- how the rows are made

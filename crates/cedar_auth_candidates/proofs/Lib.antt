@@ -6,6 +6,7 @@ pub mod Environments
 pub mod Fitting
 pub mod Gathering
 pub mod ListedPositions
+pub mod Listings
 pub mod Made
 pub mod Makings
 mod Meets

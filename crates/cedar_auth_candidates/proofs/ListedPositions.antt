@@ -4,7 +4,7 @@ use Rattle.std.proofs.lemmas.List.{take_all, take_more}
 use Rattle.std.proofs.lemmas.List.Elements.{Contains-append_left, Contains-append_right, Contains-append_cases, Contains-push, Contains-push_cases}
 use Rattle.std.proofs.lemmas.Nat.Bits.{bit_at-zero}
 use Rattle.base_bits.specs.Bits.{has_bit}
-use Rattle.cedar_auth_candidates.specs.Private.Kept.{HasBits, HasBitsAlone, Holds}
+use Rattle.cedar_auth_candidates.specs.Private.Kept.{HasBits, HasBitsAlone, Holds, LacksBits}
 
 here : (x : ℕ) (xs : List ℕ) → Contains (x ∷ xs) x
 here x xs = (zero, omega arith, refl)
@@ -143,3 +143,11 @@ stays row found added kept all is grown k m h =
 
 pub is_added : (kept added all : List ℕ) → all ≡ kept ++ added → Holds added all
 is_added kept added all grown k m = subst (λ (ys : List ℕ). Contains ys k) (sym grown) (Contains-append_right kept added k m)
+
+-- ---- bits that are not set
+
+pub lacks_next : (row xs : List ℕ) (i : ℕ) → i < length xs → has_bit row (get_or xs i 0) ≡ false → LacksBits row (take i xs) → LacksBits row (take (i + 1) xs)
+lacks_next row xs i low unset before = first_more (λ k. has_bit row k ≡ false) xs i low before unset
+
+pub lacks_end : (row xs : List ℕ) (i : ℕ) → length xs ≤ i → LacksBits row (take i xs) → LacksBits row xs
+lacks_end row xs i past by = subst (λ (ys : List ℕ). LacksBits row ys) (take_all i xs past) by

@@ -2,12 +2,14 @@
 use Rattle.std.specs.Prelude.{◌≡◌, ℕ, List, Contains, Option, Some, option_and_then}
 use Rattle.std.specs.BTreeMap.{is_at}
 use Rattle.std.specs.List.{slice_get}
+use Rattle.std.specs.List.Sorted.{IsStrictlyIncreasing}
 use Rattle.std.specs.Map.{lookup}
 use Rattle.cedar_value.specs.Order.{text_cmp, uid_cmp}
 use Rattle.cedar_value.specs.World.{World}
 use Rattle.cedar_value.specs.declared.request.Request.{Request}
 use Rattle.cedar_value.specs.declared.uid.Uid.{Uid}
 use Rattle.cedar_ast.specs.PolicyTree.{PolicyTree}
+use Rattle.cedar_schema.specs.Positions.{IsEnvironmentAt}
 use Rattle.cedar_schema_spec.specs.declared.environment.Environment.{Environment}
 use Rattle.cedar_schema_spec.specs.Conformance.{FitsIn}
 use Rattle.cedar_schema_spec.specs.SchemaTree.{SchemaTree, environments_of}
@@ -17,10 +19,11 @@ use Rattle.cedar_auth_candidates.specs.Index.{IndexTree, IsIndexOf, IsListingBy,
 use Rattle.cedar_auth_candidates.specs.Reached.{IsReached}
 
 -- What is kept about the policies: their index, and a listing for each action, each type of its principals and each type of its
--- resources (own).
+-- resources, also as a list in the order of the environments (own).
 pub record CandidatesTree : Type 0 where
   pub index : IndexTree
   pub rows : List (Uid × List (List ℕ × List (List ℕ × ListingTree)))
+  pub listings : List ListingTree
 
 -- The listing that is kept for an action and two types, where there is one (own).
 abbrev pub listing_at : CandidatesTree → Uid → List ℕ → List ℕ → Option ListingTree
@@ -35,10 +38,11 @@ pub record IsKeptFor (s : SchemaTree) (ps : List PolicyTree) (index : IndexTree)
   pub listed : IsListingBy index listing
 
 -- The index is one of these policies, and for each environment of the schema a listing is kept, with exactly the policies whose
--- scopes may be met in it (own).
+-- scopes may be met in it. The same at the position of each environment (own).
 pub record AreCandidatesFor (s : SchemaTree) (ps : List PolicyTree) (candidates : CandidatesTree) : Type 0 where
   pub indexed : IsIndexOf ps candidates.index
   pub kept : (env : Environment) → Contains (environments_of s.actions) env → IsKeptFor s ps candidates.index env (listing_at candidates env.action env.principal env.resource)
+  pub placed : (position : ℕ) (env : Environment) → slice_get (environments_of s.actions) position ≡ Some env → IsKeptFor s ps candidates.index env (slice_get candidates.listings position)
 
 -- The positions are those of the policies whose scopes may be met in the environment of the request. This holds for each schema
 -- and policies for which these are the candidates (own).
@@ -57,3 +61,16 @@ pub record IsSelected (s : SchemaTree) (ps : List PolicyTree) (env : Environment
 abbrev pub HasSelected : CandidatesTree → Request → World → List ℕ → Type 0
 HasSelected candidates q w positions =
     (s : SchemaTree) (ps : List PolicyTree) (env : Environment) → AreCandidatesFor s ps candidates → FitsIn s env q → IsSelected s ps env q w positions
+
+-- The same, and the positions ascend (own).
+abbrev pub HasSelectedInOrder : CandidatesTree → Request → World → List ℕ → Type 0
+HasSelectedInOrder candidates q w positions =
+    (s : SchemaTree) (ps : List PolicyTree) (env : Environment) → AreCandidatesFor s ps candidates → FitsIn s env q
+    → IsStrictlyIncreasing positions × IsSelected s ps env q w positions
+
+-- The same for a request whose environment is at the position (own).
+abbrev pub HasSelectedInOrderAt : CandidatesTree → ℕ → Request → World → List ℕ → Type 0
+HasSelectedInOrderAt candidates position q w positions =
+    (s : SchemaTree) (ps : List PolicyTree) (env : Environment) → AreCandidatesFor s ps candidates → FitsIn s env q
+    → IsEnvironmentAt (environments_of s.actions) q.action q.principal.ty q.resource.ty position
+    → IsStrictlyIncreasing positions × IsSelected s ps env q w positions

@@ -1,5 +1,5 @@
 -- What an index of policies keeps, and what it selects.
-use Rattle.std.specs.Prelude.{◌≡◌, ℕ, true, List, [], Contains, Option, None, Some, unwrap_or}
+use Rattle.std.specs.Prelude.{◌≡◌, ℕ, Bool, true, List, [], Contains, Option, None, Some, unwrap_or}
 use Rattle.std.specs.List.{slice_get}
 use Rattle.std.specs.Map.{lookup}
 use Rattle.base_bits.specs.Bits.{has_bit}
@@ -33,14 +33,20 @@ abbrev pub IsIndexOf : List PolicyTree → IndexTree → Type 0
 IsIndexOf ps index =
     (k : ℕ) (p : PolicyTree) → slice_get ps k ≡ Some p → IsKept index (uid_in p.scope.principal) (uid_in p.scope.resource) k
 
--- Some of the policies: all their positions, and those of them at which a scope names no uid (own).
+-- Some of the policies: all their positions, those of them at which a scope names no uid, and whether some are kept under a uid of
+-- principals, and under one of resources (own).
 pub record ListingTree : Type 0 where
   pub positions : List ℕ
   pub unnamed : List ℕ
+  pub by_principal : Bool
+  pub by_resource : Bool
 
--- The positions of the listing that the index keeps as bits are among the listing's unnamed (own).
-abbrev pub IsListingBy : IndexTree → ListingTree → Type 0
-IsListingBy index listing = (k : ℕ) → Contains listing.positions k → has_bit index.unnamed k ≡ true → Contains listing.unnamed k
+-- The positions of the listing that the index keeps as bits are among the listing's unnamed, and the listing says so where the index
+-- keeps one under a uid of principals, or of resources (own).
+pub record IsListingBy (index : IndexTree) (listing : ListingTree) : Type 0 where
+  pub unnamed : (k : ℕ) → Contains listing.positions k → has_bit index.unnamed k ≡ true → Contains listing.unnamed k
+  pub by_principal : (k : ℕ) (u : Uid) → Contains listing.positions k → Contains (positions_under index.principals u) k → listing.by_principal ≡ true
+  pub by_resource : (k : ℕ) (u : Uid) → Contains listing.positions k → Contains (positions_under index.resources u) k → listing.by_resource ≡ true
 
 -- Each policy of the listing that the request reaches is selected, where the index was made of these policies (own; cedar-spec,
 -- Lean: Cedar.Thm, slicing).

@@ -1,9 +1,12 @@
 //! Which policies a request can satisfy, according to its action and to the types of its entities.
 ghost use Rattle.std.specs.Prelude.{◌≡◌, IfOk, OnOk, option_copied};
 ghost use Rattle.std.specs.List.Sorted.{IsStrictlyIncreasing};
-ghost use Rattle.cedar_auth_candidates.specs.Candidates.{AreCandidatesFor, HasPositions, HasSelected, listing_at};
-ghost use Rattle.cedar_auth_candidates.specs.Private.Sifting.{ByAction, cell_at};
+ghost use Rattle.std.specs.List.{slice_get};
+ghost use Rattle.cedar_auth_candidates.specs.Candidates.{AreCandidatesFor, HasPositions, HasSelected, HasSelectedInOrder, HasSelectedInOrderAt, listing_at};
+ghost use Rattle.cedar_auth_candidates.specs.Private.Chosen.{IsChosen};
+ghost use Rattle.cedar_auth_candidates.specs.Private.Sifting.{ByAction};
 
+use crate::by_environment::{by_environment, cell_in};
 use crate::cell::Cell;
 use crate::cells::Cells;
 use crate::index::Index;
@@ -15,10 +18,13 @@ use crate::selection::Selection;
 use cedar_ast::PolicySet;
 use cedar_schema::Schema;
 use cedar_store::Store;
-use cedar_value::{Name, Request, Uid};
+use cedar_value::{Request, Uid};
 use std::alloc::{AllocError, Global};
 use std::collections::BTreeMap;
 use std::marker::Model;
+
+// So many candidates are lent as they are: to look up which of them the request reaches takes longer than to ask their scopes.
+const FEW: usize = 4;
 
 /// For each environment of a schema, the policies whose scopes may be met in it, and the index that lists them. Contracts see a
 /// `CandidatesTree`.
@@ -26,6 +32,8 @@ use std::marker::Model;
 pub struct Candidates {
     index: Index,
     rows: BTreeMap<Uid, Row>,
+    // The cell of each environment of the schema, in the order of these.
+    cells: Vec<Cell>,
 }
 
 impl Model for Candidates {
@@ -35,7 +43,7 @@ impl Model for Candidates {
 
     ghost use Rattle.cedar_auth_candidates.specs.Private.Sifting.{candidates_tree};
 
-    ghost view = { λ candidates. candidates_tree candidates.index candidates.rows };
+    ghost view = { λ candidates. candidates_tree candidates.index candidates.rows candidates.cells.items };
 }
 
 // The rows of the actions of the schema.
@@ -62,20 +70,6 @@ fn by_action(
     Ok(rows)
 }
 
-// The cell of an action, a type of principals and a type of resources.
-fn cell_in<'r>(
-    rows: &'r BTreeMap<Uid, Row>,
-    action: &Uid,
-    principal: &Name,
-    resource: &Name,
-) -> Option<&'r Cell>
-    ensures { option_copied result ≡ cell_at rows.now action.now principal.now resource.now }
-{
-    let row = rows.get(action)?;
-    let cells = row.cells.get(principal)?;
-    cells.get(resource)
-}
-
 impl Candidates {
     /// The candidates among these policies for each environment of the schema.
     ///
@@ -89,7 +83,8 @@ impl Candidates {
         schema.well_formedness();
         let index = Index::new(alloc, policies)?;
         let rows = by_action(alloc, schema, policies, &index)?;
-        Ok(Candidates { index, rows })
+        let cells = by_environment(alloc, &rows, schema.environments())?;
+        Ok(Candidates { index, rows, cells })
     }
 
     // The listing that is kept for the environment of a request.
@@ -141,6 +136,76 @@ impl Candidates {
                 selection.clear();
                 Ok(())
             }
+        }
+    }
+
+    // The listing that is kept for the environment at a position.
+    fn listing_at(&self, environment: usize) -> Option<&Listing>
+        ensures { option_copied result ≡ slice_get self.now.listings environment }
+    {
+        match self.cells.get(environment) {
+            Some(cell) => Some(cell.listing()),
+            None => None,
+        }
+    }
+
+    // The positions of a listing where they are few, and else those that the index selects of it.
+    fn chosen<'c, 's>(
+        &'c self,
+        listing: &'c Listing,
+        request: &Request,
+        store: &'s Store,
+        selection: &'c mut Selection<'s>,
+    ) -> Result<&'c [usize], AllocError>
+        ensures { IfOk result (λ ks. IsChosen self.now.index listing.now request.now store.now ks.now) }
+    {
+        let candidates = listing.positions();
+        if candidates.len() <= FEW {
+            return Ok(candidates);
+        }
+        self.index.select(request, store, listing, selection)?;
+        Ok(selection.positions())
+    }
+
+    /// The positions, ascending, of policies to run for a request that fits the schema: all its candidates where there are at most
+    /// four, and else those that [`Candidates::select`] puts into the selection. Each other candidate is false (Cedar language
+    /// reference, policy scope).
+    ///
+    /// # Errors
+    ///
+    /// Fails only when out of memory, and never where there are at most four candidates.
+    pub fn selected<'c, 's>(
+        &'c self,
+        request: &Request,
+        store: &'s Store,
+        selection: &'c mut Selection<'s>,
+    ) -> Result<&'c [usize], AllocError>
+        ensures { IfOk result (λ ks. HasSelectedInOrder self.now request.now store.now ks.now) }
+    {
+        match self.listing(request) {
+            Some(listing) => self.chosen(listing, request, store, selection),
+            None => Ok(&[]),
+        }
+    }
+
+    /// Like [`Candidates::selected`], for a request whose environment is at this position, from 0, among those of the schema. It
+    /// compares nothing to find the environment.
+    ///
+    /// # Errors
+    ///
+    /// Fails only when out of memory, and never where there are at most four candidates.
+    pub fn selected_at<'c, 's>(
+        &'c self,
+        environment: usize,
+        request: &Request,
+        store: &'s Store,
+        selection: &'c mut Selection<'s>,
+    ) -> Result<&'c [usize], AllocError>
+        ensures { IfOk result (λ ks. HasSelectedInOrderAt self.now environment request.now store.now ks.now) }
+    {
+        match self.listing_at(environment) {
+            Some(listing) => self.chosen(listing, request, store, selection),
+            None => Ok(&[]),
         }
     }
 }

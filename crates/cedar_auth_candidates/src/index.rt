@@ -1,14 +1,18 @@
 //! Policies, found by the entities that their scopes name.
-ghost use Rattle.std.specs.Prelude.{◌≡◌, ℕ, Contains, IfOk, OnOk};
+ghost use Rattle.std.specs.Prelude.{◌≡◌, ◌⊎◌, ℕ, true, Contains, IfOk, OnOk};
 ghost use Rattle.std.specs.List.Sorted.{IsStrictlyIncreasing};
+ghost use Rattle.cedar_value.specs.World.{Below};
+ghost use Rattle.cedar_value.specs.declared.uid.Uid.{Uid as UidTree};
 ghost use Rattle.cedar_auth_candidates.specs.Index.{HasReached, IsIndexOf, IsListingBy};
+ghost use Rattle.cedar_auth_candidates.specs.Private.Kept.{Holds, list_at};
 
-use crate::listing::{Listing, with_bits};
+use crate::listing::{Listing, row_of, with_bits};
 use crate::selection::Selection;
 use crate::tables::Tables;
+use crate::uid_lists::{UidLists, keeps_any};
 use cedar_ast::PolicySet;
 use cedar_store::Store;
-use cedar_value::Request;
+use cedar_value::{Request, Uid};
 use std::alloc::{AllocError, Global};
 use std::marker::Model;
 
@@ -29,6 +33,24 @@ impl Model for Index {
     ghost view = { λ index. tree_of index.tables };
 }
 
+// Adds the positions that are kept under the entity and under all that it is below, if lists are asked for a listing that has
+// positions in them.
+fn push_listed<'s>(
+    selection: &mut Selection<'s>,
+    is_listed: bool,
+    lists: &UidLists,
+    entity: &Uid,
+    store: &'s Store,
+) -> Result<(), AllocError>
+    ensures kept { OnOk result (Holds selection.old selection.new) }
+    ensures reached { OnOk result (is_listed ≡ true → (u : UidTree) → (entity.now ≡ u) ⊎ Below store.now entity.now u → Holds (list_at lists.now u) selection.new) }
+{
+    if is_listed {
+        selection.push_reached(lists, entity, store)?;
+    }
+    Ok(())
+}
+
 impl Index {
     /// The index of all policies of the set.
     pub(crate) fn new(alloc: Global, policies: &PolicySet) -> Result<Self, AllocError>
@@ -43,8 +65,11 @@ impl Index {
         ensures positions { IfOk result (λ listing. listing.positions ≡ positions.now) }
         ensures listed { IfOk result (IsListingBy self.now) }
     {
+        let row = row_of(alloc, positions)?;
         let unnamed = with_bits(alloc, &self.tables.unnamed, positions)?;
-        let listing = Listing::new(alloc, positions, unnamed)?;
+        let by_principal = keeps_any(&self.tables.principals, &row);
+        let by_resource = keeps_any(&self.tables.resources, &row);
+        let listing = Listing::new(alloc, positions, row, unnamed, by_principal, by_resource)?;
         Ok(listing)
     }
 
@@ -64,8 +89,21 @@ impl Index {
         ensures within { OnOk result ((k : ℕ) → Contains selection.new k → Contains listing.now.positions k) }
     {
         selection.clear();
-        selection.push_reached(&self.tables.principals, &request.principal, store)?;
-        selection.push_reached(&self.tables.resources, &request.resource, store)?;
+        let tables = &self.tables;
+        push_listed(
+            selection,
+            listing.by_principal(),
+            &tables.principals,
+            &request.principal,
+            store,
+        )?;
+        push_listed(
+            selection,
+            listing.by_resource(),
+            &tables.resources,
+            &request.resource,
+            store,
+        )?;
         selection.keep(listing.row());
         selection.add(listing.unnamed())?;
         selection.sort();

@@ -5,8 +5,7 @@
 //!
 //! let candidates = Candidates::new(alloc, &schema, &policies)?;
 //! let mut selection = Selection::new(alloc);
-//! candidates.select(&request, &store, &mut selection)?;
-//! for position in selection.positions() {
+//! for position in candidates.selected(&request, &store, &mut selection)? {
 //!     // Only these policies can be true or err: each other one is false.
 //!     if let Some(policy) = policies.policy(*position)
 //!         && is_met(policy.scope(), &request, &store)
@@ -24,13 +23,15 @@
 //!   for example `principal == User::"ann"` or `principal in Group::"staff"`, is false for every request whose principal is
 //!   neither that entity nor below it; the same holds for the resource. So the cost of a request depends on the policies that
 //!   name its own entities, or what these are below, and on those of its environment that name none. One index of the policies
-//!   serves all environments.
+//!   serves all environments. [`Candidates::selected`] lends the candidates as they are where they are few, and
+//!   [`Candidates::selected_at`] those of a request of whose environment the position in the schema is known.
 //! - [`is_met`] tests the scope of one policy.
 //!
 //! What each of them promises is in `specs/`: `Candidates` and `Reached`, `Scopes`.
 #![tactic(auto)]
 
 mod action_scope;
+mod by_environment;
 mod candidates;
 mod cell;
 mod cells;

@@ -14,6 +14,8 @@ pub(crate) struct Listing {
     unnamed: Vec<usize>,
     // A bit for each of the positions, and for no other.
     row: Vec<u64>,
+    by_principal: bool,
+    by_resource: bool,
 }
 
 impl Model for Listing {
@@ -23,7 +25,12 @@ impl Model for Listing {
 
     ghost use Rattle.cedar_auth_candidates.specs.Private.Kept.{IsListed};
 
-    ghost view = { λ l. record { positions = l.positions.items; unnamed = l.unnamed.items } };
+    ghost view = { λ l. record {
+      positions = l.positions.items;
+      unnamed = l.unnamed.items;
+      by_principal = l.by_principal;
+      by_resource = l.by_resource;
+    } };
 
     ghost invariant = { λ l. IsListed l.row.items l.positions.items l.unnamed.items };
 }
@@ -46,8 +53,8 @@ pub(crate) fn with_bits(
     Ok(found)
 }
 
-// A row with a bit for each of the positions, and for no other.
-fn row_of(alloc: Global, positions: &[usize]) -> Result<Vec<u64>, AllocError>
+/// A row with a bit for each of the positions, and for no other.
+pub(crate) fn row_of(alloc: Global, positions: &[usize]) -> Result<Vec<u64>, AllocError>
     ensures bits { IfOk result (λ row. HasBits row.items positions.now) }
     ensures alone { IfOk result (λ row. HasBitsAlone row.items positions.now) }
 {
@@ -59,22 +66,48 @@ fn row_of(alloc: Global, positions: &[usize]) -> Result<Vec<u64>, AllocError>
 }
 
 impl Listing {
-    /// The listing of these positions. The second list has those of them that name no entity.
+    /// The listing of these positions. The row has a bit for each of them. The second list has those that name no entity, and the
+    /// flags say whether some name a principal, or a resource and no principal.
     pub(crate) fn new(
         alloc: Global,
         positions: &[usize],
+        row: Vec<u64>,
         unnamed: Vec<usize>,
+        by_principal: bool,
+        by_resource: bool,
     ) -> Result<Listing, AllocError>
-        requires { Holds unnamed.items positions.now }
-        ensures { IfOk result (λ l. l ≡ record { positions = positions.now; unnamed = unnamed.items }) }
+        requires bits { HasBits row.items positions.now }
+        requires alone { HasBitsAlone row.items positions.now }
+        requires among { Holds unnamed.items positions.now }
+        ensures { IfOk result (λ l. l ≡ record {
+          positions = positions.now;
+          unnamed = unnamed.items;
+          by_principal = by_principal;
+          by_resource = by_resource;
+        }) }
     {
-        let row = row_of(alloc, positions)?;
         let positions = Vec::from_slice(alloc, positions)?;
         Ok(Listing {
             positions,
             unnamed,
             row,
+            by_principal,
+            by_resource,
         })
+    }
+
+    /// Whether a scope at one of the positions names a principal.
+    pub(crate) fn by_principal(&self) -> bool
+        ensures { result ≡ self.now.by_principal }
+    {
+        self.by_principal
+    }
+
+    /// Whether a scope at one of the positions names a resource and no principal.
+    pub(crate) fn by_resource(&self) -> bool
+        ensures { result ≡ self.now.by_resource }
+    {
+        self.by_resource
     }
 
     /// All positions, lent.

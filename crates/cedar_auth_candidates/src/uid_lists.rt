@@ -1,12 +1,14 @@
 //! Lists of positions, each under a uid.
 ghost use Rattle.std.specs.Prelude.{◌≡◌, Contains, None, OnOk};
+ghost use Rattle.std.specs.Bool.{OnFalse};
 ghost use Rattle.std.specs.Borrow.{Bor};
 ghost use Rattle.indexmap.specs.IndexMap.{get};
 ghost use Rattle.cedar_value.specs.Datum.{same_uid};
 ghost use Rattle.cedar_value.specs.World.{Below};
-ghost use Rattle.cedar_auth_candidates.specs.Private.Kept.{Holds, KeepsAll, list_at};
+ghost use Rattle.cedar_auth_candidates.specs.Private.Kept.{Holds, KeepsAll, KeepsNone, LacksBits, list_at};
 ghost use Rattle.cedar_value.specs.declared.uid.Uid.{Uid as UidTree};
 
+use base_bits::has_bit;
 use cedar_store::{Store, UidHashing};
 use cedar_value::{Hierarchy, Uid};
 use indexmap::IndexMap;
@@ -95,4 +97,28 @@ pub(crate) fn push_below(
         }
     }
     Ok(())
+}
+
+// Whether the bit of one of the positions is set.
+fn has_any(row: &[u64], positions: &[usize]) -> bool
+    ensures { OnFalse result (LacksBits row.now positions.now) }
+{
+    for position in positions {
+        if has_bit(row, *position) {
+            return true;
+        }
+    }
+    false
+}
+
+/// Whether a position is kept under a uid whose bit is set.
+pub(crate) fn keeps_any(lists: &UidLists, row: &[u64]) -> bool
+    ensures { OnFalse result (KeepsNone lists.now row.now) }
+{
+    for (_, list) in lists.iter() {
+        if has_any(row, list) {
+            return true;
+        }
+    }
+    false
 }

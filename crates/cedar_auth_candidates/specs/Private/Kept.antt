@@ -1,5 +1,5 @@
 -- What an index keeps, as its fields have it.
-use Rattle.std.specs.Prelude.{◌≡◌, ◌<◌, ℕ, true, List, [], Contains, Option, None, Some, map, option_map, unwrap_or}
+use Rattle.std.specs.Prelude.{◌≡◌, ◌<◌, ℕ, true, false, List, [], Contains, Option, None, Some, map, option_map, unwrap_or}
 use Rattle.std.specs.Global.{Vec}
 use Rattle.std.specs.List.{slice_get}
 use Rattle.indexmap.specs.IndexMap.{IndexMap, get}
@@ -40,6 +40,14 @@ HasBits row ks = (k : ℕ) → Contains ks k → has_bit row k ≡ true
 -- only the bits of these positions are set
 abbrev pub HasBitsAlone : List ℕ → List ℕ → Type 0
 HasBitsAlone row ks = (k : ℕ) → has_bit row k ≡ true → Contains ks k
+
+-- none of the bits of these positions is set
+abbrev pub LacksBits : List ℕ → List ℕ → Type 0
+LacksBits row ks = (k : ℕ) → Contains ks k → has_bit row k ≡ false
+
+-- no position is kept under a uid whose bit is set
+abbrev pub KeepsNone : Lists → List ℕ → Type 0
+KeepsNone lists row = (u : Uid) → LacksBits row (list_at lists u)
 
 -- the row has a bit for each of the positions and for no other, and the unnamed are among them
 pub record IsListed (row ks unnamed : List ℕ) : Type 0 where

@@ -1,5 +1,5 @@
 -- How positions are sifted, question by question.
-use Rattle.std.specs.Prelude.{◌≡◌, ℕ, List, [], ◌∷◌, Contains, Option, Some, None, map, option_and_then, length}
+use Rattle.std.specs.Prelude.{◌≡◌, ℕ, List, [], ◌∷◌, Contains, IsSome, Option, Some, None, map, option_and_then, length}
 use Rattle.std.specs.List.{slice_get, range_with_len}
 use Rattle.std.specs.BTreeMap.{BTreeMap, get}
 use Rattle.std.specs.Ordering.{nat_cmp}
@@ -8,6 +8,7 @@ use Rattle.cedar_value.specs.declared.uid.Uid.{Uid}
 use Rattle.cedar_ast.specs.declared.scope.ActionScope.{ActionScope}
 use Rattle.cedar_ast.specs.declared.scope.ActionScope.TheVariants as action
 use Rattle.cedar_ast.specs.PolicyTree.{PolicyTree}
+use Rattle.cedar_schema_spec.specs.declared.environment.Environment.{Environment}
 use Rattle.cedar_schema_spec.specs.SchemaTree.{SchemaTree, ActionTree, action_at}
 use Rattle.cedar_check_spec.specs.Candidates.{MayMeet, Meets}
 use Rattle.cedar_auth_candidates.specs.Candidates.{CandidatesTree}
@@ -104,9 +105,21 @@ ByAction s ps index rows =
 abbrev pub cell_at : Rows → Uid → List ℕ → List ℕ → Option ListingTree
 cell_at rows u n m = option_and_then (λ cells. get text_cmp cells m) (option_and_then (λ row. get text_cmp row.cells.value n) (get uid_cmp rows u))
 
+-- the same for an environment
+abbrev pub cell_of : Rows → Environment → Option ListingTree
+cell_of rows env = cell_at rows env.action env.principal env.resource
+
+-- something is kept for each of these environments
+abbrev pub HaveCells : Rows → List Environment → Type 0
+HaveCells rows environments = (env : Environment) → Contains environments env → IsSome (cell_of rows env)
+
+-- the list of what is kept for these environments
+abbrev pub AreCellsOf : Rows → List Environment → List ListingTree → Type 0
+AreCellsOf rows environments cells = map (cell_of rows) environments ≡ map Some cells
+
 -- what is kept for each action, as contracts see it
 abbrev pub row_entries : Row → List (List ℕ × List (List ℕ × ListingTree))
 row_entries row = map (λ e. (e.0, e.1.entries)) row.cells.value.entries
 
-abbrev pub candidates_tree : IndexTree → Rows → CandidatesTree
-candidates_tree index rows = record { index = index; rows = map (λ e. (e.0, row_entries e.1)) rows.entries }
+abbrev pub candidates_tree : IndexTree → Rows → List ListingTree → CandidatesTree
+candidates_tree index rows cells = record { index = index; rows = map (λ e. (e.0, row_entries e.1)) rows.entries; listings = cells }

@@ -9,7 +9,7 @@ returns-in-Some c =
     let u = c.args.request.now.action in
     let n = c.args.request.now.principal.ty in
     let m = c.args.request.now.resource.ty in
-    ap Some c.listing.ensures ∙ c.in-Some.ensures ∙ sym (listing_is inside.index inside.rows u n m) ∙ ap (λ (t : CandidatesTree). listing_at t u n m) c.self.view_is
+    ap Some c.listing.ensures ∙ c.in-Some.ensures ∙ sym (listing_is inside.index inside.rows inside.cells.items u n m) ∙ ap (λ (t : CandidatesTree). listing_at t u n m) c.self.view_is
 
 pub returns-in-None : goal.returns-in-None
 returns-in-None c =
@@ -17,4 +17,4 @@ returns-in-None c =
     let u = c.args.request.now.action in
     let n = c.args.request.now.principal.ty in
     let m = c.args.request.now.resource.ty in
-    c.in-None.ensures ∙ sym (listing_is inside.index inside.rows u n m) ∙ ap (λ (t : CandidatesTree). listing_at t u n m) c.self.view_is
+    c.in-None.ensures ∙ sym (listing_is inside.index inside.rows inside.cells.items u n m) ∙ ap (λ (t : CandidatesTree). listing_at t u n m) c.self.view_is

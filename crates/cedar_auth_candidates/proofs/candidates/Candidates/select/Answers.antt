@@ -1,4 +1,4 @@
-use Rattle.std.proofs.Common.{Some, ap, subst}
+use Rattle.std.proofs.Common.{ap, subst}
 use Rattle.cedar_auth_candidates.specs.Candidates.{CandidatesTree}
 use Rattle.cedar_auth_candidates.specs.Index.{HasReached, IndexTree}
 use Rattle.cedar_auth_candidates.proofs.Fitting.{both_ok, has_selected, none_selected}

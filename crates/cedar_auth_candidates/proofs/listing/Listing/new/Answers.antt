@@ -4,6 +4,6 @@ use Rattle.cedar_auth_candidates.proofs.listing.Listing.new.Goals as goal
 
 pub invariant_of-result : goal.invariant_of-result
 invariant_of-result c =
-    let listed : IsListed c.in_ok-row.row.items c.args.positions.now c.args.unnamed.items =
-    record { bits = c.in_ok-row.ensures.bits; alone = c.in_ok-row.ensures.alone; among = c.requires } in
-    subst (λ (ks : List ℕ). IsListed c.in_ok-row.row.items ks c.args.unnamed.items) (sym c.in_ok-positions.ensures.items) listed
+    let listed : IsListed c.args.row.items c.args.positions.now c.args.unnamed.items =
+    record { bits = c.requires.bits; alone = c.requires.alone; among = c.requires.among } in
+    subst (λ (ks : List ℕ). IsListed c.args.row.items ks c.args.unnamed.items) (sym c.in_ok-positions.ensures.items) listed

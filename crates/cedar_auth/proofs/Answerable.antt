@@ -39,12 +39,12 @@ use Rattle.cedar_auth.proofs.TrueFaults.{Others, of_value}
 
 -- ---- records
 
-fields_back : (fs : Fields) → fields_of (pairs_of fs) ≡ fs
+pub fields_back : (fs : Fields) → fields_of (pairs_of fs) ≡ fs
 fields_back no_fields = refl
 fields_back (field k d fs) = ap (λ (x : Fields). field k d x) (fields_back fs)
 
 -- a value of a type of records is a record
-record_in : (t : TypeTree) (v : Datum) → IsTrue (is_record t) → Member t v → (fs : Fields) × (v ≡ record_of fs)
+pub record_in : (t : TypeTree) (v : Datum) → IsTrue (is_record t) → Member t v → (fs : Fields) × (v ≡ record_of fs)
 record_in (kind.record_of a) (record_of fs) r m = (fs, refl)
 record_in (kind.record_of a) _ r m = absurd m
 record_in _ v r m = cc
@@ -67,7 +67,7 @@ module _ (uids : UidsAreDecided) (names : NamesAreDecided) where
       let same : u ≡ v = cc in
       let told : true ≡ false = sym ((names v.ty).1 (subst (λ (x : Uid). IsName x.ty) same h.1)) ∙ t in cc)
 
-  object_by : (d : Data) (o : Option Uid) → uid_object d ≡ o → ((u : Uid) × IsUidObject d u) ⊎ ((u : Uid) → IsUidObject d u → ⊥)
+  pub object_by : (d : Data) (o : Option Uid) → uid_object d ≡ o → ((u : Uid) × IsUidObject d u) ⊎ ((u : Uid) → IsUidObject d u → ⊥)
   object_by d None e = inr (λ u h. let both : Some u ≡ None = sym h.0 ∙ e in cc)
   object_by d (Some v) e = named d v (is_name v.ty) e refl
 
@@ -88,10 +88,10 @@ text_by : (b : Bool) (x y : List ℕ) → Decides b (x ≡ y) → (x ≡ y) ⊎ 
 text_by true x y d = inl (d.0 refl)
 text_by false x y d = inr (λ e. let told : false ≡ true = d.1 e in cc)
 
-same_text : (x y : List ℕ) → (x ≡ y) ⊎ (x ≡ y → ⊥)
+pub same_text : (x y : List ℕ) → (x ≡ y) ⊎ (x ≡ y → ⊥)
 same_text x y = text_by (bytes_eq x y) x y (bytes_eq-Decides x y)
 
-uid_by : (u v : Uid) → (u.ty ≡ v.ty) ⊎ (u.ty ≡ v.ty → ⊥) → (u.id ≡ v.id) ⊎ (u.id ≡ v.id → ⊥) → (u ≡ v) ⊎ (u ≡ v → ⊥)
+pub uid_by : (u v : Uid) → (u.ty ≡ v.ty) ⊎ (u.ty ≡ v.ty → ⊥) → (u.id ≡ v.id) ⊎ (u.id ≡ v.id → ⊥) → (u ≡ v) ⊎ (u ≡ v → ⊥)
 uid_by u v (inl x) (inl y) = inl (λ i. record { ty = x i; id = y i })
 uid_by u v (inr n) y = inr (λ e. n (ap (λ (w : Uid). w.ty) e))
 uid_by u v (inl x) (inr n) = inr (λ e. n (ap (λ (w : Uid). w.id) e))
@@ -168,7 +168,7 @@ module _ (uids : UidsAreDecided) (names : NamesAreDecided) (actions : ActionsAre
   by_uids d keys (inl p) (inr none) r = shapeless d (inr (inr (inl none)))
   by_uids d keys (inl p) (inl a) (inr none) = shapeless d (inr (inr (inr none)))
 
-  by_keys : (d : Data) (b : Bool) → has_only is_request_key d ≡ b → Judged d
+  pub by_keys : (d : Data) (b : Bool) → has_only is_request_key d ≡ b → Judged d
   by_keys d true e = by_uids d e (uid_at uids names (codes "principal") d) (uid_at uids names (codes "action") d) (uid_at uids names (codes "resource") d)
   by_keys d false e = shapeless d (inl e)
 

@@ -1,4 +1,5 @@
 pub mod AnswerLine
+pub mod AnswerLineWithEntities
 pub mod AnswerParts
 pub mod Private
 pub mod ReadyCode

@@ -8,6 +8,7 @@ ghost use Rattle.cedar_auth_spec.specs.AnswerJson.{decision_name, error_name, er
 ghost use Rattle.cedar_auth.specs.Private.Tokens.{data_tokens};
 
 use crate::response::Erring;
+use crate::short_answer::{append_one, is_plain, text_of_none};
 use crate::told::Told;
 use cedar_ast::Decision;
 use cedar_ast_expressions::EvaluationError;
@@ -120,6 +121,17 @@ fn hand_back(
     written
 }
 
+// Appends a response of any length to `out`. Where memory runs out, `out` is as before.
+fn append_long(alloc: Global, response: &Told<'_, '_>, out: &mut Vec<u8>) -> Result<(), AllocError>
+    ensures ok { OnOk result (out.new.items ≡ out.old.items ++ compact_text (response_data response.now)) }
+    ensures err { OnErr result (out.new.items ≡ out.old.items) }
+{
+    let before = out.len();
+    let mut writer = Writer::new(mem::replace(out, Vec::new(alloc)));
+    let written = write_response(&mut writer, response);
+    hand_back(out, writer, before, written)
+}
+
 /// Appends the response to a request to `out`. Where memory runs out, `out` is as before.
 pub(crate) fn append_response(
     alloc: Global,
@@ -129,10 +141,17 @@ pub(crate) fn append_response(
     ensures ok { OnOk result (out.new.items ≡ out.old.items ++ compact_text (response_data response.now)) }
     ensures err { OnErr result (out.new.items ≡ out.old.items) }
 {
-    let before = out.len();
-    let mut writer = Writer::new(mem::replace(out, Vec::new(alloc)));
-    let written = write_response(&mut writer, response);
-    hand_back(out, writer, before, written)
+    match (response.determining, response.erring) {
+        ([], []) => out.extend_from_slice(text_of_none(response.decision)),
+        _ => match response.only_id() {
+            Some(id) if is_plain(id.as_bytes()) => append_one(
+                response.decision,
+                id.as_bytes(),
+                out,
+            ),
+            _ => append_long(alloc, response, out),
+        },
+    }
 }
 
 /// Appends the answer to a line that was refused to `out`: the refusal's number. Where memory runs out, `out` is as before.

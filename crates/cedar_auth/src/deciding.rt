@@ -1,5 +1,6 @@
 //! Answers requests one by one.
 ghost use Rattle.std.specs.Prelude.{ℕ, List, ◌≡◌, ◌++◌, IfOk, OnErr, OnOk};
+ghost use Rattle.cedar_conform.specs.Places.{IsPlacedAt};
 ghost use Rattle.cedar_schema_spec.specs.Conformance.{Fits};
 ghost use Rattle.cedar_auth.specs.AnswerLine.{AnswersLine};
 ghost use Rattle.cedar_auth.specs.AnswerParts.{response_text, response_to};
@@ -10,7 +11,7 @@ use crate::serving::append_fault;
 use crate::tally::Tally;
 use cedar_ast::Decision;
 use cedar_auth_candidates::Selection;
-use cedar_conform::RequestReader;
+use cedar_conform::{FittingRequest, RequestReader};
 use cedar_value::Request;
 use std::alloc::{AllocError, Global};
 
@@ -30,10 +31,10 @@ pub fn answer_line(
     ensures ok { OnOk result ((text : List ℕ) × AnswersLine ready.now line.now text × (out.new.items ≡ out.old.items ++ text)) }
     ensures err { OnErr result (out.new.items ≡ out.old.items) }
 {
-    match ready.read_with(alloc, line, reader) {
-        Ok(request) => {
-            append_answer(alloc, ready, &request, out)?;
-            reader.keep(request);
+    match ready.read_fitting(alloc, line, reader) {
+        Ok(found) => {
+            append_fitting_answer(alloc, ready, &found, out)?;
+            reader.keep(found.request);
             Ok(())
         }
         Err(fault) => append_fault(alloc, &fault, out),
@@ -65,6 +66,33 @@ pub fn append_answer(
     Ok(told.decision())
 }
 
+/// Like [`append_answer`], for a request of whose environment the position is known, as [`Ready::read_fitting_parts`] gives it. It finds the
+/// candidates without a search.
+///
+/// # Errors
+///
+/// Those of [`append_answer`].
+pub fn append_fitting_answer(
+    alloc: Global,
+    ready: &Ready,
+    found: &FittingRequest,
+    out: &mut Vec<u8>,
+) -> Result<Decision, AllocError>
+    requires fits { Fits ready.now.schema found.now.request }
+    requires placed { IsPlacedAt ready.now.schema found.now.request found.now.environment }
+    ensures decided { IfOk result (λ d. d ≡ (response_to ready.now found.now.request).decision) }
+    ensures ok { OnOk result (out.new.items ≡ out.old.items ++ response_text ready.now found.now.request) }
+    ensures err { OnErr result (out.new.items ≡ out.old.items) }
+{
+    let mut selection = Selection::new(alloc);
+    let mut tally = Tally::new(alloc);
+    ready.tally_fitting(alloc, found, &mut selection, &mut tally)?;
+    let told = tally.told();
+    let decision = told.decision();
+    append_response(alloc, &told, out)?;
+    Ok(decision)
+}
+
 /// The decision on a request that fits (Cedar language reference, authorization).
 ///
 /// # Errors
@@ -74,8 +102,22 @@ pub fn decide(alloc: Global, ready: &Ready, request: &Request) -> Result<Decisio
     requires { Fits ready.now.schema request.now }
     ensures { IfOk result (λ d. d ≡ (response_to ready.now request.now).decision) }
 {
-    let mut selection = Selection::new(alloc);
-    let mut tally = Tally::new(alloc);
-    ready.tally(alloc, request, &mut selection, &mut tally)?;
-    Ok(tally.told().decision())
+    ready.decide(alloc, request)
+}
+
+/// Like [`decide`], for a request of whose environment the position is known, as [`Ready::read_fitting_parts`] gives it.
+///
+/// # Errors
+///
+/// Those of [`decide`].
+pub fn decide_fitting(
+    alloc: Global,
+    ready: &Ready,
+    found: &FittingRequest,
+) -> Result<Decision, AllocError>
+    requires fits { Fits ready.now.schema found.now.request }
+    requires placed { IsPlacedAt ready.now.schema found.now.request found.now.environment }
+    ensures { IfOk result (λ d. d ≡ (response_to ready.now found.now.request).decision) }
+{
+    ready.decide_fitting(alloc, found)
 }

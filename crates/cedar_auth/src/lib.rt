@@ -16,6 +16,9 @@
 //! [`engine_is_sound`] is the promise of the engine as a whole: read `specs/Headline.antt` of cedar_auth_spec first. What
 //! answers a line is defined in `specs/AnswerLine.antt`. Policies are accepted by strict validation as it is documented, or
 //! under settings (`Validated::new_with`). The settings stay with the policies and say which errors their answers may name.
+//!
+//! A request may bring entities of its own: [`Ready::answer_with`] answers it over changes of the entities that are for it alone, and
+//! [`serve_with_entities`] lines that have a fifth key `entities` (`specs/AnswerLineWithEntities.antt`).
 #![tactic(auto)]
 
 mod answer;
@@ -26,9 +29,13 @@ mod not_ready;
 mod not_validated;
 mod part;
 mod ready;
+mod ready_with;
 mod response;
 mod room;
+mod ruling;
 mod serving;
+mod serving_with;
+mod short_answer;
 mod tally;
 mod told;
 mod validated;
@@ -40,11 +47,12 @@ pub use base_lines::{
 };
 pub use cedar_auth_law::engine_is_sound;
 pub use crossing::{ready_crosses, validated_crosses};
-pub use deciding::{answer_line, append_answer, decide};
+pub use deciding::{answer_line, append_answer, append_fitting_answer, decide, decide_fitting};
 pub use not_ready::NotReady;
 pub use not_validated::NotValidated;
 pub use ready::Ready;
 pub use response::{Erring, Response};
 pub use serving::{append_fault, serve};
+pub use serving_with::serve_with_entities;
 pub use validated::Validated;
 pub use validation_fault::ValidationFault;

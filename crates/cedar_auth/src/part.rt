@@ -1,9 +1,11 @@
 //! A policy beside its code.
-ghost use Rattle.std.specs.Prelude.{◌≡◌, IfOk};
+ghost use Rattle.std.specs.Prelude.{◌≡◌, IfOk, IsSome};
 ghost use Rattle.cedar_ast.specs.Response.{meaning};
 ghost use Rattle.cedar_machine.specs.Verdict.{verdict_of};
+ghost use Rattle.cedar_auth.specs.Private.Ruling.{ruled};
 
-use cedar_ast::Policy;
+use crate::ruling::{is_settled, ruled};
+use cedar_ast::{Effect, Policy};
 use cedar_ast_expressions::EvaluationError;
 use cedar_auth_candidates::{is_met, place_after_scope};
 use cedar_code::{Code, true_sides_are_passed};
@@ -11,6 +13,15 @@ use cedar_machine::Operands;
 use cedar_value::{Hierarchy, Request};
 use std::alloc::{AllocError, Global};
 use std::marker::Model;
+
+// Makes operands where there are none.
+fn make_operands(alloc: Global, operands: &mut Option<Operands<'_>>)
+    ensures { IsSome operands.new }
+{
+    if operands.is_none() {
+        *operands = Some(Operands::new(alloc));
+    }
+}
 
 /// A policy and the code of its condition, both lent. Contracts see the policy.
 #[derive(Drop)]
@@ -37,11 +48,11 @@ impl<'v> Model for Part<'v> {
 
 impl<'v> Part<'v> {
     // Whether the policy's condition is true for the request, or its error. The scope is tested first. Where the request meets
-    // it, the code of the policy's conditions is executed.
+    // it, the code of the policy's conditions is executed, with operands that are made for the first such policy.
     pub(crate) fn verdict<H: Hierarchy>(
         &self,
         alloc: Global,
-        operands: &mut Operands<'v>,
+        operands: &mut Option<Operands<'v>>,
         request: &'v Request,
         hierarchy: &'v H,
     ) -> Result<Result<bool, EvaluationError>, AllocError>
@@ -55,6 +66,29 @@ impl<'v> Part<'v> {
             return Ok(Ok(false));
         }
         let first = place_after_scope(scope);
+        make_operands(alloc, operands);
+        let Some(operands) = operands else {
+            unreachable!()
+        };
         operands.decide_from(alloc, self.code, first, request, hierarchy)
+    }
+
+    // Which effect rules after this policy too. The policy is run only where that depends on it.
+    pub(crate) fn rule<H: Hierarchy>(
+        &self,
+        alloc: Global,
+        ruling: Option<Effect>,
+        operands: &mut Option<Operands<'v>>,
+        request: &'v Request,
+        hierarchy: &'v H,
+    ) -> Result<Option<Effect>, AllocError>
+        ensures { IfOk result (λ r. r ≡ ruled ruling self.now.effect (verdict_of (meaning request.now (H.world hierarchy.now) self.now))) }
+    {
+        let effect = self.policy.effect();
+        if is_settled(ruling, effect) {
+            return Ok(ruling);
+        }
+        let verdict = self.verdict(alloc, operands, request, hierarchy)?;
+        Ok(ruled(ruling, effect, verdict))
     }
 }

@@ -6,10 +6,12 @@ ghost use Rattle.cedar_conform_values.specs.declared.conform_fault.ConformFault.
 ghost use Rattle.cedar_conform_entities.specs.Bytes.{BytesDenote, BytesHaveFault};
 ghost use Rattle.cedar_conform_entities.specs.Changes.{BytesDenoteChanged, BytesHaveChangesFault};
 ghost use Rattle.cedar_conform.specs.Parts.{PartsDenote, PartsHaveFault, parts_of};
+ghost use Rattle.cedar_conform.specs.Places.{IsPlacedAt};
 ghost use Rattle.cedar_conform.specs.Requests.{LineDenotes, LineHasFault};
 ghost use Rattle.cedar_schema_spec.specs.Conformance.{Conforms, Fits, FitsIn};
 ghost use Rattle.cedar_schema_spec.specs.WellFormed.{AreTypesApart};
 ghost use Rattle.cedar_schema_spec.specs.declared.environment.Environment.{Environment as EnvironmentTree};
+ghost use Rattle.cedar_value.specs.World.{World};
 ghost use Rattle.cedar_value.specs.declared.request.Request.{Request as RequestTree};
 ghost use Rattle.cedar_check_spec.specs.Soundness.{IsAllowedWith};
 ghost use Rattle.cedar_auth.specs.AnswerLine.{AnswersLine};
@@ -26,15 +28,16 @@ use crate::not_ready::NotReady;
 use crate::response::Response;
 use crate::tally::Tally;
 use crate::validated::Validated;
-use cedar_ast::Effect;
+use cedar_ast::{Decision, Effect};
 use cedar_auth_candidates::{Candidates, Selection};
 use cedar_auth_law::engine_is_sound;
 use cedar_check_law::candidates_are_enough;
 use cedar_check_spec::Settings;
 use cedar_code::Code;
 use cedar_conform::{
-    RequestParts, RequestReader, denoted_requests_fit, read_changes, read_entities_owned,
-    read_request, read_request_parts, read_request_with,
+    FittingRequest, RequestParts, RequestReader, denoted_requests_fit, read_changes,
+    read_entities_owned, read_fitting_parts, read_fitting_request, read_request,
+    read_request_parts,
 };
 use cedar_conform_values::{ConformFault, read_values_belong};
 use cedar_parser_tokens::uid_or_none;
@@ -269,18 +272,19 @@ impl Ready {
         read_request(alloc, self.indexed.validated.schema(), line)
     }
 
-    // Like `read`, with a reader that keeps its buffers from line to line.
-    pub(crate) fn read_with(
+    // Like `read`, with a reader that keeps its buffers from line to line, and with the position of the request's environment.
+    pub(crate) fn read_fitting(
         &self,
         alloc: Global,
         line: &[u8],
         reader: &mut RequestReader,
-    ) -> Result<Request, ConformFault>
-        ensures denotes { IfOk result (LineDenotes self.now.schema line.now) }
-        ensures fits { IfOk result (Fits self.now.schema) }
+    ) -> Result<FittingRequest, ConformFault>
+        ensures denotes { IfOk result (λ found. LineDenotes self.now.schema line.now found.request) }
+        ensures fits { IfOk result (λ found. Fits self.now.schema found.request) }
+        ensures placed { IfOk result (λ found. IsPlacedAt self.now.schema found.request found.environment) }
         ensures refused { IfErr result (λ e. e ≢ OutOfMemory → LineHasFault self.now.schema line.now e) }
     {
-        read_request_with(alloc, self.indexed.validated.schema(), line, reader)
+        read_fitting_request(alloc, self.indexed.validated.schema(), line, reader)
     }
 
     /// The request that parts denote for the schema (Cedar documentation, entities and context in JSON). The reader
@@ -301,6 +305,27 @@ impl Ready {
         ensures refused { IfErr result (λ e. e ≢ OutOfMemory → PartsHaveFault self.now.schema (parts_of parts.now) e) }
     {
         read_request_parts(alloc, self.validated().schema(), parts, reader)
+    }
+
+    /// Like [`Ready::read_parts`], and gives the position of the request's environment too, for
+    /// [`append_fitting_answer`](crate::append_fitting_answer).
+    ///
+    /// # Errors
+    ///
+    /// Those of [`Ready::read_parts`].
+    pub fn read_fitting_parts(
+        &self,
+        alloc: Global,
+        parts: &RequestParts<'_>,
+        reader: &mut RequestReader,
+    ) -> Result<FittingRequest, ConformFault>
+        ensures denotes { IfOk result (λ found. PartsDenote self.now.schema (parts_of parts.now) found.request) }
+        ensures fits { IfOk result (λ found. Fits self.now.schema found.request) }
+        ensures placed { IfOk result (λ found. IsPlacedAt self.now.schema found.request found.environment) }
+        ensures only { (q : RequestTree) → PartsDenote self.now.schema (parts_of parts.now) q → MatchResult result (λ found. found.request ≡ q) (λ e. e ≡ OutOfMemory) }
+        ensures refused { IfErr result (λ e. e ≢ OutOfMemory → PartsHaveFault self.now.schema (parts_of parts.now) e) }
+    {
+        read_fitting_parts(alloc, self.validated().schema(), parts, reader)
     }
 
     /// Whether a request fits the schema: its action applies to its principal and its resource, and its context belongs
@@ -348,21 +373,44 @@ impl Ready {
         indexed.candidates.positions(request)
     }
 
-    // Selects the candidates that the request's own entities reach. Each other policy is false.
-    fn select<'r>(
-        &'r self,
+    // The positions, ascending, of the policies to run for the request over a store: its candidates, where they are many only those
+    // that its own entities reach. Each other policy is false.
+    fn selected_over<'x, 's>(
+        &'x self,
         request: &Request,
-        selection: &mut Selection<'r>,
-    ) -> Result<(), AllocError>
-        requires { Fits self.now.schema request.now }
-        ensures ascend { OnOk result (IsStrictlyIncreasing selection.new) }
-        ensures others { OnOk result (LeavesFalse self.now.policies.policies request.now self.now.world selection.new) }
-        ensures within { OnOk result ((k : ℕ) → Contains selection.new k → k < length self.now.policies.policies) }
+        store: &'s Store,
+        selection: &'x mut Selection<'s>,
+    ) -> Result<&'x [usize], AllocError>
+        requires fits { Fits self.now.schema request.now }
+        requires conforms { Conforms self.now.schema store.now }
+        ensures ascend { IfOk result (λ ks. IsStrictlyIncreasing ks.now) }
+        ensures others { IfOk result (λ ks. LeavesFalse self.now.policies.policies request.now store.now ks.now) }
+        ensures within { IfOk result (λ ks. (k : ℕ) → Contains ks.now k → k < length self.now.policies.policies) }
     {
         // No action's type is an entity type, as in each schema.
         let indexed = self.indexed();
         indexed.validated.schema().well_formedness();
-        indexed.candidates.select(request, self.store(), selection)
+        indexed.candidates.selected(request, store, selection)
+    }
+
+    // The same over the entities that are ready, for a request of whose environment the position is known.
+    fn selected_fitting<'x, 'r>(
+        &'r self,
+        found: &FittingRequest,
+        selection: &'x mut Selection<'r>,
+    ) -> Result<&'x [usize], AllocError>
+        requires fits { Fits self.now.schema found.now.request }
+        requires placed { IsPlacedAt self.now.schema found.now.request found.now.environment }
+        ensures ascend { IfOk result (λ ks. IsStrictlyIncreasing ks.now) }
+        ensures others { IfOk result (λ ks. LeavesFalse self.now.policies.policies found.now.request self.now.world ks.now) }
+        ensures within { IfOk result (λ ks. (k : ℕ) → Contains ks.now k → k < length self.now.policies.policies) }
+    {
+        // No action's type is an entity type, as in each schema.
+        let indexed = self.indexed();
+        indexed.validated.schema().well_formedness();
+        indexed
+            .candidates
+            .selected_at(found.environment, &found.request, self.store(), selection)
     }
 
     // Runs the code of the policies that are selected for the request, in order, and gathers how they ended.
@@ -376,9 +424,84 @@ impl Ready {
         requires { Fits self.now.schema request.now }
         ensures { OnOk result (tally.new ≡ tally_of request.now self.now.world self.now.policies.policies) }
     {
-        self.select(request, selection)?;
+        // The entities conform to the schema.
+        self.premises();
+        self.tally_over(alloc, request, self.store(), selection, tally)
+    }
+
+    // The same over other entities that conform.
+    pub(crate) fn tally_over<'r, 's>(
+        &'r self,
+        alloc: Global,
+        request: &Request,
+        store: &'s Store,
+        selection: &mut Selection<'s>,
+        tally: &mut Tally<'r>,
+    ) -> Result<(), AllocError>
+        requires fits { Fits self.now.schema request.now }
+        requires conforms { Conforms self.now.schema store.now }
+        ensures { OnOk result (tally.new ≡ tally_of request.now store.now self.now.policies.policies) }
+    {
+        let positions = self.selected_over(request, store, selection)?;
         self.validated()
-            .tally(alloc, request, self.store(), selection.positions(), tally)
+            .tally(alloc, request, store, positions, tally)
+    }
+
+    // The decision on the request. Keeps no list of policies.
+    pub(crate) fn decide(&self, alloc: Global, request: &Request) -> Result<Decision, AllocError>
+        requires { Fits self.now.schema request.now }
+        ensures { IfOk result (λ d. d ≡ (response self.now.policies.policies request.now self.now.world).decision) }
+    {
+        // The entities conform to the schema.
+        self.premises();
+        let mut selection = Selection::new(alloc);
+        let positions = self.selected_over(request, self.store(), &mut selection)?;
+        self.validated()
+            .decide(alloc, request, self.store(), positions)
+    }
+
+    // Like `tally`, for a request of whose environment the position is known.
+    pub(crate) fn tally_fitting<'r>(
+        &'r self,
+        alloc: Global,
+        found: &FittingRequest,
+        selection: &mut Selection<'r>,
+        tally: &mut Tally<'r>,
+    ) -> Result<(), AllocError>
+        requires fits { Fits self.now.schema found.now.request }
+        requires placed { IsPlacedAt self.now.schema found.now.request found.now.environment }
+        ensures { OnOk result (tally.new ≡ tally_of found.now.request self.now.world self.now.policies.policies) }
+    {
+        let positions = self.selected_fitting(found, selection)?;
+        self.validated()
+            .tally(alloc, &found.request, self.store(), positions, tally)
+    }
+
+    // Like `decide`, for a request of whose environment the position is known.
+    pub(crate) fn decide_fitting(
+        &self,
+        alloc: Global,
+        found: &FittingRequest,
+    ) -> Result<Decision, AllocError>
+        requires fits { Fits self.now.schema found.now.request }
+        requires placed { IsPlacedAt self.now.schema found.now.request found.now.environment }
+        ensures { IfOk result (λ d. d ≡ (response self.now.policies.policies found.now.request self.now.world).decision) }
+    {
+        let mut selection = Selection::new(alloc);
+        let positions = self.selected_fitting(found, &mut selection)?;
+        self.validated()
+            .decide(alloc, &found.request, self.store(), positions)
+    }
+
+    /// Every request that fits is answered soundly over each world that conforms to the schema: what [`engine_is_sound`] says of
+    /// these policies, under their settings. A law: it runs no code.
+    pub fn soundness_over(&self)
+        ensures { (w : World) (q : RequestTree) → Conforms self.now.schema w → Fits self.now.schema q
+            → IsAnsweredSoundlyWith self.now.settings self.now.policies.policies q w }
+    {
+        // The theorem of the engine, and its premise that no action's type is an entity type.
+        engine_is_sound();
+        self.indexed().validated.schema().well_formedness();
     }
 
     /// Every request that fits is answered soundly: what [`engine_is_sound`] says of these policies, under their settings, and

@@ -60,11 +60,11 @@ impl<'r> Engine for Answering<'r> {
         out: &mut Vec<u8>,
     ) -> Result<(), AllocError> {
         let ready = self.ready;
-        match ready.read_with(alloc, line, &mut buffers.reader) {
-            Ok(request) => {
-                ready.tally(alloc, &request, &mut buffers.selection, &mut buffers.tally)?;
+        match ready.read_fitting(alloc, line, &mut buffers.reader) {
+            Ok(found) => {
+                ready.tally_fitting(alloc, &found, &mut buffers.selection, &mut buffers.tally)?;
                 append_response(alloc, &buffers.tally.told(), out)?;
-                buffers.reader.keep(request);
+                buffers.reader.keep(found.request);
                 Ok(())
             }
             Err(fault) => {

@@ -1,5 +1,5 @@
 //! A response whose lists are lent.
-ghost use Rattle.std.specs.Prelude.{◌≡◌};
+ghost use Rattle.std.specs.Prelude.{◌≡◌, [], ◌∷◌, IfSome};
 
 use crate::response::Erring;
 use cedar_ast::Decision;
@@ -29,5 +29,15 @@ impl<'t, 'p> Told<'t, 'p> {
         ensures { result ≡ self.now.decision }
     {
         self.decision
+    }
+
+    /// The id of the only policy that is named.
+    pub(crate) fn only_id(&self) -> Option<&'p str>
+        ensures { IfSome result (λ id. self.now ≡ record { decision = self.now.decision; determining = id.now ∷ []; erring = [] }) }
+    {
+        match (self.determining, self.erring) {
+            ([id], []) => Some(id),
+            _ => None,
+        }
     }
 }

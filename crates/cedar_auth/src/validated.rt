@@ -7,21 +7,21 @@ ghost use Rattle.cedar_auth_spec.specs.Validation.{IsValidated, IsValidatedWith}
 ghost use Rattle.cedar_auth.specs.ValidationFaults.{HasFault, HasFaultWith};
 ghost use Rattle.cedar_auth.specs.Private.Kept.{AreCodes};
 ghost use Rattle.cedar_auth.specs.Private.Selected.{policies_at};
-ghost use Rattle.cedar_auth.specs.Private.Tally.{tally_of};
+ghost use Rattle.cedar_auth.specs.Private.Tally.{response_by, tally_of};
 
 use crate::codes::codes_of;
 use crate::not_validated::NotValidated;
 use crate::part::Part;
 use crate::response::Response;
+use crate::ruling::decision_by;
 use crate::tally::Tally;
 use crate::validation_fault::ValidationFault;
-use cedar_ast::PolicySet;
+use cedar_ast::{Decision, PolicySet};
 use cedar_auth_candidates::all_positions;
 use cedar_check::check_with;
 use cedar_check_law::typing_is_determined;
 use cedar_check_spec::Settings;
 use cedar_code::{Code, CodeFault};
-use cedar_machine::Operands;
 use cedar_schema::Schema;
 use cedar_value::{Hierarchy, Request, Text};
 use std::alloc::{AllocError, Global};
@@ -198,7 +198,7 @@ impl Validated {
         requires within { (k : ℕ) → Contains positions.now k → k < length self.now.policies.policies }
         ensures { OnOk result (tally.new ≡ tally_of request.now (H.world hierarchy.now) (policies_at self.now.policies.policies positions.now)) }
     {
-        let mut operands = Operands::new(alloc);
+        let mut operands = None;
         tally.clear();
         for position in positions {
             let Some(part) = self.part(*position) else {
@@ -208,6 +208,28 @@ impl Validated {
             tally.enter(part.policy.id().as_str(), part.policy.effect(), verdict)?;
         }
         Ok(())
+    }
+
+    // The decision that the policies at these positions make on the request. It runs no policy that cannot change it.
+    pub(crate) fn decide<H: Hierarchy>(
+        &self,
+        alloc: Global,
+        request: &Request,
+        hierarchy: &H,
+        positions: &[usize],
+    ) -> Result<Decision, AllocError>
+        requires within { (k : ℕ) → Contains positions.now k → k < length self.now.policies.policies }
+        ensures { IfOk result (λ d. d ≡ (response_by (tally_of request.now (H.world hierarchy.now) (policies_at self.now.policies.policies positions.now))).decision) }
+    {
+        let mut operands = None;
+        let mut ruling = None;
+        for position in positions {
+            let Some(part) = self.part(*position) else {
+                unreachable!()
+            };
+            ruling = part.rule(alloc, ruling, &mut operands, request, hierarchy)?;
+        }
+        Ok(decision_by(ruling))
     }
 
     /// The response to a request over a hierarchy of entities, from the evaluation of every policy (Cedar language reference,

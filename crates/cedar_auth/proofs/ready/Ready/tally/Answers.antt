@@ -1,26 +1,13 @@
-use Rattle.std.proofs.Common.{◌≡◌, ◌<◌, ℕ, List, length, Contains, OnOk, subst, sym, ◌∙◌}
-use Rattle.std.proofs.lemmas.Result.{on_ok_weaker}
+use Rattle.std.proofs.Common.{◌≡◌, OnOk, subst, sym}
 use Rattle.cedar_value.specs.World.{World}
-use Rattle.cedar_auth.specs.Private.Selected.{policies_at}
+use Rattle.cedar_schema_spec.specs.Conformance.{Conforms}
 use Rattle.cedar_auth.specs.Private.Tally.{tally_of}
-use Rattle.cedar_auth_spec.specs.Validation.{ValidatedTree}
-use Rattle.cedar_auth.proofs.TalliesOfParts.{selected_gather}
 use Rattle.cedar_auth.proofs.ready.Ready.tally.Goals as goal
 
-pub tally-requires : goal.tally-requires
-tally-requires c = record {
-  within = λ k m. subst (λ (v : ValidatedTree). k < length v.policies.policies) (sym c.validated.ensures)
-      (c.in_ok-select.ensures.within k (subst (λ (js : List ℕ). Contains js k) c.positions.ensures m));
-}
+pub tally_over-requires : goal.tally_over-requires
+tally_over-requires c = record { fits = c.requires; conforms = subst (Conforms c.args.self.now.schema) (sym c.store.ensures) c.premises.ensures.conforms }
 
 pub returns : goal.returns
 returns c =
     let ready = c.args.self.now in
-    let held = c.validated.result.now in
-    let q = c.args.request.now in
-    let ks = c.select.new.selection in
-    let same = selected_gather q ready.world ready.policies.policies ks c.in_ok-select.ensures.ascend c.in_ok-select.ensures.others in
-    on_ok_weaker c.tally.result (λ e. e ∙ same)
-    (subst (λ (v : ValidatedTree). OnOk c.tally.result (c.tally.new.tally ≡ tally_of q ready.world (policies_at v.policies.policies ks))) c.validated.ensures
-    (subst (λ (w : World). OnOk c.tally.result (c.tally.new.tally ≡ tally_of q w (policies_at held.policies.policies ks))) c.store.ensures
-    (subst (λ (js : List ℕ). OnOk c.tally.result (c.tally.new.tally ≡ tally_of q c.store.result.now (policies_at held.policies.policies js))) c.positions.ensures c.tally.ensures)))
+    subst (λ (w : World). OnOk c.tally_over.result (c.tally_over.new.tally ≡ tally_of c.args.request.now w ready.policies.policies)) c.store.ensures c.tally_over.ensures

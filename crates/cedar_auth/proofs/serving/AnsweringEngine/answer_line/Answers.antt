@@ -10,8 +10,8 @@ use Rattle.cedar_auth.proofs.serving.AnsweringEngine.answer_line.Goals as goal
 pub returns-in_ok-append_response-in-Ok-clause-ok : goal.returns-in_ok-append_response-in-Ok-clause-ok
 returns-in_ok-append_response-in-Ok-clause-ok c =
     let ready = c.args.self.now.ready.now in
-    let q = c.in-Ok.request in
-    let made = c.told.ensures ∙ ap response_by c.in_ok-tally-in-Ok.ensures ∙ response_by-tally q ready.world ready.policies.policies in (
+    let q = c.in-Ok.found.request in
+    let made = c.told.ensures ∙ ap response_by c.in_ok-tally_fitting-in-Ok.ensures ∙ response_by-tally q ready.world ready.policies.policies in (
       compact_text (response_data (response ready.policies.policies q ready.world)),
       inl (q, c.in-Ok.ensures.denotes, refl),
       c.in_ok-append_response-in-Ok.ensures.ok ∙ ap (λ (r : ResponseTree). c.args.out.now.items ++ compact_text (response_data r)) made,

@@ -1,7 +1,7 @@
 use Rattle.std.proofs.Common.{◌∙◌, refl}
 use Rattle.cedar_auth_spec.specs.AnswerJson.{response_data}
 use Rattle.cedar_auth.proofs.Texts.{text_behind}
-use Rattle.cedar_auth.proofs.answer.append_response.Goals as goal
+use Rattle.cedar_auth.proofs.answer.append_long.Goals as goal
 
 pub returns-clause-ok : goal.returns-clause-ok
 returns-clause-ok c =

@@ -1,0 +1,8 @@
+use Rattle.std.proofs.Common.{◌≡◌, take}
+use Rattle.cedar_auth.specs.Private.Ruling.{ruling_of}
+use Rattle.cedar_auth.specs.Private.Selected.{policies_at}
+use Rattle.cedar_auth.specs.Private.Tally.{tally_of}
+use Rattle.cedar_auth.proofs.validated.Validated.decide.Given as goal
+
+abbrev pub invariant-loop-position : goal.invariant-loop-position
+invariant-loop-position g l = l.ruling ≡ ruling_of (tally_of l.request (g.H.Hierarchy.world l.hierarchy) (policies_at l.self.policies.policies (take l.position-index l.positions)))

@@ -3,6 +3,7 @@ ghost use Rattle.std.specs.Prelude.{ℕ, List, ◌≡◌, ◌≢◌, ◌⊎◌, 
 ghost use Rattle.serde_json.specs.Written.{compact_text};
 ghost use Rattle.cedar_schema_spec.specs.Conformance.{Fits};
 ghost use Rattle.cedar_conform.specs.Parts.{PartsDenote};
+ghost use Rattle.cedar_conform.specs.Places.{IsPlacedAt};
 ghost use Rattle.cedar_conform_values.specs.Numbers.{number_of};
 ghost use Rattle.cedar_conform_values.specs.declared.conform_fault.ConformFault.TheVariants.{OutOfMemory};
 ghost use Rattle.cedar_auth.specs.AnswerParts.{response_text, response_to};
@@ -17,44 +18,45 @@ use crate::decided::{Decided, decision_number};
 use crate::engine::Engine;
 use crate::parts::{RequestBytes, request_parts};
 use crate::status::{MEMORY, NO_REQUEST, OK, ROOM};
-use cedar_auth::{Ready, append_answer, append_fault, decide};
-use cedar_conform::RequestReader;
+use cedar_auth::{Ready, append_fault, append_fitting_answer, decide_fitting};
+use cedar_conform::{FittingRequest, RequestReader};
 use cedar_conform_values::ConformFault;
-use cedar_value::Request;
 use std::alloc::Global;
 
-// The request that the parts denote. Types and ids that are not UTF-8 are refused with 502.
+// The request that the parts denote, and where its environment is. Types and ids that are not UTF-8 are refused with 502.
 fn read(
     alloc: Global,
     ready: &Ready,
     reader: &mut RequestReader,
     bytes: &RequestBytes<'_>,
-) -> Result<Request, ConformFault>
-    ensures denotes { IfOk result (PartsDenote ready.now.schema (parts_in bytes.now)) }
-    ensures fits { IfOk result (Fits ready.now.schema) }
+) -> Result<FittingRequest, ConformFault>
+    ensures denotes { IfOk result (λ found. PartsDenote ready.now.schema (parts_in bytes.now) found.request) }
+    ensures fits { IfOk result (λ found. Fits ready.now.schema found.request) }
+    ensures placed { IfOk result (λ found. IsPlacedAt ready.now.schema found.request found.environment) }
     ensures refused { IfErr result (λ fault. fault ≢ OutOfMemory → ArePartsRefused ready.now (parts_in bytes.now) (number_of fault)) }
 {
     let Some(parts) = request_parts(bytes) else {
         return Err(ConformFault::Shape);
     };
-    ready.read_parts(alloc, &parts, reader)
+    ready.read_fitting_parts(alloc, &parts, reader)
 }
 
 // Gives the decision on a request, and the text of the response where the buffer has length.
 fn give_response(
     alloc: Global,
     ready: &Ready,
-    request: &Request,
+    found: &FittingRequest,
     room: &mut Vec<u8>,
     decided: &mut Decided,
     text: &mut [u8],
     written: &mut usize,
 ) -> u32
-    requires { Fits ready.now.schema request.now }
-    ensures ok { result ≡ 0 → decided.new.allow ≡ decision_number (response_to ready.now request.now).decision }
-    ensures told { result ≡ 0 → 0 < length text.old → take written.new text.new ≡ response_text ready.now request.now }
+    requires fits { Fits ready.now.schema found.now.request }
+    requires placed { IsPlacedAt ready.now.schema found.now.request found.now.environment }
+    ensures ok { result ≡ 0 → decided.new.allow ≡ decision_number (response_to ready.now found.now.request).decision }
+    ensures told { result ≡ 0 → 0 < length text.old → take written.new text.new ≡ response_text ready.now found.now.request }
     ensures rest { result ≡ 0 → drop written.new text.new ≡ drop written.new text.old }
-    ensures room { result ≡ 6 → IsTooLong (response_text ready.now request.now) text.old written.new }
+    ensures room { result ≡ 6 → IsTooLong (response_text ready.now found.now.request) text.old written.new }
     ensures denied { result ≢ 0 → decided.new.allow ≡ decided.old.allow }
     ensures unrefused { decided.new.refused ≡ decided.old.refused }
     ensures untouched { result ≢ 0 → text.new ≡ text.old }
@@ -63,7 +65,7 @@ fn give_response(
     ensures known { IsOneOf (0 ∷ 1 ∷ 6 ∷ []) result }
 {
     if text.len() == 0 {
-        return match decide(alloc, ready, request) {
+        return match decide_fitting(alloc, ready, found) {
             Ok(decision) => {
                 decided.allow = decision_number(decision);
                 OK
@@ -72,7 +74,7 @@ fn give_response(
         };
     }
     room.clear();
-    let Ok(decision) = append_answer(alloc, ready, request, room) else {
+    let Ok(decision) = append_fitting_answer(alloc, ready, found, room) else {
         return MEMORY;
     };
     if give(room, text, written) != OK {
@@ -147,9 +149,9 @@ fn give_decision(
     ensures known { IsOneOf (0 ∷ 1 ∷ 6 ∷ 7 ∷ []) result }
 {
     match read(alloc, ready, reader, bytes) {
-        Ok(request) => {
-            let status = give_response(alloc, ready, &request, room, decided, text, written);
-            reader.keep(request);
+        Ok(found) => {
+            let status = give_response(alloc, ready, &found, room, decided, text, written);
+            reader.keep(found.request);
             status
         }
         Err(fault) => give_fault(alloc, &fault, room, decided, text, written),

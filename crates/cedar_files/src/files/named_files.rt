@@ -10,12 +10,40 @@ use std::io::{self, ErrorKind, Read};
 pub struct NamedFiles<'a, R> {
     rt: &'a R,
     names: FileNames<'a>,
+    are_entities_optional: bool,
 }
+
+/// What an entities file holds that may be left out, and is.
+const NO_ENTITIES: &[u8] = b"[]";
 
 impl<'a, R: std::rt::Files + AllocGlobal> NamedFiles<'a, R> {
     /// The files of these names.
     pub fn new(rt: &'a R, names: FileNames<'a>) -> NamedFiles<'a, R> {
-        NamedFiles { rt, names }
+        NamedFiles {
+            rt,
+            names,
+            are_entities_optional: false,
+        }
+    }
+
+    /// The same files, of which the entities file may be left out. If the command line names none, it holds an empty list.
+    pub fn with_optional_entities(self) -> NamedFiles<'a, R> {
+        NamedFiles {
+            rt: self.rt,
+            names: self.names,
+            are_entities_optional: true,
+        }
+    }
+
+    // What a file holds that the command line does not name.
+    fn read_unnamed(&self, alloc: Global, role: Role) -> Result<Option<Vec<u8>>, FileFault> {
+        if role != Role::Entities || !self.are_entities_optional {
+            return Ok(None);
+        }
+        match Vec::from_slice(alloc, NO_ENTITIES) {
+            Ok(bytes) => Ok(Some(bytes)),
+            Err(_) => Err(FileFault::Memory),
+        }
     }
 
     /// The name of a file, or none if the command line names no such file.
@@ -64,9 +92,9 @@ fn name<'a>(names: FileNames<'a>, role: Role) -> Option<&'a str> {
 }
 
 impl<'a, R: std::rt::Files + AllocGlobal> Files for NamedFiles<'a, R> {
-    fn read(&self, _alloc: Global, role: Role) -> Result<Option<Vec<u8>>, FileFault> {
+    fn read(&self, alloc: Global, role: Role) -> Result<Option<Vec<u8>>, FileFault> {
         let Some(name) = name(self.names, role) else {
-            return Ok(None);
+            return self.read_unnamed(alloc, role);
         };
         match fs::read(self.rt, name) {
             Ok(bytes) => Ok(Some(bytes)),

@@ -9,16 +9,16 @@ use Rattle.cedar_c.proofs.deciding.give_decision.Goals as goal
 
 pub returns-in-Ok-clause-ok : goal.returns-in-Ok-clause-ok
 returns-in-Ok-clause-ok c = λ done. (
-  response_text c.args.ready.now c.in-Ok.request,
-  record { request = c.in-Ok.request; denoted = c.in-Ok.ensures.denotes; decided = c.give_response-status.ensures.ok done; is_text = refl },
+  response_text c.args.ready.now c.in-Ok.found.request,
+  record { request = c.in-Ok.found.request; denoted = c.in-Ok.ensures.denotes; decided = c.give_response-status.ensures.ok done; is_text = refl },
   c.give_response-status.ensures.told done,
 )
 
 pub returns-in-Ok-clause-room : goal.returns-in-Ok-clause-room
 returns-in-Ok-clause-room c = λ full. (
-  response_text c.args.ready.now c.in-Ok.request,
+  response_text c.args.ready.now c.in-Ok.found.request,
   by_response (record {
-    request = c.in-Ok.request;
+    request = c.in-Ok.found.request;
     denoted = c.in-Ok.ensures.denotes;
     decided = refl;
     is_text = refl;

@@ -8,7 +8,7 @@ _cedar_options() {
   case $1 in
     '') printf ' %s' -h --help -V --version ;;
     validate) printf ' %s' --schema --policies --links --any-decimal --deny-warnings --quiet --diagnostics -h --help ;;
-    authorize) printf ' %s' --schema --policies --links --entities --any-decimal --explain-lines --quiet --diagnostics -h --help ;;
+    authorize) printf ' %s' --schema --policies --links --entities --any-decimal --entities-in-lines --explain-lines --quiet --diagnostics -h --help ;;
     why) printf ' %s' --schema --policies --links --entities --any-decimal --all --json --quiet --diagnostics -h --help ;;
     ask) printf ' %s' --schema --policies --links --entities --any-decimal --principal --action --resource --context --quiet --diagnostics -h --help ;;
     check-parse) printf ' %s' --policies --quiet --diagnostics -h --help ;;

@@ -32,6 +32,7 @@ complete -c cedar -n "__cedar_runs authorize" -l policies -r -F -d 'The policies
 complete -c cedar -n "__cedar_runs authorize" -l links -r -F -d 'The links: JSON that gives uids for the slots of templates, each link a policy of its own'
 complete -c cedar -n "__cedar_runs authorize" -l entities -r -F -d 'The entities: JSON of the format that the Cedar language defines'
 complete -c cedar -n "__cedar_runs authorize" -l any-decimal -d 'Accept decimal(..) of any text, which may then err when a request is answered'
+complete -c cedar -n "__cedar_runs authorize" -l entities-in-lines -d 'Take request lines with a key entities, a list of entities for that line alone; --entities may then be left out'
 complete -c cedar -n "__cedar_runs authorize" -l explain-lines -d 'Explain each refused request line on standard error, after all lines were read'
 complete -c cedar -n "__cedar_runs authorize" -l quiet -d 'Explain nothing on standard error'
 complete -c cedar -n "__cedar_runs authorize" -l diagnostics -x -a 'human json none' -d 'How to explain on standard error: human, json (an object a line) or none [default: human]'

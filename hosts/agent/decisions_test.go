@@ -46,6 +46,32 @@ func TestDecisionsCanBeReplayed(t *testing.T) {
 	}
 }
 
+// Requests that bring entities are answered anew with them.
+func TestDecisionsWithEntitiesCanBeReplayed(t *testing.T) {
+	log := filepath.Join(t.TempDir(), "decisions.jsonl")
+	it := serveExample(t, "photos", "--decision-log", log, "--entities-in-requests")
+	requests := []string{beach, bringing(`[` + annAlone + `]`), beach, bringing(`[]`), bringing(`[` + annAlone + `,` + annAlone + `]`),
+		bringing(`[{"uid":{"type":"Ghost","id":"g"}}]`), bringing(`{}`), bringing(`[],"more":1`)}
+	for _, request := range requests {
+		it.ask(request)
+	}
+	it.askLines(strings.Join(requests, "\n"))
+	count := 2 * len(requests)
+	eventually(t, "all decisions are logged", func() bool {
+		text, _ := os.ReadFile(log)
+		return strings.Count(string(text), "\n") == count
+	})
+	_, files := copied(t, "photos")
+	said, status := replay(t, log, append(files, "--entities-in-requests")...)
+	if status != 0 || said != fmt.Sprintf("%d same, 0 differ\n", count) {
+		t.Error(status, said)
+	}
+	// Without the option the program refuses the requests that bring entities.
+	if said, status := replay(t, log, files...); status != 1 || !strings.HasSuffix(said, "8 same, 8 differ\n") {
+		t.Error(status, said)
+	}
+}
+
 // With other policies the program gives other answers, and the replay says which.
 func TestAReplayThatDiffers(t *testing.T) {
 	log := filepath.Join(t.TempDir(), "decisions.jsonl")

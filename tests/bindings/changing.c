@@ -1,6 +1,7 @@
 /* The cost of changes of entities, in C: changing ENTITIES KIND CALLS. It makes a world of so many users in a thousand groups of three levels,
- * and publishes changes of a kind to it, one after another: `upsert`, `remove`, `group`, `thousand`. It prints the bytes that malloc
- * has given more after the first change, while the version before it is held. */
+ * and publishes changes of a kind to it, one after another: `upsert`, `remove`, `group`, `same`, `thousand`. A group is upserted with other
+ * parents (`group`), or with those that it has (`same`). It prints the bytes that malloc has given more after the first change, while the
+ * version before it is held. */
 #include "files.h"
 
 #include <malloc.h>
@@ -56,9 +57,9 @@ static cedar_bytes changes(const char *kind, unsigned call) {
     if (strcmp(kind, "remove") == 0) {
         snprintf(uid, sizeof uid, "{\"remove\":[{\"type\":\"User\",\"id\":\"u%u\"}]}", call);
         add(uid);
-    } else if (strcmp(kind, "group") == 0) {
+    } else if (strcmp(kind, "group") == 0 || strcmp(kind, "same") == 0) {
         add("{\"upsert\":[");
-        add_group(500, 1 + call % 9);
+        add_group(500, 1 + (strcmp(kind, "same") == 0 ? 500 : call) % 9);
         add("]}");
     } else {
         unsigned count = strcmp(kind, "thousand") == 0 ? 1000 : 1;

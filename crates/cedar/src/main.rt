@@ -7,6 +7,7 @@ mod format;
 mod lines;
 mod request_line;
 mod running;
+mod unnamed;
 mod warning;
 mod whys;
 

@@ -2,6 +2,7 @@
 use crate::asking::run_ask;
 use crate::explaining::Explainer;
 use crate::lines::explain_lines;
+use crate::unnamed::refuse_unnamed_entities;
 use crate::warning::authorize_and_warn;
 use crate::whys::run_why;
 use base_lines::{SliceSource, StdSink, StdSource};
@@ -81,10 +82,20 @@ fn run_validate(rt: &HostRuntime, words: &Words<'_>, format: Option<Format>) -> 
     }
 }
 
+// The files of `authorize`. If request lines may bring entities, the entities file may be left out.
+fn files_to_authorize<'a>(rt: &'a HostRuntime, words: &Words<'a>) -> NamedFiles<'a, HostRuntime> {
+    let files = NamedFiles::new(rt, words.files);
+    if words.entities_in_lines {
+        files.with_optional_entities()
+    } else {
+        files
+    }
+}
+
 // `authorize`. The lines are counted where it is to be said how many were refused.
 fn run_authorize(rt: &HostRuntime, words: &Words<'_>, format: Option<Format>) -> u8 {
     let alloc = rt.alloc();
-    let files = NamedFiles::new(rt, words.files);
+    let files = files_to_authorize(rt, words);
     let mut source = StdSource::new(rt.reader());
     let mut sink = StdSink::new(io::writer(rt));
     let Some(form) = format else {
@@ -107,7 +118,7 @@ fn run_authorize(rt: &HostRuntime, words: &Words<'_>, format: Option<Format>) ->
 // `authorize --explain-lines`: all lines are read before the first is answered.
 fn run_kept_lines(rt: &HostRuntime, words: &Words<'_>, format: Option<Format>) -> u8 {
     let alloc = rt.alloc();
-    let files = NamedFiles::new(rt, words.files);
+    let files = files_to_authorize(rt, words);
     let mut input = Vec::new(alloc);
     let mut reader = rt.reader();
     if let Err(error) = reader.read_to_end(&mut input) {
@@ -163,10 +174,16 @@ fn run_explain(rt: &HostRuntime, words: &Words<'_>) -> u8 {
     end.status()
 }
 
+// Whether the command line names no entities file, and request lines bring no entities either.
+fn lacks_entities(words: &Words<'_>) -> bool {
+    words.files.entities.is_none() && !words.entities_in_lines
+}
+
 /// Runs the subcommand of a command line, explains in a form, if one is wanted, how it ended, and gives the exit status.
 pub fn run_words(rt: &HostRuntime, words: &Words<'_>, format: Option<Format>) -> u8 {
     match words.subcommand {
         Subcommand::Validate => run_validate(rt, words, format),
+        Subcommand::Authorize if lacks_entities(words) => refuse_unnamed_entities(rt),
         Subcommand::Authorize if words.explain_lines => run_kept_lines(rt, words, format),
         Subcommand::Authorize => run_authorize(rt, words, format),
         Subcommand::Why => run_why(rt, words, format),

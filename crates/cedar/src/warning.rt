@@ -3,31 +3,35 @@ ghost use Rattle.std.specs.Prelude.{◌-◌, ◌<◌, ◌^◌};
 
 use base_lines::{Sink, Source};
 use cedar_auth::Ready;
-use cedar_cli::{Observer, Words, authorize, authorize_observed};
+use cedar_cli::{Observer, Words, authorize_observed, authorize_with_entities};
 use cedar_files::{End, NamedFiles};
 use cedar_files_diagnostics::{Format, impossible_policies};
 
-// Says on standard error, once all files are read, how many policies no request can satisfy.
+// Says on standard error, once all files are read, how many policies no request can satisfy. Without a form it says nothing.
 #[derive(Drop)]
 struct Warner<'a> {
     rt: &'a HostRuntime,
-    format: Format,
+    format: Option<Format>,
 }
 
 impl<'a> Observer for Warner<'a> {
     fn is_ready(&mut self, ready: &Ready) {
+        let Some(format) = self.format else {
+            return;
+        };
         let count = ready.validated().warnings().len();
         if count == 0 {
             return;
         }
-        if let Ok(says) = impossible_policies(self.rt.alloc(), self.format, count) {
+        if let Ok(says) = impossible_policies(self.rt.alloc(), format, count) {
             // Where standard error is gone, the line is lost.
             let _ = self.rt.eprint(says.as_str());
         }
     }
 }
 
-/// Does what `authorize` does, and says in a form, if one is wanted, how many policies no request can satisfy.
+/// Does what `authorize` does, with entities in lines if these are wanted, and says in a form, if one is wanted, how many policies no
+/// request can satisfy.
 pub fn authorize_and_warn<S: Source, K: Sink>(
     rt: &HostRuntime,
     files: &NamedFiles<'_, HostRuntime>,
@@ -39,9 +43,11 @@ pub fn authorize_and_warn<S: Source, K: Sink>(
     requires source_count { S.failed source.old < 2 ^ 64 - 1 }
     requires sink_count { K.failed sink.old < 2 ^ 64 - 1 }
 {
-    let Some(format) = format else {
-        return authorize(rt.alloc(), files, source, sink, words.settings);
-    };
+    let alloc = rt.alloc();
     let mut warner = Warner { rt, format };
-    authorize_observed(rt.alloc(), files, source, sink, words.settings, &mut warner)
+    if words.entities_in_lines {
+        authorize_with_entities(alloc, files, source, sink, words.settings, &mut warner)
+    } else {
+        authorize_observed(alloc, files, source, sink, words.settings, &mut warner)
+    }
 }

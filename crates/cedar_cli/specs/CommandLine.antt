@@ -26,21 +26,22 @@ over_policies name =
     with_rule (with_rule (with_rule (new_app name) (option_rule (codes "schema") true)) (option_rule (codes "policies") true))
     (option_rule (codes "links") false)
 
--- A subcommand over policies, with `--entities FILE [--any-decimal]` (own).
-abbrev pub over_entities : Text → App
-over_entities name = with_rule (with_rule (over_policies name) (option_rule (codes "entities") true)) (flag_rule (codes "any-decimal"))
+-- A subcommand over policies, with `--entities FILE`, which has to be there where it is required, and `[--any-decimal]` (own).
+abbrev pub over_entities : Text → Bool → App
+over_entities name required = with_rule (with_rule (over_policies name) (option_rule (codes "entities") required)) (flag_rule (codes "any-decimal"))
 
 -- The subcommand `validate`, over policies, with `[--any-decimal] [--deny-warnings]` (own).
 abbrev pub validate_app : App
 validate_app = explained (with_rule (with_rule (over_policies (codes "validate")) (flag_rule (codes "any-decimal"))) (flag_rule (codes "deny-warnings")))
 
--- The subcommand `authorize`, over entities, with `[--explain-lines]` (own).
+-- The subcommand `authorize`, over entities if `--entities` is used, with `[--entities-in-lines] [--explain-lines]` (own).
 abbrev pub authorize_app : App
-authorize_app = explained (with_rule (over_entities (codes "authorize")) (flag_rule (codes "explain-lines")))
+authorize_app =
+    explained (with_rule (with_rule (over_entities (codes "authorize") false) (flag_rule (codes "entities-in-lines"))) (flag_rule (codes "explain-lines")))
 
 -- The subcommand `why`, over entities, with `[--all] [--json]` (own).
 abbrev pub why_app : App
-why_app = explained (with_rule (with_rule (over_entities (codes "why")) (flag_rule (codes "all"))) (flag_rule (codes "json")))
+why_app = explained (with_rule (with_rule (over_entities (codes "why") true) (flag_rule (codes "all"))) (flag_rule (codes "json")))
 
 -- A subcommand with the options `--principal UID --action UID --resource UID [--context FILE]` after its own (own).
 abbrev pub over_request : App → App
@@ -50,7 +51,7 @@ over_request a =
 
 -- The subcommand `ask`, over entities and a request (own).
 abbrev pub ask_app : App
-ask_app = explained (over_request (over_entities (codes "ask")))
+ask_app = explained (over_request (over_entities (codes "ask") true))
 
 -- The subcommand `check-parse --policies FILE` (own).
 abbrev pub check_parse_app : App

@@ -53,5 +53,6 @@ pub record AreGiven (words : List Text) (w : Words) : Type 0 where
   pub quiet : IsFlag (one_of (codes "quiet") rows) w.quiet
   pub deny_warnings : IsFlag (one_of (codes "deny-warnings") rows) w.deny_warnings
   pub explain_lines : IsFlag (one_of (codes "explain-lines") rows) w.explain_lines
+  pub entities_in_lines : IsFlag (one_of (codes "entities-in-lines") rows) w.entities_in_lines
   pub all : IsFlag (one_of (codes "all") rows) w.all
   pub json : IsFlag (one_of (codes "json") rows) w.json

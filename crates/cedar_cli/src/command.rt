@@ -102,12 +102,16 @@ fn over_policies<'a>(alloc: Global, name: &'a str) -> Result<Command<'a>, AllocE
 }
 
 // A subcommand over a schema, policies, links and entities.
-fn over_entities<'a>(alloc: Global, name: &'a str) -> Result<Command<'a>, AllocError>
-    ensures app { IfOk result (λ c. app_of c ≡ over_entities name.entry.now) }
+fn over_entities<'a>(
+    alloc: Global,
+    name: &'a str,
+    required: bool,
+) -> Result<Command<'a>, AllocError>
+    ensures app { IfOk result (λ c. app_of c ≡ over_entities name.entry.now required) }
     ensures local { IfOk result (λ c. (fields_of c).has_globals ≡ false) }
 {
     let command = over_policies(alloc, name)?
-        .arg(file(alloc, "entities", help::ENTITIES, true))?
+        .arg(file(alloc, "entities", help::ENTITIES, required))?
         .arg(flag(alloc, "any-decimal", help::ANY_DECIMAL))?;
     Ok(command)
 }
@@ -128,9 +132,10 @@ fn authorize<'a>(alloc: Global) -> Result<Command<'a>, AllocError>
     ensures app { IfOk result (λ c. app_of c ≡ authorize_app) }
     ensures local { IfOk result (λ c. (fields_of c).has_globals ≡ false) }
 {
-    let command = over_entities(alloc, "authorize")?
+    let command = over_entities(alloc, "authorize", false)?
         .about(help::AUTHORIZE)
         .after_help(help::AUTHORIZE_EXAMPLE)
+        .arg(flag(alloc, "entities-in-lines", help::ENTITIES_IN_LINES))?
         .arg(flag(alloc, "explain-lines", help::EXPLAIN_LINES))?;
     explained(alloc, command)
 }
@@ -139,7 +144,7 @@ fn why<'a>(alloc: Global) -> Result<Command<'a>, AllocError>
     ensures app { IfOk result (λ c. app_of c ≡ why_app) }
     ensures local { IfOk result (λ c. (fields_of c).has_globals ≡ false) }
 {
-    let command = over_entities(alloc, "why")?
+    let command = over_entities(alloc, "why", true)?
         .about(help::WHY)
         .after_help(help::WHY_EXAMPLE)
         .arg(flag(alloc, "all", help::ALL))?
@@ -151,7 +156,7 @@ fn ask<'a>(alloc: Global) -> Result<Command<'a>, AllocError>
     ensures app { IfOk result (λ c. app_of c ≡ ask_app) }
     ensures local { IfOk result (λ c. (fields_of c).has_globals ≡ false) }
 {
-    let command = over_entities(alloc, "ask")?
+    let command = over_entities(alloc, "ask", true)?
         .about(help::ASK)
         .after_help(help::ASK_EXAMPLE);
     let command = over_request(alloc, command)?;

@@ -78,6 +78,7 @@ pub fn words<'a>(alloc: Global, words: &'a [&'a str]) -> Result<Words<'a>, Words
         quiet: found.get_flag("quiet"),
         deny_warnings: found.get_flag("deny-warnings"),
         explain_lines: found.get_flag("explain-lines"),
+        entities_in_lines: found.get_flag("entities-in-lines"),
         all: found.get_flag("all"),
         json: found.get_flag("json"),
     })

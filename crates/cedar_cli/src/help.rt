@@ -61,6 +61,10 @@ Its answer names the policies that determine the decision, and those that erred:
 
 A line that is no request by the schema is answered by {\"refused\":502}, or another number that says why (501 to 511).
 
+With --entities-in-lines a line may bring entities, in the form of the entities file. For this line they replace those of the
+file with their uids:
+  {\"principal\":\"User::\\\"ann\\\"\",\"action\":..,\"resource\":..,\"entities\":[{\"uid\":..,\"attrs\":{},\"parents\":[]}]}
+
 Policies with faults answer nothing: the report on them is written instead, as validate writes it.
 
 Statuses:
@@ -156,6 +160,10 @@ pub(crate) const ANY_DECIMAL: &str =
 
 /// Of `--deny-warnings`.
 pub(crate) const DENY_WARNINGS: &str = "End with 3 where there are warnings, too";
+
+/// Of `--entities-in-lines`.
+pub(crate) const ENTITIES_IN_LINES: &str =
+    "Take request lines with a key entities, a list of entities for that line alone; --entities may then be left out";
 
 /// Of `--explain-lines`.
 pub(crate) const EXPLAIN_LINES: &str =

@@ -10,12 +10,13 @@
 //! ```
 //!
 //! [`authorize`] says what is written and how the program ends, given what the files hold: read `specs/Authorization.antt` first,
-//! here and in `cedar_files`, which has `validate` and reads the files. [`ask`] answers one line and gives its decision,
-//! [`check_parse`] counts policies, and [`words`] reads the command line.
+//! here and in `cedar_files`, which has `validate` and reads the files. [`authorize_with_entities`] takes request lines that bring
+//! entities, [`ask`] answers one line and gives its decision, [`check_parse`] counts policies, and [`words`] reads the command line.
 #![tactic(auto)]
 
 mod asking;
 mod authorizing;
+mod authorizing_with_entities;
 mod command;
 mod command_line;
 mod help;
@@ -24,6 +25,7 @@ mod parsing;
 
 pub use asking::ask;
 pub use authorizing::{Observer, authorize, authorize_observed};
+pub use authorizing_with_entities::authorize_with_entities;
 pub use command_line::{WordsFault, words};
 pub use options::{AskedRequest, Subcommand, Words};
 pub use parsing::check_parse;

@@ -54,6 +54,8 @@ pub struct Words<'a> {
     pub deny_warnings: bool,
     /// `--explain-lines`: `authorize` explains each refused request line.
     pub explain_lines: bool,
+    /// `--entities-in-lines`: `authorize` takes request lines that bring entities, and needs no entities file.
+    pub entities_in_lines: bool,
     /// `--all`: `why` shows each policy.
     pub all: bool,
     /// `--json`: `why` writes JSON.

@@ -19,8 +19,8 @@ const DUPLICATE: u16 = 401;
 /// The number of an entity that is below itself.
 const CIRCLE: u16 = 402;
 
-// A uid as a policy writes it.
-fn text_of(alloc: Global, uid: &Uid) -> Result<String, AllocError> {
+/// A uid as a policy writes it.
+pub(crate) fn text_of(alloc: Global, uid: &Uid) -> Result<String, AllocError> {
     let ty = uid.ty.as_str();
     let id = uid.id.as_str();
     format!(in alloc; "{ty}::{id:?}")

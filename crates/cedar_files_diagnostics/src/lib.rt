@@ -14,6 +14,7 @@
 #![tactic(auto)]
 
 mod again;
+mod brought;
 mod changes;
 mod counting_sink;
 mod data;
@@ -42,6 +43,7 @@ mod statement_places;
 mod token_words;
 mod words;
 
+pub use brought::explain_request_with_entities;
 pub use changes::explain_changes;
 pub use counting_sink::{CountingSink, FirstRefused, LineCounts};
 pub use data::explain_request;

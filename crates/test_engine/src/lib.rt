@@ -1,7 +1,7 @@
 //! Tests of the authoriser, of services and of the program that cannot be written as cases.
 //!
 //! - Of the authoriser: what is kept, lent and handed back (`kept`), policies (`refusals`) and entities (`readiness`) that are refused,
-//!   lines in pieces (`lines`), and requests one by one (`parts`). The schema and the entities are in `world`.
+//!   lines in pieces (`lines`), requests one by one (`parts`), and entities that come with a request (`brought`). The schema and the entities are in `world`.
 //! - Of services: lists of events from a seed (`random`), over the schema, the entities and the texts of answers of `service_world`.
 //!   `held` keeps what is owned from being dropped at an exit, which is slow to prove.
 //! - Of the program: files, sources and sinks that fail (`devices`, `unreadable`, `lacking_files`), and that each line is answered
@@ -11,6 +11,8 @@
 //! crate are proved with the whole crate once more, so that these have a crate of their own.
 #![tactic(auto)]
 
+#[cfg(test)]
+mod brought;
 #[cfg(test)]
 mod devices;
 #[cfg(test)]

@@ -2,7 +2,7 @@
 use crate::held::made;
 use crate::world::ready;
 use cedar_ast::Decision;
-use cedar_auth::{Ready, answer_line, append_answer, append_fault, decide};
+use cedar_auth::{Ready, answer_line, append_answer, append_fault, append_fitting_answer, decide};
 use cedar_conform::{RequestParts, RequestReader, UidParts};
 use std::alloc::{AllocError, Global};
 use std::test::Fail;
@@ -88,6 +88,48 @@ fn answers_requests_in_parts(rt: HostRuntime) -> Result<(), Fail> {
     drop(ready);
     let wanted: &[u8] =
         br#"{"decision":"allow","determining":["policy0"],"erring":[]}{"decision":"deny","determining":["policy1"],"erring":[]}{"decision":"allow","determining":["policy0"],"erring":[]}"#;
+    assert_eq!(rt; made(answers)?.as_slice(), wanted);
+    Ok(())
+}
+
+/// Appends the answer to a request in parts that is read with the position of its environment.
+fn fitting_answer(
+    alloc: Global,
+    ready: &Ready,
+    reader: &mut RequestReader,
+    parts: &RequestParts<'_>,
+    out: &mut Vec<u8>,
+) -> Result<(), AllocError> {
+    match ready.read_fitting_parts(alloc, parts, reader) {
+        Ok(found) => {
+            append_fitting_answer(alloc, ready, &found, out)?;
+            reader.keep(found.request);
+            Ok(())
+        }
+        Err(fault) => append_fault(alloc, &fault, out),
+    }
+}
+
+/// The answers to two views and a deletion, with one reader.
+fn answers_to_fitting_parts(alloc: Global, ready: &Ready) -> Result<Vec<u8>, AllocError> {
+    let mut reader = RequestReader::new(alloc)?;
+    let mut out = Vec::new(alloc);
+    let first = asks(action("view"), br#"{"n":1}"#);
+    let second = asks(action("delete"), b"");
+    let third = asks(action("view"), br#"{"n":4}"#);
+    fitting_answer(alloc, ready, &mut reader, &first, &mut out)?;
+    fitting_answer(alloc, ready, &mut reader, &second, &mut out)?;
+    fitting_answer(alloc, ready, &mut reader, &third, &mut out)?;
+    Ok(out)
+}
+
+#[test]
+fn answers_requests_at_their_environments(rt: HostRuntime) -> Result<(), Fail> {
+    let ready = ready(rt.alloc(), POLICIES)?;
+    let answers = answers_to_fitting_parts(rt.alloc(), &ready);
+    drop(ready);
+    let wanted: &[u8] =
+        br#"{"decision":"allow","determining":["policy0"],"erring":[]}{"decision":"allow","determining":["policy0"],"erring":[]}{"decision":"deny","determining":["policy1"],"erring":[]}"#;
     assert_eq!(rt; made(answers)?.as_slice(), wanted);
     Ok(())
 }

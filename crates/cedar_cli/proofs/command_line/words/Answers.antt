@@ -53,14 +53,19 @@ returns-clause-ok c =
         used = λ e. c.get_flag-4.ensures.value (one_text-rows (found_of found) _ ∙ e);
         unused = λ e. c.get_flag-4.ensures.other (one_text-rows (found_of found) _ ∙ e);
       };
-      all = record {
+      entities_in_lines = record {
         none = λ e. c.get_flag-5.ensures.none (one_text-rows (found_of found) _ ∙ e);
         used = λ e. c.get_flag-5.ensures.value (one_text-rows (found_of found) _ ∙ e);
         unused = λ e. c.get_flag-5.ensures.other (one_text-rows (found_of found) _ ∙ e);
       };
-      json = record {
+      all = record {
         none = λ e. c.get_flag-6.ensures.none (one_text-rows (found_of found) _ ∙ e);
         used = λ e. c.get_flag-6.ensures.value (one_text-rows (found_of found) _ ∙ e);
         unused = λ e. c.get_flag-6.ensures.other (one_text-rows (found_of found) _ ∙ e);
+      };
+      json = record {
+        none = λ e. c.get_flag-7.ensures.none (one_text-rows (found_of found) _ ∙ e);
+        used = λ e. c.get_flag-7.ensures.value (one_text-rows (found_of found) _ ∙ e);
+        unused = λ e. c.get_flag-7.ensures.other (one_text-rows (found_of found) _ ∙ e);
       };
     }

@@ -18,7 +18,7 @@ returns-clause-done g c = λ h. (
   c.in-Ok.ready,
   c.in-Ok.ensures.held,
   (λ line q w d. subst (λ (settings : Settings). IsAnsweredSoundlyWith settings c.in-Ok.ready.policies.policies q w) c.in-Ok.ensures.held.settings_are
-  (c.lines_with_entities_are_answered_soundly.ensures line q w d)),
+      (c.lines_with_entities_are_answered_soundly.ensures line q w d)),
   rw c.in-Ok.ensures.untouched at c.answer_with_entities.ensures.done h,
 )
 

@@ -121,6 +121,7 @@ uint32_t cedar_raw_explain_changes(const void *schema, size_t schema_length, con
                                    uint32_t format, void *text, size_t room, size_t *written);
 uint32_t cedar_raw_share(cedar_engine *engine, cedar_engine *other);
 uint32_t cedar_raw_answer(cedar_engine *engine, const void *lines, size_t length, void *text, size_t room, size_t *written);
+uint32_t cedar_raw_answer_with_entities(cedar_engine *engine, const void *lines, size_t length, void *text, size_t room, size_t *written);
 uint32_t cedar_raw_answer_line(cedar_engine *engine, const void *line, size_t length, void *text, size_t room, size_t *written);
 uint32_t cedar_raw_decide(cedar_engine *engine, const void *principal_type, size_t principal_type_length, const void *principal_id,
                           size_t principal_id_length, const void *action_type, size_t action_type_length, const void *action_id,
@@ -301,6 +302,19 @@ static inline uint32_t cedar_answer(cedar_engine *engine, cedar_bytes lines, ced
     uint32_t status = CEDAR_ARGUMENT;
     if (engine && engine->at) {
         status = cedar_raw_answer(engine, cedar_address(lines), cedar_length(lines), used->at, used->room, &used->written);
+    }
+    return cedar_written(status, text, used);
+}
+
+/* Answers each line of `lines`, as `cedar authorize --entities-in-lines` does: a line may have a fifth member `entities`, a list as in an
+ * entities file. For this line alone they replace the entities of the engine that have their uids, or are added to them. No other line and no
+ * other call sees them. */
+static inline uint32_t cedar_answer_with_entities(cedar_engine *engine, cedar_bytes lines, cedar_buffer *text) {
+    char no_room = 0;
+    cedar_buffer spare, *used = cedar_usable(text, &spare, &no_room);
+    uint32_t status = CEDAR_ARGUMENT;
+    if (engine && engine->at) {
+        status = cedar_raw_answer_with_entities(engine, cedar_address(lines), cedar_length(lines), used->at, used->room, &used->written);
     }
     return cedar_written(status, text, used);
 }

@@ -2,6 +2,7 @@
 ghost use Rattle.std.specs.Prelude.{ℕ, List, ◌≡◌, ◌≢◌, [], ◌∷◌, drop, take};
 ghost use Rattle.base_lines.specs.AnswerText.{IsAnswerText};
 ghost use Rattle.cedar_auth.specs.AnswerLine.{AnswersLine};
+ghost use Rattle.cedar_auth.specs.AnswerLineWithEntities.{AnswersLineWithEntities};
 ghost use Rattle.cedar_c.specs.Buffers.{IsTooLong};
 ghost use Rattle.cedar_c.specs.Statuses.{IsOneOf};
 
@@ -9,7 +10,7 @@ use crate::buffer::give;
 use crate::engine::Engine;
 use crate::status::MEMORY;
 use base_lines::{SliceSource, VecSink};
-use cedar_auth::{Ready, answer_line, serve};
+use cedar_auth::{Ready, answer_line, serve, serve_with_entities};
 use cedar_conform::RequestReader;
 use std::alloc::Global;
 
@@ -59,6 +60,31 @@ impl Engine {
         let mut source = SliceSource::new(lines);
         let mut sink = VecSink::new(alloc);
         match serve(alloc, &self.ready, &mut source, &mut sink) {
+            Ok(()) => give(sink.bytes(), text, written),
+            Err(_) => MEMORY,
+        }
+    }
+
+    /// Gives the answers to request lines that may bring entities, a line for each.
+    pub(crate) fn answer_with_entities(
+        &mut self,
+        alloc: Global,
+        lines: &[u8],
+        text: &mut [u8],
+        written: &mut usize,
+    ) -> u32
+        ensures same { self.new ≡ self.old }
+        ensures ok { result ≡ 0 → IsAnswerText (AnswersLineWithEntities self.old) lines.now (take written.new text.new) }
+        ensures rest { result ≡ 0 → drop written.new text.new ≡ drop written.new text.old }
+        ensures room { result ≡ 6 → (answer : List ℕ) × IsAnswerText (AnswersLineWithEntities self.old) lines.now answer
+            × IsTooLong answer text.old written.new }
+        ensures untouched { result ≢ 0 → text.new ≡ text.old }
+        ensures unwritten { result ≡ 1 → written.new ≡ written.old }
+        ensures known { IsOneOf (0 ∷ 1 ∷ 6 ∷ []) result }
+    {
+        let mut source = SliceSource::new(lines);
+        let mut sink = VecSink::new(alloc);
+        match serve_with_entities(alloc, &self.ready, &mut source, &mut sink) {
             Ok(()) => give(sink.bytes(), text, written),
             Err(_) => MEMORY,
         }

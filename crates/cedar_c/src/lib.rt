@@ -8,7 +8,7 @@ ghost use Rattle.std.specs.Prelude.{ℕ, List, ◌≡◌, ◌≢◌, ◌⊎◌, 
 ghost use Rattle.serde_json.specs.Written.{compact_text};
 ghost use Rattle.cedar_auth_spec.specs.AnswerJson.{refused_data};
 ghost use Rattle.cedar_c.specs.declared.slot.Slot.TheVariants.{Empty};
-ghost use Rattle.cedar_c.specs.Answers.{AnswersLines, AnswersOne, LeadsTo};
+ghost use Rattle.cedar_c.specs.Answers.{AnswersLines, AnswersLinesWithEntities, AnswersOne, LeadsTo};
 ghost use Rattle.cedar_c.specs.Buffers.{IsGiven, IsTooLong};
 ghost use Rattle.cedar_c.specs.Deciding.{AnswersParts, ArePartsRefused, IsDecided, parts};
 ghost use Rattle.cedar_c.specs.Publishing.{AreChangesRefused, AreRefusedOver, HaveFaults, IsChanged, IsOver, IsRefusedFirst, no_refusal};
@@ -353,6 +353,33 @@ pub extern "C" fn cedar_raw_answer(
     match place.slot() {
         Slot::Empty => NO_ENGINE,
         Slot::Full(engine) => engine.answer(alloc, lines, text, written),
+    }
+}
+
+/// Gives the answers to request lines that may bring entities, a line for each, as `cedar authorize --entities-in-lines` prints them. What
+/// a line brings is upserted into the entities of the engine for this line alone.
+#[unsafe(no_mangle)]
+pub extern "C" fn cedar_raw_answer_with_entities(
+    alloc: Global,
+    place: &mut Handle,
+    lines: &[u8],
+    text: &mut [u8],
+    written: &mut usize,
+) -> u32
+    ensures same { place.new.value ≡ place.old.value }
+    ensures ok { result ≡ 0 → AnswersLinesWithEntities place.old.value lines.now (take written.new text.new) }
+    ensures rest { result ≡ 0 → drop written.new text.new ≡ drop written.new text.old }
+    ensures room { result ≡ 6 → (answer : List ℕ) × AnswersLinesWithEntities place.old.value lines.now answer
+        × IsTooLong answer text.old written.new }
+    ensures untouched { result ≢ 0 → text.new ≡ text.old }
+    ensures unwritten { result ≢ 0 → result ≢ 6 → written.new ≡ 0 }
+    ensures none { result ≡ 5 → place.old.value ≡ Empty }
+    ensures known { IsOneOf (0 ∷ 1 ∷ 5 ∷ 6 ∷ []) result }
+{
+    *written = 0;
+    match place.slot() {
+        Slot::Empty => NO_ENGINE,
+        Slot::Full(engine) => engine.answer_with_entities(alloc, lines, text, written),
     }
 }
 

@@ -5,12 +5,15 @@
 #include "files.h"
 
 #include <pthread.h>
+#include <sys/mman.h>
 #include <sys/wait.h>
 #include <unistd.h>
 
 #define EXPLAINING_STACK ((size_t)4 << 20)
 #define READING_STACK ((size_t)512 << 10)
 #define ASKING_STACK ((size_t)64 << 10)
+/* The memory below a stack, which no call may reach. It is larger than the frame of any function. */
+#define CLOSED ((size_t)1 << 20)
 #define COUNT(list) (sizeof(list) / sizeof *(list))
 
 /* A text: its beginning, what opens `depth` times, its middle, what closes as often, and its end. */
@@ -173,15 +176,19 @@ static void *answers(void *none) {
     return none;
 }
 
+/* Makes a call on a stack of this size, which is not a larger one that another thread has left. */
 static void on_a_stack(size_t size, void *(*call)(void *)) {
     pthread_attr_t attributes;
     pthread_t thread;
+    char *at = mmap(NULL, CLOSED + size, PROT_NONE, MAP_PRIVATE | MAP_ANONYMOUS, -1, 0);
     is_right = 0;
-    if (pthread_attr_init(&attributes) || pthread_attr_setstacksize(&attributes, size) || pthread_create(&thread, &attributes, call, NULL)) {
+    if (at == MAP_FAILED || mprotect(at + CLOSED, size, PROT_READ | PROT_WRITE) || pthread_attr_init(&attributes) ||
+        pthread_attr_setstack(&attributes, at + CLOSED, size) || pthread_create(&thread, &attributes, call, NULL)) {
         exit(9);
     }
     pthread_join(thread, NULL);
     pthread_attr_destroy(&attributes);
+    munmap(at, CLOSED + size);
 }
 
 /* Whether a call ends on a stack of this size, tried in a process of its own. */

@@ -610,6 +610,15 @@ public:
         return text_of(room, [&](cedar_engine &handle, cedar_buffer &buffer) { return cedar_answer(&handle, detail::bytes(lines), &buffer); });
     }
 
+    /* The answer lines to request lines that may bring entities, as `cedar authorize --entities-in-lines` writes them, all of one engine.
+     * The entities of a line replace those of the engine with their uids, or are added to them, for this line alone. A line with entities
+     * that are refused has an answer that says so. */
+    std::string answer_with_entities(std::string_view lines) const {
+        return text_of(256 + lines.size(), [&](cedar_engine &handle, cedar_buffer &buffer) {
+            return cedar_answer_with_entities(&handle, detail::bytes(lines), &buffer);
+        });
+    }
+
     /* Frees all that no running call uses. Later calls throw Closed. Closing twice is safe. */
     void close() {
         if (core_) {

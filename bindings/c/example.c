@@ -100,6 +100,15 @@ int main(int count, char **words) {
         printf("%s\n", status == CEDAR_OK && decision.allow ? "allow" : "deny");
         cedar_free(&once);
     }
+
+    /* A request line that brings its entities. No other line sees them. */
+    cedar_bytes line = bytes("{\"principal\":\"User::\\\"ann\\\"\",\"action\":\"Action::\\\"write\\\"\","
+                             "\"resource\":\"Notebook::\\\"plans\\\"\",\"entities\":[{\"uid\":{\"type\":\"User\",\"id\":\"ann\"}}]}\n");
+    char room[512];
+    cedar_buffer answer = {room, sizeof room, 0};
+    if (status == CEDAR_OK && (status = cedar_answer_with_entities(&engine, line, &answer)) == CEDAR_OK) {
+        fwrite(answer.at, 1, answer.written, stdout);
+    }
     cedar_free(&engine);
     const cedar_bytes read[] = {files.schema, files.policies, files.links, files.entities, entities, lines};
     for (size_t i = 0; i < sizeof read / sizeof *read; i++) {

@@ -37,6 +37,11 @@ int main(int count, char **words) {
         cedar::Engine once = engine.with_changes(R"({"upsert":[{"uid":{"type":"User","id":"ann"}}]})");
         std::cout << (once.decide(request) ? "allow" : "deny") << '\n';
 
+        // A request line that brings its entities. No other line sees them.
+        std::cout << engine.answer_with_entities(
+            R"({"principal":"User::\"ann\"","action":"Action::\"write\"","resource":"Notebook::\"plans\"",)"
+            R"("entities":[{"uid":{"type":"User","id":"ann"}}]})");
+
         // Policies that are refused change nothing.
         try {
             engine.publish({schema, "permit(", links, entities});

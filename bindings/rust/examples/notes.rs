@@ -29,6 +29,13 @@ fn main() -> Result<(), Box<dyn Error>> {
     let once = engine.with_changes(br#"{"upsert":[{"uid":{"type":"User","id":"ann"}}]}"#)?;
     println!("{}", if once.decide(&request)? == Decision::Allow { "allow" } else { "deny" });
 
+    // A request line that brings its entities. No other line sees them.
+    let line = concat!(
+        r#"{"principal":"User::\"ann\"","action":"Action::\"write\"","resource":"Notebook::\"plans\"","#,
+        r#""entities":[{"uid":{"type":"User","id":"ann"}}]}"#
+    );
+    print!("{}", engine.answer_with_entities(line)?);
+
     // Policies that are refused change nothing.
     if let Err(error) = engine.publish(&Files { policies: b"permit(", ..files }) {
         println!("{error}");

@@ -310,6 +310,19 @@ impl Engine {
         done(status, text)
     }
 
+    /// The answer lines to request lines that may bring entities, as `cedar authorize --entities-in-lines` writes them, all of one engine.
+    /// The entities of a line replace those of the engine with their uids, or are added to them, for this line alone.
+    ///
+    /// # Errors
+    ///
+    /// Those of [`Engine::answer_line`]. A line with entities that are refused has an answer that says so.
+    pub fn answer_with_entities(&self, lines: impl AsRef<[u8]>) -> Result<String, Error> {
+        let lines = lines.as_ref();
+        let mut text = room(256 + lines.len())?;
+        let status = self.pool.lease()?.call(|handle| handle.answer_with_entities(lines, &mut text));
+        done(status, text)
+    }
+
     /// Frees all that no running call uses. Later calls fail with [`Error::Closed`]. Closing twice is safe. Dropping the last clone
     /// frees the engine, too.
     pub fn close(&self) {

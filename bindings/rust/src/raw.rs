@@ -112,6 +112,14 @@ extern "C" {
     ) -> u32;
     fn cedar_raw_share(place: *mut Place, other: *mut Place) -> u32;
     fn cedar_raw_answer(place: *mut Place, lines: *const u8, _: usize, text: *mut u8, room: usize, written: *mut usize) -> u32;
+    fn cedar_raw_answer_with_entities(
+        place: *mut Place,
+        lines: *const u8,
+        _: usize,
+        text: *mut u8,
+        room: usize,
+        written: *mut usize,
+    ) -> u32;
     fn cedar_raw_answer_line(place: *mut Place, line: *const u8, _: usize, text: *mut u8, room: usize, written: *mut usize) -> u32;
     fn cedar_raw_decide(
         place: *mut Place,
@@ -238,6 +246,15 @@ impl Handle {
         let place: *mut Place = &mut self.place;
         // SAFETY: as in `publish`.
         grown(text, |at, room, written| unsafe { cedar_raw_answer(place, lines.as_ptr(), lines.len(), at, room, written) })
+    }
+
+    /// Answers request lines that may bring entities.
+    pub(crate) fn answer_with_entities(&mut self, lines: &[u8], text: &mut Vec<u8>) -> u32 {
+        let place: *mut Place = &mut self.place;
+        grown(text, |at, room, written| {
+            // SAFETY: as in `publish`.
+            unsafe { cedar_raw_answer_with_entities(place, lines.as_ptr(), lines.len(), at, room, written) }
+        })
     }
 
     /// Answers one request line.

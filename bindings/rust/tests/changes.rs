@@ -113,6 +113,58 @@ fn a_request_brings_its_entities() {
     }
 }
 
+/// The request line of ann, who wants to view, with more members.
+fn line_with(more: &str) -> String {
+    format!(r#"{{"principal":"User::\"ann\"","action":"Action::\"view\"","resource":"Group::\"staff\""{more}}}"#)
+}
+
+/// The same line, which brings a list of entries.
+fn bringing(entries: &[String]) -> String {
+    line_with(&format!(r#","entities":[{}]"#, entries.join(",")))
+}
+
+const ALLOWED: &str = r#"{"decision":"allow","determining":["staff"],"erring":[]}"#;
+const DENIED: &str = r#"{"decision":"deny","determining":[],"erring":[]}"#;
+
+#[test]
+fn no_line_sees_the_entities_of_another() {
+    let engine = engine();
+    let cases = [
+        (line_with(""), DENIED),
+        (bringing(&[ann()]), ALLOWED),
+        (line_with(""), DENIED),
+        (bringing(&[]), DENIED),
+        (bringing(&[ann(), ann()]), r#"{"refused":401}"#),
+        (line_with(r#","entities":{}"#), r#"{"refused":502}"#),
+        (bringing(&[ann(), entry("Ghost", "g", "{}", &[])]), r#"{"refused":503}"#),
+        (bringing(&[entry("User", "ann", "{}", &["team"])]), r#"{"refused":505}"#),
+        (bringing(&[entry("Group", "team", "{}", &[]), ann()]), DENIED),
+        (bringing(&[ann()]), ALLOWED),
+    ];
+    let lines: Vec<_> = cases.iter().map(|it| it.0.as_str()).collect();
+    for _ in 0..3 {
+        let text = engine.answer_with_entities(lines.join("\n")).unwrap();
+        assert_eq!(text.lines().collect::<Vec<_>>(), cases.iter().map(|it| it.1).collect::<Vec<_>>());
+        assert_eq!(who(&engine), (false, true));
+    }
+    assert_eq!(engine.answer_line(bringing(&[ann()])).unwrap(), r#"{"refused":502}"#);
+}
+
+#[test]
+fn lines_of_the_examples_bring_entities() {
+    let (folder, mut count) = (PathBuf::from(env!("CARGO_MANIFEST_DIR")).join("../../examples"), 0);
+    for name in fs::read_dir(folder).unwrap().map(|it| it.unwrap().path()) {
+        let Ok(lines) = fs::read(name.join("requests_with_entities.jsonl")) else { continue };
+        let bytes = |file: &str| fs::read(name.join(file)).unwrap_or_default();
+        let (schema, policies, links) = (bytes("schema.json"), bytes("policies.cedar"), bytes("links.json"));
+        let files = Files { schema: &schema, policies: &policies, links: &links, entities: b"[]", ..Files::default() };
+        let text = Engine::new(&files).unwrap().answer_with_entities(lines).unwrap();
+        assert_eq!(text.into_bytes(), bytes("answers_with_entities.jsonl"));
+        count += 1;
+    }
+    assert!(count > 0, "no example has lines that bring entities");
+}
+
 #[test]
 fn entities_that_are_upserted_answer_as_published_ones() {
     let folder = PathBuf::from(env!("CARGO_MANIFEST_DIR")).join("../../examples");

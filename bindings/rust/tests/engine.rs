@@ -72,6 +72,7 @@ fn lines_are_answered_at_once_and_one_by_one() {
     for it in examples() {
         let engine = it.engine();
         assert_eq!(engine.answer(&it.requests).unwrap(), it.answers);
+        assert_eq!(engine.answer_with_entities(&it.requests).unwrap(), it.answers);
         for (line, wanted) in it.requests.lines().zip(it.answers.lines()) {
             assert_eq!(engine.answer_line(line).unwrap(), wanted);
         }
@@ -239,6 +240,7 @@ fn closing_twice_is_safe() {
     assert_eq!(clone.decide(&asked("ann", "write")), Err(Error::Closed));
     assert_eq!(clone.is_authorized(&asked("ann", "write")), Err(Error::Closed));
     assert_eq!(clone.answer_line(""), Err(Error::Closed));
+    assert_eq!(clone.answer_with_entities(""), Err(Error::Closed));
     assert_eq!(clone.publish(&it.files()), Err(Error::Closed));
 }
 

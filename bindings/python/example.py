@@ -1,4 +1,5 @@
 """Publishes the files of a folder, and answers requests: python3 example.py FOLDER, for example examples/notes."""
+import json
 import os
 import sys
 
@@ -34,6 +35,11 @@ def main():
     with engine.with_changes({'upsert': [{'uid': {'type': 'User', 'id': 'ann'}}]}) as once:
         response = once.authorize('User::"ann"', 'Action::"write"', 'Notebook::"plans"')
     print(response.decision)
+
+    # A request line that brings its entities. No other line sees them.
+    line = {'principal': 'User::"ann"', 'action': 'Action::"write"', 'resource': 'Notebook::"plans"',
+            'entities': [{'uid': {'type': 'User', 'id': 'ann'}}]}
+    print(engine.answer_with_entities(json.dumps(line)), end='')
 
     # Policies that are refused change nothing.
     try:

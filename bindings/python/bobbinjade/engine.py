@@ -248,11 +248,21 @@ class Engine:
 
     def answer(self, lines: Text) -> str:
         """The answer lines to request lines, all of one engine."""
+        return self._answered(LIBRARY.cedar_raw_answer, lines)
+
+    def answer_with_entities(self, lines: Text) -> str:
+        """The answer lines to request lines that may bring entities, as `cedar authorize --entities-in-lines` writes them, all of one
+        engine. The entities of a line replace those of the engine with their uids, or are added to them, for this line alone. A line with
+        entities that are refused has an answer that says so."""
+        return self._answered(LIBRARY.cedar_raw_answer_with_entities, lines)
+
+    def _answered(self, call: Any, lines: Text) -> str:
+        """The answer lines that a call of the library gives to request lines."""
         given = encoded(lines)
         length = size(len(given))
         handle = self._taken()
         try:
-            status, text = grown(256 + len(given), lambda *room: LIBRARY.cedar_raw_answer(handle.at, given, length, *room))
+            status, text = grown(256 + len(given), lambda *room: call(handle.at, given, length, *room))
         finally:
             self._give(handle)
         if status != OK:

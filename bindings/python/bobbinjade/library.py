@@ -44,7 +44,7 @@ def loaded(kind: type) -> Any:
     beside = os.path.join(os.path.dirname(os.path.abspath(__file__)), NAME)
     library = kind(os.path.join(folder, NAME) if folder else beside if os.path.exists(beside) else SYSTEM_NAME)
     for name in ('new', 'publish', 'publish_entities', 'publish_changes', 'validate', 'explain', 'explain_changes', 'share', 'answer',
-                 'answer_line', 'decide', 'abi_version', 'version'):
+                 'answer_with_entities', 'answer_line', 'decide', 'abi_version', 'version'):
         getattr(library, 'cedar_raw_' + name).restype = ctypes.c_uint32
     library.cedar_raw_free.restype = None
     if library.cedar_raw_abi_version() != ABI_VERSION:

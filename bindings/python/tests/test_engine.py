@@ -64,6 +64,7 @@ class Examples(unittest.TestCase):
             with bobbinjade.Engine(*files_of(name)) as engine:
                 self.assertEqual(engine.answer(requests), answers)
                 self.assertEqual(engine.answer(requests.decode()), answers)
+                self.assertEqual(engine.answer_with_entities(requests), answers)
                 for line, wanted in zip(requests.splitlines(), answers.splitlines()):
                     self.assertEqual(engine.answer_line(line), wanted)
 
@@ -73,6 +74,15 @@ class Examples(unittest.TestCase):
             engine = bobbinjade.Engine(schema, policies, '[]', links)
             engine.publish_entities(entities)
             self.assertEqual(engine.answer(content(name, 'requests.jsonl')), content(name, 'answers.jsonl').decode())
+
+    def test_lines_that_bring_entities(self):
+        having = [it for it in names() if content(it, 'requests_with_entities.jsonl')]
+        self.assertTrue(having)
+        for name in having:
+            schema, policies, _, links = files_of(name)
+            engine = bobbinjade.Engine(schema, policies, '[]', links)
+            wanted = content(name, 'answers_with_entities.jsonl').decode()
+            self.assertEqual(engine.answer_with_entities(content(name, 'requests_with_entities.jsonl')), wanted)
 
     def test_by_parts(self):
         count = 0
@@ -201,6 +211,7 @@ class Refusals(unittest.TestCase):
         engine.close()
         engine.close()
         for call in (lambda: engine.decide('User::"ann"', 'Action::"write"', 'Notebook::"plans"'), lambda: engine.answer_line('{}'),
+                     lambda: engine.answer('{}'), lambda: engine.answer_with_entities('{}'),
                      lambda: engine.authorize('User::"ann"', 'Action::"write"', 'Notebook::"plans"'), lambda: engine.publish(*self.files)):
             self.assertRaises(bobbinjade.Closed, call)
 
@@ -286,6 +297,23 @@ class Changes(unittest.TestCase):
                 other.publish_changes({'remove': [self.uid('User', 'bob')]})
                 self.assertEqual((self.who(other), self.who(self.engine)), (['ann'], ['bob']))
             self.assertRaises(bobbinjade.Closed, self.who, other)
+
+    def bringing(self, entities):
+        """The request line of ann, who wants to view, with entities that it brings."""
+        return json.dumps({'principal': self.uid('User', 'ann'), 'action': self.uid('Action', 'view'),
+                           'resource': self.uid('Group', 'staff'), 'entities': entities})
+
+    def test_lines_with_entities(self):
+        ann, allowed = self.ann, '{"decision":"allow","determining":["staff"],"erring":[]}'
+        denied = '{"decision":"deny","determining":[],"erring":[]}'
+        cases = (([], denied), ([ann], allowed), ([], denied), ([ann, ann], '{"refused":401}'), ({}, '{"refused":502}'),
+                 ([ann, self.entry('Ghost', 'g')], '{"refused":503}'), ([self.entry('User', 'ann', ['team'])], '{"refused":505}'),
+                 ([self.entry('Group', 'team'), ann], denied), ([ann], allowed))
+        lines = '\n'.join(self.bringing(it) for it, _ in cases)
+        for _ in range(3):
+            self.assertEqual(self.engine.answer_with_entities(lines).splitlines(), [it for _, it in cases])
+            self.assertEqual(self.who(self.engine), ['bob'])
+        self.assertEqual(self.engine.answer_line(self.bringing([ann])), '{"refused":502}')
 
     def test_document(self):
         """The examples of docs/DATA.md."""

@@ -5,6 +5,7 @@ import (
 	"context"
 	"errors"
 	"fmt"
+	"path/filepath"
 	"strings"
 	"testing"
 )
@@ -237,5 +238,64 @@ func TestAnswersWithChanges(t *testing.T) {
 	_ = engine.Close()
 	if text, err := engine.AppendAnswerLineWith(nil, line, upsert(ann())); !errors.Is(err, ErrClosed) || len(text) != 0 {
 		t.Error(string(text), err)
+	}
+}
+
+// bringing makes the request line of ann, who wants to view, with entities that it brings.
+func bringing(entities string) string {
+	return `{"principal":"User::\"ann\"","action":"Action::\"view\"","resource":"Group::\"staff\"","entities":` + entities + `}`
+}
+
+// No line sees the entities of another, nor does a later call.
+func TestAnswersWithEntities(t *testing.T) {
+	engine := staffEngine(t)
+	allowed, denied := `{"decision":"allow","determining":["staff"],"erring":[]}`, `{"decision":"deny","determining":[],"erring":[]}`
+	var lines, answers string
+	for _, it := range []struct{ line, wanted string }{
+		{bringing(`[]`), denied},
+		{bringing(`[` + ann() + `]`), allowed},
+		{strings.Replace(bringing(``), `,"entities":`, ``, 1), denied},
+		{bringing(`[` + ann() + `,` + ann() + `]`), `{"refused":401}`},
+		{bringing(`{}`), `{"refused":502}`},
+		{bringing(`[` + ann() + `,` + entryText("Ghost", "g", "{}") + `]`), `{"refused":503}`},
+		{bringing(`[` + entryText("User", "ann", "{}", "team") + `]`), `{"refused":505}`},
+		{bringing(`[` + entryText("Group", "team", "{}") + `,` + ann() + `]`), denied},
+		{bringing(`[` + ann() + `]`), allowed},
+	} {
+		lines, answers = lines+it.line+"\n", answers+it.wanted+"\n"
+	}
+	for _, room := range []int{0, 1, 1 << 16} {
+		text, err := engine.AppendAnswerWithEntities(append(make([]byte, 0, room+3), "abc"...), []byte(lines))
+		if err != nil || string(text) != "abc"+answers {
+			t.Error(err, room, string(text))
+		}
+		if text, err := engine.AnswerWithEntities([]byte(lines)); err != nil || string(text) != answers {
+			t.Error(err, string(text))
+		}
+		if !isWho(t, engine, false, true) {
+			t.Error("what a line brings is seen by a later call")
+		}
+	}
+	if text, err := engine.AnswerLine([]byte(bringing(`[]`))); err != nil || string(text) != `{"refused":502}` {
+		t.Error(err, string(text))
+	}
+}
+
+func TestExamplesWithEntities(t *testing.T) {
+	found, err := filepath.Glob(filepath.Join(folder, "*", "requests_with_entities.jsonl"))
+	if err != nil || len(found) == 0 {
+		t.Fatal("no examples: ", err)
+	}
+	for _, path := range found {
+		name := filepath.Base(filepath.Dir(path))
+		files, lines, wanted := exampleOf(name).files, content(name, "requests_with_entities.jsonl"), content(name, "answers_with_entities.jsonl")
+		files.Entities = []byte("[]")
+		engine := engineOf(t, files)
+		if text, err := engine.AnswerWithEntities(lines); err != nil || string(text) != string(wanted) {
+			t.Error(err, string(text))
+		}
+		if text, err := engine.AppendAnswerWithEntities(nil, lines); err != nil || string(text) != string(wanted) {
+			t.Error(err, string(text))
+		}
 	}
 }

@@ -212,6 +212,17 @@ func (e *Engine) Answer(lines []byte) ([]byte, error) {
 	return text, err
 }
 
+// AnswerWithEntities gives the answer lines to request lines that may bring entities, as `cedar authorize --entities-in-lines` writes them,
+// all of one version. The entities of a line replace those of the engine with their uids, or are added to them, for this line alone. A line
+// with entities that are refused has an answer that says so.
+func (e *Engine) AnswerWithEntities(lines []byte) ([]byte, error) {
+	text, err := e.AppendAnswerWithEntities(make([]byte, 0, 256+len(lines)), lines)
+	if err != nil {
+		return nil, err
+	}
+	return text, nil
+}
+
 // AnswerLine gives the answer line to a request line, as `cedar authorize` writes it, without a line feed.
 func (e *Engine) AnswerLine(line []byte) ([]byte, error) {
 	v, h, err := e.take(context.Background())
@@ -230,7 +241,19 @@ func (e *Engine) AppendAnswer(text, lines []byte) ([]byte, error) {
 	if err != nil {
 		return text, err
 	}
-	text, err = h.appendAnswer(text, lines, 0)
+	text, err = h.appendAnswer(text, lines, requestLines)
+	v.give(h)
+	return text, err
+}
+
+// AppendAnswerWithEntities appends what AnswerWithEntities gives to a text. It allocates only where the text lacks the room. The text must
+// not overlap the lines. With an error nothing is appended.
+func (e *Engine) AppendAnswerWithEntities(text, lines []byte) ([]byte, error) {
+	v, h, err := e.take(context.Background())
+	if err != nil {
+		return text, err
+	}
+	text, err = h.appendAnswer(text, lines, requestLinesWithEntities)
 	v.give(h)
 	return text, err
 }
@@ -242,7 +265,7 @@ func (e *Engine) AppendAnswerLine(text, line []byte) ([]byte, error) {
 	if err != nil {
 		return text, err
 	}
-	text, err = h.appendAnswer(text, line, 1)
+	text, err = h.appendAnswer(text, line, oneLine)
 	v.give(h)
 	return text, err
 }
@@ -263,7 +286,7 @@ func (e *Engine) AppendAnswerLineWith(text, line, changes []byte) ([]byte, error
 		}
 		return text, err
 	}
-	text, err = h.appendAnswer(text, line, 1)
+	text, err = h.appendAnswer(text, line, oneLine)
 	h.free()
 	return text, err
 }

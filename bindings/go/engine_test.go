@@ -115,6 +115,9 @@ func TestLinesAtOnceAndOneByOne(t *testing.T) {
 		if text, err := engine.Answer([]byte(it.requests)); err != nil || string(text) != it.answers {
 			t.Error(err, string(text))
 		}
+		if text, err := engine.AnswerWithEntities([]byte(it.requests)); err != nil || string(text) != it.answers {
+			t.Error(err, string(text))
+		}
 		wanted := strings.Split(it.answers, "\n")
 		for at, line := range strings.Split(strings.TrimSuffix(it.requests, "\n"), "\n") {
 			if text, err := engine.AnswerLine([]byte(line)); err != nil || string(text) != wanted[at] {
@@ -369,10 +372,12 @@ func TestClosing(t *testing.T) {
 	_, decided := engine.Decide(context.Background(), ask("ann", "write"))
 	_, answered := engine.Answer(nil)
 	_, line := engine.AnswerLine(nil)
+	_, brought := engine.AnswerWithEntities(nil)
 	_, appended := engine.AppendAnswer(nil, nil)
 	_, appendedLine := engine.AppendAnswerLine(nil, nil)
-	for _, err := range []error{authorized, decided, answered, line, appended, appendedLine, engine.Publish(it.files),
-		engine.PublishEntities(it.files.Entities)} {
+	_, appendedBrought := engine.AppendAnswerWithEntities(nil, nil)
+	for _, err := range []error{authorized, decided, answered, line, brought, appended, appendedLine, appendedBrought,
+		engine.Publish(it.files), engine.PublishEntities(it.files.Entities)} {
 		if !errors.Is(err, ErrClosed) {
 			t.Error(err)
 		}

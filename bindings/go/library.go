@@ -58,11 +58,17 @@ static uint32_t decide(slot *it, int with_text, _GoString_ principal_type, _GoSt
     }
 }
 
-// Answers request lines, or one line, into a text of the caller.
-static uint32_t answer(slot *it, int is_line, _GoString_ lines, char *text, size_t room) {
+// What a call answers: request lines, one of them, or request lines that may bring entities.
+enum { LINES, ONE_LINE, LINES_WITH_ENTITIES };
+
+// Answers these into a text of the caller.
+static uint32_t answer(slot *it, int what, _GoString_ lines, char *text, size_t room) {
     void *to = room ? text : it->text;
-    if (is_line) {
+    if (what == ONE_LINE) {
         return cedar_raw_answer_line(&it->engine, address(lines), _GoStringLen(lines), to, room, &it->written);
+    }
+    if (what == LINES_WITH_ENTITIES) {
+        return cedar_raw_answer_with_entities(&it->engine, address(lines), _GoStringLen(lines), to, room, &it->written);
     }
     return cedar_raw_answer(&it->engine, address(lines), _GoStringLen(lines), to, room, &it->written);
 }
@@ -75,6 +81,13 @@ import (
 	"math"
 	"runtime"
 	"unsafe"
+)
+
+// What a call of appendAnswer answers.
+const (
+	requestLines             = C.LINES
+	oneLine                  = C.ONE_LINE
+	requestLinesWithEntities = C.LINES_WITH_ENTITIES
 )
 
 // A handle of the library, with what the calls of requests write to. One call at a time uses it.
@@ -159,8 +172,8 @@ func (h *handle) answerLine(line []byte) ([]byte, error) {
 	return done(status, text)
 }
 
-// appendAnswer appends the answers to request lines to a text, or the answer to one line.
-func (h *handle) appendAnswer(text, lines []byte, isLine C.int) ([]byte, error) {
+// appendAnswer appends to a text what answers request lines, one of them, or request lines that may bring entities.
+func (h *handle) appendAnswer(text, lines []byte, what C.int) ([]byte, error) {
 	read := *(*string)(unsafe.Pointer(&lines))
 	for {
 		free := text[len(text):cap(text)]
@@ -168,7 +181,7 @@ func (h *handle) appendAnswer(text, lines []byte, isLine C.int) ([]byte, error) 
 		if len(free) > 0 {
 			at = (*C.char)(unsafe.Pointer(&free[0]))
 		}
-		status := C.answer(h.slot, isLine, read, at, C.size_t(len(free)))
+		status := C.answer(h.slot, what, read, at, C.size_t(len(free)))
 		runtime.KeepAlive(h)
 		runtime.KeepAlive(lines)
 		written := int(h.slot.written)

@@ -68,6 +68,15 @@ func main() {
 	isAllowed, err := once.Decide(context.Background(), request)
 	fmt.Println(isAllowed && err == nil)
 
+	// A request line that brings its entities. No other line sees them.
+	line := `{"principal":"User::\"ann\"","action":"Action::\"write\"","resource":"Notebook::\"plans\"",` +
+		`"entities":[{"uid":{"type":"User","id":"ann"}}]}`
+	answers, err = engine.AnswerWithEntities([]byte(line))
+	if err != nil {
+		log.Fatal(err)
+	}
+	fmt.Print(string(answers))
+
 	// Policies that are refused change nothing.
 	files.Policies = []byte("permit(")
 	var refusal *bobbinjade.Refusal

@@ -49,8 +49,9 @@ def modes(example):
     requests, wanted = content(example, 'requests.jsonl'), content(example, 'answers.jsonl')
     parts = [parts_of(it) for it in requests.splitlines()]
     cut = [(fields + b'\n', answer) for fields, answer in zip(parts, wanted.splitlines(True)) if fields]
+    brought = content(example, 'requests_with_entities.jsonl'), content(example, 'answers_with_entities.jsonl')
     return [('batch', requests, wanted), ('lines', requests, wanted), ('entities', requests, wanted),
-            ('changes', requests, wanted),
+            ('changes', requests, wanted), *([('brought', *brought)] if brought[0] else []),
             ('parts', b''.join(it[0] for it in cut), b''.join(it[1] for it in cut)),
             ('validate', b'', content(example, 'report.jsonl')), ('words', b'', b'')]
 

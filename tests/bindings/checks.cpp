@@ -124,6 +124,36 @@ static void check_changes() {
     CHECK(before.decide(ann) && before.decide(bob));
 }
 
+// The line in which ann wants to view, with entities that it brings.
+static std::string bringing(const std::string &entities) {
+    return R"({"principal":"User::\"ann\"","action":"Action::\"view\"","resource":"Group::\"staff\"","entities":)" + entities + "}\n";
+}
+
+// No line sees the entities of another, and no later call sees them.
+static void check_lines_with_entities(const std::string &folder) {
+    const std::string allowed = "{\"decision\":\"allow\",\"determining\":[\"staff\"],\"erring\":[]}\n";
+    const std::string denied = "{\"decision\":\"deny\",\"determining\":[],\"erring\":[]}\n";
+    const std::string lines = bringing("[" ANN "]") + bringing("[]") + bringing("[" ANN "," ANN "]") + bringing("[" ANN "]") +
+                              bringing("[" ENTRY("Group", "team", "{}", "") "," ANN "]") + bringing("{}");
+    const std::string wanted = allowed + denied + "{\"refused\":401}\n" + allowed + denied + "{\"refused\":502}\n";
+    cedar::Engine engine;
+    CHECK(thrown<cedar::NoEngine>([&] { engine.answer_with_entities(lines); }));
+    engine.publish({CHANGES_SCHEMA, CHANGES_POLICIES, {}, CHANGES_ENTITIES});
+    for (int i = 0; i < 3; i++) {
+        CHECK(engine.answer_with_entities(lines) == wanted && engine.answer(bringing("[]")) == "{\"refused\":502}\n");
+        CHECK(!engine.decide({{"User", "ann"}, {"Action", "view"}, {"Group", "staff"}}));
+        CHECK(engine.decide({{"User", "bob"}, {"Action", "view"}, {"Group", "staff"}}));
+    }
+    CHECK(engine.answer_with_entities("").empty());
+    const std::string photos = content(folder + "schema.json"), policies = content(folder + "policies.cedar");
+    engine.publish({photos, policies, {}, "[]"});
+    CHECK(engine.answer_with_entities(content(folder + "requests_with_entities.jsonl")) == content(folder + "answers_with_entities.jsonl"));
+    engine.publish_entities(content(folder + "entities.json"));
+    CHECK(engine.answer_with_entities(content(folder + "requests.jsonl")) == content(folder + "answers.jsonl"));
+    engine.close();
+    CHECK(thrown<cedar::Closed>([&] { engine.answer_with_entities(lines); }));
+}
+
 static void check_faults() {
     std::string text;
     for (int i = 0; i < 200; i++) {
@@ -222,6 +252,7 @@ int main(int count, char **words) {
     check_refusals(content(folder + "broken_policies.cedar"));
     check_entities(examples + "/photos/");
     check_changes();
+    check_lines_with_entities(examples + "/photos/");
     check_faults();
     check_room();
     check_escapes();

@@ -28,6 +28,8 @@ static void check_null(void) {
     CHECK(cedar_publish_entities(&none, files.entities, &refusal, NULL) == CEDAR_ARGUMENT && refusal.file == 7);
     CHECK(cedar_answer(&none, lines, NULL) == CEDAR_ARGUMENT);
     CHECK(cedar_answer(NULL, lines, NULL) == CEDAR_ARGUMENT);
+    CHECK(cedar_answer_with_entities(&none, lines, NULL) == CEDAR_ARGUMENT);
+    CHECK(cedar_answer_with_entities(NULL, lines, NULL) == CEDAR_ARGUMENT);
     CHECK(cedar_answer_line(&none, lines, NULL) == CEDAR_ARGUMENT);
     CHECK(cedar_decide(&none, &request, &decision, NULL) == CEDAR_ARGUMENT && decision.allow == 0 && decision.refused == 0);
     CHECK(cedar_new(&engine) == CEDAR_OK && engine.at);
@@ -51,6 +53,8 @@ static void check_empty_handle(void) {
     cedar_request request = asked("write");
     CHECK(cedar_new(&engine) == CEDAR_OK && cedar_new(&other) == CEDAR_OK);
     CHECK(cedar_answer(&engine, lines, NULL) == CEDAR_NO_ENGINE);
+    CHECK(cedar_answer_with_entities(&engine, lines, &text) == CEDAR_NO_ENGINE && text.written == 0 && strcmp(room, "####") == 0);
+    text.written = 9;
     CHECK(cedar_answer_line(&engine, lines, NULL) == CEDAR_NO_ENGINE);
     CHECK(cedar_decide(&engine, &request, &decision, NULL) == CEDAR_NO_ENGINE && decision.allow == 0);
     CHECK(cedar_share(&engine, &other) == CEDAR_NO_ENGINE);
@@ -100,6 +104,9 @@ static void check_empty_bytes(void) {
     CHECK(cedar_new(&engine) == CEDAR_OK && cedar_publish(&engine, &files, NULL, NULL) == CEDAR_OK);
     CHECK(cedar_answer(&engine, none, &nothing) == CEDAR_OK && nothing.written == 0);
     CHECK(cedar_answer(&engine, no_length, NULL) == CEDAR_OK);
+    nothing.written = 9;
+    CHECK(cedar_answer_with_entities(&engine, none, &nothing) == CEDAR_OK && nothing.written == 0);
+    CHECK(cedar_answer_with_entities(&engine, no_length, NULL) == CEDAR_OK);
     CHECK(cedar_answer_line(&engine, none, &text) == CEDAR_OK && has(&text, bytes_of("{\"refused\":501}")));
     cedar_files empty = {sizeof empty, none, none, none, none, 0, 0};
     cedar_refusal refusal = {sizeof refusal, 0, 0, 0};
@@ -115,6 +122,26 @@ static void check_empty_bytes(void) {
     cedar_free(&engine);
 }
 
+/* A call that answers lines. */
+typedef uint32_t answering(cedar_engine *engine, cedar_bytes lines, cedar_buffer *text);
+
+/* A buffer that is too small for the answers is left as it is, at each length, and the next one has them. */
+static void check_room_for(answering *call, cedar_engine *engine, cedar_bytes asked_lines, cedar_bytes wanted) {
+    char room[4096];
+    cedar_buffer text = {room, 0, 0};
+    for (size_t length = 0; length < wanted.length; length++) {
+        memset(room, '#', sizeof room);
+        text.room = length;
+        int is_right = call(engine, asked_lines, &text) == CEDAR_ROOM && text.written == wanted.length;
+        for (size_t i = 0; i < sizeof room; i++) {
+            is_right = is_right && room[i] == '#';
+        }
+        CHECK(is_right);
+    }
+    text.room = wanted.length;
+    CHECK(call(engine, asked_lines, &text) == CEDAR_OK && has(&text, wanted));
+}
+
 static void check_room(void) {
     cedar_engine engine;
     cedar_request request = asked("write");
@@ -122,17 +149,9 @@ static void check_room(void) {
     char room[4096];
     cedar_buffer text = {room, 0, 0};
     CHECK(cedar_new(&engine) == CEDAR_OK && cedar_publish(&engine, &files, NULL, NULL) == CEDAR_OK);
-    for (size_t length = 0; length < answers.length; length++) {
-        memset(room, '#', sizeof room);
-        text.room = length;
-        int is_right = cedar_answer(&engine, lines, &text) == CEDAR_ROOM && text.written == answers.length;
-        for (size_t i = 0; i < sizeof room; i++) {
-            is_right = is_right && room[i] == '#';
-        }
-        CHECK(is_right);
-    }
-    text.room = answers.length;
-    CHECK(cedar_answer(&engine, lines, &text) == CEDAR_OK && has(&text, answers));
+    check_room_for(cedar_answer, &engine, lines, answers);
+    /* Lines that bring nothing have the same answers. */
+    check_room_for(cedar_answer_with_entities, &engine, lines, answers);
     for (text.room = 1; cedar_decide(&engine, &request, &decision, &text) == CEDAR_ROOM; text.room++) {
         CHECK(decision.allow == 0 && text.written > text.room);
     }
@@ -180,9 +199,15 @@ static void check_versions(void) {
     cedar_free(&other);
 }
 
+/* Ann in no group, and entries with a fault: a type and an attribute that are not declared. */
+#define ANN "{\"uid\":{\"type\":\"User\",\"id\":\"ann\"}}"
+#define GHOST "{\"uid\":{\"type\":\"Ghost\",\"id\":\"g\"}}"
+#define MISSPELT \
+    "{\"uid\":{\"type\":\"Photo\",\"id\":\"sunset\"}," \
+    "\"attrs\":{\"owner\":{\"type\":\"User\",\"id\":\"jane\"},\"private\":false,\"lables\":[\"public\"]}}"
 /* Entities in which ann is in no group. */
 #define ANN_IN_NO_GROUP \
-    "[{\"uid\":{\"type\":\"User\",\"id\":\"ann\"}}," \
+    "[" ANN "," \
     "{\"uid\":{\"type\":\"Photo\",\"id\":\"beach\"},\"attrs\":{\"owner\":{\"type\":\"User\",\"id\":\"jane\"},\"private\":false}," \
     "\"parents\":[{\"type\":\"Album\",\"id\":\"jane_vacation\"}]}]"
 #define ALLOWED "{\"decision\":\"allow\",\"determining\":[\"shared-with-friends\"],\"erring\":[]}"
@@ -191,12 +216,16 @@ static void check_versions(void) {
 #define NOT_STORED "{\"decision\":\"deny\",\"determining\":[],\"erring\":[{\"error\":\"missing_entity\",\"policy\":\"private\"}]}"
 #define REFUSED_506 "{\"file\":\"entities\",\"refused\":506}\n"
 
+/* The line in which ann views the beach of examples/photos, and the same with entities. */
+#define VIEW "{\"principal\":\"User::\\\"ann\\\"\",\"action\":\"Action::\\\"view\\\"\",\"resource\":\"Photo::\\\"beach\\\"\""
+#define VIEW_LINE VIEW "}"
+#define BRINGING(entities) VIEW ",\"entities\":" entities "}"
+
 /* Whether this is answered where ann views the beach of examples/photos. */
 static int is_answered(cedar_engine *engine, const char *answer) {
     char room[256];
     cedar_buffer text = {room, sizeof room, 0};
-    const char *line = "{\"principal\":\"User::\\\"ann\\\"\",\"action\":\"Action::\\\"view\\\"\",\"resource\":\"Photo::\\\"beach\\\"\"}";
-    return cedar_answer_line(engine, bytes_of(line), &text) == CEDAR_OK && has(&text, bytes_of(answer));
+    return cedar_answer_line(engine, bytes_of(VIEW_LINE), &text) == CEDAR_OK && has(&text, bytes_of(answer));
 }
 
 /* Whether entities of examples/photos are refused as `cedar_publish` refuses them, with any room for the text, and explained by the schema
@@ -251,6 +280,59 @@ static void check_entities(const char *folder) {
     free((void *)broken.at);
 }
 
+/* No line sees the entities of another, whether these are taken or refused. */
+static void check_lines_with_entities(cedar_engine *engine) {
+    const struct {
+        const char *line, *answer;
+    } cases[] = {{VIEW_LINE, ALLOWED "\n"},
+                 {BRINGING(ANN_IN_NO_GROUP), DENIED "\n"},
+                 {VIEW_LINE, ALLOWED "\n"},
+                 {BRINGING("[" ANN "," MISSPELT "]"), "{\"refused\":506}\n"},
+                 {BRINGING("[]"), ALLOWED "\n"},
+                 {BRINGING("[" ANN "," GHOST "]"), "{\"refused\":503}\n"},
+                 {BRINGING("[" ANN "," ANN "]"), "{\"refused\":401}\n"},
+                 {BRINGING("{}"), "{\"refused\":502}\n"},
+                 {BRINGING("[" ANN), "{\"refused\":501}\n"},
+                 {VIEW_LINE, ALLOWED "\n"},
+                 {BRINGING("[" ANN "]"), DENIED "\n"}};
+    char asked_lines[4096] = "", wanted[4096] = "", room[256];
+    cedar_buffer text = {room, sizeof room, 0};
+    for (size_t i = 0; i < sizeof cases / sizeof *cases; i++) {
+        /* A line alone, without its line feed, has the same answer. */
+        CHECK(cedar_answer_with_entities(engine, bytes_of(cases[i].line), &text) == CEDAR_OK && has(&text, bytes_of(cases[i].answer)));
+        CHECK(is_answered(engine, ALLOWED));
+        strcat(strcat(asked_lines, cases[i].line), "\n");
+        strcat(wanted, cases[i].answer);
+    }
+    check_room_for(cedar_answer_with_entities, engine, bytes_of(asked_lines), bytes_of(wanted));
+    CHECK(is_answered(engine, ALLOWED));
+}
+
+/* Lines that bring entities, over those of examples/photos and over none. Only cedar_answer_with_entities takes them. */
+static void check_brought(const char *folder) {
+    cedar_engine engine, other;
+    char photos_folder[4096], room[64];
+    cedar_buffer text = {room, sizeof room, 0};
+    snprintf(photos_folder, sizeof photos_folder, "%s/../photos", folder);
+    cedar_files photos = files_of(photos_folder);
+    cedar_bytes brought = content(photos_folder, "requests_with_entities.jsonl");
+    cedar_bytes wanted = content(photos_folder, "answers_with_entities.jsonl");
+    CHECK(cedar_new(&engine) == CEDAR_OK && cedar_new(&other) == CEDAR_OK && cedar_publish(&engine, &photos, NULL, NULL) == CEDAR_OK);
+    CHECK(cedar_share(&engine, &other) == CEDAR_OK);
+    check_lines_with_entities(&engine);
+    CHECK(is_answered(&other, ALLOWED));
+    CHECK(cedar_answer_line(&engine, bytes_of(BRINGING("[]")), &text) == CEDAR_OK && has(&text, bytes_of("{\"refused\":502}")));
+    CHECK(cedar_answer(&engine, bytes_of(BRINGING("[]")), &text) == CEDAR_OK && has(&text, bytes_of("{\"refused\":502}\n")));
+    CHECK(cedar_publish_entities(&engine, bytes_of("[]"), NULL, NULL) == CEDAR_OK && is_answered(&engine, NOT_STORED));
+    check_room_for(cedar_answer_with_entities, &engine, brought, wanted);
+    CHECK(is_answered(&engine, NOT_STORED) && is_answered(&other, ALLOWED));
+    cedar_free(&engine);
+    cedar_free(&other);
+    free_files(&photos);
+    free((void *)brought.at);
+    free((void *)wanted.at);
+}
+
 static void check_refused_requests(void) {
     const struct {
         const char *principal, *action, *context, *text;
@@ -303,6 +385,7 @@ int main(int count, char **words) {
     check_room();
     check_versions();
     check_entities(words[1]);
+    check_brought(words[1]);
     check_refused_requests();
     check_fork();
     free_files(&files);

@@ -96,6 +96,24 @@ static inline cedar_bytes upserts(cedar_bytes entities) {
     return (cedar_bytes){at, entities.length + 11};
 }
 
+/* A request line that brings these entities: of `line` without its last bracket, and with spaces for the line feeds of the entities. */
+static inline cedar_bytes bringing(cedar_bytes line, cedar_bytes entities) {
+    static const char key[] = ",\"entities\":";
+    size_t open = line.length - 1, begin = open + sizeof key - 1, end = begin + entities.length;
+    char *at = malloc(end + 2);
+    if (!at) {
+        exit(9);
+    }
+    memcpy(at, line.at, open);
+    memcpy(at + open, key, sizeof key - 1);
+    for (size_t i = 0; i < entities.length; i++) {
+        char byte = ((const char *)entities.at)[i];
+        at[begin + i] = byte == '\n' ? ' ' : byte;
+    }
+    memcpy(at + end, "}\n", 2);
+    return (cedar_bytes){at, end + 2};
+}
+
 /* Whether a buffer has this text. */
 static inline int has(const cedar_buffer *buffer, cedar_bytes text) {
     return buffer->written == text.length && (text.length == 0 || memcmp(buffer->at, text.at, text.length) == 0);

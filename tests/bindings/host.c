@@ -5,6 +5,7 @@
  *   parts     answers requests by parts: each line has seven fields, with the byte 1F between them
  *   entities  publishes the files with no entities, then the entities alone, and answers the request lines by one call
  *   changes   publishes the files with no entities, then upserts all entities, and answers the request lines by one call
+ *   brought   publishes the files with no entities, and answers the request lines, which may bring entities, by one call
  *   publish   publishes the files, prints the text of the call, and ends with its status
  *   publish-entities  publishes the files with no entities, then the entities alone, prints the text of that call, and ends with its status
  *   publish-changes   publishes the files with no entities, then upserts all entities, prints the text of that call, and ends with its status
@@ -18,6 +19,15 @@ static cedar_buffer text;
 static int print(uint32_t status) {
     fwrite(text.at, 1, text.written, stdout);
     return (int)status;
+}
+
+/* Answers lines by one call. */
+static int print_answers(cedar_engine *engine, cedar_bytes lines, uint32_t (*call)(cedar_engine *, cedar_bytes, cedar_buffer *)) {
+    uint32_t status;
+    do {
+        status = call(engine, lines, &text);
+    } while (status == CEDAR_ROOM && grows(&text));
+    return print(status);
 }
 
 static int print_lines(cedar_engine *engine, cedar_bytes lines) {
@@ -93,26 +103,32 @@ static uint32_t publish_over(cedar_engine *engine, cedar_bytes entities, int is_
     return status;
 }
 
+static int is(const char *mode, const char *name) { return strcmp(mode, name) == 0; }
+
+/* Publishes what a mode answers according to. */
+static uint32_t publish_for(cedar_engine *engine, const cedar_files *files, const char *mode) {
+    int is_over = is(mode, "entities") || is(mode, "changes");
+    if (!is_over && !is(mode, "brought")) {
+        return cedar_publish(engine, files, NULL, NULL);
+    }
+    uint32_t status = publish_without_entities(engine, *files);
+    return status == CEDAR_OK && is_over ? publish_over(engine, files->entities, is(mode, "changes"), NULL) : status;
+}
+
 static int answered(const cedar_files *files, const char *mode) {
     cedar_engine engine;
-    int ended = 9, is_change = strcmp(mode, "changes") == 0, is_over = is_change || strcmp(mode, "entities") == 0;
-    if (cedar_new(&engine) != CEDAR_OK) {
-        return 9;
-    }
-    if (is_over ? publish_without_entities(&engine, *files) || publish_over(&engine, files->entities, is_change, NULL)
-                : cedar_publish(&engine, files, NULL, NULL)) {
+    int ended = 9;
+    if (cedar_new(&engine) != CEDAR_OK || publish_for(&engine, files, mode) != CEDAR_OK) {
         return 9;
     }
     cedar_bytes lines = read_all(stdin);
-    if (strcmp(mode, "batch") == 0 || is_over) {
-        uint32_t status;
-        do {
-            status = cedar_answer(&engine, lines, &text);
-        } while (status == CEDAR_ROOM && grows(&text));
-        ended = print(status);
-    } else if (strcmp(mode, "lines") == 0) {
+    if (is(mode, "batch") || is(mode, "entities") || is(mode, "changes")) {
+        ended = print_answers(&engine, lines, cedar_answer);
+    } else if (is(mode, "brought")) {
+        ended = print_answers(&engine, lines, cedar_answer_with_entities);
+    } else if (is(mode, "lines")) {
         ended = print_lines(&engine, lines);
-    } else if (strcmp(mode, "parts") == 0) {
+    } else if (is(mode, "parts")) {
         ended = print_parts(&engine, lines);
     }
     free((void *)lines.at);

@@ -64,10 +64,14 @@ static void publish_over(cedar::Engine &engine, std::string_view entities, const
 
 static int answered(const cedar::Files &files, const std::string &mode) {
     const std::string lines = all(std::cin);
-    const bool is_over = mode == "entities" || mode == "changes";
-    cedar::Engine engine(is_over ? without_entities(files) : files);
+    const bool is_over = mode == "entities" || mode == "changes", is_brought = mode == "brought";
+    cedar::Engine engine(is_over || is_brought ? without_entities(files) : files);
     if (is_over) {
         publish_over(engine, files.entities, mode);
+    }
+    if (is_brought) {
+        std::cout << engine.answer_with_entities(lines);
+        return 0;
     }
     if (mode == "batch" || is_over) {
         std::cout << engine.answer(lines);

@@ -5,7 +5,7 @@
 
 extern long granted_before_refusal; /* of refusing.c */
 static cedar_files files, other_files;
-static cedar_bytes lines, line, answers, answer, report, explained, all_changes;
+static cedar_bytes lines, line, answers, answer, report, explained, all_changes, brought, brought_fault;
 static cedar_engine engine, other;
 static cedar_request request;
 static char room[1 << 16];
@@ -99,6 +99,20 @@ static outcome answers_lines(void) {
     cedar_buffer text = text_buffer();
     uint32_t status = cedar_answer(&engine, lines, &text);
     return (outcome){status, status != CEDAR_OK || has(&text, answers)};
+}
+
+/* A line that brings all entities has the answer that it has without them. */
+static outcome answers_with_entities(void) {
+    cedar_buffer text = text_buffer();
+    uint32_t status = cedar_answer_with_entities(&engine, brought, &text);
+    return (outcome){status, status != CEDAR_OK || has(&text, (cedar_bytes){answer.at, answer.length + 1})};
+}
+
+/* Entities that are no list are refused, with any schema. */
+static outcome answers_with_refused_entities(void) {
+    cedar_buffer text = text_buffer();
+    uint32_t status = cedar_answer_with_entities(&engine, brought_fault, &text);
+    return (outcome){status, status != CEDAR_OK || has(&text, bytes_of("{\"refused\":502}\n"))};
 }
 
 static outcome answers_line(void) {
@@ -214,6 +228,8 @@ int main(int count, char **words) {
     line = first_line(lines);
     answer = first_line(answers);
     all_changes = upserts(files.entities);
+    brought = bringing(line, files.entities);
+    brought_fault = bringing(line, bytes_of("{}"));
     /* An action that is declared by none of the examples would be refused 510, whatever the types are. */
     request = asked("write");
     request.principal_type = bytes_of("Ghost");
@@ -233,6 +249,8 @@ int main(int count, char **words) {
     try_explanations();
     try_each("share", shares);
     try_each("answer", answers_lines);
+    try_each("answer a line that brings all entities", answers_with_entities);
+    try_each("answer a line with entities that are refused", answers_with_refused_entities);
     try_each("answer a line", answers_line);
     if (decides_alone().status == CEDAR_OK) {
         try_each("decide with a text", decides);
@@ -245,5 +263,7 @@ int main(int count, char **words) {
     free((void *)answers.at);
     free((void *)report.at);
     free((void *)all_changes.at);
+    free((void *)brought.at);
+    free((void *)brought_fault.at);
     return counted();
 }

@@ -4,6 +4,7 @@
 // A call then throws cedar::OutOfMemory, or ends as with ample memory. The same call ends as usual afterwards.
 #include "cedar.hpp"
 
+#include <algorithm>
 #include <cstdio>
 #include <fstream>
 #include <functional>
@@ -90,6 +91,10 @@ int main(int count, char **words) {
         }
         return false;
     });
+    std::string brought = line.substr(0, line.size() - 1) + ",\"entities\":" + entities + "}";
+    std::replace(brought.begin(), brought.end(), '\n', ' ');
+    brought += "\n" + requests;
+    try_each("answer lines with entities", [&] { return engine.answer_with_entities(brought) == answer + "\n" + answers && asks(); });
     try_each("ask over changes", [&] { return engine.with_changes(changes).answer(requests) == answers && asks(); });
     try_each("validate", [&] { return cedar::validate(files).accepted && cedar::explain(files).empty(); });
     std::printf("%d passed, %d failed\n", passed, failed);

@@ -81,6 +81,11 @@ def main():
             return (refused.file, refused.number, refused.offset) == ('entities', 502, None) and asks(is_refusing)
         return False
 
+    brought = '%s,"entities":%s}\n' % (requests.split('}', maxsplit=1)[0], files[2].decode().replace('\n', ' '))
+
+    def answers_with_entities(is_refusing):
+        return engine.answer_with_entities(brought + requests) == answers.split('\n', maxsplit=1)[0] + '\n' + answers and asks(is_refusing)
+
     def asks_over_changes(is_refusing):
         with engine.with_changes(changes) as other:
             return other.answer(requests) == answers and asks(is_refusing)
@@ -92,6 +97,7 @@ def main():
     try_each('publish entities that are refused', refuses_entities)
     try_each('publish changes', publishes_changes)
     try_each('publish changes that are refused', refuses_changes)
+    try_each('answer lines with entities', answers_with_entities)
     try_each('ask over changes', asks_over_changes)
     try_each('validate', lambda _: bobbinjade.validate(*files[:2]).is_accepted and bobbinjade.explain(*files) == '')
     print('%d passed, %d failed' % (COUNTS[True], COUNTS[False]))

@@ -60,14 +60,19 @@ static const form lines[] = {
     {"a type of 20,000 words", "{\"principal\":\"User", "::A", 20000, "::\\\"ann\\\"" ASKED "}", "", ""},
     {"a context of 125 objects", ANN ",\"context\":", "{\"a\":", 125, "1", "}", "}"},
     {"a context of 124 arrays", ANN ",\"context\":{\"a\":", "[", 124, "1", "]", "}}"},
+    {"an entity", ANN ",\"entities\":[{\"uid\":{\"type\":\"User\",\"id\":\"ann\"}}]}", "", 0, "", "", ""},
+    {"entities of 125 arrays", ANN ",\"entities\":", "[", 125, "", "]", "}"},
 };
 
 /* Schemas with a user whose attribute is as high as a type may be, and entities for each. A type is at most 100 high. */
 #define USERS \
-    "{\"\":{\"actions\":{},\"entityTypes\":{\"User\":{\"memberOfTypes\":[\"User\"]," \
+    "{\"\":{\"actions\":{\"write\":{\"appliesTo\":{\"principalTypes\":[\"User\"],\"resourceTypes\":[\"User\"]}}}," \
+    "\"entityTypes\":{\"User\":{\"memberOfTypes\":[\"User\"]," \
     "\"shape\":{\"type\":\"Record\",\"attributes\":{\"a\":"
 #define NUMBER "{\"type\":\"Long\"}"
 #define USER "[{\"uid\":{\"type\":\"User\",\"id\":\"0\"},\"attrs\":{\"a\":"
+/* The request of this user. Lines that bring entities are made of it. */
+#define USER_LINE "{\"principal\":\"User::\\\"0\\\"\",\"action\":\"Action::\\\"write\\\"\",\"resource\":\"User::\\\"0\\\"\"}"
 static const form schemas[] = {
     {"sets", USERS, "{\"type\":\"Set\",\"element\":", 98, NUMBER, "}", "}}}}}}"},
     {"records", USERS, "{\"type\":\"Record\",\"attributes\":{\"a\":", 60, NUMBER, "}}", "}}}}}}"},
@@ -82,7 +87,12 @@ static const form other_entities[] = {
     {"open arrays", USER, "[", 100000, "", "", ""},
     {"open objects", "", "{\"a\":", 100000, "", "", ""},
     {"an object of 100,000 members", USER "{\"a\":1", ",\"a\":1", 100000, "}", "", "}}]"},
+    {"arrays in arrays, 122 deep", USER, "[", 122, "1", "]", "}}]"},
+    {"objects in objects, 122 deep", USER, "{\"a\":", 122, "1", "}", "}}]"},
 };
+/* The status of a call that publishes one of these. */
+static uint32_t status_of(size_t other) { return other == 0 ? CEDAR_OK : CEDAR_REFUSED; }
+
 /* So many users are each a child of the next. */
 #define CHAIN 20000
 /* Changes keep a set for each group of a chain, so they take memory by the square of its length. */
@@ -176,6 +186,12 @@ static void *answers(void *none) {
     return none;
 }
 
+static void *answers_with_entities(void *none) {
+    cedar_buffer text = {room, sizeof room, 0};
+    is_right = cedar_answer_with_entities(&engine, asked_line, &text) == CEDAR_OK;
+    return none;
+}
+
 /* Makes a call on a stack of this size, which is not a larger one that another thread has left. */
 static void on_a_stack(size_t size, void *(*call)(void *)) {
     pthread_attr_t attributes;
@@ -228,9 +244,10 @@ static void close_engine(void) {
     free((void *)files.policies.at);
 }
 
-/* Publishes a schema of `schemas`, with policies that are short and no entities. */
+/* Publishes a schema of `schemas` with no entities. One policy permits all, and the other one compares the deep values. */
 static void open_schema(const form *form) {
-    files = (cedar_files){sizeof files, text_of(form), bytes_of("permit(principal, action, resource);"), {NULL, 0}, bytes_of("[]"), 0, 0};
+    cedar_bytes both = bytes_of("permit(principal, action, resource); " HEAD "principal.a == resource.a };");
+    files = (cedar_files){sizeof files, text_of(form), both, {NULL, 0}, bytes_of("[]"), 0, 0};
     if (cedar_new(&engine) != CEDAR_OK) {
         exit(9);
     }
@@ -243,7 +260,17 @@ static void close_schema(void) {
     free((void *)files.schema.at);
 }
 
-/* Publishes the entities alone, and then upserts each of them. They are freed. */
+/* Has a line bring the entities, which are accepted or not. */
+static void check_line(int is_accepted) {
+    const char *begin = is_accepted ? "{\"decision\":\"allow\"" : "{\"refused\":";
+    asked_line = bringing(bytes_of(USER_LINE), files.entities);
+    room[0] = '\0';
+    on_a_stack(ASKING_STACK, answers_with_entities);
+    CHECK(is_right && strncmp(room, begin, strlen(begin)) == 0);
+    free((void *)asked_line.at);
+}
+
+/* Publishes the entities alone, then upserts each of them, and has a line bring them. They are freed. */
 static void check_text(uint32_t status) {
     wanted = status;
     on_a_stack(READING_STACK, publishes_entities);
@@ -251,6 +278,7 @@ static void check_text(uint32_t status) {
     changes = upserts(files.entities);
     on_a_stack(READING_STACK, publishes_changes);
     CHECK(is_right);
+    check_line(status == CEDAR_OK);
     free((void *)changes.at);
     free((void *)files.entities.at);
 }
@@ -267,7 +295,7 @@ static void check_all_entities(void) {
         check_entities(&entities[i], CEDAR_OK);
         check_entities(&entities[i], CEDAR_OK);
         for (size_t k = 0; k < COUNT(other_entities); k++) {
-            check_entities(&other_entities[k], k == 0 ? CEDAR_OK : CEDAR_REFUSED);
+            check_entities(&other_entities[k], status_of(k));
         }
         check_entities(&entities[i], CEDAR_OK);
         close_schema();
@@ -283,6 +311,32 @@ static void check_all_entities(void) {
     close_schema();
 }
 
+/* Prints the least stacks of the calls that read these entities. */
+static void print_least_for(const form *schema, const form *form, uint32_t status) {
+    wanted = status;
+    files.entities = text_of(form);
+    changes = upserts(files.entities);
+    asked_line = bringing(bytes_of(USER_LINE), files.entities);
+    printf("| %s: %s |", schema->name, form->name);
+    printf(" %zu | %zu | %zu |\n", least(publishes_entities), least(publishes_changes), least(answers_with_entities));
+    fflush(stdout);
+    free((void *)asked_line.at);
+    free((void *)changes.at);
+    free((void *)files.entities.at);
+}
+
+static void print_least_of_entities(void) {
+    printf("\n| Entities | publish entities | publish changes | answer a line that brings them |\n|---|---|---|---|\n");
+    for (size_t i = 0; i < COUNT(schemas); i++) {
+        open_schema(&schemas[i]);
+        print_least_for(&schemas[i], &entities[i], CEDAR_OK);
+        for (size_t k = 0; k < COUNT(other_entities); k++) {
+            print_least_for(&schemas[i], &other_entities[k], status_of(k));
+        }
+        close_schema();
+    }
+}
+
 static void print_least(void) {
     printf("| Policies | publish | validate | explain | free |\n|---|---|---|---|---|\n");
     for (size_t i = 0; i < COUNT(policies); i++) {
@@ -293,26 +347,16 @@ static void print_least(void) {
         printf(" %zu |\n", least(frees));
         close_engine();
     }
-    printf("\n| Lines | answer |\n|---|---|\n");
+    printf("\n| Lines | answer | answer with entities |\n|---|---|---|\n");
     open_engine(&policies[0]);
     on_a_stack(64 << 20, publishes);
     for (size_t i = 0; i < COUNT(lines); i++) {
         asked_line = text_of(&lines[i]);
-        printf("| %s | %zu |\n", lines[i].name, least(answers));
+        printf("| %s | %zu | %zu |\n", lines[i].name, least(answers), least(answers_with_entities));
         free((void *)asked_line.at);
     }
     close_engine();
-    printf("\n| Entities | publish entities | publish changes |\n|---|---|---|\n");
-    for (size_t i = 0; i < COUNT(entities); i++) {
-        open_schema(&schemas[i]);
-        files.entities = text_of(&entities[i]);
-        wanted = CEDAR_OK;
-        changes = upserts(files.entities);
-        printf("| %s | %zu | %zu |\n", entities[i].name, least(publishes_entities), least(publishes_changes));
-        free((void *)changes.at);
-        free((void *)files.entities.at);
-        close_schema();
-    }
+    print_least_of_entities();
 }
 
 static void check(const form *form) {
@@ -328,6 +372,8 @@ static void check(const form *form) {
         cedar_buffer text = {room, sizeof room, 0};
         if (cedar_answer(&engine, asked_line, &text) != CEDAR_NO_ENGINE) {
             on_a_stack(ASKING_STACK, answers);
+            CHECK(is_right);
+            on_a_stack(ASKING_STACK, answers_with_entities);
             CHECK(is_right);
         }
         free((void *)asked_line.at);

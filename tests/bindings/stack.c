@@ -265,7 +265,7 @@ static void check_line(int is_accepted) {
     const char *begin = is_accepted ? "{\"decision\":\"allow\"" : "{\"refused\":";
     asked_line = bringing(bytes_of(USER_LINE), files.entities);
     room[0] = '\0';
-    on_a_stack(READING_STACK, answers_with_entities);
+    on_a_stack(ASKING_STACK, answers_with_entities);
     CHECK(is_right && strncmp(room, begin, strlen(begin)) == 0);
     free((void *)asked_line.at);
 }
@@ -373,7 +373,7 @@ static void check(const form *form) {
         if (cedar_answer(&engine, asked_line, &text) != CEDAR_NO_ENGINE) {
             on_a_stack(ASKING_STACK, answers);
             CHECK(is_right);
-            on_a_stack(READING_STACK, answers_with_entities);
+            on_a_stack(ASKING_STACK, answers_with_entities);
             CHECK(is_right);
         }
         free((void *)asked_line.at);

@@ -12,8 +12,8 @@
  * not copied. The library asks malloc, realloc and free for memory. A call that returns CEDAR_MEMORY has changed nothing.
  *
  * Stack: 4 MiB for cedar_explain and cedar_explain_changes, 512 KiB for cedar_publish, cedar_publish_entities, cedar_publish_changes,
- * cedar_validate and cedar_free, 64 KiB for the other calls. Do not call from a signal handler, nor in the forked child of a process with several threads. No call starts a thread, waits, or
- * reads a file. */
+ * cedar_validate and cedar_free, 64 KiB for the other calls. Do not call from a signal handler, nor in the forked child of a process with
+ * several threads. No call starts a thread, waits, or reads a file. */
 #ifndef CEDAR_H
 #define CEDAR_H
 #include <stddef.h>

@@ -58,14 +58,15 @@ def cases():
 
 
 def worked():
-    """The rows of crates/test_cases/data that are runs of `validate` and `authorize`, as those of `cases`."""
+    """The rows of crates/test_cases/data that are runs of `validate` and `authorize`, as those of `cases`. The page takes no lines that
+    bring entities."""
     for path in sorted(glob.glob(os.path.join(TOP, 'crates', 'test_cases', 'data', '*.jsonl'))):
         with open(path, encoding='utf-8') as file:
             found = [json.loads(line) for line in file]
         for case in found:
             texts = {name: text_of(case, name) for name in (*FILES, 'stdin') if text_of(case, name) is not None}
             needed = {'validate': {'schema', 'policies'}, 'authorize': {'schema', 'policies', 'entities'}}.get(case['kind'])
-            if needed and needed <= set(texts):
+            if needed and needed <= set(texts) and not case.get('entities_in_lines'):
                 settings = int('--any-decimal' in case.get('args', []))
                 row = Row(case['name'], {'entities': b'[]', 'requests': texts.get('stdin', b''), **texts}, settings)
                 yield row, case['kind'], case['stdout'].encode(), case['status'], None

@@ -1,10 +1,13 @@
 -- An expression in which the action does not occur is as it was, the action replaced.
 use Rattle.std.proofs.Common.{◌≡◌, Bool, true, false, refl, ap, ap₂}
 use Rattle.std.specs.Prelude.{◌||◌}
+use Rattle.cedar_value.specs.Datum.{uid}
 use Rattle.cedar_value.specs.declared.uid.Uid.{Uid}
+use Rattle.cedar_ast_expressions.specs.declared.operator.BinaryOperator.{BinaryOperator}
 use Rattle.cedar_ast_expressions.specs.declared.variable.Variable.TheVariants.{Principal, Action, Resource, Context}
 use Rattle.cedar_ast_expressions.specs.Expression.{Expression, literal, variable, and, or, if_else, unary, binary, set_with, record_with, Expressions, no_more, and_then, Entries, no_entries, entry}
 use Rattle.cedar_ast_expressions.specs.Replacement.{replace, replace_all, replace_entries}
+use Rattle.cedar_check.specs.Private.Condition.{asked}
 use Rattle.cedar_check.specs.Private.Mention.{mentions, any_mentions, entries_mention}
 
 first : (a b : Bool) → (a || b) ≡ false → a ≡ false
@@ -42,6 +45,6 @@ mutual
   unmentioned_entries u no_entries h = refl
   unmentioned_entries u (entry k e fs) h = ap₂ (entry k) (unmentioned u e (first (mentions e) (entries_mention fs) h)) (unmentioned_entries u fs (second (mentions e) (entries_mention fs) h))
 
--- of a condition by its parts, the one in which it may be is another
-pub whole_replaced : (u : Uid) (p a b : Expression) → mentions p ≡ false → mentions b ≡ false → replace u (and p (and a b)) ≡ and p (and (replace u a) b)
-whole_replaced u p a b p_stays b_stays = ap₂ (λ x y. and x (and (replace u a) y)) (unmentioned u p p_stays) (unmentioned u b b_stays)
+-- of a condition by its parts, the variable that its condition on the action compares is another
+pub whole_replaced : (u : Uid) (op : BinaryOperator) (p a b : Expression) → mentions p ≡ false → mentions a ≡ false → mentions b ≡ false → replace u (and p (and (asked op a) b)) ≡ and p (and (binary op (literal (uid u)) a) b)
+whole_replaced u op p a b p_stays a_stays b_stays = λ i. and (unmentioned u p p_stays i) (and (binary op (literal (uid u)) (unmentioned u a a_stays i)) (unmentioned u b b_stays i))

@@ -1,6 +1,6 @@
 //! The typing of an expression, one method for each form.
 ghost use Rattle.std.specs.Prelude.{◌≡◌, ◌++◌, [], IfOk, Some};
-ghost use Rattle.cedar_ast_expressions.specs.Expression.{and, entries_of, expressions_of, record_with, set_with};
+ghost use Rattle.cedar_ast_expressions.specs.Expression.{and, binary, entries_of, expressions_of, record_with, set_with};
 ghost use Rattle.cedar_ast_expressions.specs.Keys.{AreDistinct, keys_of};
 ghost use Rattle.cedar_check_spec.specs.Rows.{binary_type};
 ghost use Rattle.cedar_check_spec.specs.Private.Checking.{and_type, if_type, on_boolean, on_two, or_type, type_of_with, types_onto};
@@ -8,6 +8,7 @@ ghost use Rattle.cedar_check_operators.specs.View.{element_view, held_view, tree
 ghost use Rattle.cedar_check.specs.Private.Spine.{left_of, row_from};
 
 use crate::branches::{if_joined, if_known};
+use crate::prepared::Parts;
 use crate::rows::{and_right, binary_row, literal_type, or_right, unary_row, variable_type};
 use crate::spine::Spine;
 use cedar_ast_expressions::{BinaryOperator, Expr, ExprKind};
@@ -200,19 +201,45 @@ impl<'a> Checker<'a> {
         and_right(self.alloc, truth, x.gained, right)
     }
 
-    /// The type of `principal && (action && rest)`, where nothing is held. Where `principal` is known false, the
-    /// rest is not looked at.
+    // The row of `left && one OPERATOR two`, where nothing is held.
+    fn check_asked(
+        &self,
+        left: Typing<'a>,
+        operator: BinaryOperator,
+        one: &'a Expr,
+        two: &'a Expr,
+    ) -> Result<Typing<'a>, AllocError>
+        ensures { IfOk result (λ t. typing_view t ≡ on_boolean (typing_view left.entry) (and_type [] (λ k. type_of_with self.now.settings self.now.schema.now self.now.environment.now k (binary operator one.now two.now)))) }
+    {
+        let x = match left {
+            Typing::Typed(x) => x,
+            Typing::Refused(fault) => return Ok(Typing::Refused(fault)),
+        };
+        let known = x.ty.truth();
+        drop(x.ty);
+        let Some(truth) = known else {
+            return Ok(Typing::Refused(TypeFault::OperandKind));
+        };
+        if truth == Truth::False {
+            return Ok(Typing::plain(self.alloc, LentType::Boolean(Truth::False)));
+        }
+        let typing = self.check(&x.gained, one)?;
+        let asked = self.check_binary(&x.gained, operator, typing, one, two)?;
+        and_right(self.alloc, truth, x.gained, asked)
+    }
+
+    /// The type of a condition by its parts, with this literal in place of the action, where nothing is held. Where the
+    /// condition on the principal is known false, the rest is not looked at.
     pub(crate) fn check_scoped(
         &self,
-        principal: &'a Expr,
+        parts: Parts<'a>,
         action: &'a Expr,
-        rest: &'a Expr,
     ) -> Result<Typing<'a>, AllocError>
-        ensures { IfOk result (λ t. typing_view t ≡ type_of_with self.now.settings self.now.schema.now self.now.environment.now [] (and principal.now (and action.now rest.now))) }
+        ensures { IfOk result (λ t. typing_view t ≡ type_of_with self.now.settings self.now.schema.now self.now.environment.now [] (and parts.entry.principal.now (and (binary parts.entry.operator action.now parts.entry.operand.now) parts.entry.rest.now))) }
     {
-        let typing = self.check(&[], principal)?;
-        let typing = self.check_part(&[], typing, action)?;
-        self.check_and(&[], typing, rest)
+        let typing = self.check(&[], parts.principal)?;
+        let typing = self.check_asked(typing, parts.operator, action, parts.operand)?;
+        self.check_and(&[], typing, parts.rest)
     }
 
     // The row of `left || right`.

@@ -14,6 +14,7 @@ use crate::known::{form_at, forms_in};
 use crate::prepared::Prepared;
 use crate::signatures::Signatures;
 use cedar_ast::Policy;
+use cedar_ast_expressions::Expr;
 use cedar_check_operators::TypeFault;
 use cedar_check_spec::Settings;
 use cedar_schema::{Environment, Schema, Truth};
@@ -102,8 +103,13 @@ fn known_forms(
 {
     let first = match condition {
         Prepared::Open(open) => open,
-        Prepared::Parts(parts) if parts.named.is_some() => parts.principal,
-        Prepared::Parts(_) | Prepared::Whole(_) => return Ok(Vec::new(alloc)),
+        Prepared::Parts(parts) => {
+            if parts.named.is_none() {
+                return Ok(Vec::new(alloc));
+            }
+            parts.principal
+        }
+        Prepared::Whole(_) => return Ok(Vec::new(alloc)),
     };
     forms_in(alloc, settings, schema, &signatures.examples, first)
 }
@@ -146,30 +152,24 @@ fn check_everywhere(
     Ok(impossible)
 }
 
-/// Adds the faults of a policy, one for each environment in which it is not accepted, in the order of the environments.
-/// Returns whether no request can satisfy the policy.
+/// Adds the faults of a policy, whose condition is lent: one for each environment in which it is not accepted, in the order of
+/// the environments. Returns whether no request can satisfy the policy.
 pub(crate) fn check_policy(
     alloc: Global,
     settings: Settings,
     schema: &Schema,
     signatures: &Signatures<'_>,
     policy: &Policy,
+    condition: &Expr,
     faults: &mut Vec<Fault>,
 ) -> Result<bool, AllocError>
-    requires { AreNumbered signatures.now.examples.items signatures.now.numbers.items (environments_of schema.now.actions) }
+    requires signatures { AreNumbered signatures.now.examples.items signatures.now.numbers.items (environments_of schema.now.actions) }
+    requires condition { condition.now ≡ condition_of policy.now }
     ensures faults { OnOk result (map fault_view faults.new.items ≡ map fault_view faults.old.items ++ faults_of_with settings schema.now policy.now) }
     ensures impossible { IfOk result (λ impossible. impossible ≡ is_impossible_with settings schema.now policy.now) }
 {
-    let condition = policy.condition(alloc)?;
-    let impossible = check_everywhere(
-        alloc,
-        settings,
-        schema,
-        signatures,
-        policy,
-        Prepared::new(schema, &condition),
-        faults,
-    );
-    drop(condition);
-    impossible
+    let condition = Prepared::new(schema, condition);
+    check_everywhere(
+        alloc, settings, schema, signatures, policy, condition, faults,
+    )
 }

@@ -1,6 +1,7 @@
 //! What is known of a policy's condition in an environment.
 ghost use Rattle.std.specs.Prelude.{◌≡◌, [], IfOk, option_and_then};
-ghost use Rattle.cedar_ast_expressions.specs.Expression.{and};
+ghost use Rattle.cedar_value.specs.Datum.{uid};
+ghost use Rattle.cedar_ast_expressions.specs.Expression.{and, binary, literal};
 ghost use Rattle.cedar_ast_expressions.specs.Replacement.{replace};
 ghost use Rattle.cedar_check_spec.specs.Rows.{truth_in};
 ghost use Rattle.cedar_check_spec.specs.Private.Checking.{type_of_with};
@@ -14,6 +15,7 @@ use cedar_ast_expressions::Expr;
 use cedar_check_operators::{TypeFault, Typing};
 use cedar_check_spec::Settings;
 use cedar_schema::{Environment, Schema, Truth};
+use cedar_value::{Uid, Value};
 use std::alloc::{AllocError, Global};
 
 /// What is known of a condition, or why its type is not Boolean.
@@ -46,19 +48,24 @@ fn form_of_open<'a>(checker: Checker<'a>, condition: &'a Expr) -> Result<Form, A
     Ok(form_in(typing))
 }
 
-// The form of a condition, from its parts. Only the condition on the action is copied.
+// The form of a condition, from its parts. None of them is copied.
 fn form_of_parts(checker: Checker<'_>, parts: Parts<'_>) -> Result<Form, AllocError>
-    ensures { IfOk result (λ form. form_view form ≡ option_and_then (λ x. truth_in x.ty) (type_of_with checker.entry.settings checker.entry.schema.now checker.entry.environment.now [] (and parts.entry.principal.now (and (replace checker.entry.environment.now.action parts.entry.action.now) parts.entry.rest.now)))) }
+    ensures { IfOk result (λ form. form_view form ≡ option_and_then (λ x. truth_in x.ty) (type_of_with checker.entry.settings checker.entry.schema.now checker.entry.environment.now [] (and parts.entry.principal.now (and (binary parts.entry.operator (literal (uid checker.entry.environment.now.action)) parts.entry.operand.now) parts.entry.rest.now)))) }
 {
-    let action = parts
-        .action
-        .with_action(checker.alloc, &checker.environment.action)?;
-    let form = match checker.check_scoped(parts.principal, &action, parts.rest) {
+    let action = action_literal(checker.alloc, &checker.environment.action)?;
+    let form = match checker.check_scoped(parts, &action) {
         Ok(typing) => Ok(form_in(typing)),
         Err(error) => Err(error),
     };
     drop(action);
     form
+}
+
+// The literal of an action.
+fn action_literal(alloc: Global, action: &Uid) -> Result<Expr, AllocError>
+    ensures { IfOk result (λ e. e ≡ literal (uid action.now)) }
+{
+    Ok(Expr::literal(Value::uid(alloc, action.try_clone(alloc)?)?))
 }
 
 // The form of a condition in which the variable may occur anywhere.

@@ -33,6 +33,7 @@ mod signatures;
 mod spine;
 mod type_order;
 mod typing;
+mod validator;
 
 pub use cedar_check_law::{typing_is_determined, typing_is_sound};
 pub use cedar_check_operators::{Capability, LentType, TypeFault, Typed, Typing};
@@ -40,3 +41,4 @@ pub use cedar_check_spec::Settings;
 pub use fault::Fault;
 pub use report::{Report, check, check_with};
 pub use typing::type_of;
+pub use validator::Validator;

@@ -1,6 +1,6 @@
 //! Conditions, looked at once for all environments.
 ghost use Rattle.std.specs.Prelude.{◌≡◌, IfSome};
-ghost use Rattle.cedar_check.specs.Private.Condition.{condition_in, IsNamed, IsReady};
+ghost use Rattle.cedar_check.specs.Private.Condition.{asked, condition_in, IsNamed, IsReady};
 
 use crate::mention::mentions_action;
 use crate::rows::is_declared;
@@ -8,34 +8,30 @@ use cedar_ast_expressions::{BinaryOperator, Expr, ExprKind, Variable};
 use cedar_schema::Schema;
 use cedar_value::{Uid, ValueKind};
 
-/// The parts of a condition `principal && (action && rest)`.
+/// The parts of a condition `principal && (action OPERATOR operand && rest)`.
 #[derive(Clone, Copy)]
 pub(crate) struct Parts<'c> {
     /// The scope's condition on the principal.
     pub(crate) principal: &'c Expr,
-    /// The scope's condition on the action.
-    pub(crate) action: &'c Expr,
+    /// The operator of the scope's condition on the action.
+    pub(crate) operator: BinaryOperator,
+    /// What that compares the action with.
+    pub(crate) operand: &'c Expr,
     /// The rest of the condition.
     pub(crate) rest: &'c Expr,
-    /// The entity to which the condition on the action compares the action, if it is `action == E` and `E` is declared.
+    /// The entity with which the action is compared, if the condition on it is `action == E` and `E` is declared.
     pub(crate) named: Option<&'c Uid>,
 }
 
-// The entity to which a condition compares the action, if it is `action == E` and `E` is declared.
-fn named_in<'c>(schema: &Schema, condition: &'c Expr) -> Option<&'c Uid>
-    ensures { IfSome result (λ named. IsNamed schema.now condition.now named.now) }
+// The entity with which a condition compares the action, if the condition is `action == E` and `E` is declared.
+fn named_in<'c>(schema: &Schema, operator: BinaryOperator, operand: &'c Expr) -> Option<&'c Uid>
+    ensures { IfSome result (λ named. IsNamed schema.now (asked operator operand.now) named.now) }
 {
-    let ExprKind::Binary(BinaryOperator::Equal, left, right) = condition.kind() else {
+    let ExprKind::Literal(value) = operand.kind() else {
         return None;
     };
-    let ExprKind::Variable(Variable::Action) = left.kind() else {
-        return None;
-    };
-    let ExprKind::Literal(value) = right.kind() else {
-        return None;
-    };
-    match value.kind() {
-        ValueKind::Uid(named) if is_declared(schema, named) => Some(named),
+    match (operator, value.kind()) {
+        (BinaryOperator::Equal, ValueKind::Uid(named)) if is_declared(schema, named) => Some(named),
         _ => None,
     }
 }
@@ -66,14 +62,21 @@ impl<'c> Prepared<'c> {
         let ExprKind::And(action, rest) = others.kind() else {
             return Prepared::Whole(condition);
         };
-        if mentions_action(principal) || mentions_action(rest) {
+        let ExprKind::Binary(operator, left, operand) = action.kind() else {
+            return Prepared::Whole(condition);
+        };
+        let ExprKind::Variable(Variable::Action) = left.kind() else {
+            return Prepared::Whole(condition);
+        };
+        if mentions_action(principal) || mentions_action(operand) || mentions_action(rest) {
             return Prepared::Whole(condition);
         }
         Prepared::Parts(Parts {
             principal,
-            action,
+            operator: *operator,
+            operand,
             rest,
-            named: named_in(schema, action),
+            named: named_in(schema, *operator, operand),
         })
     }
 }

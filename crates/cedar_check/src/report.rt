@@ -1,15 +1,12 @@
 //! Reports on a set of policies.
-ghost use Rattle.std.specs.Prelude.{◌≡◌, ◌++◌, ◌∷◌, [], IfOk, OnOk, cond, map};
-ghost use Rattle.cedar_check_spec.specs.Private.Reporting.{faults_of_with, is_impossible_with};
+ghost use Rattle.std.specs.Prelude.{◌≡◌, [], IfOk, map};
 ghost use Rattle.cedar_check_spec.specs.Reports.{AreFaultsWith, AreWarningsWith};
 ghost use Rattle.cedar_check_spec.specs.Settings.{default_settings};
-ghost use Rattle.cedar_schema_spec.specs.SchemaTree.{environments_of};
 ghost use Rattle.cedar_check.specs.FaultView.{fault_view};
-ghost use Rattle.cedar_check.specs.Private.Signatures.{AreNumbered};
 
-use crate::fault::{Fault, check_policy};
-use crate::signatures::Signatures;
-use cedar_ast::{Policy, PolicySet};
+use crate::fault::Fault;
+use crate::validator::Validator;
+use cedar_ast::PolicySet;
 use cedar_check_spec::Settings;
 use cedar_schema::Schema;
 use cedar_value::Text;
@@ -24,24 +21,17 @@ pub struct Report {
     pub warnings: Vec<Text>,
 }
 
-// Adds what is found in one more policy.
-fn check_next(
-    alloc: Global,
-    settings: Settings,
-    schema: &Schema,
-    signatures: &Signatures<'_>,
-    policy: &Policy,
-    faults: &mut Vec<Fault>,
-    impossible: &mut Vec<Text>,
-) -> Result<(), AllocError>
-    requires { AreNumbered signatures.now.examples.items signatures.now.numbers.items (environments_of schema.now.actions) }
-    ensures faults { OnOk result (map fault_view faults.new.items ≡ map fault_view faults.old.items ++ faults_of_with settings schema.now policy.now) }
-    ensures warnings { OnOk result (impossible.new.items ≡ impossible.old.items ++ cond (is_impossible_with settings schema.now policy.now) (policy.now.id ∷ []) []) }
-{
-    if check_policy(alloc, settings, schema, signatures, policy, faults)? {
-        impossible.push(policy.id().try_clone(alloc)?)?;
+impl Report {
+    /// A report on no policies. Takes no memory.
+    pub fn new(alloc: Global) -> Self
+        ensures faults { result.faults.items ≡ [] }
+        ensures warnings { result.warnings.items ≡ [] }
+    {
+        Report {
+            faults: Vec::new(alloc),
+            warnings: Vec::new(alloc),
+        }
     }
-    Ok(())
 }
 
 /// The faults of the policies for a schema under these settings, and the policies that no request can satisfy
@@ -59,27 +49,16 @@ pub fn check_with(
     ensures faults { IfOk result (λ report. AreFaultsWith settings schema.now policies.now.policies (map fault_view report.faults.items)) }
     ensures warnings { IfOk result (λ report. AreWarningsWith settings schema.now policies.now.policies report.warnings.items) }
 {
-    let signatures = Signatures::new(alloc, schema.environments())?;
-    let mut faults = Vec::new(alloc);
-    let mut impossible = Vec::new(alloc);
+    let validator = Validator::new(alloc, schema)?;
+    let mut report = Report::new(alloc);
     for position in 0..policies.count() {
         let Some(policy) = policies.policy(position) else {
             unreachable!()
         };
-        check_next(
-            alloc,
-            settings,
-            schema,
-            &signatures,
-            policy,
-            &mut faults,
-            &mut impossible,
-        )?;
+        let condition = policy.condition(alloc)?;
+        validator.check(alloc, settings, policy, &condition, &mut report)?;
     }
-    Ok(Report {
-        faults,
-        warnings: impossible,
-    })
+    Ok(report)
 }
 
 /// The faults of the policies for a schema with strict validation as it is documented, and the policies that no

@@ -1,5 +1,5 @@
 -- What was read before is read as it was.
-use Rattle.std.proofs.Common.{◌≡◌, ℕ, List, [], All, ◌∙◌}
+use Rattle.std.proofs.Common.{ℕ, List, [], All, ◌∙◌}
 use Rattle.cedar_ast.specs.PolicySetTree.{PolicySetTree, no_policies}
 use Rattle.cedar_parser_tree.specs.declared.written_statement.WrittenCondition.{WrittenCondition}
 use Rattle.cedar_parser_tree.specs.StatementTree.{StatementTree}

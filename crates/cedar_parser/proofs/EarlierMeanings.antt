@@ -8,7 +8,6 @@ use Rattle.cedar_ast_expressions.specs.declared.operator.BinaryOperator.{BinaryO
 use Rattle.cedar_ast_expressions.specs.declared.operator.BinaryOperator.TheVariants as operator
 use Rattle.cedar_ast_expressions.specs.Expression as e
 use Rattle.cedar_ast_expressions.specs.Expression.{Expression, Expressions}
-use Rattle.cedar_ast.specs.declared.condition.Condition.{Condition}
 use Rattle.cedar_ast.specs.declared.statement.Statement.{Statement}
 use Rattle.cedar_ast.specs.declared.statement.Statement.TheVariants as statement
 use Rattle.cedar_ast.specs.PolicySetTree.{PolicySetTree, entered}
@@ -24,7 +23,7 @@ use Rattle.cedar_parser_statements.proofs.EarlierPaths.{HasNoPath, LinksHaveNoPa
 use Rattle.cedar_parser_limits.specs.declared.functions.Method.{Method}
 use Rattle.cedar_parser_limits.specs.declared.functions.Method.TheVariants.{IsEmpty, Binary}
 use Rattle.cedar_parser_limits.specs.Meaning.{linked, related, function_of, method_of, called, applied, asked_of, to_expression, to_expressions, to_entries, grouped}
-use Rattle.cedar_parser_limits.specs.StatementMeaning.{to_condition, to_policy, to_template, to_statement, statement_of, id_at, has_slot, entered_from}
+use Rattle.cedar_parser_limits.specs.StatementMeaning.{to_condition, to_policy, to_template, statement_of, id_at, has_slot, entered_from}
 use Rattle.cedar_parser.specs.EarlierMeaning.{earlier_method_of, earlier_linked, earlier_related, earlier_call, earlier_applied, earlier_expression, earlier_expressions, earlier_entries, earlier_grouped, earlier_condition, earlier_policy, earlier_template, earlier_statement, earlier_entered}
 use Rattle.cedar_parser.specs.Earlier.{UsesEarlier, LinksUseEarlier, MembersUseEarlier, FieldsUseEarlier}
 

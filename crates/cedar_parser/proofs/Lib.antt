@@ -6,3 +6,4 @@ pub mod EarlierMeanings
 pub mod EarlierLimits
 pub mod EarlierLemmas
 pub mod CallLemmas
+pub mod Drained

@@ -3,7 +3,7 @@ use Rattle.std.proofs.Common.{◌≡◌, refl, sym, ap, subst, ◌∙◌, ℕ, �
 use Rattle.cedar_ast.specs.PolicySetTree.{PolicySetTree, no_policies}
 use Rattle.cedar_text.specs.Lexeme.{Lexemes}
 use Rattle.cedar_text.specs.Tokens.{AreTokens}
-use Rattle.cedar_parser_tokens.specs.Marks.{Marks, IsMarked}
+use Rattle.cedar_parser_tokens.specs.Marks.{Marks}
 use Rattle.cedar_parser_tokens.specs.Reading.{Syntax, TooDeep, Outcome}
 use Rattle.cedar_parser_tokens.proofs.MarkLemmas.{OneSpelling, all_same}
 use Rattle.cedar_parser_statements.specs.Statements.{Statement, Statements, end, next}

@@ -89,9 +89,7 @@ fn parse_policies(alloc: Global, tokens: &mut Cursor<'_>) -> Result<PolicySet, P
             return Ok(set);
         }
         let statement = parse_statement(alloc, tokens)?;
-        let entry = add_statement(alloc, &mut set, position, &statement);
-        drop(statement);
-        entry?;
+        add_statement(alloc, &mut set, position, statement)?;
     }
     Ok(set)
 }
@@ -101,28 +99,29 @@ fn add_statement(
     alloc: Global,
     set: &mut PolicySet,
     position: usize,
-    statement: &WrittenStatement,
+    statement: WrittenStatement,
 ) -> Result<(), ParseFault>
-    ensures entered { OnOk result (set.new ≡ entered set.old (statement_of position statement.now)) }
-    ensures limits { OnOk result (IsWithinLimits statement.now) }
-    ensures distinct { OnOk result (Contains (ids_in set.old) (id_at position statement.now) → ⊥) }
-    ensures refused { IfErr result (RefusesEntry set.old position statement.now) }
+    ensures entered { OnOk result (set.new ≡ entered set.old (statement_of position statement)) }
+    ensures limits { OnOk result (IsWithinLimits statement) }
+    ensures distinct { OnOk result (Contains (ids_in set.old) (id_at position statement) → ⊥) }
+    ensures refused { IfErr result (RefusesEntry set.old position statement) }
 {
-    judge(alloc, statement)?;
+    judge(alloc, &statement)?;
+    let start = statement.start;
     let entry = statement_of(alloc, position, statement)?;
-    add_entry(set, entry, statement.start)
+    add_entry(set, entry, start)
 }
 
 // The policy or template of the statement at a position.
 fn statement_of(
     alloc: Global,
     position: usize,
-    statement: &WrittenStatement,
+    statement: WrittenStatement,
 ) -> Result<Statement, AllocError>
-    requires { IsWithinLimits statement.now }
-    ensures { IfOk result (λ e. e ≡ statement_of position statement.now) }
+    requires { IsWithinLimits statement }
+    ensures { IfOk result (λ e. e ≡ statement_of position statement) }
 {
-    let id = id_of(alloc, position, statement)?;
+    let id = id_of(alloc, position, &statement)?;
     to_statement(alloc, id, statement)
 }
 

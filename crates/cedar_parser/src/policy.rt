@@ -3,7 +3,7 @@ ghost use Rattle.std.specs.Prelude.{◌≡◌, ◌++◌, ◌∷◌, [], false, I
 ghost use Rattle.cedar_parser_limits.specs.declared.side_condition.SideCondition.TheVariants.{Strings, Numbers, Keys, Names, Counts, Slots};
 ghost use Rattle.cedar_parser_tokens.specs.Content.{text_of};
 ghost use Rattle.cedar_parser_tokens.specs.Names.{to_uid};
-ghost use Rattle.cedar_parser_limits.specs.StatementMeaning.{to_entity, to_reference, to_entity_scope, to_template_entity_scope, to_action_scope, to_scope, to_template_scope, is_slot, asks_slot, has_slot, to_annotation, to_condition, to_policy, to_template, to_statement, id_in, id_at};
+ghost use Rattle.cedar_parser_limits.specs.StatementMeaning.{to_entity, to_reference, to_entity_scope, to_template_entity_scope, to_action_scope, to_scope, to_template_scope, is_slot, asks_slot, has_slot, to_annotation, to_condition, to_statement, id_in, id_at};
 ghost use Rattle.cedar_parser_limits.specs.StatementLimits.{KeepConditions};
 
 use crate::expression::to_expression;
@@ -24,57 +24,28 @@ use std::alloc::{AllocError, Global};
 pub fn to_statement(
     alloc: Global,
     id: Text,
-    statement: &WrittenStatement,
+    statement: WrittenStatement,
 ) -> Result<Statement, AllocError>
-    requires numbers { KeepConditions Numbers statement.now.conditions }
-    requires keys { KeepConditions Keys statement.now.conditions }
-    requires strings { KeepConditions Strings statement.now.conditions }
-    requires names { KeepConditions Names statement.now.conditions }
-    requires counts { KeepConditions Counts statement.now.conditions }
-    requires slots { KeepConditions Slots statement.now.conditions }
-    ensures { IfOk result (λ s. s ≡ to_statement id statement.now) }
+    requires numbers { KeepConditions Numbers statement.conditions }
+    requires keys { KeepConditions Keys statement.conditions }
+    requires strings { KeepConditions Strings statement.conditions }
+    requires names { KeepConditions Names statement.conditions }
+    requires counts { KeepConditions Counts statement.conditions }
+    requires slots { KeepConditions Slots statement.conditions }
+    ensures { IfOk result (λ s. s ≡ to_statement id statement) }
 {
-    if has_slot(&statement.scope) {
-        let template = to_template(alloc, id, statement)?;
+    let is_template = has_slot(&statement.scope);
+    let conditions = to_conditions(alloc, &statement.conditions)?;
+    let annotations = to_annotations(alloc, statement.annotations)?;
+    let effect = statement.effect;
+    if is_template {
+        let scope = to_template_scope(alloc, statement.scope)?;
+        let template = Template::new(id, annotations, effect, scope, conditions);
         return Ok(Statement::Template(template));
     }
-    let policy = to_policy(alloc, id, statement)?;
+    let scope = to_scope(alloc, statement.scope)?;
+    let policy = Policy::new(id, annotations, effect, scope, conditions);
     Ok(Statement::Policy(policy))
-}
-
-fn to_policy(alloc: Global, id: Text, statement: &WrittenStatement) -> Result<Policy, AllocError>
-    requires numbers { KeepConditions Numbers statement.now.conditions }
-    requires keys { KeepConditions Keys statement.now.conditions }
-    requires strings { KeepConditions Strings statement.now.conditions }
-    requires names { KeepConditions Names statement.now.conditions }
-    requires counts { KeepConditions Counts statement.now.conditions }
-    requires slots { KeepConditions Slots statement.now.conditions }
-    requires no_slot { has_slot statement.now.scope ≡ false }
-    ensures { IfOk result (λ p. p ≡ to_policy id statement.now) }
-{
-    let annotations = to_annotations(alloc, &statement.annotations)?;
-    let conditions = to_conditions(alloc, &statement.conditions)?;
-    let scope = to_scope(alloc, &statement.scope)?;
-    Ok(Policy::new(id, annotations, statement.effect, scope, conditions))
-}
-
-fn to_template(
-    alloc: Global,
-    id: Text,
-    statement: &WrittenStatement,
-) -> Result<Template, AllocError>
-    requires numbers { KeepConditions Numbers statement.now.conditions }
-    requires keys { KeepConditions Keys statement.now.conditions }
-    requires strings { KeepConditions Strings statement.now.conditions }
-    requires names { KeepConditions Names statement.now.conditions }
-    requires counts { KeepConditions Counts statement.now.conditions }
-    requires slots { KeepConditions Slots statement.now.conditions }
-    ensures { IfOk result (λ t. t ≡ to_template id statement.now) }
-{
-    let annotations = to_annotations(alloc, &statement.annotations)?;
-    let conditions = to_conditions(alloc, &statement.conditions)?;
-    let scope = to_template_scope(alloc, &statement.scope)?;
-    Ok(Template::new(id, annotations, statement.effect, scope, conditions))
 }
 
 fn has_slot(scope: &WrittenScope) -> bool
@@ -104,129 +75,120 @@ fn is_slot(reference: &Reference) -> bool
     }
 }
 
-fn to_scope(alloc: Global, scope: &WrittenScope) -> Result<Scope, AllocError>
-    requires { has_slot scope.now ≡ false }
-    ensures { IfOk result (λ s. s ≡ to_scope scope.now) }
+fn to_scope(alloc: Global, scope: WrittenScope) -> Result<Scope, AllocError>
+    requires { has_slot scope ≡ false }
+    ensures { IfOk result (λ s. s ≡ to_scope scope) }
 {
     Ok(Scope {
-        principal: to_entity_scope(alloc, &scope.principal)?,
-        action: to_action_scope(alloc, &scope.action)?,
-        resource: to_entity_scope(alloc, &scope.resource)?,
+        principal: to_entity_scope(alloc, scope.principal),
+        action: to_action_scope(alloc, scope.action)?,
+        resource: to_entity_scope(alloc, scope.resource),
     })
 }
 
-fn to_template_scope(alloc: Global, scope: &WrittenScope) -> Result<TemplateScope, AllocError>
-    ensures { IfOk result (λ s. s ≡ to_template_scope scope.now) }
+fn to_template_scope(alloc: Global, scope: WrittenScope) -> Result<TemplateScope, AllocError>
+    ensures { IfOk result (λ s. s ≡ to_template_scope scope) }
 {
     Ok(TemplateScope {
-        principal: to_template_entity_scope(alloc, &scope.principal)?,
-        action: to_action_scope(alloc, &scope.action)?,
-        resource: to_template_entity_scope(alloc, &scope.resource)?,
+        principal: to_template_entity_scope(alloc, scope.principal),
+        action: to_action_scope(alloc, scope.action)?,
+        resource: to_template_entity_scope(alloc, scope.resource),
     })
 }
 
-fn to_entity_scope(alloc: Global, scope: &WrittenEntityScope) -> Result<EntityScope, AllocError>
-    requires { asks_slot scope.now ≡ false }
-    ensures { IfOk result (λ s. s ≡ to_entity_scope scope.now) }
+fn to_entity_scope(alloc: Global, scope: WrittenEntityScope) -> EntityScope
+    requires { asks_slot scope ≡ false }
+    ensures { result ≡ to_entity_scope scope }
 {
     match scope {
-        WrittenEntityScope::Any => Ok(EntityScope::Any),
-        WrittenEntityScope::Equal(reference) => Ok(EntityScope::Equal(to_entity(
-            alloc, reference,
-        )?)),
-        WrittenEntityScope::In(reference) => Ok(EntityScope::In(to_entity(alloc, reference)?)),
-        WrittenEntityScope::Is(ty) => Ok(EntityScope::Is(ty.try_clone(alloc)?)),
+        WrittenEntityScope::Any => EntityScope::Any,
+        WrittenEntityScope::Equal(reference) => EntityScope::Equal(to_entity(alloc, reference)),
+        WrittenEntityScope::In(reference) => EntityScope::In(to_entity(alloc, reference)),
+        WrittenEntityScope::Is(ty) => EntityScope::Is(ty),
         WrittenEntityScope::IsIn(ty, reference) => {
-            let ty = ty.try_clone(alloc)?;
-            Ok(EntityScope::IsIn(ty, to_entity(alloc, reference)?))
+            EntityScope::IsIn(ty, to_entity(alloc, reference))
         }
     }
 }
 
-fn to_template_entity_scope(
-    alloc: Global,
-    scope: &WrittenEntityScope,
-) -> Result<TemplateEntityScope, AllocError>
-    ensures { IfOk result (λ s. s ≡ to_template_entity_scope scope.now) }
+fn to_template_entity_scope(alloc: Global, scope: WrittenEntityScope) -> TemplateEntityScope
+    ensures { result ≡ to_template_entity_scope scope }
 {
     match scope {
-        WrittenEntityScope::Any => Ok(TemplateEntityScope::Any),
-        WrittenEntityScope::Equal(place) => {
-            Ok(TemplateEntityScope::Equal(to_reference(alloc, place)?))
-        }
-        WrittenEntityScope::In(place) => Ok(TemplateEntityScope::In(to_reference(alloc, place)?)),
-        WrittenEntityScope::Is(ty) => Ok(TemplateEntityScope::Is(ty.try_clone(alloc)?)),
+        WrittenEntityScope::Any => TemplateEntityScope::Any,
+        WrittenEntityScope::Equal(place) => TemplateEntityScope::Equal(to_reference(alloc, place)),
+        WrittenEntityScope::In(place) => TemplateEntityScope::In(to_reference(alloc, place)),
+        WrittenEntityScope::Is(ty) => TemplateEntityScope::Is(ty),
         WrittenEntityScope::IsIn(ty, place) => {
-            let ty = ty.try_clone(alloc)?;
-            Ok(TemplateEntityScope::IsIn(ty, to_reference(alloc, place)?))
+            TemplateEntityScope::IsIn(ty, to_reference(alloc, place))
         }
     }
 }
 
 // The entity that is referred to.
-fn to_entity(alloc: Global, reference: &Reference) -> Result<Uid, AllocError>
-    requires { is_slot reference.now ≡ false }
-    ensures { IfOk result (λ u. u ≡ to_entity reference.now) }
+fn to_entity(alloc: Global, reference: Reference) -> Uid
+    requires { is_slot reference ≡ false }
+    ensures { result ≡ to_entity reference }
 {
     match reference {
-        Reference::Entity(uid) => uid.to_uid(alloc),
+        Reference::Entity(uid) => uid.into_uid(alloc),
         Reference::Slot(_, _) => unreachable!(),
     }
 }
 
-fn to_reference(alloc: Global, reference: &Reference) -> Result<EntityReference, AllocError>
-    ensures { IfOk result (λ q. q ≡ to_reference reference.now) }
+fn to_reference(alloc: Global, reference: Reference) -> EntityReference
+    ensures { result ≡ to_reference reference }
 {
     match reference {
-        Reference::Entity(uid) => Ok(EntityReference::Entity(uid.to_uid(alloc)?)),
-        Reference::Slot(_, _) => Ok(EntityReference::Slot),
+        Reference::Entity(uid) => EntityReference::Entity(uid.into_uid(alloc)),
+        Reference::Slot(_, _) => EntityReference::Slot,
     }
 }
 
-fn to_action_scope(alloc: Global, scope: &WrittenActionScope) -> Result<ActionScope, AllocError>
-    ensures { IfOk result (λ s. s ≡ to_action_scope scope.now) }
+fn to_action_scope(alloc: Global, scope: WrittenActionScope) -> Result<ActionScope, AllocError>
+    ensures { IfOk result (λ s. s ≡ to_action_scope scope) }
 {
     match scope {
         WrittenActionScope::Any => Ok(ActionScope::Any),
-        WrittenActionScope::Equal(uid) => Ok(ActionScope::Equal(uid.to_uid(alloc)?)),
-        WrittenActionScope::In(uid) => Ok(ActionScope::In(uid.to_uid(alloc)?)),
+        WrittenActionScope::Equal(uid) => Ok(ActionScope::Equal(uid.into_uid(alloc))),
+        WrittenActionScope::In(uid) => Ok(ActionScope::In(uid.into_uid(alloc))),
         WrittenActionScope::InSet(uids) => {
-            let uids = to_uids(alloc, uids.as_slice())?;
+            let uids = to_uids(alloc, uids.into_vec())?;
             Ok(ActionScope::InSet(Uids::new(uids)))
         }
     }
 }
 
-fn to_uids(alloc: Global, uids: &[WrittenUid]) -> Result<Vec<Uid>, AllocError>
-    ensures { IfOk result (λ v. v.items ≡ map to_uid uids.now) }
+fn to_uids(alloc: Global, uids: Vec<WrittenUid>) -> Result<Vec<Uid>, AllocError>
+    ensures { IfOk result (λ v. v.items ≡ map to_uid uids.items) }
 {
-    let mut found = Vec::new(alloc);
+    let mut found = Vec::with_capacity(alloc, uids.len())?;
     for uid in uids {
-        found.push(uid.to_uid(alloc)?)?;
+        found.push(uid.into_uid(alloc))?;
     }
     Ok(found)
 }
 
 fn to_annotations(
     alloc: Global,
-    written: &[WrittenAnnotation],
+    written: Vec<WrittenAnnotation>,
 ) -> Result<Vec<Annotation>, AllocError>
-    ensures { IfOk result (λ v. v.items ≡ map to_annotation written.now) }
+    ensures { IfOk result (λ v. v.items ≡ map to_annotation written.items) }
 {
-    let mut found = Vec::new(alloc);
+    let mut found = Vec::with_capacity(alloc, written.len())?;
     for annotation in written {
-        found.push(to_annotation(alloc, annotation)?)?;
+        found.push(to_annotation(alloc, annotation))?;
     }
     Ok(found)
 }
 
-fn to_annotation(alloc: Global, annotation: &WrittenAnnotation) -> Result<Annotation, AllocError>
-    ensures { IfOk result (λ a. a ≡ to_annotation annotation.now) }
+fn to_annotation(alloc: Global, annotation: WrittenAnnotation) -> Annotation
+    ensures { result ≡ to_annotation annotation }
 {
-    Ok(Annotation {
-        name: Text::read(alloc, annotation.name.as_str())?,
-        value: annotation.value.to_text(alloc)?,
-    })
+    Annotation {
+        name: annotation.name.into_text(),
+        value: annotation.value.into_text(alloc),
+    }
 }
 
 fn to_conditions(alloc: Global, written: &[WrittenCondition]) -> Result<Vec<Condition>, AllocError>
@@ -238,7 +200,7 @@ fn to_conditions(alloc: Global, written: &[WrittenCondition]) -> Result<Vec<Cond
     requires slots { KeepConditions Slots written.now }
     ensures { IfOk result (λ v. v.items ≡ map to_condition written.now) }
 {
-    let mut found = Vec::new(alloc);
+    let mut found = Vec::with_capacity(alloc, written.len())?;
     for condition in written {
         let body = to_expression(alloc, &condition.body)?;
         found.push(Condition {

@@ -1,8 +1,10 @@
 -- Side conditions, one by one, and limits.
-use Rattle.std.proofs.Common.{◌≡◌, ap, ◌<◌, ◌≤◌, Result, Ok, Err, arith}
+use Rattle.std.proofs.Common.{◌≡◌, ap, ◌<◌, ◌≤◌, List, [], ◌∷◌, length, map, Result, Ok, Err, arith}
 use Rattle.std.specs.Prelude.{OnOk, IfErr}
 use Rattle.cedar_parser_tokens.specs.declared.parse_fault.ParseFault.{ParseFault}
 use Rattle.cedar_parser_tokens.specs.declared.parse_fault.ParseFault.TheVariants as f
+use Rattle.cedar_ast_expressions.specs.Keys.{AreDistinct}
+use Rattle.cedar_parser_tree.specs.declared.written_statement.WrittenAnnotation.{WrittenAnnotation}
 use Rattle.cedar_parser_limits.specs.Private.Judging.{BreaksSize}
 use Rattle.cedar_parser_limits.specs.declared.side_condition.SideCondition.{SideCondition}
 use Rattle.cedar_parser_limits.specs.declared.side_condition.SideCondition.TheVariants.{Strings, Numbers, Keys, Names, Counts, Slots, Annotations}
@@ -20,6 +22,12 @@ keeps_all s a b d e f g h Names = e
 keeps_all s a b d e f g h Counts = f
 keeps_all s a b d e f g h Slots = g
 keeps_all s a b d e f g h Annotations = h
+
+-- there are too few annotations for one to repeat the name of another
+pub few_names : (notes : List WrittenAnnotation) → length notes < 2 → AreDistinct (map (λ a. a.name) notes)
+few_names [] few = λ i j d lt within. absurd (omega arith)
+few_names (a ∷ []) few = λ i j d lt within. absurd (omega arith)
+few_names (a ∷ b ∷ notes) few = absurd (omega arith)
 
 pub low_from : (r s : Size) → r ≡ capped s → r.height ≤ 2000 → s.height ≤ 2000
 low_from r s e le = let h = ap (λ (z : Size). z.height) e in omega arith

@@ -224,6 +224,7 @@ fn conditions_breach(
     Ok(None)
 }
 
+#[tactic(auto, using(crate::proofs::JudgeLemmas::few_names))]
 fn annotation_names_breach(
     alloc: Global,
     condition: SideCondition,
@@ -233,6 +234,9 @@ fn annotation_names_breach(
 {
     match condition {
         SideCondition::Annotations => {
+            if annotations.len() < 2 {
+                return Ok(None);
+            }
             let names = lent_names(alloc, annotations)?;
             match first_repeated(alloc, &names)? {
                 None => Ok(None),

@@ -1,5 +1,6 @@
 pub mod Turns
 pub mod Outcomes
+pub mod Paths
 pub mod NamesSound
 pub mod NamesComplete
 pub mod MarkLemmas

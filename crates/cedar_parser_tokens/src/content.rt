@@ -54,6 +54,16 @@ impl Content {
         self.place
     }
 
+    /// The text itself, an empty one where there is none. Takes no memory.
+    pub fn into_text(self, alloc: Global) -> Text
+        ensures { result ≡ text_of self }
+    {
+        match self.text {
+            None => Text::new(String::new(alloc)),
+            Some(text) => text,
+        }
+    }
+
     /// A copy of the text, an empty one where there is none.
     pub fn to_text(&self, alloc: Global) -> Result<Text, AllocError>
         ensures { IfOk result (λ t. t ≡ text_of self.now) }
@@ -113,6 +123,13 @@ impl Word {
         self.text.as_str()
     }
 
+    /// The text itself. Takes no memory.
+    pub fn into_text(self) -> Text
+        ensures { result ≡ self }
+    {
+        self.text
+    }
+
     /// The place of the word, in bytes from 0.
     pub fn place(&self) -> usize {
         self.place
@@ -131,7 +148,17 @@ pub struct WrittenUid {
 impl WrittenUid {
     ghost use Rattle.cedar_parser_tokens.specs.Names.{to_uid};
 
-    /// The uid that is written, with an empty id if its string denotes no text.
+    /// The uid that is written, with an empty id if its string denotes no text. Takes no memory.
+    pub fn into_uid(self, alloc: Global) -> Uid
+        ensures { result ≡ to_uid self }
+    {
+        Uid {
+            ty: self.ty,
+            id: self.id.into_text(alloc),
+        }
+    }
+
+    /// A copy of the uid that is written, with an empty id if its string denotes no text.
     pub fn to_uid(&self, alloc: Global) -> Result<Uid, AllocError>
         ensures { IfOk result (λ u. u ≡ to_uid self.now) }
     {

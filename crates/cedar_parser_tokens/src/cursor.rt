@@ -1,5 +1,5 @@
 //! The tokens that are left.
-ghost use Rattle.std.specs.Prelude.{◌≡◌, length, map, option_map};
+ghost use Rattle.std.specs.Prelude.{◌≡◌, IfOk, length, map, option_map};
 ghost use Rattle.cedar_parser_tokens.specs.Private.Spells as spells;
 ghost use Rattle.cedar_parser_tokens.specs.Reading as spec;
 ghost use Rattle.cedar_parser_tokens.specs.Contract.{TakesToken};
@@ -11,7 +11,12 @@ ghost use Rattle.cedar_parser_tokens.specs.Marks.{start_of, mark};
 use crate::parse_fault::ParseFault;
 use crate::spelled::Spelled;
 use cedar_text::{Letter, Token, TokenKind};
+use cedar_value::{Name, Text};
+use std::alloc::{AllocError, Global};
 use std::marker::Model;
+
+/// How many names are kept, so that equal ones share their texts.
+const NAMES: usize = 8;
 
 /// A place in a list of tokens. Contracts see the tokens that are left.
 #[derive(Drop)]
@@ -25,6 +30,8 @@ pub struct Cursor<'t> {
     reached: usize,
     /// Where the text ends, in bytes from 0.
     end: usize,
+    /// Names that were read. Equal names that are read later share their texts.
+    names: Vec<Name>,
 }
 
 impl<'t> Model for Cursor<'t> {
@@ -40,7 +47,12 @@ impl<'t> Model for Cursor<'t> {
 
 impl<'t> Cursor<'t> {
     /// The beginning of tokens, with the letters of the strings among them, of a text that ends at the byte `end`.
-    pub(crate) fn new(tokens: &'t [Token<'t>], strings: &'t [Vec<Letter>], end: usize) -> Cursor<'t>
+    pub(crate) fn new(
+        alloc: Global,
+        tokens: &'t [Token<'t>],
+        strings: &'t [Vec<Letter>],
+        end: usize,
+    ) -> Cursor<'t>
         ensures { result ≡ spells.marks_with (lexemes tokens.now) (map (λ v. v.items) strings.now) }
     {
         Cursor {
@@ -49,6 +61,7 @@ impl<'t> Cursor<'t> {
             taken: 0,
             reached: 0,
             end,
+            names: Vec::new(alloc),
         }
     }
 
@@ -147,6 +160,23 @@ impl<'t> Cursor<'t> {
             }
             _ => Err(ParseFault::Syntax(self.offset())),
         }
+    }
+
+    /// The name of this text. It shares the text of an equal one among the first names that were read.
+    pub(crate) fn name(&mut self, alloc: Global, path: &str) -> Result<Name, AllocError>
+        ensures name { IfOk result (λ n. n ≡ path.now) }
+        ensures unmoved { self.new ≡ self.old }
+    {
+        for name in &self.names {
+            if name.as_str() == path {
+                return name.try_clone(alloc);
+            }
+        }
+        let name = Name::new(alloc, Text::read(alloc, path)?)?;
+        if self.names.len() < NAMES {
+            self.names.push(name.try_clone(alloc)?)?;
+        }
+        Ok(name)
     }
 
     /// The place at which the next token begins, 0 where there is none.

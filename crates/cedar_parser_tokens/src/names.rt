@@ -1,5 +1,5 @@
 //! The parsers of strings, keys, paths and uids.
-ghost use Rattle.std.specs.Prelude.{◌≡◌, ◌++◌, OnOk, codes, string_bytes, true, List, ℕ, []};
+ghost use Rattle.std.specs.Prelude.{◌≡◌, ◌++◌, OnOk, length, codes, string_bytes, true, List, ℕ, []};
 ghost use Rattle.cedar_parser_tokens.specs.Reading as spec;
 ghost use Rattle.cedar_text.specs.Tokens.{IsToken};
 ghost use Rattle.cedar_text.specs.declared.token_kind.TokenKind.TheVariants.{Identifier};
@@ -48,21 +48,35 @@ pub fn parse_key(alloc: Global, tokens: &mut Cursor<'_>) -> Result<Content, Pars
 /// # Errors
 ///
 /// 1 when out of memory, 201 where the tokens do not begin with a name.
-#[tactic(auto, unfolding(crate::specs::Reading::path))]
+#[tactic(auto, unfolding(crate::specs::Reading::path), using(crate::proofs::Paths::ended))]
 pub fn parse_path(alloc: Global, tokens: &mut Cursor<'_>) -> Result<Name, ParseFault>
     ensures { Reads (spec.path tokens.old) result tokens.new }
 {
     let word = tokens.expect(TokenKind::Identifier)?;
-    let mut path = String::from_str(alloc, word.text())?;
+    if !path_continues(tokens) {
+        return Ok(tokens.name(alloc, word.text())?);
+    }
+    parse_longer_path(alloc, word.text(), tokens)
+}
+
+// Parses the rest of a path after its first word.
+fn parse_longer_path(
+    alloc: Global,
+    first: &str,
+    tokens: &mut Cursor<'_>,
+) -> Result<Name, ParseFault>
+    ensures { Reads (spec.path_from (length tokens.old) first.now tokens.old) result tokens.new }
+{
+    let mut path = String::from_str(alloc, first)?;
     for _turn in 0..tokens.left() {
         if !path_continues(tokens) {
-            return Ok(Name::new(alloc, Text::new(path))?);
+            return Ok(tokens.name(alloc, path.as_str())?);
         }
         tokens.skip();
         let word = tokens.expect(TokenKind::Identifier)?;
         push_identifier(&mut path, word.text())?;
     }
-    Ok(Name::new(alloc, Text::new(path))?)
+    Ok(tokens.name(alloc, path.as_str())?)
 }
 
 // Whether a path goes on here.

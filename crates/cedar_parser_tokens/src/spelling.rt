@@ -36,7 +36,7 @@ impl<'t> SpelledTokens<'t> {
     pub fn cursor(&self, end: usize) -> Cursor<'_>
         ensures { result ≡ self.now }
     {
-        Cursor::new(&self.tokens, &self.strings, end)
+        Cursor::new(*self.tokens.allocator(), &self.tokens, &self.strings, end)
     }
 }
 

@@ -75,6 +75,13 @@ impl WrittenUids {
         WrittenUids { uids }
     }
 
+    /// The entities in order. Takes no memory.
+    pub fn into_vec(self) -> Vec<WrittenUid>
+        ensures { result.items ≡ self }
+    {
+        self.uids
+    }
+
     /// The entities in order, lent.
     pub fn as_slice(&self) -> &[WrittenUid]
         ensures { result.now ≡ self.now }

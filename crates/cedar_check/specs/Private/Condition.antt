@@ -2,6 +2,7 @@
 use Rattle.std.specs.Prelude.{◌≡◌, ◌||◌, true, false, IfSome}
 use Rattle.cedar_value.specs.Datum.{uid}
 use Rattle.cedar_value.specs.declared.uid.Uid.{Uid}
+use Rattle.cedar_ast_expressions.specs.declared.operator.BinaryOperator.{BinaryOperator}
 use Rattle.cedar_ast_expressions.specs.declared.operator.BinaryOperator.TheVariants.{Equal}
 use Rattle.cedar_ast_expressions.specs.declared.variable.Variable.TheVariants.{Action}
 use Rattle.cedar_ast_expressions.specs.Expression.{Expression, and, binary, literal, variable}
@@ -12,9 +13,13 @@ use Rattle.cedar_check.specs.declared.prepared.Prepared.{Prepared}
 use Rattle.cedar_check.specs.declared.prepared.Prepared.TheVariants as prepared
 use Rattle.cedar_check.specs.Private.Mention.{mentions}
 
+-- The condition that compares the action with this operand.
+abbrev pub asked : BinaryOperator → Expression → Expression
+asked op e = binary op (variable Action) e
+
 -- The condition that these are the parts of.
 abbrev pub whole : Parts → Expression
-whole p = and p.principal.now (and p.action.now p.rest.now)
+whole p = and p.principal.now (and (asked p.operator p.operand.now) p.rest.now)
 
 -- The condition.
 abbrev pub condition_in : Prepared → Expression
@@ -33,9 +38,9 @@ first_in (prepared.Whole e) = e.now
 abbrev pub IsNamed : SchemaTree → Expression → Uid → Type 0
 IsNamed s e u = (e ≡ binary Equal (variable Action) (literal (uid u))) × ((is_entity_type s u.ty || is_action s u) ≡ true)
 
--- The action occurs nowhere in an open condition. Where there are parts, it occurs only in the condition on the action, and that
--- compares it with the entity that is named, if there is one.
+-- The action occurs nowhere in an open condition. Where there are parts, it occurs only as the left operand of the condition on
+-- it, and that compares it with the entity that is named, if there is one.
 abbrev pub IsReady : SchemaTree → Prepared → Type 0
 IsReady s (prepared.Open e) = mentions e.now ≡ false
-IsReady s (prepared.Parts p) = (mentions p.principal.now ≡ false) × ((mentions p.rest.now ≡ false) × IfSome p.named (λ u. IsNamed s p.action.now u.now))
+IsReady s (prepared.Parts p) = (mentions p.principal.now ≡ false) × ((mentions p.operand.now ≡ false) × ((mentions p.rest.now ≡ false) × IfSome p.named (λ u. IsNamed s (asked p.operator p.operand.now) u.now)))
 IsReady s (prepared.Whole e) = Unit {0}

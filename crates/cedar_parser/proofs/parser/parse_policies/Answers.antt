@@ -15,8 +15,8 @@ loop-position-preserved c =
     let is = statement_is 101 c.loop-position.tokens c.parse_statement.new.tokens c.in_ok-statement.statement c.in_ok-statement.ensures.reads in
     let less = shorter (statement_moves 101 _ _ _ is) in
     record {
-      read = read_more c.args.tokens.now c.loop-position.tokens c.parse_statement.new.tokens c.loop-position.position c.loop-position.set c.add_statement-entry.new.set c.in_ok-statement.statement
-          c.loop-position.invariant.read (omega (arith, c.left.ensures, c.if-left-eq0.false)) c.in_ok-statement.ensures.reads c.in_ok-entry.ensures.limits c.in_ok-entry.ensures.distinct c.in_ok-entry.ensures.entered;
+      read = read_more c.args.tokens.now c.loop-position.tokens c.parse_statement.new.tokens c.loop-position.position c.loop-position.set c.add_statement.new.set c.in_ok-statement.statement
+          c.loop-position.invariant.read (omega (arith, c.left.ensures, c.if-left-eq0.false)) c.in_ok-statement.ensures.reads c.in_ok-add_statement.ensures.limits c.in_ok-add_statement.ensures.distinct c.in_ok-add_statement.ensures.entered;
       left = omega (arith, less, c.loop-position.invariant.left);
     }
 
@@ -50,16 +50,16 @@ returns-in_err-statement-clause-fault c =
     rw (p.1, p.2)
     (unread_fault c.args.tokens.now c.loop-position.tokens c.loop-position.position c.loop-position.set c.loop-position.invariant.read (omega (arith, c.left.ensures, c.if-left-eq0.false)) c.in_err-statement.field-0.0 c.in_err-statement.ensures.reads)
 
-pub returns-in_err-entry-clause-only : goal.returns-in_err-entry-clause-only
-returns-in_err-entry-clause-only c =
-    let p = err_from_is_err_and c.from_residual-in_err-entry.result c.from_residual-in_err-entry.ensures.1 in
+pub returns-in_err-add_statement-clause-only : goal.returns-in_err-add_statement-clause-only
+returns-in_err-add_statement-clause-only c =
+    let p = err_from_is_err_and c.from_residual-in_err-add_statement.result c.from_residual-in_err-add_statement.ensures.1 in
     rw (p.1, p.2)
     (unentered_only c.args.tokens.now c.loop-position.tokens c.parse_statement.new.tokens c.loop-position.position c.loop-position.set c.in_ok-statement.statement c.loop-position.invariant.read
-    (record { some = omega (arith, c.left.ensures, c.if-left-eq0.false); read = c.in_ok-statement.ensures.reads }) c.in_err-entry.field-0.0 c.in_err-entry.ensures.refused)
+    (record { some = omega (arith, c.left.ensures, c.if-left-eq0.false); read = c.in_ok-statement.ensures.reads }) c.in_err-add_statement.field-0.0 c.in_err-add_statement.ensures.refused)
 
-pub returns-in_err-entry-clause-fault : goal.returns-in_err-entry-clause-fault
-returns-in_err-entry-clause-fault c =
-    let p = err_from_is_err_and c.from_residual-in_err-entry.result c.from_residual-in_err-entry.ensures.1 in
+pub returns-in_err-add_statement-clause-fault : goal.returns-in_err-add_statement-clause-fault
+returns-in_err-add_statement-clause-fault c =
+    let p = err_from_is_err_and c.from_residual-in_err-add_statement.result c.from_residual-in_err-add_statement.ensures.1 in
     rw (p.1, p.2)
     (unentered_fault c.args.tokens.now c.loop-position.tokens c.parse_statement.new.tokens c.loop-position.position c.loop-position.set c.in_ok-statement.statement c.loop-position.invariant.read
-    (record { some = omega (arith, c.left.ensures, c.if-left-eq0.false); read = c.in_ok-statement.ensures.reads }) c.in_err-entry.field-0.0 c.in_err-entry.ensures.refused)
+    (record { some = omega (arith, c.left.ensures, c.if-left-eq0.false); read = c.in_ok-statement.ensures.reads }) c.in_err-add_statement.field-0.0 c.in_err-add_statement.ensures.refused)

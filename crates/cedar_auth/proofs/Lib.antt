@@ -1,7 +1,8 @@
 pub mod Answerable
 pub mod AnswerableWithEntities
-pub mod CodesBeside
+pub mod CompiledBeside
 pub mod EntriesAnswerable
+pub mod MetScopes
 pub mod PoliciesAt
 pub mod Reached
 pub mod ReadyCrossing

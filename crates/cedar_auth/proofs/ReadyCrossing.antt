@@ -43,6 +43,8 @@ use Rattle.cedar_store.proofs.ChangesCrossing.{map-send, map-sync}
 use Rattle.cedar_store.specs.contracts.base.Base as Base
 use Rattle.cedar_store.specs.contracts.store.Store as Store
 use Rattle.cedar_code.specs.contracts.code.Code as Code
+use Rattle.cedar_conjunctions.specs.contracts.conjunction.Conjunction as Conjunction
+use Rattle.cedar_auth.specs.contracts.compiled.Compiled as Compiled
 use Rattle.cedar_auth.specs.contracts.ready.Ready as Ready
 use Rattle.cedar_auth.specs.contracts.validated.Validated as Validated
 
@@ -149,18 +151,36 @@ code-sync =
     let m = members-sync in
     search (names, words, sendable, crosses) depth 40
 
+conjunction-send : IsSend Conjunction.the_row
+conjunction-send = let v = value-send in search (names, words, sendable, crosses) depth 40
+
+conjunction-sync : IsSync Conjunction.the_row
+conjunction-sync = let v = value-sync in search (names, words, sendable, crosses) depth 40
+
+compiled-send : IsSend Compiled.the_row
+compiled-send =
+    let c = code-send in
+    let d = conjunction-send in
+    search (sendable, crosses) depth 20
+
+compiled-sync : IsSync Compiled.the_row
+compiled-sync =
+    let c = code-sync in
+    let d = conjunction-sync in
+    search (sendable, crosses) depth 20
+
 pub validated-send : IsSend Validated.the_row
 validated-send =
     let s = schema-send in
     let p = set-send in
-    let c = code-send in
+    let c = compiled-send in
     search (settings.the_field_send, text.the_send, sendable, crosses) depth 20
 
 pub validated-sync : IsSync Validated.the_row
 validated-sync =
     let s = schema-sync in
     let p = set-sync in
-    let c = code-sync in
+    let c = compiled-sync in
     search (settings.the_field_sync, text.the_sync, sendable, crosses) depth 20
 
 pub ready-send : IsSend Ready.the_row

@@ -22,9 +22,10 @@
 #![tactic(auto)]
 
 mod answer;
-mod codes;
+mod compiled;
 mod crossing;
 mod deciding;
+mod judged;
 mod not_ready;
 mod not_validated;
 mod part;

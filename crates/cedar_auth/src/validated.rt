@@ -5,11 +5,12 @@ ghost use Rattle.cedar_check_spec.specs.Reports.{AreWarningsWith};
 ghost use Rattle.cedar_check_spec.specs.Settings.{default_settings};
 ghost use Rattle.cedar_auth_spec.specs.Validation.{IsValidated, IsValidatedWith};
 ghost use Rattle.cedar_auth.specs.ValidationFaults.{HasFault, HasFaultWith};
-ghost use Rattle.cedar_auth.specs.Private.Kept.{AreCodes};
+ghost use Rattle.cedar_auth.specs.Private.Kept.{AreCompiled};
 ghost use Rattle.cedar_auth.specs.Private.Selected.{policies_at};
 ghost use Rattle.cedar_auth.specs.Private.Tally.{response_by, tally_of};
 
-use crate::codes::codes_of;
+use crate::compiled::Compiled;
+use crate::judged::{Judged, judge_all};
 use crate::not_validated::NotValidated;
 use crate::part::Part;
 use crate::response::Response;
@@ -18,10 +19,9 @@ use crate::tally::Tally;
 use crate::validation_fault::ValidationFault;
 use cedar_ast::{Decision, PolicySet};
 use cedar_auth_candidates::all_positions;
-use cedar_check::check_with;
 use cedar_check_law::typing_is_determined;
 use cedar_check_spec::Settings;
-use cedar_code::{Code, CodeFault};
+use cedar_conjunctions::Sources;
 use cedar_schema::Schema;
 use cedar_value::{Hierarchy, Request, Text};
 use std::alloc::{AllocError, Global};
@@ -34,7 +34,7 @@ pub struct Validated {
     schema: Schema,
     policies: PolicySet,
     settings: Settings,
-    compiled: Vec<Code>,
+    compiled: Vec<Compiled>,
     warnings: Vec<Text>,
 }
 
@@ -54,14 +54,7 @@ impl Model for Validated {
     ghost invariant = { λ v. IsKept v.settings v.schema v.policies.policies v.compiled.items v.warnings.items };
 }
 
-// What is kept beside policies that are accepted: their codes, and the ids of those that no request can satisfy.
-#[derive(Drop)]
-struct Judged {
-    compiled: Vec<Code>,
-    warnings: Vec<Text>,
-}
-
-// The codes of policies that strict validation under these settings accepts for a schema, and their warnings.
+// What is found in policies that strict validation under these settings accepts for a schema, and what is made of them.
 fn judge(
     alloc: Global,
     schema: &Schema,
@@ -69,26 +62,22 @@ fn judge(
     settings: Settings,
 ) -> Result<Judged, ValidationFault>
     ensures accepted { OnOk result (IsValidatedWith settings schema.now policies.now.policies) }
-    ensures codes { IfOk result (λ j. AreCodes j.compiled.items policies.now.policies) }
-    ensures warned { IfOk result (λ j. AreWarningsWith settings schema.now policies.now.policies j.warnings.items) }
+    ensures compiled { IfOk result (λ j. AreCompiled j.compiled.items policies.now.policies) }
+    ensures warned { IfOk result (λ j. AreWarningsWith settings schema.now policies.now.policies j.report.warnings.items) }
     ensures refused { IfErr result (HasFaultWith settings schema.now policies.now.policies) }
 {
     // Policies have no fault exactly where each of them is accepted, and they have one report only.
     typing_is_determined();
-    let Ok(report) = check_with(alloc, schema, policies, settings) else {
+    let Ok(judged) = judge_all(alloc, schema, policies, settings) else {
         return Err(ValidationFault::OutOfMemory);
     };
-    if !report.faults.is_empty() {
-        return Err(ValidationFault::Faults(report));
+    if !judged.report.faults.is_empty() {
+        return Err(ValidationFault::Faults(judged.report));
     }
-    match codes_of(alloc, policies) {
-        Ok(compiled) => Ok(Judged {
-            compiled,
-            warnings: report.warnings,
-        }),
-        Err(CodeFault::OutOfMemory) => Err(ValidationFault::OutOfMemory),
-        Err(CodeFault::TooLong) => Err(ValidationFault::TooLong),
+    if judged.too_long {
+        return Err(ValidationFault::TooLong);
     }
+    Ok(judged)
 }
 
 impl Validated {
@@ -136,7 +125,7 @@ impl Validated {
                 policies,
                 settings,
                 compiled: judged.compiled,
-                warnings: judged.warnings,
+                warnings: judged.report.warnings,
             }),
             Err(fault) => Err(NotValidated {
                 fault,
@@ -182,16 +171,20 @@ impl Validated {
         ensures { result ≡ slice_get self.now.policies.policies position }
     {
         let policy = self.policies.policy(position)?;
-        let code = self.compiled.get(position)?;
-        Some(Part { policy, code })
+        let compiled = self.compiled.get(position)?;
+        Some(Part {
+            policy,
+            code: &compiled.code,
+            conjunction: compiled.conjunction.as_ref(),
+        })
     }
 
     // Runs the code of the policies at these positions for the request, in order, and gathers how they ended.
-    pub(crate) fn tally<'v, H: Hierarchy>(
+    pub(crate) fn tally<'v, 'r, H: Hierarchy>(
         &'v self,
         alloc: Global,
-        request: &Request,
-        hierarchy: &H,
+        request: &'r Request,
+        hierarchy: &'r H,
         positions: &[usize],
         tally: &mut Tally<'v>,
     ) -> Result<(), AllocError>
@@ -199,35 +192,37 @@ impl Validated {
         ensures { OnOk result (tally.new ≡ tally_of request.now (H.world hierarchy.now) (policies_at self.now.policies.policies positions.now)) }
     {
         let mut operands = None;
+        let mut sources = Sources::new(request, hierarchy);
         tally.clear();
         for position in positions {
             let Some(part) = self.part(*position) else {
                 unreachable!()
             };
-            let verdict = part.verdict(alloc, &mut operands, request, hierarchy)?;
+            let verdict = part.verdict(alloc, &mut operands, &mut sources)?;
             tally.enter(part.policy.id().as_str(), part.policy.effect(), verdict)?;
         }
         Ok(())
     }
 
     // The decision that the policies at these positions make on the request. It runs no policy that cannot change it.
-    pub(crate) fn decide<H: Hierarchy>(
+    pub(crate) fn decide<'r, H: Hierarchy>(
         &self,
         alloc: Global,
-        request: &Request,
-        hierarchy: &H,
+        request: &'r Request,
+        hierarchy: &'r H,
         positions: &[usize],
     ) -> Result<Decision, AllocError>
         requires within { (k : ℕ) → Contains positions.now k → k < length self.now.policies.policies }
         ensures { IfOk result (λ d. d ≡ (response_by (tally_of request.now (H.world hierarchy.now) (policies_at self.now.policies.policies positions.now))).decision) }
     {
         let mut operands = None;
+        let mut sources = Sources::new(request, hierarchy);
         let mut ruling = None;
         for position in positions {
             let Some(part) = self.part(*position) else {
                 unreachable!()
             };
-            ruling = part.rule(alloc, ruling, &mut operands, request, hierarchy)?;
+            ruling = part.rule(alloc, ruling, &mut operands, &mut sources)?;
         }
         Ok(decision_by(ruling))
     }

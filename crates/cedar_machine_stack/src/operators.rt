@@ -11,7 +11,7 @@ ghost use Rattle.cedar_machine_stack.specs.Access.{IsNoAccess};
 use crate::operand::Operand;
 use cedar_ast_expressions::{BinaryOperator, EvaluationError, UnaryOperator};
 use cedar_ext::{Decimal, Pattern};
-use cedar_value::{Glance, Hierarchy, Name, Uid, Value, ValueSet};
+use cedar_value::{Glance, Hierarchy, Name, Uid, Value, ValueKind, ValueSet};
 
 /// The answer of an operator for its operand (Cedar language reference, operators).
 pub fn unary<'a, H: Hierarchy>(
@@ -328,10 +328,10 @@ fn within_set<H: Hierarchy>(
 }
 
 // Whether the value is a uid, as each member of the set at `in` has to be.
-fn is_uid(value: Glance<'_>) -> bool
-    ensures { result ≡ is_uid (datum_seen value.entry) }
+fn is_uid(value: &Value) -> bool
+    ensures { result ≡ is_uid value.now }
 {
-    matches!(value, Glance::Uid(_))
+    matches!(value.kind(), ValueKind::Uid(_))
 }
 
 // Whether each member is a uid.
@@ -340,7 +340,7 @@ fn all_uids(members: &[Value]) -> bool
 {
     let mut left = members;
     'walk: while let Some((member, others)) = left.split_first() {
-        if !is_uid(member.glance()) {
+        if !is_uid(member) {
             return false;
         }
         left = others;

@@ -14,6 +14,9 @@ use std::cmp::Ordering;
 use std::marker::Model;
 use std::slice;
 
+// In a record of so few pairs a key is compared with each key for equality, which takes less than comparisons of their order.
+const FEW: usize = 8;
+
 /// A record, which contracts see as the list of its keys with their values, ascending by the bytes of the keys. No key is
 /// repeated.
 #[cycle(value)]
@@ -92,6 +95,9 @@ impl Record {
     pub fn get(&self, key: &str) -> Option<&Value>
         ensures { option_copied result ≡ value_at key.now self.now }
     {
+        if self.pairs.len() <= FEW {
+            return value_among(&self.pairs, key);
+        }
         match self.pairs.binary_search_by(|pair| pair.0.as_str().cmp(key)) {
             Ok(place) => Some(&self.pairs[place].1),
             Err(_) => None,
@@ -141,6 +147,20 @@ impl Record {
             pairs: clone_pairs(alloc, &self.pairs)?,
         })
     }
+}
+
+// The value at a key, for which the keys are compared one after another.
+fn value_among<'a>(pairs: &'a [(SharedText, Value)], key: &str) -> Option<&'a Value>
+    ensures { option_copied result ≡ value_at key.now pairs.now }
+{
+    let mut left = pairs;
+    'walk: while let Some((pair, others)) = left.split_first() {
+        if pair.0.as_str() == key {
+            return Some(&pair.1);
+        }
+        left = others;
+    }
+    None
 }
 
 // Each pair of a list holds a value. A law, whose loop only serves its proof.

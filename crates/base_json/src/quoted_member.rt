@@ -104,27 +104,20 @@ fn plain_start(text: &str) -> Option<(&str, &str)>
     text.split_at_checked(plain_length(text.as_bytes()))
 }
 
-// How many plain bytes come first.
+// How many plain bytes come first: those that a string writes as themselves (RFC 8259, section 7). Two comparisons are enough for most.
 fn plain_length(bytes: &[u8]) -> usize
     ensures { list_all is_plain (take result bytes.now) ≡ true }
 {
     for (place, byte) in bytes.iter().enumerate() {
-        if !is_plain(*byte) {
+        if *byte > b'"' {
+            if *byte == b'\\' {
+                return place;
+            }
+        } else if *byte != b' ' && *byte != b'!' {
             return place;
         }
     }
     bytes.len()
-}
-
-// Whether a string writes the byte as itself (RFC 8259, section 7). Two comparisons are enough for most bytes.
-fn is_plain(byte: u8) -> bool
-    ensures { result ≡ is_plain byte }
-{
-    if byte > b'"' {
-        byte != b'\\'
-    } else {
-        byte == b' ' || byte == b'!'
-    }
 }
 
 /// After a value: the next member, whose key follows the comma, or the brace that closes the object.

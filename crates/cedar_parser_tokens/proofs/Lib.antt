@@ -9,6 +9,7 @@ pub mod UidLemmas
 pub mod UidOrNone
 pub mod OneUid
 pub mod Identifiers
+pub mod OwnLetters
 pub mod PlainLetters
 pub mod PlainUids
 pub mod DigitsWorth

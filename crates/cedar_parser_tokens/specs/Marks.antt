@@ -1,5 +1,6 @@
 -- Tokens, each string with the letters that it writes (Cedar language reference, grammar: STR).
-use Rattle.std.specs.Prelude.{◌≡◌, ℕ, List, [], ◌∷◌, map}
+use Rattle.std.specs.Prelude.{◌≡◌, ℕ, List, [], ◌∷◌, Option, Some, None, map}
+use Rattle.std.specs.Borrow.{Bor}
 use Rattle.cedar_ext.specs.declared.pattern.Element.{Element}
 use Rattle.cedar_ext.specs.declared.pattern.Element.TheVariants as element
 use Rattle.cedar_text.specs.declared.letter.Letter.{Letter}
@@ -28,9 +29,14 @@ Marks = List Mark
 abbrev pub mark_of : Lexeme → List Letter → Mark
 mark_of t ls = record { kind = t.kind; start = t.start; text = t.text; number = t.number; letters = ls }
 
+-- The letters of a token of the code: those of a string, and none of another token (own).
+abbrev pub letters_of : Option (Bor (List Letter)) → List Letter
+letters_of (Some letters) = letters.now
+letters_of None = []
+
 -- What contracts see of a token of the code with its letters (own).
 abbrev pub mark : Spelled → Mark
-mark s = mark_of (lexeme s.token.now) s.letters.now
+mark s = mark_of (lexeme s.token.now) (letters_of s.letters)
 
 -- A string of this text writes these letters, and another token writes none (Cedar language reference, grammar: STR).
 abbrev pub HasLetters : TokenKind → List ℕ → List Letter → Type 0

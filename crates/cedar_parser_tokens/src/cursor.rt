@@ -1,16 +1,17 @@
 //! The tokens that are left.
-ghost use Rattle.std.specs.Prelude.{◌≡◌, IfOk, length, map, option_map};
+ghost use Rattle.std.specs.Prelude.{◌≡◌, IfOk, length, option_map};
 ghost use Rattle.cedar_parser_tokens.specs.Private.Spells as spells;
 ghost use Rattle.cedar_parser_tokens.specs.Reading as spec;
 ghost use Rattle.cedar_parser_tokens.specs.Contract.{TakesToken};
 ghost use Rattle.cedar_parser_tokens.specs.Reading.{any_word};
 ghost use Rattle.cedar_parser_tokens.specs.Names.{is_word_kind};
 ghost use Rattle.cedar_text.specs.Lexeme.{lexeme, lexemes};
-ghost use Rattle.cedar_parser_tokens.specs.Marks.{start_of, mark};
+ghost use Rattle.cedar_parser_tokens.specs.Marks.{letters_of, start_of, mark};
 
+use crate::letters::Letters;
 use crate::parse_fault::ParseFault;
 use crate::spelled::Spelled;
-use cedar_text::{Letter, Token, TokenKind};
+use cedar_text::{Token, TokenKind};
 use cedar_value::{Name, Text};
 use std::alloc::{AllocError, Global};
 use std::marker::Model;
@@ -23,7 +24,7 @@ const NAMES: usize = 8;
 pub struct Cursor<'t> {
     rest: &'t [Token<'t>],
     /// The letters of the strings among them, in order.
-    strings: &'t [Vec<Letter>],
+    strings: &'t [Letters<'t>],
     /// Where the token that was taken last begins, in bytes from 0.
     taken: usize,
     /// The greatest place, in bytes from 0, that a reading reached without taking a token.
@@ -35,14 +36,14 @@ pub struct Cursor<'t> {
 }
 
 impl<'t> Model for Cursor<'t> {
-    ghost use Rattle.std.specs.Prelude.{List, map};
+    ghost use Rattle.std.specs.Prelude.{List};
     ghost use Rattle.cedar_text.specs.Lexeme.{lexemes};
     ghost use Rattle.cedar_parser_tokens.specs.Marks.{Mark};
     ghost use Rattle.cedar_parser_tokens.specs.Private.Spells.{marks_with};
 
     ghost Value = { List Mark };
 
-    ghost view = { λ c. marks_with (lexemes c.rest.now) (map (λ v. v.items) c.strings.now) };
+    ghost view = { λ c. marks_with (lexemes c.rest.now) c.strings.now };
 }
 
 impl<'t> Cursor<'t> {
@@ -50,10 +51,10 @@ impl<'t> Cursor<'t> {
     pub(crate) fn new(
         alloc: Global,
         tokens: &'t [Token<'t>],
-        strings: &'t [Vec<Letter>],
+        strings: &'t [Letters<'t>],
         end: usize,
     ) -> Cursor<'t>
-        ensures { result ≡ spells.marks_with (lexemes tokens.now) (map (λ v. v.items) strings.now) }
+        ensures { result ≡ spells.marks_with (lexemes tokens.now) strings.now }
     {
         Cursor {
             rest: tokens,
@@ -218,8 +219,8 @@ impl<'t> Cursor<'t> {
 }
 
 // A token with its letters, where `strings` are those of the strings from it on.
-fn spelled_token<'t>(token: &'t Token<'t>, strings: &'t [Vec<Letter>]) -> Spelled<'t>
-    ensures { mark result ≡ spells.first_mark (lexeme token.now) (map (λ v. v.items) strings.now) }
+fn spelled_token<'t>(token: &'t Token<'t>, strings: &'t [Letters<'t>]) -> Spelled<'t>
+    ensures { mark result ≡ spells.first_mark (lexeme token.now) strings.now }
 {
     Spelled {
         token,
@@ -228,21 +229,21 @@ fn spelled_token<'t>(token: &'t Token<'t>, strings: &'t [Vec<Letter>]) -> Spelle
 }
 
 // The letters of a token of this kind, where `strings` are those of the strings from it on.
-fn letters_at<'t>(kind: TokenKind, strings: &'t [Vec<Letter>]) -> &'t [Letter]
-    ensures { result.now ≡ spells.letters_at kind (map (λ v. v.items) strings.now) }
+fn letters_at<'t>(kind: TokenKind, strings: &'t [Letters<'t>]) -> Option<&'t Letters<'t>>
+    ensures { letters_of result ≡ spells.letters_at kind strings.now }
 {
     if kind != TokenKind::String {
-        return &[];
+        return None;
     }
     match strings {
-        [] => &[],
-        [letters, ..] => letters,
+        [] => None,
+        [letters, ..] => Some(letters),
     }
 }
 
 // The letters of the strings after a token of this kind, where `strings` are those from it on.
-fn strings_after<'t>(kind: TokenKind, strings: &'t [Vec<Letter>]) -> &'t [Vec<Letter>]
-    ensures { map (λ v. v.items) result.now ≡ spells.strings_behind kind (map (λ v. v.items) strings.now) }
+fn strings_after<'t>(kind: TokenKind, strings: &'t [Letters<'t>]) -> &'t [Letters<'t>]
+    ensures { result.now ≡ spells.strings_behind kind strings.now }
 {
     if kind != TokenKind::String {
         return strings;

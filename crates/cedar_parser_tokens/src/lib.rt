@@ -14,6 +14,7 @@
 mod content;
 mod cursor;
 mod laws;
+mod letters;
 mod names;
 mod parse_fault;
 mod plain_uid;

@@ -1,10 +1,11 @@
 //! A token with the letters of its string.
-ghost use Rattle.std.specs.Prelude.{◌≡◌, IfOk, map};
-ghost use Rattle.cedar_parser_tokens.specs.Marks.{content_of, pattern_of, element_of, mark};
+ghost use Rattle.std.specs.Prelude.{◌≡◌, IfOk};
+ghost use Rattle.cedar_parser_tokens.specs.Marks.{content_of, pattern_of, mark};
 
 use crate::content::Content;
-use cedar_ext::{Element, Pattern};
-use cedar_text::{Letter, Token, TokenKind, escaped_star, plain_text};
+use crate::letters::Letters;
+use cedar_ext::Pattern;
+use cedar_text::{Token, TokenKind, escaped_star};
 use cedar_value::Text;
 use std::alloc::{AllocError, Global};
 
@@ -13,8 +14,8 @@ use std::alloc::{AllocError, Global};
 pub struct Spelled<'t> {
     /// The token.
     pub token: &'t Token<'t>,
-    /// The letters of a string. Empty for another token.
-    pub letters: &'t [Letter],
+    /// The letters of a string. None for another token.
+    pub letters: Option<&'t Letters<'t>>,
 }
 
 impl<'t> Spelled<'t> {
@@ -50,34 +51,24 @@ impl<'t> Spelled<'t> {
     pub fn content(&self, alloc: Global) -> Result<Content, AllocError>
         ensures { IfOk result (λ c. c ≡ content_of (mark self.now).letters) }
     {
-        match plain_text(alloc, self.letters)? {
-            Some(text) => Ok(Content::new(Some(Text::new(text)), self.token.start)),
-            None => {
-                let place = escaped_star(self.token.text);
-                Ok(Content::new(None, self.token.start.saturating_add(place)))
-            }
-        }
+        let text = match self.letters {
+            Some(letters) => letters.text(alloc)?,
+            None => Some(Text::new(String::new(alloc))),
+        };
+        let place = match text {
+            Some(_) => 0,
+            None => escaped_star(self.token.text),
+        };
+        Ok(Content::new(text, self.token.start.saturating_add(place)))
     }
 
     /// The pattern that a string writes.
     pub fn pattern(&self, alloc: Global) -> Result<Pattern, AllocError>
         ensures { IfOk result (λ p. p ≡ pattern_of (mark self.now).letters) }
     {
-        let mut elements = Vec::new(alloc);
-        for letter in self.letters {
-            elements.push(element(*letter))?;
+        match self.letters {
+            Some(letters) => letters.pattern(alloc),
+            None => Ok(Pattern::new(Vec::new(alloc))),
         }
-        Ok(Pattern::new(elements))
-    }
-}
-
-// The element of a pattern that a letter writes.
-fn element(letter: Letter) -> Element
-    ensures { result ≡ element_of letter }
-{
-    match letter {
-        Letter::Character(character) => Element::Character(character),
-        Letter::Star => Element::Star,
-        Letter::EscapedStar => Element::Character('*'),
     }
 }

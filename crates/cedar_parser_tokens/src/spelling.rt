@@ -1,14 +1,14 @@
 //! The tokens of a text with the letters of its strings.
-ghost use Rattle.std.specs.Prelude.{◌≡◌, IfOk, IfErr, map};
+ghost use Rattle.std.specs.Prelude.{◌≡◌, IfOk, IfErr};
 ghost use Rattle.cedar_text.specs.Lexeme.{lexemes};
-ghost use Rattle.cedar_text.specs.Letters.{IsSpelled};
 ghost use Rattle.cedar_parser_tokens.specs.Marks.{Marks, IsMarked};
 ghost use Rattle.cedar_parser_tokens.specs.Spelling.{HasMarks, HasMarksFault};
 ghost use Rattle.cedar_parser_tokens.specs.Private.Spells.{Spells};
 
 use crate::cursor::Cursor;
+use crate::letters::Letters;
 use crate::parse_fault::ParseFault;
-use cedar_text::{Letter, Token, TokenKind, letters, one_spelling, tokens};
+use cedar_text::{Token, TokenKind, one_spelling, tokens};
 use std::alloc::{AllocError, Global};
 use std::marker::Model;
 
@@ -17,18 +17,18 @@ use std::marker::Model;
 pub struct SpelledTokens<'t> {
     tokens: Vec<Token<'t>>,
     /// The letters of the first string, of the second, and so on.
-    strings: Vec<Vec<Letter>>,
+    strings: Vec<Letters<'t>>,
 }
 
 impl<'t> Model for SpelledTokens<'t> {
-    ghost use Rattle.std.specs.Prelude.{List, map};
+    ghost use Rattle.std.specs.Prelude.{List};
     ghost use Rattle.cedar_text.specs.Lexeme.{lexemes};
     ghost use Rattle.cedar_parser_tokens.specs.Marks.{Mark};
     ghost use Rattle.cedar_parser_tokens.specs.Private.Spells.{marks_with};
 
     ghost Value = { List Mark };
 
-    ghost view = { λ s. marks_with (lexemes s.tokens.items) (map (λ v. v.items) s.strings.items) };
+    ghost view = { λ s. marks_with (lexemes s.tokens.items) s.strings.items };
 }
 
 impl<'t> SpelledTokens<'t> {
@@ -41,7 +41,7 @@ impl<'t> SpelledTokens<'t> {
 }
 
 /// The tokens of a text, each string with the letters that it writes (Cedar language reference, grammar). A token takes 32
-/// bytes of memory, a byte of a string 8.
+/// bytes of memory, and a string 32 more. A byte of a string takes 8, unless the string is plain ASCII.
 ///
 /// # Errors
 ///
@@ -62,13 +62,16 @@ pub fn spelled_tokens(alloc: Global, source: &str) -> Result<SpelledTokens<'_>, 
 }
 
 // The letters of the strings among tokens, in order. They are counted before the list of them is made.
-fn letters_of_strings(alloc: Global, tokens: &[Token<'_>]) -> Result<Vec<Vec<Letter>>, AllocError>
-    ensures { IfOk result (λ v. Spells (lexemes tokens.now) (map (λ l. l.items) v.items)) }
+fn letters_of_strings<'t>(
+    alloc: Global,
+    tokens: &[Token<'t>],
+) -> Result<Vec<Letters<'t>>, AllocError>
+    ensures { IfOk result (λ v. Spells (lexemes tokens.now) v.items) }
 {
     let mut found = Vec::with_capacity(alloc, count_strings(tokens))?;
     for token in tokens {
         if token.kind == TokenKind::String {
-            found.push(letters_of(alloc, token.text)?)?;
+            found.push(Letters::read(alloc, token.text)?)?;
         }
     }
     Ok(found)
@@ -81,14 +84,4 @@ fn count_strings(tokens: &[Token<'_>]) -> usize {
         count = count.saturating_add(usize::from(token.kind == TokenKind::String));
     }
     count
-}
-
-// The letters of a string. A string token always has letters, so only memory can run out.
-fn letters_of(alloc: Global, text: &str) -> Result<Vec<Letter>, AllocError>
-    ensures { IfOk result (λ v. IsSpelled text.now v.items) }
-{
-    match letters(alloc, text) {
-        Ok(letters) => Ok(letters),
-        Err(_) => Err(AllocError),
-    }
 }

@@ -1,6 +1,0 @@
-use Rattle.std.proofs.Common.{◌≡◌, take, map}
-use Rattle.cedar_parser_tokens.specs.Marks.{element_of}
-use Rattle.cedar_parser_tokens.proofs.spelled.Spelled.pattern.Given as goal
-
-abbrev pub invariant-loop-letter : goal.invariant-loop-letter
-invariant-loop-letter l = l.elements.items ≡ map element_of (take l.letter-index l.letter-items)

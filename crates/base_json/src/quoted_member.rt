@@ -62,10 +62,16 @@ pub(crate) fn after(text: &str, byte: u8) -> Option<&str>
     Some(rest)
 }
 
-/// What follows the spaces that the text begins with.
+/// What follows the spaces that the text begins with. Mostly there are none, which its first byte shows.
+#[inline(always)]
 pub(crate) fn past_spaces(text: &str) -> Option<&str>
     ensures { IfSome result (λ rest. lex between text.now ≡ lex between rest.now) }
 {
+    if let Some(byte) = text.as_bytes().first()
+        && *byte > b' '
+    {
+        return Some(text);
+    }
     let (_, rest) = text.split_at_checked(skip_spaces(text.as_bytes(), 0))?;
     Some(rest)
 }

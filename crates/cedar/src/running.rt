@@ -8,9 +8,10 @@ use crate::whys::run_why;
 use base_lines::{SliceSource, StdSink, StdSource};
 use cedar_cli::{Subcommand, Words, check_parse};
 use cedar_cli_refusals::explain;
-use cedar_files::{End, NamedFiles, validate};
+use cedar_files::{End, NamedFiles, validate_keeping};
 use cedar_files_diagnostics::{CountingSink, Format, RefusedFile, refused_lines};
 use std::io::{self, Read};
+use std::mem::forget;
 
 /// Prints the line for a device that failed, or for memory that ran out.
 pub fn say(rt: &HostRuntime, end: End) {
@@ -68,7 +69,16 @@ fn explain_warnings(
 fn run_validate(rt: &HostRuntime, words: &Words<'_>, format: Option<Format>) -> u8 {
     let files = NamedFiles::new(rt, words.files);
     let mut sink = CountingSink::new(StdSink::new(io::writer(rt)));
-    let end = validate(rt.alloc(), &files, &mut sink, words.settings);
+    let mut policies = None;
+    let end = validate_keeping(
+        rt.alloc(),
+        &files,
+        &mut sink,
+        words.settings,
+        &mut policies,
+    );
+    // The program ends soon, and the system then takes all its memory at once.
+    forget(policies);
     let refused = sink.counts().refused_file;
     let status = ended(rt, &files, words, format, end, refused);
     if end != End::Done || sink.counts().warnings == 0 {

@@ -6,6 +6,7 @@ use cedar_auth::Ready;
 use cedar_cli::{Observer, Words, authorize_observed, authorize_with_entities};
 use cedar_files::{End, NamedFiles};
 use cedar_files_diagnostics::{Format, impossible_policies};
+use std::mem::forget;
 
 // Says on standard error, once all files are read, how many policies no request can satisfy. Without a form it says nothing.
 #[derive(Drop)]
@@ -27,6 +28,11 @@ impl<'a> Observer for Warner<'a> {
             // Where standard error is gone, the line is lost.
             let _ = self.rt.eprint(says.as_str());
         }
+    }
+
+    // The program ends soon, and the system then takes all its memory at once.
+    fn take(&mut self, ready: Ready) {
+        forget(ready);
     }
 }
 

@@ -45,10 +45,13 @@ pub(crate) fn answer<S: Source, K: Sink>(
     }
 }
 
-/// Sees what is ready when all files are read, before the first request line is.
+/// Sees what is ready when all files are read, before the first request line is, and takes it after the last.
 pub trait Observer {
     /// Sees the policies that are ready to answer.
     fn is_ready(&mut self, ready: &Ready);
+
+    /// Takes what was ready, after the last answer. A program that ends then need not free it.
+    fn take(&mut self, ready: Ready);
 }
 
 /// An observer that ignores what is ready.
@@ -57,6 +60,10 @@ struct Nobody;
 
 impl Observer for Nobody {
     fn is_ready(&mut self, _ready: &Ready) {}
+
+    fn take(&mut self, ready: Ready) {
+        drop(ready);
+    }
 }
 
 /// Reads the schema, the policies, the links and the entities, in this order, and answers each request line of the source by an
@@ -139,5 +146,7 @@ pub fn authorize_observed<F: Files, S: Source, K: Sink, O: Observer>(
         Err(end) => return end,
     };
     observer.is_ready(&ready);
-    answer(alloc, &ready, source, sink)
+    let end = answer(alloc, &ready, source, sink);
+    observer.take(ready);
+    end
 }

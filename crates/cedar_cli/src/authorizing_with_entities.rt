@@ -86,5 +86,7 @@ pub fn authorize_with_entities<F: Files, S: Source, K: Sink, O: Observer>(
     // Each request that a line denotes is answered soundly.
     ready.lines_with_entities_are_answered_soundly();
     observer.is_ready(&ready);
-    answer_with_entities(alloc, &ready, source, sink)
+    let end = answer_with_entities(alloc, &ready, source, sink);
+    observer.take(ready);
+    end
 }

@@ -37,4 +37,4 @@ pub use reading_report::read_report;
 pub use refusal::{FileRefusal, refusal_line, refuse};
 pub use report::report_text;
 pub use unprepared::Unprepared;
-pub use validating::{validate, write_report};
+pub use validating::{validate, validate_keeping, write_report};

@@ -89,8 +89,41 @@ pub fn validate<F: Files, K: Sink>(
     ensures stands { result ≡ End.Device → ReportStands settings (F.holds files.now) (K.written sink.old) (K.written sink.new) }
     ensures stands_whole { result ≡ End.Memory → Keeps (K.written sink.old) (K.written sink.new) }
 {
+    validate_keeping(alloc, files, sink, settings, &mut None)
+}
+
+/// Like [`validate`], and puts the policies on which it reports into `kept`. A program that ends then need not free them.
+pub fn validate_keeping<F: Files, K: Sink>(
+    alloc: Global,
+    files: &F,
+    sink: &mut K,
+    settings: Settings,
+    kept: &mut Option<PolicySet>,
+) -> End
+    requires { K.failed sink.old < 2 ^ 64 - 1 }
+    ensures done { result ≡ End.Done → (s : SchemaTree) × (set : PolicySetTree)
+        × Hold (F.holds files.now) s set × AreFaultsWith settings s set.policies []
+        × Writes (K.written sink.old) (K.written sink.new) (IsReportText settings s set.policies) }
+    ensures faults { result ≡ End.Faults → (s : SchemaTree) × (set : PolicySetTree)
+        × Hold (F.holds files.now) s set × ¬ AreFaultsWith settings s set.policies []
+        × Writes (K.written sink.old) (K.written sink.new) (IsReportText settings s set.policies) }
+    ensures refused { result ≡ End.Refused → (role : Role) × (refusal : FileRefusal)
+        × IsRefused (F.holds files.now) role refusal
+        × Writes (K.written sink.old) (K.written sink.new) (IsRefusalLine role refusal) }
+    ensures unnamed { result ≡ End.CommandLine → IfSome (F.holds files.now Role.Schema) (λ held. held ≡ None)
+        ⊎ IfSome (F.holds files.now Role.Policies) (λ held. held ≡ None) }
+    ensures untouched { result ≡ End.CommandLine → sink.new ≡ sink.old }
+    ensures device { result ≡ End.Device → (F.holds files.now Role.Schema ≡ None) ⊎ (F.holds files.now Role.Policies ≡ None)
+        ⊎ (F.holds files.now Role.Links ≡ None) ⊎ (K.failed sink.old < K.failed sink.new) }
+    ensures stands { result ≡ End.Device → ReportStands settings (F.holds files.now) (K.written sink.old) (K.written sink.new) }
+    ensures stands_whole { result ≡ End.Memory → Keeps (K.written sink.old) (K.written sink.new) }
+{
     match read_report(alloc, files, settings) {
-        Ok((policies, report)) => write_report(alloc, &policies, &report, sink),
+        Ok((policies, report)) => {
+            let end = write_report(alloc, &policies, &report, sink);
+            *kept = Some(policies);
+            end
+        }
         Err(Unprepared::Refused(role, refusal)) => refuse(alloc, role, refusal, sink),
         Err(Unprepared::Faults(_)) => unreachable!(),
         Err(Unprepared::Unnamed) => End::CommandLine,

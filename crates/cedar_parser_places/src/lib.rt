@@ -23,8 +23,6 @@ mod place;
 mod scope;
 mod statement;
 mod stretch;
-#[cfg(test)]
-mod tests;
 mod token_list;
 
 pub use clause::Clause;

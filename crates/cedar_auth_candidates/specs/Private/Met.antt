@@ -37,4 +37,4 @@ is_action_met w v (action.InSet us) = is_within_one_of w v us
 
 -- the request meets each of the three sides
 abbrev pub is_scope_met : World → Request → Scope → Bool
-is_scope_met w q s = is_entity_met w q.principal s.principal && (is_action_met w q.action s.action && is_entity_met w q.resource s.resource)
+is_scope_met w q s = is_entity_met w q.resource s.resource && (is_entity_met w q.principal s.principal && is_action_met w q.action s.action)

@@ -15,6 +15,10 @@ struct Nobody;
 
 impl Observer for Nobody {
     fn is_ready(&mut self, _ready: &Ready) {}
+
+    fn take(&mut self, ready: Ready) {
+        drop(ready);
+    }
 }
 
 /// What the case's call gives.

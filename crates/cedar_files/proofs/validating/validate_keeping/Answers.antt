@@ -1,7 +1,7 @@
 use Rattle.std.proofs.Common.{inr}
 use Rattle.cedar_check.specs.FaultView.{fault_view}
 use Rattle.cedar_files.proofs.Found.{some_found}
-use Rattle.cedar_files.proofs.validating.validate.Goals as goal
+use Rattle.cedar_files.proofs.validating.validate_keeping.Goals as goal
 
 pub returns-in-Ok-clause-faults : goal.returns-in-Ok-clause-faults
 returns-in-Ok-clause-faults g c = λ h.

@@ -1,6 +1,5 @@
 //! The places of parts of each kind, worked out by hand. An empty text in place of a part says that there is none.
-use crate::extent::{Extent, PartPlace};
-use crate::place::part_place;
+use cedar_parser_places::{Extent, PartPlace, part_place};
 use std::alloc::{AllocError, Global};
 use std::test::Fail;
 

@@ -5,6 +5,7 @@ mod Digits
 mod FirstItem
 mod Followed
 mod Joined
+mod LentObjects
 mod Punctuated
 mod QuotedMembers
 mod Reading

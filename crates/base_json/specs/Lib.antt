@@ -1,5 +1,6 @@
 pub mod Items
 pub mod JsonTree
+pub mod LentObjects
 pub mod Members
 pub mod Quoted
 pub mod Private

@@ -6,13 +6,15 @@ use Rattle.serde_json.specs.Data.{Data, string, Members, put}
 use Rattle.serde_json.specs.Read.{of_members, converted}
 use Rattle.serde_json.specs.View.{view}
 use Rattle.base_json.specs.Items.{if_at_end}
+use Rattle.base_json.specs.LentObjects.{object_view}
 use Rattle.base_json.specs.declared.lent_value.LentValue.{LentValue}
-use Rattle.base_json.specs.declared.lent_value.LentValue.TheVariants.{String, Quoted, Tree}
+use Rattle.base_json.specs.declared.lent_value.LentValue.TheVariants.{String, Quoted, Object, Tree}
 
--- What a value is that may be a lent string (RFC 8259, section 3).
+-- What a value is that may be a lent string, or an object of which keys and strings are lent (RFC 8259, section 3).
 abbrev pub lent_view : LentValue → Data
 lent_view (String s) = string s.now
 lent_view (Quoted q) = string q
+lent_view (Object o) = object_view o
 lent_view (Tree v) = view v
 
 -- The members of an object of which some are read already, with those that the tokens write up to the brace that closes the object

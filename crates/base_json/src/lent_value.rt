@@ -5,6 +5,7 @@ ghost use Rattle.serde_json.specs.Read.{of_json, converted};
 ghost use Rattle.base_json.specs.Members.{lent_view};
 ghost use Rattle.base_json.specs.declared.tree_fault.TreeFault.TheVariants.{Invalid};
 
+use crate::lent_object::{LentObject, read_object};
 use crate::quoted_text::QuotedText;
 use crate::tree::tree_after;
 use crate::tree_fault::TreeFault;
@@ -13,12 +14,15 @@ use serde_json::Value;
 use std::alloc::Global;
 
 /// A JSON value (RFC 8259, section 3). A string is lent by what was read, and takes no memory. The same string may come in either form.
+/// So may the same object.
 #[derive(Drop)]
 pub enum LentValue<'t> {
     /// A string, without quotation marks and escapes.
     String(&'t str),
     /// A string in two parts, of which the second is in quotation marks.
     Quoted(QuotedText<'t>),
+    /// An object, whose keys and strings are lent.
+    Object(LentObject<'t>),
     /// Any other value.
     Tree(Value),
 }
@@ -39,6 +43,15 @@ pub(crate) fn read_lent<'t>(
     };
     match token {
         Token::String(text) => Ok(LentValue::String(text)),
+        Token::BeginObject => {
+            if depth == 0 {
+                return Err(TreeFault::Invalid);
+            }
+            match read_object(alloc, reader, depth - 1) {
+                Ok(object) => Ok(LentValue::Object(object)),
+                Err(fault) => Err(fault),
+            }
+        }
         other => match tree_after(alloc, reader, other, depth) {
             Ok(tree) => Ok(LentValue::Tree(tree)),
             Err(fault) => Err(fault),

@@ -45,6 +45,7 @@ mod behind;
 mod first_object;
 mod items;
 mod json_tree;
+mod lent_object;
 mod lent_value;
 mod members;
 mod number;
@@ -61,6 +62,7 @@ mod tree_fault;
 
 pub use items::ItemReader;
 pub use json_tree::read_json;
+pub use lent_object::{LentMember, LentObject, LentPart};
 pub use lent_value::LentValue;
 pub use members::MemberReader;
 pub use objects::ObjectReader;

@@ -126,10 +126,13 @@ module _ (s : SchemaTree) (old : World) (line : List ℕ) where
       at None h = h
       at (Some d) h = inl (inl (h.0, inl (no_keys (without key d) (as_object (without key d)) refl (still_no_object d h.1))))
 
--- ---- entries that are a string
+-- ---- entries that are no list
 
 pub string_refused : (s : SchemaTree) (old : World) (x : List ℕ) → HasChangesFault s old (upserts_only (string x)) Shape
 string_refused s old x = changes.no_changes (λ entries removed h. let no : None ≡ Some entries = h.upserts in absurd (cc))
+
+pub object_refused : (s : SchemaTree) (old : World) (ms : Members) → HasChangesFault s old (upserts_only (object ms)) Shape
+object_refused s old ms = changes.no_changes (λ entries removed h. let no : None ≡ Some entries = h.upserts in absurd (cc))
 
 -- ---- the answers of the calls below
 

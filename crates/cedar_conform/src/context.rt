@@ -22,6 +22,14 @@ pub(crate) fn record_type(ty: &Type) -> &RecordType
     }
 }
 
+/// The context of a request without one, for a type of records.
+pub(crate) fn no_context(alloc: Global, ty: &Type) -> Result<Record, ConformFault>
+    requires { IsTrue (is_record ty.now) }
+    ensures { ReadsRecord result (value_read ty.now (object no_members)) }
+{
+    absent_context(alloc, record_type(ty))
+}
+
 /// The context of a request without one, for a type of records with these attributes: what the empty object writes. For a type without
 /// attributes it takes no memory.
 pub(crate) fn absent_context(alloc: Global, attributes: &RecordType) -> Result<Record, ConformFault>

@@ -6,8 +6,9 @@ ghost use Rattle.cedar_conform.specs.Places.{IsPlacedAt};
 ghost use Rattle.cedar_conform.specs.Private.Answers.{IsAnswer};
 ghost use Rattle.cedar_conform.specs.Private.Fields.{AreFieldsOf, AreWritten, LacksIn, LacksOne, WrittenIn, quoted_fields};
 
+use crate::context::no_context;
 use crate::names::Names;
-use crate::request::{RequestUids, context_type, read_context};
+use crate::request::{RequestUids, context_type};
 use crate::request_rooms::RequestRooms;
 use crate::uid_room::UidRoom;
 use crate::uids::quoted_uid;
@@ -30,7 +31,7 @@ pub(crate) fn plain_request(
 {
     let uids = plain_uids(alloc, names, rooms, values)?;
     let ty = context_type(schema, rooms, &uids)?;
-    let context = read_context(alloc, ty, &None)?;
+    let context = no_context(alloc, ty)?;
     Ok(Request {
         principal: uids.principal,
         action: uids.action,

@@ -27,7 +27,9 @@ use crate::request_rooms::RequestRooms;
 use crate::uid_room::UidRoom;
 use crate::uids::lent_uid;
 use base_json::{JsonReader, LentValue, MemberReader, ThreeQuoted, TreeFault};
-use cedar_conform_values::{ConformFault, one_written_uid, read_record, read_values_belong};
+use cedar_conform_values::{
+    ConformFault, one_written_uid, read_lent_record, read_record, read_values_belong,
+};
 use cedar_schema::Schema;
 use cedar_schema_types::Type;
 use cedar_value::{Record, Request, Uid};
@@ -180,7 +182,7 @@ fn request_of_rest<'l>(
 {
     let mut fields = Fields::begun(values);
     match fields.read(alloc, members) {
-        Ok(()) => request_of(alloc, schema, names, rooms, &fields),
+        Ok(()) => request_of(alloc, schema, names, rooms, &mut fields),
         Err(fault) => match fault {
             TreeFault::OutOfMemory => Err(ConformFault::OutOfMemory),
             TreeFault::Invalid => Err(ConformFault::Json),
@@ -188,15 +190,15 @@ fn request_of_rest<'l>(
     }
 }
 
-/// The request of the values at its keys.
+/// The request of the values at its keys, which are taken.
 pub(crate) fn request_of(
     alloc: Global,
     schema: &Schema,
     names: &mut Names,
     rooms: &mut RequestRooms,
-    fields: &Fields<'_>,
+    fields: &mut Fields<'_>,
 ) -> Result<Request, ConformFault>
-    ensures answer { (ms : Members) → AreFieldsOf ms fields.now → IsAnswer schema.now (object ms) result }
+    ensures answer { (ms : Members) → AreFieldsOf ms fields.old → IsAnswer schema.now (object ms) result }
     ensures placed { IfOk result (λ q. IsPlacedAt schema.now q rooms.new.environment) }
 {
     if !fields.are_known {
@@ -204,7 +206,7 @@ pub(crate) fn request_of(
     }
     let uids = read_uids(alloc, names, rooms, fields)?;
     let ty = context_type(schema, rooms, &uids)?;
-    let context = read_context(alloc, ty, &fields.context)?;
+    let context = read_context(alloc, ty, fields.context.take())?;
     Ok(Request {
         principal: uids.principal,
         action: uids.action,
@@ -213,18 +215,19 @@ pub(crate) fn request_of(
     })
 }
 
-// The uids at the three keys.
+// The uids at the three keys, whose values are taken.
 fn read_uids(
     alloc: Global,
     names: &mut Names,
     rooms: &mut RequestRooms,
-    fields: &Fields<'_>,
+    fields: &mut Fields<'_>,
 ) -> Result<RequestUids, ConformFault>
-    ensures { MatchResult result (AreWritten fields.now) (λ e. e ≢ OutOfMemory → (e ≡ ShapeFault) × LacksOne fields.now) }
+    ensures uids { MatchResult result (AreWritten fields.old) (λ e. e ≢ OutOfMemory → (e ≡ ShapeFault) × LacksOne fields.old) }
+    ensures context { OnOk result (fields.new.context ≡ fields.old.context) }
 {
-    let principal = uid_in(alloc, names, &mut rooms.principal, &fields.principal)?;
-    let action = uid_in(alloc, names, &mut rooms.action, &fields.action)?;
-    let resource = uid_in(alloc, names, &mut rooms.resource, &fields.resource)?;
+    let principal = uid_in(alloc, names, &mut rooms.principal, fields.principal.take())?;
+    let action = uid_in(alloc, names, &mut rooms.action, fields.action.take())?;
+    let resource = uid_in(alloc, names, &mut rooms.resource, fields.resource.take())?;
     Ok(RequestUids {
         principal,
         action,
@@ -236,11 +239,11 @@ fn uid_in(
     alloc: Global,
     names: &mut Names,
     room: &mut UidRoom,
-    field: &Option<LentValue<'_>>,
+    field: Option<LentValue<'_>>,
 ) -> Result<Uid, ConformFault>
     ensures { MatchResult result
-        (WrittenIn (data_in field.now))
-        (λ e. e ≢ OutOfMemory → (e ≡ ShapeFault) × LacksIn (data_in field.now)) }
+        (WrittenIn (data_in field.entry))
+        (λ e. e ≢ OutOfMemory → (e ≡ ShapeFault) × LacksIn (data_in field.entry)) }
 {
     let Some(value) = field else {
         return Err(ConformFault::Shape);
@@ -300,15 +303,16 @@ fn uids_fault(schema: &Schema, uids: &RequestUids) -> ConformFault
 pub(crate) fn read_context(
     alloc: Global,
     ty: &Type,
-    field: &Option<LentValue<'_>>,
+    field: Option<LentValue<'_>>,
 ) -> Result<Record, ConformFault>
     requires { IsTrue (is_record ty.now) }
-    ensures { ReadsRecord result (value_read ty.now (context_in field.now)) }
+    ensures { ReadsRecord result (value_read ty.now (context_in field.entry)) }
 {
     let attributes = record_type(ty);
     match field {
         Some(value) => match value {
-            LentValue::Tree(context) => read_record(alloc, attributes, context),
+            LentValue::Object(context) => read_lent_record(alloc, attributes, context),
+            LentValue::Tree(context) => read_record(alloc, attributes, &context),
             LentValue::String(_) => Err(ConformFault::WrongType),
             LentValue::Quoted(_) => Err(ConformFault::WrongType),
         },

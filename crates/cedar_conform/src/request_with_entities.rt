@@ -104,7 +104,7 @@ fn request_of_rest<'l>(
 {
     let mut fields = FieldsWithEntities::begun(values);
     match fields.read(alloc, members) {
-        Ok(()) => request_of_fields(alloc, schema, store, names, rooms, &fields),
+        Ok(()) => request_of_fields(alloc, schema, store, names, rooms, &mut fields),
         Err(fault) => match fault {
             TreeFault::OutOfMemory => Err(ConformFault::OutOfMemory),
             TreeFault::Invalid => Err(ConformFault::Json),
@@ -119,11 +119,11 @@ fn request_of_fields(
     store: &Store,
     names: &mut Names,
     rooms: &mut RequestRooms,
-    fields: &FieldsWithEntities<'_>,
+    fields: &mut FieldsWithEntities<'_>,
 ) -> Result<(Request, Option<Store>), ConformFault>
-    ensures { (ms : Members) → AreFieldsWith ms fields.now → IsAnswerWith schema.now store.now (object ms) result }
+    ensures { (ms : Members) → AreFieldsWith ms fields.old → IsAnswerWith schema.now store.now (object ms) result }
 {
-    let request = request_of(alloc, schema, names, rooms, &fields.request)?;
+    let request = request_of(alloc, schema, names, rooms, &mut fields.request)?;
     let Some(entries) = &fields.entities else {
         return Ok((request, None));
     };
@@ -144,5 +144,6 @@ fn upsert_lent(
         LentValue::Tree(json) => upsert_entities(alloc, schema, store, json),
         LentValue::String(_) => Err(ConformFault::Shape),
         LentValue::Quoted(_) => Err(ConformFault::Shape),
+        LentValue::Object(_) => Err(ConformFault::Shape),
     }
 }

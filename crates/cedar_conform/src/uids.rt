@@ -1,17 +1,18 @@
 //! Uids of requests, whose types share the names that a reader keeps.
 ghost use Rattle.std.specs.Prelude.{◌≡◌, ◌↔◌, ◌++◌, true, IfOk, IfSome, IsSome, MatchOption, codes};
 ghost use Rattle.std.specs.List.{list_all};
+ghost use Rattle.base_json.specs.LentObjects.{object_view};
 ghost use Rattle.base_json.specs.Members.{lent_view};
 ghost use Rattle.base_json.specs.Quoted.{is_plain, with_quoted};
 ghost use Rattle.cedar_value.specs.Names.{IsName};
 ghost use Rattle.cedar_value.specs.declared.uid.Uid.{Uid as UidTree};
 ghost use Rattle.cedar_parser_tokens.specs.UidText.{IsUidText};
-ghost use Rattle.cedar_conform_values.specs.WrittenUids.{WritesUid};
+ghost use Rattle.cedar_conform_values.specs.WrittenUids.{IsUidObject, WritesUid};
 
 use crate::names::Names;
 use crate::uid_room::UidRoom;
-use base_json::{LentValue, QuotedText};
-use cedar_conform_values::{uid_of_text, written_uid};
+use base_json::{LentObject, LentValue, QuotedText};
+use cedar_conform_values::{uid_of_lent, uid_of_object, uid_of_text, written_uid};
 use cedar_parser_tokens::plain_uid_texts;
 use cedar_value::Uid;
 use std::alloc::{AllocError, Global};
@@ -22,15 +23,42 @@ pub(crate) fn lent_uid(
     alloc: Global,
     names: &mut Names,
     room: &mut UidRoom,
-    value: &LentValue<'_>,
+    value: LentValue<'_>,
 ) -> Result<Option<Uid>, AllocError>
-    ensures { IfOk result (λ found. MatchOption found ((u : UidTree) → ¬ WritesUid (lent_view value.now) u) (WritesUid (lent_view value.now))) }
+    ensures { IfOk result (λ found. MatchOption found ((u : UidTree) → ¬ WritesUid (lent_view value.entry) u) (WritesUid (lent_view value.entry))) }
 {
     match value {
         LentValue::String(text) => text_uid(alloc, names, room, text),
-        LentValue::Quoted(text) => quoted_uid(alloc, names, room, text),
-        LentValue::Tree(json) => written_uid(alloc, json),
+        LentValue::Quoted(text) => quoted_uid(alloc, names, room, &text),
+        LentValue::Object(found) => object_uid(alloc, names, room, found),
+        LentValue::Tree(json) => written_uid(alloc, &json),
     }
+}
+
+// The uid that an object writes, if it writes one.
+fn object_uid(
+    alloc: Global,
+    names: &mut Names,
+    room: &mut UidRoom,
+    found: LentObject<'_>,
+) -> Result<Option<Uid>, AllocError>
+    ensures { IfOk result (λ uid. MatchOption uid
+        ((u : UidTree) → ¬ IsUidObject (object_view found.entry) u) (IsUidObject (object_view found.entry))) }
+{
+    match uid_of_lent(&found) {
+        Some(uid) => named_uid(alloc, names, room, uid.ty, uid.id),
+        None => uid_of_tree(alloc, found),
+    }
+}
+
+// The uid that an object in another form writes, for example one that is alone at `__entity`.
+#[inline(never)]
+fn uid_of_tree(alloc: Global, found: LentObject<'_>) -> Result<Option<Uid>, AllocError>
+    ensures { IfOk result (λ uid. MatchOption uid
+        ((u : UidTree) → ¬ IsUidObject (object_view found.entry) u) (IsUidObject (object_view found.entry))) }
+{
+    let tree = found.into_tree(alloc)?;
+    uid_of_object(alloc, &tree)
 }
 
 /// The uid that a string with a part in quotation marks denotes, if it denotes one.

@@ -41,7 +41,7 @@ is_some-map f (Some x) = refl
 pub is_declared-found : {A : Type 0} (f : A → Attribute) (o : Option A) (k : List ℕ) (a : Attributes) → option_map f o ≡ attribute_at k a → is_some o ≡ is_declared (names_of a) k
 is_declared-found f o k a e = is_some-map f o ∙ ap is_some e ∙ is_declared-attribute_at k a
 
-names_of-attributes_of : (xs : List Attribute) → map (λ (a : Attribute). a.name) xs ≡ names_of (attributes_of xs)
+pub names_of-attributes_of : (xs : List Attribute) → map (λ (a : Attribute). a.name) xs ≡ names_of (attributes_of xs)
 names_of-attributes_of [] = refl
 names_of-attributes_of (x ∷ xs) = ap (λ (l : List (List ℕ)). x.name ∷ l) (names_of-attributes_of xs)
 

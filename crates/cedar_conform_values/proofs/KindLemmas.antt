@@ -1,15 +1,19 @@
 -- What the readers answer, kind by kind of types, and of sets.
-use Rattle.std.proofs.Common.{◌≡◌, ℕ, length, List, [], ◌∷◌, ◌++◌, Result, sym, ap, ◌∙◌, subst, append_assoc, append-nil}
+use Rattle.std.proofs.Common.{◌≡◌, ℕ, length, List, [], ◌∷◌, ◌++◌, Result, lit<, refl, sym, ap, ◌∙◌, subst, append_assoc, append-nil}
 use Rattle.std.proofs.lemmas.List.Elements.{Contains-append_left, Contains-append_right}
-use Rattle.serde_json.specs.Data.{Data}
+use Rattle.serde_json.specs.Data.{Data, string}
 use Rattle.serde_json.specs.Find.{as_bool, as_number, as_str, as_array}
 use Rattle.serde_json.specs.View.{view, items_view}
 use Rattle.serde_json.specs.declared.value.Value.{Value}
 use Rattle.cedar_value.specs.Datum.{Datum}
 use Rattle.cedar_schema_types.specs.declared.truth.Truth.{Truth}
+use Rattle.cedar_schema_types.specs.declared.types.TypeKind.{TypeKind}
+use Rattle.cedar_schema_types.specs.declared.types.TypeKind.TheVariants.{Boolean, Long, String, Entity, Set, Record, Decimal}
+use Rattle.cedar_schema_types.specs.TypeKind.{type_of}
 use Rattle.cedar_schema_types.specs.Types.{TypeTree}
 use Rattle.cedar_schema_types.specs.Types as kind
 use Rattle.cedar_conform_values.specs.declared.conform_fault.ConformFault.{ConformFault}
+use Rattle.cedar_conform_values.specs.declared.conform_fault.ConformFault.TheVariants.{WrongType}
 use Rattle.cedar_conform_values.specs.Faults.{Told}
 use Rattle.cedar_conform_values.specs.Reads.{Reads}
 use Rattle.cedar_conform_values.specs.Uids.{uid_object}
@@ -47,6 +51,21 @@ module _ (result : Result Datum ConformFault) (t : TypeTree) (d : Data) where
   pub reads_decimal : kind.decimal ≡ t → Reads result (decimal_read (decimal_text d)) → Reads result (value_read t d)
   unfolding value_read
   reads_decimal e h = subst (λ x. Reads result (value_read x d)) e h
+
+-- a string is a value of strings and decimals alone
+pub text_of_another : (k : TypeKind) (s : List ℕ) → (k ≡ String → ⊥) → (k ≡ Decimal → ⊥) → (value_read (type_of k) (string s)).faults ≡ WrongType ∷ []
+unfolding value_read
+text_of_another (Boolean f) s a b = refl
+text_of_another Long s a b = refl
+text_of_another String s a b = absurd (a refl)
+text_of_another (Entity n) s a b = refl
+text_of_another (Set t) s a b = refl
+text_of_another (Record r) s a b = refl
+text_of_another Decimal s a b = absurd (b refl)
+
+pub text_refused : (t : TypeTree) (k : TypeKind) (s : List ℕ) → type_of k ≡ t → (k ≡ String → ⊥) → (k ≡ Decimal → ⊥) → Told (value_read t (string s)).faults WrongType
+text_refused t k s e a b =
+    subst (λ fs. Told fs WrongType) (sym (text_of_another k s a b) ∙ ap (λ x. (value_read x (string s)).faults) e) (λ n. (0, lit< tt, refl))
 
 -- ---- the items of a set
 

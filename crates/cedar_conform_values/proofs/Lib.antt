@@ -1,5 +1,7 @@
 pub mod Belongs
 pub mod FieldLemmas
+pub mod KeyCounts
+pub mod KeyLemmas
 pub mod KindLemmas
 pub mod MemberCounts
 pub mod MemberKinds

@@ -1,5 +1,5 @@
 -- The test of membership tells it.
-use Rattle.std.proofs.Common.{◌≡◌, ℕ, Bool, true, false, not, ◌&&◌, List, [], ◌∷◌, map, Option, Some, None, refl, sym, ap, subst, ◌∙◌, if◌then◌else◌}
+use Rattle.std.proofs.Common.{◌≡◌, ℕ, Bool, true, false, ◌&&◌, List, [], ◌∷◌, map, Option, Some, None, refl, sym, ap, subst, ◌∙◌, if◌then◌else◌}
 use Rattle.std.specs.Bool.{Decides}
 use Rattle.std.specs.List.{AllByRecursion, list_all}
 use Rattle.std.specs.List.Sorted.{IsStrictlySortedBy}
@@ -56,7 +56,7 @@ values_of (member d ms) h = (h.0, values_of ms h.1)
 
 -- ---- records: what is not there
 
-unlike : (k l : List ℕ) → text_cmp k l ≡ Less → bytes_eq l k ≡ false
+pub unlike : (k l : List ℕ) → text_cmp k l ≡ Less → bytes_eq l k ≡ false
 unlike k l h = text_ties l k ∙ ap is_eq (nat_list_cmp_total.antisymm l k ∙ ap ordering_reverse h)
 
 lower : (k l : List ℕ) (ls : List (List ℕ)) → text_cmp k l ≡ Less → AllByRecursion (λ x. text_cmp l x ≡ Less) ls → AllByRecursion (λ x. text_cmp k x ≡ Less) ls
@@ -78,11 +78,11 @@ value_below k (p ∷ ps) all = rw (unlike k p.0 all.0) (value_below k ps all.1)
 abbrev Up : List (List ℕ) → Type 0
 Up ks = IsStrictlySortedBy text_cmp ks
 
-up_first : (k : List ℕ) (ks : List (List ℕ)) → Up (k ∷ ks) → AllByRecursion (λ x. text_cmp k x ≡ Less) ks
+pub up_first : (k : List ℕ) (ks : List (List ℕ)) → Up (k ∷ ks) → AllByRecursion (λ x. text_cmp k x ≡ Less) ks
 unfolding IsStrictlySortedBy
 up_first k ks up = up.0
 
-up_rest : (k : List ℕ) (ks : List (List ℕ)) → Up (k ∷ ks) → Up ks
+pub up_rest : (k : List ℕ) (ks : List (List ℕ)) → Up (k ∷ ks) → Up ks
 unfolding IsStrictlySortedBy
 up_rest k ks up = up.1
 

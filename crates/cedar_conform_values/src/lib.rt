@@ -15,6 +15,8 @@
 
 mod conform_fault;
 mod laws;
+mod lent_record;
+mod lent_uid;
 mod membership;
 mod object;
 mod scalar;
@@ -23,6 +25,8 @@ mod value;
 
 pub use conform_fault::ConformFault;
 pub use laws::{one_written_uid, read_values_belong};
+pub use lent_record::read_lent_record;
+pub use lent_uid::{LentUid, uid_of_lent};
 pub use membership::{is_member, is_record_member};
 pub use object::{size_of, text_at};
 pub use uid::{uid_of_object, uid_of_text, written_uid};

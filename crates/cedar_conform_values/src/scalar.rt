@@ -1,5 +1,5 @@
 //! Values of types without parts. What reads them is not inlined, so that a level of nesting takes little of the call stack.
-ghost use Rattle.std.specs.Prelude.{◌≡◌, IfOk, option_map};
+ghost use Rattle.std.specs.Prelude.{◌≡◌, Some, IfOk, option_map};
 ghost use Rattle.serde_json.specs.Find.{as_bool, as_number, as_str};
 ghost use Rattle.serde_json.specs.View.{view};
 ghost use Rattle.cedar_conform_values.specs.Reads.{Reads};
@@ -50,9 +50,17 @@ pub(crate) fn read_text(alloc: Global, json: &Json) -> Result<Value, ConformFaul
     ensures { Reads result (text_read (as_str (view json.now))) }
 {
     match json.as_str() {
-        Some(text) => Ok(Value::string(Text::read(alloc, text)?)),
+        Some(text) => text_value(alloc, text),
         None => Err(ConformFault::WrongType),
     }
+}
+
+/// The value of a string.
+#[inline(always)]
+pub(crate) fn text_value(alloc: Global, text: &str) -> Result<Value, ConformFault>
+    ensures { Reads result (text_read (Some text.now)) }
+{
+    Ok(Value::string(Text::read(alloc, text)?))
 }
 
 /// A uid of the type.
@@ -84,9 +92,17 @@ fn uid_of(alloc: Global, name: &Name, id: &str) -> Result<Uid, AllocError>
 pub(crate) fn read_decimal(json: &Json) -> Result<Value, ConformFault>
     ensures { Reads result (decimal_read (decimal_text (view json.now))) }
 {
-    let Some(text) = decimal_text(json) else {
-        return Err(ConformFault::WrongType);
-    };
+    match decimal_text(json) {
+        Some(text) => decimal_value(text),
+        None => Err(ConformFault::WrongType),
+    }
+}
+
+/// The decimal that a string writes.
+#[inline(always)]
+pub(crate) fn decimal_value(text: &str) -> Result<Value, ConformFault>
+    ensures { Reads result (decimal_read (Some text.now)) }
+{
     match Decimal::read(text) {
         Some(decimal) => Ok(Value::decimal(decimal)),
         None => Err(ConformFault::WrongType),

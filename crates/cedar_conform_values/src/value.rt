@@ -123,8 +123,8 @@ fn check_keys(attributes: &RecordType, members: &Map<String, Json>) -> Result<()
     Ok(())
 }
 
-// Whether there is an attribute of that name.
-fn is_declared(attributes: &RecordType, key: &str) -> bool
+/// Whether there is an attribute of that name.
+pub(crate) fn is_declared(attributes: &RecordType, key: &str) -> bool
     ensures { result ≡ is_declared (names_of attributes.now) key.now }
 {
     attributes.attribute(key).is_some()
@@ -177,9 +177,9 @@ fn add_field(
     }
 }
 
-// Adds the pair of a key and a value.
+/// Adds the pair of a key and a value.
 #[inline(never)]
-fn push_pair(
+pub(crate) fn push_pair(
     pairs: &mut Vec<(SharedText, Value)>,
     name: &SharedText,
     value: Value,

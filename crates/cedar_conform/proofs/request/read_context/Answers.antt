@@ -15,8 +15,8 @@ string_is_no_record a s = refl
 pub returns-in-String : goal.returns-in-String
 returns-in-String c = λ other.
     let s = c.in-String.field-0.now in
-    let field : context_in c.args.field.now ≡ string s = rw (c.in-Some.is, c.in-String.is) refl in
-    let faults : (value_read c.args.ty.now (context_in c.args.field.now)).faults ≡ WrongType ∷ [] =
+    let field : context_in c.args.field ≡ string s = rw (c.in-Some.is, c.in-String.is) refl in
+    let faults : (value_read c.args.ty.now (context_in c.args.field)).faults ≡ WrongType ∷ [] =
     ap (λ d. (value_read c.args.ty.now d).faults) field ∙ ap (λ (t : TypeTree). (value_read t (string s)).faults) (sym c.record_type-attributes.ensures)
     ∙ string_is_no_record c.record_type-attributes.result.now s in
     subst (λ (fs : List ConformFault). Contains fs WrongType) (sym faults) (Contains-push [] WrongType)
@@ -24,8 +24,8 @@ returns-in-String c = λ other.
 pub returns-in-Quoted : goal.returns-in-Quoted
 returns-in-Quoted c = λ other.
     let s = c.in-Quoted.field-0 in
-    let field : context_in c.args.field.now ≡ string s = rw (c.in-Some.is, c.in-Quoted.is) refl in
-    let faults : (value_read c.args.ty.now (context_in c.args.field.now)).faults ≡ WrongType ∷ [] =
+    let field : context_in c.args.field ≡ string s = rw (c.in-Some.is, c.in-Quoted.is) refl in
+    let faults : (value_read c.args.ty.now (context_in c.args.field)).faults ≡ WrongType ∷ [] =
     ap (λ d. (value_read c.args.ty.now d).faults) field ∙ ap (λ (t : TypeTree). (value_read t (string s)).faults) (sym c.record_type-attributes.ensures)
     ∙ string_is_no_record c.record_type-attributes.result.now s in
     subst (λ (fs : List ConformFault). Contains fs WrongType) (sym faults) (Contains-push [] WrongType)

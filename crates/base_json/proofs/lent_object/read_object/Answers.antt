@@ -1,0 +1,55 @@
+use Rattle.std.proofs.Common.{◌≡◌, ◌-◌, ◌++◌, ◌∷◌, [], List, Some, length, sym, ap, ◌∙◌, arith}
+use Rattle.json.specs.Json.{read_key, value}
+use Rattle.json.proofs.Grammar.{read_key-shorter}
+use Rattle.serde_json.specs.Data.{Members, no_members}
+use Rattle.base_json.specs.LentObjects.{part_view, put_all}
+use Rattle.base_json.specs.Private.Steps.{members_after}
+use Rattle.base_json.specs.declared.lent_object.LentMember.{LentMember}
+use Rattle.base_json.proofs.LentObjects.{put_all_last}
+use Rattle.base_json.proofs.Reading.{member_read, member_refused, key_refused, members_over}
+use Rattle.base_json.proofs.lent_object.read_object.Goals as goal
+
+pub members-init : goal.members-init
+members-init c =
+    let n = length c.args.reader.now in
+    (n, omega arith, ap (λ (xs : List LentMember). members_after (put_all xs no_members) c.args.depth n c.args.reader.now) (sym c.new-found.ensures.items), omega arith)
+
+pub returns-in_err-key-clause-err : goal.returns-in_err-key-clause-err
+returns-in_err-key-clause-err c refused =
+    let l = c.members in
+    l.invariant.2 ∙ key_refused (value c.args.depth) (put_all l.found.items no_members) l.invariant.0 l.reader c.in_err-key.ensures.value
+
+pub returns-in_err-value-clause-err : goal.returns-in_err-value-clause-err
+returns-in_err-value-clause-err c refused =
+    let l = c.members in
+    let k = c.in-Some.key.now in
+    let s = c.next_key.new.self in
+    let named : read_key l.reader ≡ Some (Some k, s) = grind arith in
+    l.invariant.2 ∙ member_refused (value c.args.depth) (put_all l.found.items no_members) l.invariant.0 k l.reader s named (c.read_part.ensures.err (grind arith))
+
+pub members-preserved : goal.members-preserved
+members-preserved c =
+    let l = c.members in
+    let p = value c.args.depth in
+    let old = put_all l.found.items no_members in
+    let n = l.invariant.0 in
+    let k = c.in-Some.key.now in
+    let s = c.next_key.new.self in
+    let named : read_key l.reader ≡ Some (Some k, s) = grind arith in
+    let v = c.in_ok-value.value in
+    let r = c.read_part.new.reader in
+    let less = read_key-shorter l.reader (Some k) s named in
+    let lesser = c.in_ok-value.ensures.shorter in
+    let m : LentMember = record { key = c.in-Some.key; value = v } in
+    let more : put_all c.push.new.self.items no_members ≡ put_all (l.found.items ++ m ∷ []) no_members = ap (λ (xs : List LentMember). put_all xs no_members) c.in_ok-push.ensures.items in (
+      n - 1,
+      omega (arith, l.invariant.1),
+      l.invariant.2 ∙ member_read p old n k l.reader s r (part_view v) (omega (arith, l.invariant.1)) named c.in_ok-value.ensures.ok
+          ∙ ap (λ (ms : Members). members_after ms c.args.depth (n - 1) r) (sym (more ∙ put_all_last l.found.items m no_members)),
+      omega (arith, l.invariant.3),
+    )
+
+pub returns-clause-ok : goal.returns-clause-ok
+returns-clause-ok c =
+    let l = c.members in
+    l.invariant.2 ∙ members_over (value c.args.depth) (put_all l.found.items no_members) l.invariant.0 l.reader c.next_key.new.self l.invariant.1 (grind arith)

@@ -3,6 +3,7 @@
 /// The text of the schema of a name, if there is one.
 pub fn named_schema(name: &str) -> Option<&'static str> {
     match name {
+        "contexts" => Some(CONTEXTS),
         "documents" => Some(DOCUMENTS),
         "four-contexts" => Some(FOUR_CONTEXTS),
         "groups" => Some(GROUPS),
@@ -14,6 +15,33 @@ pub fn named_schema(name: &str) -> Option<&'static str> {
         _ => None,
     }
 }
+
+// Actions of a User on a Doc: `view` with an attribute of each kind of type in the context, all optional, `list` with 33 numbers, and
+// `open` without attributes.
+const CONTEXTS: &str = r#"{"":{"entityTypes":{"User":{},"Doc":{}},
+ "actions":{
+  "open":{"appliesTo":{"principalTypes":["User"],"resourceTypes":["Doc"]}},
+  "view":{"appliesTo":{"principalTypes":["User"],"resourceTypes":["Doc"],"context":{"type":"Record","attributes":{
+    "text":{"type":"String","required":false},
+    "other":{"type":"String","required":false},
+    "long":{"type":"Long","required":false},
+    "truth":{"type":"Boolean","required":false},
+    "cost":{"type":"Extension","name":"decimal","required":false},
+    "user":{"type":"Entity","name":"User","required":false},
+    "texts":{"type":"Set","required":false,"element":{"type":"String"}},
+    "inner":{"type":"Record","required":false,"attributes":{"a":{"type":"Long"},"b":{"type":"String","required":false}}}}}}},
+  "list":{"appliesTo":{"principalTypes":["User"],"resourceTypes":["Doc"],"context":{"type":"Record","attributes":{
+    "c01":{"type":"Long","required":false},"c02":{"type":"Long","required":false},"c03":{"type":"Long","required":false},
+    "c04":{"type":"Long","required":false},"c05":{"type":"Long","required":false},"c06":{"type":"Long","required":false},
+    "c07":{"type":"Long","required":false},"c08":{"type":"Long","required":false},"c09":{"type":"Long","required":false},
+    "c10":{"type":"Long","required":false},"c11":{"type":"Long","required":false},"c12":{"type":"Long","required":false},
+    "c13":{"type":"Long","required":false},"c14":{"type":"Long","required":false},"c15":{"type":"Long","required":false},
+    "c16":{"type":"Long","required":false},"c17":{"type":"Long","required":false},"c18":{"type":"Long","required":false},
+    "c19":{"type":"Long","required":false},"c20":{"type":"Long","required":false},"c21":{"type":"Long","required":false},
+    "c22":{"type":"Long","required":false},"c23":{"type":"Long","required":false},"c24":{"type":"Long","required":false},
+    "c25":{"type":"Long","required":false},"c26":{"type":"Long","required":false},"c27":{"type":"Long","required":false},
+    "c28":{"type":"Long","required":false},"c29":{"type":"Long","required":false},"c30":{"type":"Long","required":false},
+    "c31":{"type":"Long","required":false},"c32":{"type":"Long","required":false},"c33":{"type":"Long","required":false}}}}}}}}"#;
 
 // Documents with an owner: a User or an Admin may view a Doc, with a number in the context; a User may delete one; `read` is a
 // group of actions that applies to nothing.

@@ -84,37 +84,42 @@ short_is a kind h = short_by short_rows are_short a kind h
 
 -- ---- the signs of the grammar, by their lengths
 
+-- a sign is no other piece
+abbrev Starts : List ℕ → Type 0
+Starts front = (rest : List ℕ) → piece (front ++ rest) ≡ sign_at (front ++ rest)
+
 abbrev IsOne : List ℕ → TokenKind → Type 0
-IsOne front kind = (a : ℕ) × (front ≡ a ∷ []) × (short_sign a ≡ Some kind) × (a < 128)
+IsOne front kind = (a : ℕ) × (front ≡ a ∷ []) × (short_sign a ≡ Some kind) × (a < 128) × Starts (a ∷ [])
 
 abbrev IsTwo : List ℕ → TokenKind → Type 0
-IsTwo front kind = (a b : ℕ) × (front ≡ a ∷ b ∷ []) × (long_sign a b ≡ Some kind) × (0 < b) × (b < 128)
+IsTwo front kind = (a b : ℕ) × (front ≡ a ∷ b ∷ []) × (long_sign a b ≡ Some kind) × (0 < b) × (b < 128) × Starts (a ∷ b ∷ [])
 
 pub sign_is : (front : List ℕ) (kind : TokenKind) → IsSign front kind → IsOne front kind ⊎ IsTwo front kind
-sign_is front kind double_colon = inr (58, 58, refl, refl, omega arith, omega arith)
-sign_is front kind equal = inr (61, 61, refl, refl, omega arith, omega arith)
-sign_is front kind not_equal = inr (33, 61, refl, refl, omega arith, omega arith)
-sign_is front kind less_equal = inr (60, 61, refl, refl, omega arith, omega arith)
-sign_is front kind greater_equal = inr (62, 61, refl, refl, omega arith, omega arith)
-sign_is front kind and_and = inr (38, 38, refl, refl, omega arith, omega arith)
-sign_is front kind or_or = inr (124, 124, refl, refl, omega arith, omega arith)
-sign_is front kind at = inl (64, refl, refl, omega arith)
-sign_is front kind left_paren = inl (40, refl, refl, omega arith)
-sign_is front kind right_paren = inl (41, refl, refl, omega arith)
-sign_is front kind left_brace = inl (123, refl, refl, omega arith)
-sign_is front kind right_brace = inl (125, refl, refl, omega arith)
-sign_is front kind left_bracket = inl (91, refl, refl, omega arith)
-sign_is front kind right_bracket = inl (93, refl, refl, omega arith)
-sign_is front kind comma = inl (44, refl, refl, omega arith)
-sign_is front kind semicolon = inl (59, refl, refl, omega arith)
-sign_is front kind dot = inl (46, refl, refl, omega arith)
-sign_is front kind colon = inl (58, refl, refl, omega arith)
-sign_is front kind less = inl (60, refl, refl, omega arith)
-sign_is front kind greater = inl (62, refl, refl, omega arith)
-sign_is front kind plus = inl (43, refl, refl, omega arith)
-sign_is front kind minus = inl (45, refl, refl, omega arith)
-sign_is front kind star = inl (42, refl, refl, omega arith)
-sign_is front kind not = inl (33, refl, refl, omega arith)
+unfolding piece
+sign_is front kind double_colon = inr (58, 58, refl, refl, omega arith, omega arith, λ rest. refl)
+sign_is front kind equal = inr (61, 61, refl, refl, omega arith, omega arith, λ rest. refl)
+sign_is front kind not_equal = inr (33, 61, refl, refl, omega arith, omega arith, λ rest. refl)
+sign_is front kind less_equal = inr (60, 61, refl, refl, omega arith, omega arith, λ rest. refl)
+sign_is front kind greater_equal = inr (62, 61, refl, refl, omega arith, omega arith, λ rest. refl)
+sign_is front kind and_and = inr (38, 38, refl, refl, omega arith, omega arith, λ rest. refl)
+sign_is front kind or_or = inr (124, 124, refl, refl, omega arith, omega arith, λ rest. refl)
+sign_is front kind at = inl (64, refl, refl, omega arith, λ rest. refl)
+sign_is front kind left_paren = inl (40, refl, refl, omega arith, λ rest. refl)
+sign_is front kind right_paren = inl (41, refl, refl, omega arith, λ rest. refl)
+sign_is front kind left_brace = inl (123, refl, refl, omega arith, λ rest. refl)
+sign_is front kind right_brace = inl (125, refl, refl, omega arith, λ rest. refl)
+sign_is front kind left_bracket = inl (91, refl, refl, omega arith, λ rest. refl)
+sign_is front kind right_bracket = inl (93, refl, refl, omega arith, λ rest. refl)
+sign_is front kind comma = inl (44, refl, refl, omega arith, λ rest. refl)
+sign_is front kind semicolon = inl (59, refl, refl, omega arith, λ rest. refl)
+sign_is front kind dot = inl (46, refl, refl, omega arith, λ rest. refl)
+sign_is front kind colon = inl (58, refl, refl, omega arith, λ rest. refl)
+sign_is front kind less = inl (60, refl, refl, omega arith, λ rest. refl)
+sign_is front kind greater = inl (62, refl, refl, omega arith, λ rest. refl)
+sign_is front kind plus = inl (43, refl, refl, omega arith, λ rest. refl)
+sign_is front kind minus = inl (45, refl, refl, omega arith, λ rest. refl)
+sign_is front kind star = inl (42, refl, refl, omega arith, λ rest. refl)
+sign_is front kind not = inl (33, refl, refl, omega arith, λ rest. refl)
 
 -- ---- the longest
 
@@ -155,45 +160,15 @@ none_by a (b ∷ rest) (Some kind) l e = absurd (too_long a b rest kind l e)
 
 -- ---- a sign of the grammar is found
 
-starts_sign : (front rest : List ℕ) (kind : TokenKind) → IsSign front kind → piece (front ++ rest) ≡ sign_at (front ++ rest)
-unfolding piece
-starts_sign front rest kind double_colon = refl
-starts_sign front rest kind equal = refl
-starts_sign front rest kind not_equal = refl
-starts_sign front rest kind less_equal = refl
-starts_sign front rest kind greater_equal = refl
-starts_sign front rest kind and_and = refl
-starts_sign front rest kind or_or = refl
-starts_sign front rest kind at = refl
-starts_sign front rest kind left_paren = refl
-starts_sign front rest kind right_paren = refl
-starts_sign front rest kind left_brace = refl
-starts_sign front rest kind right_brace = refl
-starts_sign front rest kind left_bracket = refl
-starts_sign front rest kind right_bracket = refl
-starts_sign front rest kind comma = refl
-starts_sign front rest kind semicolon = refl
-starts_sign front rest kind dot = refl
-starts_sign front rest kind colon = refl
-starts_sign front rest kind less = refl
-starts_sign front rest kind greater = refl
-starts_sign front rest kind plus = refl
-starts_sign front rest kind minus = refl
-starts_sign front rest kind star = refl
-starts_sign front rest kind not = refl
-
 one_at : (a : ℕ) (rest : List ℕ) (kind : TokenKind) → IsLongest (a ∷ []) rest → short_sign a ≡ Some kind → sign_at (a ∷ rest) ≡ Ok (lexed kind 1 0)
 one_at a rest kind l h =
     ap (λ (found : Option TokenKind). sign_of found (short_sign a)) (none_by a rest (long_sign a (first rest)) l refl) ∙ ap (λ (found : Option TokenKind). sign_of None found) h
 
-longest_at : (front rest : List ℕ) (kind : TokenKind) → IsSign front kind → IsLongest front rest → sign_at (front ++ rest) ≡ Ok (lexed kind (length front) 0)
-longest_at front rest kind i l =
+pub sign_again : (front rest : List ℕ) (kind : TokenKind) → IsSign front kind → IsLongest front rest → piece (front ++ rest) ≡ Ok (lexed kind (length front) 0)
+sign_again front rest kind i l =
     elim (sign_is front kind i) [
       | inl w ↦
-          subst (λ (xs : List ℕ). sign_at (xs ++ rest) ≡ Ok (lexed kind (length xs) 0)) (sym w.1) (one_at w.0 rest kind (subst (λ (xs : List ℕ). IsLongest xs rest) w.1 l) w.2)
+          subst (λ (xs : List ℕ). piece (xs ++ rest) ≡ Ok (lexed kind (length xs) 0)) (sym w.1) (w.4 rest ∙ one_at w.0 rest kind (subst (λ (xs : List ℕ). IsLongest xs rest) w.1 l) w.2)
       | inr w ↦
-          subst (λ (xs : List ℕ). sign_at (xs ++ rest) ≡ Ok (lexed kind (length xs) 0)) (sym w.2) (ap (λ (found : Option TokenKind). sign_of found (short_sign w.0)) w.3)
+          subst (λ (xs : List ℕ). piece (xs ++ rest) ≡ Ok (lexed kind (length xs) 0)) (sym w.2) (w.6 rest ∙ ap (λ (found : Option TokenKind). sign_of found (short_sign w.0)) w.3)
     ]
-
-pub sign_again : (front rest : List ℕ) (kind : TokenKind) → IsSign front kind → IsLongest front rest → piece (front ++ rest) ≡ Ok (lexed kind (length front) 0)
-sign_again front rest kind i l = starts_sign front rest kind i ∙ longest_at front rest kind i l

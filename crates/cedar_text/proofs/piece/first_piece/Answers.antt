@@ -1,12 +1,7 @@
 use Rattle.std.proofs.Common.{rules, arith, ◌≡◌}
 use Rattle.std.proofs.lemmas.Grind.{common_steps}
-use Rattle.cedar_text.specs.Private.Lexing.{piece, number_at, sign_at}
+use Rattle.cedar_text.specs.Private.Lexing.{piece, sign_at}
 use Rattle.cedar_text.proofs.piece.first_piece.Goals as goal
-
-pub returns-then-is_digit : goal.returns-then-is_digit
-unfolding piece
-returns-then-is_digit c =
-    let number : piece c.args.bytes.now ≡ number_at c.args.bytes.now = first_of (search rules, grind (arith, common_steps)) in rw number c.number.ensures
 
 pub returns : goal.returns
 unfolding piece

@@ -2,6 +2,5 @@
 pub mod Depth
 pub mod ExpressionCode
 pub mod Falls
-pub mod OperatorCode
 pub mod Replaced
 pub mod SameExpression

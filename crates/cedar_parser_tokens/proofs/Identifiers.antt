@@ -1,5 +1,5 @@
 -- The identifiers of names are the tokens that are identifiers.
-use Rattle.std.proofs.Common.{◌≡◌, refl, sym, ap, subst, ◌∙◌, ℕ, Bool, true, false, cond, ◌&&◌, not, List, [], ◌∷◌, codes}
+use Rattle.std.proofs.Common.{◌≡◌, refl, sym, ap, subst, ◌∙◌, ℕ, Bool, true, false, cond, ◌&&◌, not, List, ◌∷◌, codes, []}
 use Rattle.std.specs.Prelude.{◌||◌, ◌==◌, nat_le}
 use Rattle.std.specs.List.{list_all, list_any}
 use Rattle.std.specs.Str.{bytes_eq}
@@ -57,28 +57,12 @@ kind_by b1 b2 b3 b4 b5 b6 b7 b8 b9 =
     cond b1 k.True (cond b2 k.False (cond b3 k.If (cond b4 k.Then (cond b5 k.Else (cond b6 k.In (cond b7 k.Is (cond b8 k.Like (cond b9 k.Has k.Identifier))))))))
 
 free_of : (b1 b2 b3 b4 b5 b6 b7 b8 b9 : Bool) → kind_by b1 b2 b3 b4 b5 b6 b7 b8 b9 ≡ k.Identifier → (b1 || (b2 || (b3 || (b4 || (b5 || (b6 || (b7 || (b8 || (b9 || false))))))))) ≡ false
-free_of true b2 b3 b4 b5 b6 b7 b8 b9 e = absurd cc
-free_of false true b3 b4 b5 b6 b7 b8 b9 e = absurd cc
-free_of false false true b4 b5 b6 b7 b8 b9 e = absurd cc
-free_of false false false true b5 b6 b7 b8 b9 e = absurd cc
-free_of false false false false true b6 b7 b8 b9 e = absurd cc
-free_of false false false false false true b7 b8 b9 e = absurd cc
-free_of false false false false false false true b8 b9 e = absurd cc
-free_of false false false false false false false true b9 e = absurd cc
-free_of false false false false false false false false true e = absurd cc
 free_of false false false false false false false false false e = refl
+free_of _ _ _ _ _ _ _ _ _ e = absurd cc
 
 kind_of_free : (b1 b2 b3 b4 b5 b6 b7 b8 b9 : Bool) → (b1 || (b2 || (b3 || (b4 || (b5 || (b6 || (b7 || (b8 || (b9 || false))))))))) ≡ false → kind_by b1 b2 b3 b4 b5 b6 b7 b8 b9 ≡ k.Identifier
-kind_of_free true b2 b3 b4 b5 b6 b7 b8 b9 e = absurd cc
-kind_of_free false true b3 b4 b5 b6 b7 b8 b9 e = absurd cc
-kind_of_free false false true b4 b5 b6 b7 b8 b9 e = absurd cc
-kind_of_free false false false true b5 b6 b7 b8 b9 e = absurd cc
-kind_of_free false false false false true b6 b7 b8 b9 e = absurd cc
-kind_of_free false false false false false true b7 b8 b9 e = absurd cc
-kind_of_free false false false false false false true b8 b9 e = absurd cc
-kind_of_free false false false false false false false true b9 e = absurd cc
-kind_of_free false false false false false false false false true e = absurd cc
 kind_of_free false false false false false false false false false e = refl
+kind_of_free _ _ _ _ _ _ _ _ _ e = absurd cc
 
 either_same : (a b c d : Bool) → a ≡ b → c ≡ d → (a || c) ≡ (b || d)
 either_same a b c d e f = ap (λ (x : Bool). x || c) e ∙ ap (λ (x : Bool). b || x) f
@@ -104,29 +88,7 @@ both a b e f = ap (λ (x : Bool). x && b) e ∙ f
 
 no_identifier_sign : (front : List ℕ) (kind : TokenKind) → IsSign front kind → kind ≡ k.Identifier → ⊥
 no_identifier_sign front kind sign.double_colon e = absurd cc
-no_identifier_sign front kind sign.equal e = absurd cc
-no_identifier_sign front kind sign.not_equal e = absurd cc
-no_identifier_sign front kind sign.less_equal e = absurd cc
-no_identifier_sign front kind sign.greater_equal e = absurd cc
-no_identifier_sign front kind sign.and_and e = absurd cc
-no_identifier_sign front kind sign.or_or e = absurd cc
-no_identifier_sign front kind sign.at e = absurd cc
-no_identifier_sign front kind sign.left_paren e = absurd cc
-no_identifier_sign front kind sign.right_paren e = absurd cc
-no_identifier_sign front kind sign.left_brace e = absurd cc
-no_identifier_sign front kind sign.right_brace e = absurd cc
-no_identifier_sign front kind sign.left_bracket e = absurd cc
-no_identifier_sign front kind sign.right_bracket e = absurd cc
-no_identifier_sign front kind sign.comma e = absurd cc
-no_identifier_sign front kind sign.semicolon e = absurd cc
-no_identifier_sign front kind sign.dot e = absurd cc
-no_identifier_sign front kind sign.colon e = absurd cc
-no_identifier_sign front kind sign.less e = absurd cc
-no_identifier_sign front kind sign.greater e = absurd cc
-no_identifier_sign front kind sign.plus e = absurd cc
-no_identifier_sign front kind sign.minus e = absurd cc
-no_identifier_sign front kind sign.star e = absurd cc
-no_identifier_sign front kind sign.not e = absurd cc
+no_identifier_sign front kind _ e = absurd cc
 
 pub identifier_before : (word rest : List ℕ) → is_identifier word ≡ true → Stops bytes.is_word rest → IsToken k.Identifier 0 word rest
 identifier_before [] rest e stops = absurd cc
@@ -142,7 +104,5 @@ identifier_token word e = identifier_before word [] e tt
 pub token_identifier : (n : ℕ) (kind : TokenKind) (word rest : List ℕ) → IsToken kind n word rest → kind ≡ k.Identifier → is_identifier word ≡ true
 token_identifier n kind word rest (cut.word {b = b} {bs = bs} h a s) e =
     both (is_word (b ∷ bs)) (not (is_reserved (b ∷ bs))) (both (is_word_start b) (list_all is_word_byte bs) (sym (letter_same b) ∙ h) (sym (words_same bs) ∙ a)) (ap not (free_word (b ∷ bs) e))
-token_identifier n kind word rest (cut.number h a s l) e = absurd cc
-token_identifier n kind word rest (cut.string s) e = absurd cc
-token_identifier n kind word rest (cut.slot h a s) e = absurd cc
 token_identifier n kind word rest (cut.sign {kind = q} {front = f} i l) e = absurd (no_identifier_sign f q i e)
+token_identifier n kind word rest _ e = absurd cc

@@ -1,5 +1,5 @@
 -- Tokens and their letters.
-use Rattle.std.proofs.Common.{◌≡◌, refl, sym, ap, subst, ◌∙◌, ℕ, zero, suc, ◌+◌, ◌<◌, List, [], ◌∷◌, ◌++◌, length, get_or, take, add-one, arith}
+use Rattle.std.proofs.Common.{◌≡◌, refl, sym, ap, subst, ◌∙◌, ℕ, zero, suc, ◌+◌, ◌<◌, List, ◌∷◌, ◌++◌, length, get_or, take, add-one, arith, []}
 use Rattle.cedar_text.specs.declared.letter.Letter.{Letter}
 use Rattle.cedar_text.specs.declared.token_kind.TokenKind.{TokenKind}
 use Rattle.cedar_text.specs.declared.token_kind.TokenKind.TheVariants as k
@@ -36,42 +36,7 @@ none_left (u ∷ us) e = absurd (omega arith)
 letters_same : (law : (text : List ℕ) (letters others : List Letter) → IsSpelled text letters → IsSpelled text others → letters ≡ others)
     → (q : TokenKind) (text : List ℕ) (a b : List Letter) → HasLetters q text a → HasLetters q text b → a ≡ b
 letters_same law k.String text a b h g = law text a b h g
-letters_same law k.True text a b h g = h ∙ sym g
-letters_same law k.False text a b h g = h ∙ sym g
-letters_same law k.If text a b h g = h ∙ sym g
-letters_same law k.Then text a b h g = h ∙ sym g
-letters_same law k.Else text a b h g = h ∙ sym g
-letters_same law k.In text a b h g = h ∙ sym g
-letters_same law k.Is text a b h g = h ∙ sym g
-letters_same law k.Like text a b h g = h ∙ sym g
-letters_same law k.Has text a b h g = h ∙ sym g
-letters_same law k.Identifier text a b h g = h ∙ sym g
-letters_same law k.Number text a b h g = h ∙ sym g
-letters_same law k.Slot text a b h g = h ∙ sym g
-letters_same law k.DoubleColon text a b h g = h ∙ sym g
-letters_same law k.Equal text a b h g = h ∙ sym g
-letters_same law k.NotEqual text a b h g = h ∙ sym g
-letters_same law k.LessEqual text a b h g = h ∙ sym g
-letters_same law k.GreaterEqual text a b h g = h ∙ sym g
-letters_same law k.AndAnd text a b h g = h ∙ sym g
-letters_same law k.OrOr text a b h g = h ∙ sym g
-letters_same law k.At text a b h g = h ∙ sym g
-letters_same law k.LeftParen text a b h g = h ∙ sym g
-letters_same law k.RightParen text a b h g = h ∙ sym g
-letters_same law k.LeftBrace text a b h g = h ∙ sym g
-letters_same law k.RightBrace text a b h g = h ∙ sym g
-letters_same law k.LeftBracket text a b h g = h ∙ sym g
-letters_same law k.RightBracket text a b h g = h ∙ sym g
-letters_same law k.Comma text a b h g = h ∙ sym g
-letters_same law k.Semicolon text a b h g = h ∙ sym g
-letters_same law k.Dot text a b h g = h ∙ sym g
-letters_same law k.Colon text a b h g = h ∙ sym g
-letters_same law k.Less text a b h g = h ∙ sym g
-letters_same law k.Greater text a b h g = h ∙ sym g
-letters_same law k.Plus text a b h g = h ∙ sym g
-letters_same law k.Minus text a b h g = h ∙ sym g
-letters_same law k.Star text a b h g = h ∙ sym g
-letters_same law k.Not text a b h g = h ∙ sym g
+letters_same law _ text a b h g = h ∙ sym g
 
 mark_same : (law : (text : List ℕ) (letters others : List Letter) → IsSpelled text letters → IsSpelled text others → letters ≡ others) → (t : Lexeme) (m n : Mark) → IsMark t m → IsMark t n → m ≡ n
 mark_same law t m n h g = h.0 ∙ ap (mark_of t) (letters_same law t.kind t.text m.letters n.letters h.1 g.1) ∙ sym g.0

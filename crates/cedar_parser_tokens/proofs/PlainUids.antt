@@ -1,5 +1,5 @@
 -- A text in the plain form has the tokens of its path, `::` and a string, so it is the text of that uid.
-use Rattle.std.proofs.Common.{◌≡◌, refl, sym, ap, subst, ◌∙◌, ℕ, ◌+◌, ◌≤◌, true, List, [], ◌∷◌, ◌++◌, length, Option, Some, codes, append_assoc, append-nil, arith}
+use Rattle.std.proofs.Common.{◌≡◌, refl, sym, ap, subst, ◌∙◌, ℕ, ◌+◌, ◌≤◌, true, List, ◌∷◌, ◌++◌, length, Option, Some, codes, append_assoc, append-nil, arith, []}
 use Rattle.std.specs.Prelude.{IsSome, IfSome}
 use Rattle.std.specs.List.{list_all}
 use Rattle.std.proofs.lemmas.Bool.{and_parts}
@@ -26,29 +26,7 @@ use Rattle.cedar_parser_tokens.proofs.PlainLetters.{Letters, plain_letters, plai
 
 sign_short : (front : List ℕ) (kind : TokenKind) → IsSign front kind → length front ≤ 2
 sign_short front kind sign.double_colon = omega arith
-sign_short front kind sign.equal = omega arith
-sign_short front kind sign.not_equal = omega arith
-sign_short front kind sign.less_equal = omega arith
-sign_short front kind sign.greater_equal = omega arith
-sign_short front kind sign.and_and = omega arith
-sign_short front kind sign.or_or = omega arith
-sign_short front kind sign.at = omega arith
-sign_short front kind sign.left_paren = omega arith
-sign_short front kind sign.right_paren = omega arith
-sign_short front kind sign.left_brace = omega arith
-sign_short front kind sign.right_brace = omega arith
-sign_short front kind sign.left_bracket = omega arith
-sign_short front kind sign.right_bracket = omega arith
-sign_short front kind sign.comma = omega arith
-sign_short front kind sign.semicolon = omega arith
-sign_short front kind sign.dot = omega arith
-sign_short front kind sign.colon = omega arith
-sign_short front kind sign.less = omega arith
-sign_short front kind sign.greater = omega arith
-sign_short front kind sign.plus = omega arith
-sign_short front kind sign.minus = omega arith
-sign_short front kind sign.star = omega arith
-sign_short front kind sign.not = omega arith
+sign_short front kind _ = omega arith
 
 colons_token : (rest : List ℕ) → IsToken k.DoubleColon 0 (codes "::") rest
 colons_token rest = cut.sign sign.double_colon (λ other more kind i e. sign_short other kind i)

@@ -1,5 +1,5 @@
 -- From a text to its tokens with their letters, and from these to the uid that is answered.
-use Rattle.std.proofs.Common.{◌≡◌, refl, sym, ap, subst, ◌∙◌, ℕ, ◌<◌, length, List, [], Option, Some, None, false, Ok, Err, arith}
+use Rattle.std.proofs.Common.{◌≡◌, refl, sym, ap, subst, ◌∙◌, ℕ, ◌<◌, length, List, Option, Some, None, false, Ok, Err, arith, []}
 use Rattle.std.specs.Prelude.{IsSome, is_some}
 use Rattle.cedar_value.specs.declared.uid.Uid.{Uid}
 use Rattle.cedar_parser_tokens.specs.Content.{text_of}
@@ -76,33 +76,13 @@ pub uid_refused : (source : List ℕ) (ms : Marks) → IsText source ms → (x :
 uid_refused source ms t f.OutOfMemory e uid h = tt
 uid_refused source ms t (f.Syntax at) e uid h = uid_none ms e h.written (subst (λ (ns : Marks). Entity ns h.written []) (sym (t.only h.tokens h.are_tokens)) h.reading)
 uid_refused source ms t (f.TooDeep at) e uid h = no_deep_uid ms e
-uid_refused source ms t (f.Text at) e uid h = e
-uid_refused source ms t (f.EscapedStar at) e uid h = e
-uid_refused source ms t (f.NumberTooLarge at) e uid h = e
-uid_refused source ms t (f.TooHigh at) e uid h = e
-uid_refused source ms t (f.DuplicateKey at) e uid h = e
-uid_refused source ms t (f.DuplicateId at) e uid h = e
-uid_refused source ms t (f.UnknownFunction at) e uid h = e
-uid_refused source ms t (f.Arity at) e uid h = e
-uid_refused source ms t (f.SlotMisplaced at) e uid h = e
-uid_refused source ms t (f.DuplicateAnnotation at) e uid h = e
-uid_refused source ms t (f.TooLarge at) e uid h = e
+uid_refused source ms t _ e uid h = e
 
 pub uid_fault : (source : List ℕ) (ms : Marks) → IsText source ms → (x : ParseFault) → Refuses (r.entity ms) x → HasUidFault source x
 uid_fault source ms t f.OutOfMemory e = tt
 uid_fault source ms t (f.Syntax at) e = (ms, t.are, uid_none ms e)
 uid_fault source ms t (f.TooDeep at) e = absurd (no_deep_uid ms e)
-uid_fault source ms t (f.Text at) e = absurd e
-uid_fault source ms t (f.EscapedStar at) e = absurd e
-uid_fault source ms t (f.NumberTooLarge at) e = absurd e
-uid_fault source ms t (f.TooHigh at) e = absurd e
-uid_fault source ms t (f.DuplicateKey at) e = absurd e
-uid_fault source ms t (f.DuplicateId at) e = absurd e
-uid_fault source ms t (f.UnknownFunction at) e = absurd e
-uid_fault source ms t (f.Arity at) e = absurd e
-uid_fault source ms t (f.SlotMisplaced at) e = absurd e
-uid_fault source ms t (f.DuplicateAnnotation at) e = absurd e
-uid_fault source ms t (f.TooLarge at) e = absurd e
+uid_fault source ms t _ e = absurd e
 
 -- a string with `\*` denotes no text
 pub uid_star : (c : Option (List ℕ)) → is_some c ≡ false → IsSome c → ⊥
@@ -112,32 +92,9 @@ uid_star c e h = absurd cc
 
 pub unread_uid : (uid : Uid) (ms : Marks) (x : ParseFault) → HasMarks ms (Err x) → AnswersUid uid (Err x)
 unread_uid uid ms f.OutOfMemory h = tt
-unread_uid uid ms (f.Text at) h = h
-unread_uid uid ms (f.Syntax at) h = h
-unread_uid uid ms (f.EscapedStar at) h = h
-unread_uid uid ms (f.NumberTooLarge at) h = h
-unread_uid uid ms (f.TooDeep at) h = h
-unread_uid uid ms (f.TooHigh at) h = h
-unread_uid uid ms (f.DuplicateKey at) h = h
-unread_uid uid ms (f.DuplicateId at) h = h
-unread_uid uid ms (f.UnknownFunction at) h = h
-unread_uid uid ms (f.Arity at) h = h
-unread_uid uid ms (f.SlotMisplaced at) h = h
-unread_uid uid ms (f.DuplicateAnnotation at) h = h
-unread_uid uid ms (f.TooLarge at) h = h
+unread_uid uid ms _ h = h
 
 pub unread_uid_fault : (source : List ℕ) (x : ParseFault) → HasMarksFault source x → HasUidFault source x
 unread_uid_fault source f.OutOfMemory h = tt
 unread_uid_fault source (f.Text at) h = h
-unread_uid_fault source (f.Syntax at) h = absurd h
-unread_uid_fault source (f.EscapedStar at) h = absurd h
-unread_uid_fault source (f.NumberTooLarge at) h = absurd h
-unread_uid_fault source (f.TooDeep at) h = absurd h
-unread_uid_fault source (f.TooHigh at) h = absurd h
-unread_uid_fault source (f.DuplicateKey at) h = absurd h
-unread_uid_fault source (f.DuplicateId at) h = absurd h
-unread_uid_fault source (f.UnknownFunction at) h = absurd h
-unread_uid_fault source (f.Arity at) h = absurd h
-unread_uid_fault source (f.SlotMisplaced at) h = absurd h
-unread_uid_fault source (f.DuplicateAnnotation at) h = absurd h
-unread_uid_fault source (f.TooLarge at) h = absurd h
+unread_uid_fault source _ h = absurd h

@@ -1,5 +1,5 @@
 -- Whether a text is that of a uid is decided, by what reads one.
-use Rattle.std.proofs.Common.{◌≡◌, refl, sym, subst, ℕ, Bool, true, false, cond, List, [], ◌∷◌, ◌++◌, Option, Some, None, Ok, Err, codes, ◌⊎◌, inl, inr, arith}
+use Rattle.std.proofs.Common.{◌≡◌, refl, sym, subst, ℕ, Bool, true, false, cond, List, ◌∷◌, ◌++◌, Option, Some, None, Ok, Err, codes, ◌⊎◌, inl, inr, arith, []}
 use Rattle.std.specs.Prelude.{IsSome}
 use Rattle.std.specs.Str.{bytes_eq}
 use Rattle.cedar_value.specs.declared.uid.Uid.{Uid}
@@ -43,29 +43,7 @@ no_string_word w =
 
 no_string_sign : (front : List ℕ) (kind : TokenKind) → IsSign front kind → kind ≡ k.String → ⊥
 no_string_sign front kind sign.double_colon e = absurd cc
-no_string_sign front kind sign.equal e = absurd cc
-no_string_sign front kind sign.not_equal e = absurd cc
-no_string_sign front kind sign.less_equal e = absurd cc
-no_string_sign front kind sign.greater_equal e = absurd cc
-no_string_sign front kind sign.and_and e = absurd cc
-no_string_sign front kind sign.or_or e = absurd cc
-no_string_sign front kind sign.at e = absurd cc
-no_string_sign front kind sign.left_paren e = absurd cc
-no_string_sign front kind sign.right_paren e = absurd cc
-no_string_sign front kind sign.left_brace e = absurd cc
-no_string_sign front kind sign.right_brace e = absurd cc
-no_string_sign front kind sign.left_bracket e = absurd cc
-no_string_sign front kind sign.right_bracket e = absurd cc
-no_string_sign front kind sign.comma e = absurd cc
-no_string_sign front kind sign.semicolon e = absurd cc
-no_string_sign front kind sign.dot e = absurd cc
-no_string_sign front kind sign.colon e = absurd cc
-no_string_sign front kind sign.less e = absurd cc
-no_string_sign front kind sign.greater e = absurd cc
-no_string_sign front kind sign.plus e = absurd cc
-no_string_sign front kind sign.minus e = absurd cc
-no_string_sign front kind sign.star e = absurd cc
-no_string_sign front kind sign.not e = absurd cc
+no_string_sign front kind _ e = absurd cc
 
 string_in : (kind : TokenKind) (n : ℕ) (front rest : List ℕ) → IsToken kind n front rest → kind ≡ k.String → IsQuotedString front
 string_in kind n front rest (cut.word {b = b} {bs = bs} h a s) e = absurd (no_string_word (b ∷ bs) e)

@@ -67,6 +67,7 @@ impl<'t> Cursor<'t> {
     }
 
     /// How many tokens are left.
+    #[tactic(auto, using(crate::proofs::SpellsLemmas::length_marks))]
     pub fn left(&self) -> usize
         ensures { result ≡ length self.now }
     {
@@ -107,7 +108,7 @@ impl<'t> Cursor<'t> {
     }
 
     /// Whether the token after the next is of this kind.
-    #[tactic(auto, unfolding(crate::specs::Reading::sees, crate::specs::Reading::next))]
+    #[tactic(auto, using(crate::proofs::SpellsLemmas::none_behind), unfolding(crate::specs::Reading::sees, crate::specs::Reading::next))]
     pub fn sees_second(&self, kind: TokenKind) -> bool
         ensures { result ≡ spec.sees kind (spec.next self.now) }
     {

@@ -60,6 +60,7 @@ pub fn parse_path(alloc: Global, tokens: &mut Cursor<'_>) -> Result<Name, ParseF
 }
 
 // Parses the rest of a path after its first word.
+#[tactic(auto, using(crate::proofs::Turns::one_left), unfolding(crate::specs::Reading::path_from))]
 fn parse_longer_path(
     alloc: Global,
     first: &str,
@@ -128,6 +129,7 @@ pub fn parse_entity_of_type(
 
 /// The identifiers of names, also of those in schemas, are exactly the tokens that are identifiers (Cedar language reference,
 /// grammar: `IDENT`). A law: it runs no code.
+#[tactic(auto, using(crate::proofs::Identifiers::identifier_token, crate::proofs::Identifiers::token_identifier))]
 pub fn one_identifier()
     // An identifier is one token.
     ensures token { (word : List ℕ) → is_identifier word ≡ true → IsToken Identifier 0 word [] }

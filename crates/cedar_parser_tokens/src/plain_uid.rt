@@ -35,6 +35,7 @@ pub struct PlainUid<'t> {
 /// The type and the id of a text in the plain form, for example `Photos::User::"ann"`. Where the type is a name, they are those of the
 /// text's uid (Cedar language reference, entity identifiers). None for another text; that text may still write a uid, which
 /// `read_uid` reads. Takes no memory.
+#[tactic(auto, using(crate::proofs::PlainUids::plain_text_uid))]
 pub fn plain_uid_texts(source: &str) -> Option<PlainUid<'_>>
     ensures { IfSome result (λ texts. IsName texts.ty.now → IsUidText source.now (record { ty = texts.ty.now; id = texts.id.now })) }
 {

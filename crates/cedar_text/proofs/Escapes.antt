@@ -1,5 +1,5 @@
 -- The escape that the reader finds is the one of the grammar, and where it finds none there is none.
-use Rattle.std.proofs.Common.{◌≡◌, refl, sym, ap, subst, ◌∙◌, ℕ, ◌+◌, ◌≤◌, ◌<◌, true, false, cond, eqb, ltb, ◌&&◌, ◌||◌, List, [], ◌∷◌, ◌++◌, length, take, drop, Option, Some, None, inl, inr, append_assoc, length-append, arith}
+use Rattle.std.proofs.Common.{◌≡◌, refl, sym, ap, subst, ◌∙◌, ℕ, ◌+◌, ◌≤◌, ◌<◌, true, false, cond, eqb, ltb, ◌&&◌, ◌||◌, List, ◌∷◌, ◌++◌, length, take, drop, Option, Some, None, inl, inr, append_assoc, length-append, arith, []}
 use Rattle.std.specs.Prelude.{slice_index}
 use Rattle.std.specs.Char.{digit_value, IsScalar}
 use Rattle.std.specs.List.{prefix_len, list_all}
@@ -46,12 +46,7 @@ code_again digits rest h low high s =
 short_again : (b c : ℕ) (rest : List ℕ) → IsShort b c → escape_len (b ∷ rest) ≡ Some 1
 unfolding escape_len
 short_again b c rest line_feed = refl
-short_again b c rest carriage_return = refl
-short_again b c rest tab = refl
-short_again b c rest backslash = refl
-short_again b c rest null = refl
-short_again b c rest apostrophe = refl
-short_again b c rest quote = refl
+short_again b c rest _ = refl
 
 pub escape_again : (front rest : List ℕ) (letter : Letter) → IsEscape front letter → escape_len (front ++ rest) ≡ Some (length front)
 unfolding escape_len

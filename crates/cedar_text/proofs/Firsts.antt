@@ -1,5 +1,5 @@
 -- The letter that the reader finds first is the one that the text writes there.
-use Rattle.std.proofs.Common.{◌≡◌, ◌≢◌, refl, sym, ap, subst, ◌∙◌, ℕ, ◌+◌, ◌≤◌, ◌<◌, true, ◌&&◌, List, [], ◌∷◌, ◌++◌, length, take, drop, Option, Some, None, append_assoc, length-append, arith}
+use Rattle.std.proofs.Common.{◌≡◌, ◌≢◌, refl, sym, ap, subst, ◌∙◌, ℕ, ◌+◌, ◌≤◌, ◌<◌, true, ◌&&◌, List, ◌∷◌, ◌++◌, length, take, drop, Option, Some, None, append_assoc, length-append, arith, []}
 use Rattle.std.specs.Prelude.{encode_utf8}
 use Rattle.std.specs.Char.{IsScalar, digit_value, len_utf8}
 use Rattle.std.specs.Str.{IsUtf8, IsCharBoundary}
@@ -10,7 +10,7 @@ use Rattle.std.proofs.lemmas.Str.{encode_ascii, length-encode, IsCharBoundary-pa
 use Rattle.cedar_text.specs.declared.letter.Letter.{Letter}
 use Rattle.cedar_text.specs.declared.letter.Letter.TheVariants.{Character, Star}
 use Rattle.cedar_text.specs.Bytes.{is_hex}
-use Rattle.cedar_text.specs.Strings.{IsShort, line_feed, carriage_return, tab, backslash, null, apostrophe, quote, IsEscape, short, star, byte, character}
+use Rattle.cedar_text.specs.Strings.{IsShort, line_feed, IsEscape, short, star, byte, character}
 use Rattle.cedar_text.specs.Letters.{HasQuotes, IsWritten, plain, bare_star, escaped, AreWritten, nothing, more, IsSpelled}
 use Rattle.cedar_text.specs.Private.FirstLetter.{BeginsWith, StartsEscape, IsFirst, BeginsNone, StartsNoEscape}
 use Rattle.cedar_text.specs.Private.Lexing.{escape_len, escaped_letter}
@@ -49,12 +49,7 @@ hex_ascii b h = let lt : digit_value b < 16 = ltb-true (digit_value b) 16 h in g
 
 pub short_ascii : (b c : ℕ) → IsShort b c → b < 128
 short_ascii b c line_feed = omega arith
-short_ascii b c carriage_return = omega arith
-short_ascii b c tab = omega arith
-short_ascii b c backslash = omega arith
-short_ascii b c null = omega arith
-short_ascii b c apostrophe = omega arith
-short_ascii b c quote = omega arith
+short_ascii b c _ = omega arith
 
 pub escape_ends : (front : List ℕ) (letter : Letter) → IsEscape front letter → EndsAscii front
 escape_ends front letter (short {b = b} {c = c} s) = ([], b, refl, short_ascii b c s)

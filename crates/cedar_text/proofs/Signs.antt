@@ -1,5 +1,5 @@
 -- The signs that the reader finds are those of the grammar.
-use Rattle.std.proofs.Common.{◌≡◌, refl, sym, ap, subst, ◌∙◌, ℕ, ◌<◌, Bool, true, false, cond, eqb, ◌&&◌, List, [], ◌∷◌, ◌++◌, length, Option, Some, None, Ok, ◌⊎◌, inl, inr, arith}
+use Rattle.std.proofs.Common.{◌≡◌, refl, sym, ap, subst, ◌∙◌, ℕ, ◌<◌, Bool, true, false, cond, eqb, ◌&&◌, List, ◌∷◌, ◌++◌, length, Option, Some, None, Ok, ◌⊎◌, inl, inr, arith, []}
 use Rattle.std.specs.Prelude.{slice_index}
 use Rattle.std.proofs.lemmas.Bool.{and_parts, eqb-true}
 use Rattle.cedar_text.specs.declared.token_kind.TokenKind.{TokenKind}
@@ -96,30 +96,14 @@ IsTwo front kind = (a b : ℕ) × (front ≡ a ∷ b ∷ []) × (long_sign a b �
 
 pub sign_is : (front : List ℕ) (kind : TokenKind) → IsSign front kind → IsOne front kind ⊎ IsTwo front kind
 unfolding piece
-sign_is front kind double_colon = inr (58, 58, refl, refl, omega arith, omega arith, λ rest. refl)
-sign_is front kind equal = inr (61, 61, refl, refl, omega arith, omega arith, λ rest. refl)
-sign_is front kind not_equal = inr (33, 61, refl, refl, omega arith, omega arith, λ rest. refl)
-sign_is front kind less_equal = inr (60, 61, refl, refl, omega arith, omega arith, λ rest. refl)
-sign_is front kind greater_equal = inr (62, 61, refl, refl, omega arith, omega arith, λ rest. refl)
-sign_is front kind and_and = inr (38, 38, refl, refl, omega arith, omega arith, λ rest. refl)
-sign_is front kind or_or = inr (124, 124, refl, refl, omega arith, omega arith, λ rest. refl)
-sign_is front kind at = inl (64, refl, refl, omega arith, λ rest. refl)
-sign_is front kind left_paren = inl (40, refl, refl, omega arith, λ rest. refl)
-sign_is front kind right_paren = inl (41, refl, refl, omega arith, λ rest. refl)
-sign_is front kind left_brace = inl (123, refl, refl, omega arith, λ rest. refl)
-sign_is front kind right_brace = inl (125, refl, refl, omega arith, λ rest. refl)
-sign_is front kind left_bracket = inl (91, refl, refl, omega arith, λ rest. refl)
-sign_is front kind right_bracket = inl (93, refl, refl, omega arith, λ rest. refl)
-sign_is front kind comma = inl (44, refl, refl, omega arith, λ rest. refl)
-sign_is front kind semicolon = inl (59, refl, refl, omega arith, λ rest. refl)
-sign_is front kind dot = inl (46, refl, refl, omega arith, λ rest. refl)
-sign_is front kind colon = inl (58, refl, refl, omega arith, λ rest. refl)
-sign_is front kind less = inl (60, refl, refl, omega arith, λ rest. refl)
-sign_is front kind greater = inl (62, refl, refl, omega arith, λ rest. refl)
-sign_is front kind plus = inl (43, refl, refl, omega arith, λ rest. refl)
-sign_is front kind minus = inl (45, refl, refl, omega arith, λ rest. refl)
-sign_is front kind star = inl (42, refl, refl, omega arith, λ rest. refl)
-sign_is front kind not = inl (33, refl, refl, omega arith, λ rest. refl)
+sign_is front kind double_colon = inr (_, _, refl, refl, omega arith, omega arith, λ rest. refl)
+sign_is front kind equal = inr (_, _, refl, refl, omega arith, omega arith, λ rest. refl)
+sign_is front kind not_equal = inr (_, _, refl, refl, omega arith, omega arith, λ rest. refl)
+sign_is front kind less_equal = inr (_, _, refl, refl, omega arith, omega arith, λ rest. refl)
+sign_is front kind greater_equal = inr (_, _, refl, refl, omega arith, omega arith, λ rest. refl)
+sign_is front kind and_and = inr (_, _, refl, refl, omega arith, omega arith, λ rest. refl)
+sign_is front kind or_or = inr (_, _, refl, refl, omega arith, omega arith, λ rest. refl)
+sign_is front kind _ = inl (_, refl, refl, omega arith, λ rest. refl)
 
 -- ---- the longest
 

@@ -1,5 +1,5 @@
 -- A text writes its letters in one way.
-use Rattle.std.proofs.Common.{◌≡◌, ◌≢◌, refl, sym, ap, subst, ◌∙◌, ℕ, ◌<◌, true, List, [], ◌∷◌, ◌++◌, length, take, drop, Option, Some, None, append_assoc, length-append, arith}
+use Rattle.std.proofs.Common.{◌≡◌, ◌≢◌, refl, sym, ap, subst, ◌∙◌, ℕ, ◌<◌, true, List, ◌∷◌, ◌++◌, length, take, drop, Option, Some, None, append_assoc, length-append, arith, []}
 use Rattle.std.specs.Prelude.{encode_utf8, slice_index}
 use Rattle.std.specs.Char.{IsScalar}
 use Rattle.std.specs.List.{prefix_len, list_all}
@@ -11,7 +11,7 @@ use Rattle.cedar_text.specs.declared.letter.Letter.{Letter}
 use Rattle.cedar_text.specs.declared.letter.Letter.TheVariants.{Character}
 use Rattle.cedar_text.specs.Bytes.{is_hex}
 use Rattle.cedar_text.specs.Numbers.{hexadecimal_from}
-use Rattle.cedar_text.specs.Strings.{IsShort, line_feed, carriage_return, tab, backslash, null, apostrophe, quote, IsEscape, short, star, byte, character}
+use Rattle.cedar_text.specs.Strings.{IsShort, line_feed, IsEscape, short, star, byte, character}
 use Rattle.cedar_text.specs.Letters.{IsWritten, plain, bare_star, escaped, AreWritten, nothing, more}
 use Rattle.cedar_text.specs.Private.Lexing.{escape_len, capped_hexadecimal_from, code_letter, escaped_letter}
 use Rattle.cedar_text.proofs.Runs.{run_of}
@@ -29,12 +29,7 @@ digits_of digits h = ap (λ (n : ℕ). take n (digits ++ 125 ∷ [])) (run_of is
 short_letter : (b c : ℕ) → IsShort b c → escaped_letter (b ∷ []) ≡ Some (Character c)
 unfolding escaped_letter
 short_letter b c line_feed = refl
-short_letter b c carriage_return = refl
-short_letter b c tab = refl
-short_letter b c backslash = refl
-short_letter b c null = refl
-short_letter b c apostrophe = refl
-short_letter b c quote = refl
+short_letter b c _ = refl
 
 pub letter_of : (front : List ℕ) (letter : Letter) → IsEscape front letter → escaped_letter front ≡ Some letter
 unfolding escaped_letter

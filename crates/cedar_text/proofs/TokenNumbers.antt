@@ -1,41 +1,19 @@
 -- The number of a token is that of its text.
-use Rattle.std.proofs.Common.{◌≡◌, refl, sym, subst, ◌∙◌, ℕ, ◌+◌, ◌<◌, min, false, leb, List, [], ◌∷◌, length, take, drop, Option, Some, None, Ok, arith}
+use Rattle.std.proofs.Common.{◌≡◌, refl, sym, subst, ◌∙◌, ℕ, ◌+◌, ◌<◌, min, false, leb, List, ◌∷◌, length, take, drop, Option, Some, None, Ok, arith, []}
 use Rattle.std.specs.Prelude.{IsSome}
 use Rattle.std.proofs.lemmas.Bool.{cond-true, cond-false, and_right, lt-leb}
 use Rattle.cedar_text.specs.declared.token_kind.TokenKind.{TokenKind}
 use Rattle.cedar_text.specs.declared.piece.Piece.{Piece}
 use Rattle.cedar_text.specs.Bytes.{is_digit}
 use Rattle.cedar_text.specs.Numbers.{decimal_from, max_number, number_in}
-use Rattle.cedar_text.specs.Signs.{IsSign, double_colon, equal, not_equal, less_equal, greater_equal, and_and, or_or, at, left_paren, right_paren, left_brace, right_brace, left_bracket, right_bracket, comma, semicolon, dot, colon, less, greater, plus, minus, star, not}
+use Rattle.cedar_text.specs.Signs.{IsSign, double_colon}
 use Rattle.cedar_text.specs.Tokens.{IsToken, word, number, string, slot, sign}
 use Rattle.cedar_text.specs.Private.Lexing.{piece}
 use Rattle.cedar_text.proofs.Pieces.{IsPiece, Fine, piece_fine, letter_bounds}
 
 sign_number : (front : List ℕ) (kind : TokenKind) → IsSign front kind → 0 ≡ number_in front
 sign_number front kind double_colon = refl
-sign_number front kind equal = refl
-sign_number front kind not_equal = refl
-sign_number front kind less_equal = refl
-sign_number front kind greater_equal = refl
-sign_number front kind and_and = refl
-sign_number front kind or_or = refl
-sign_number front kind at = refl
-sign_number front kind left_paren = refl
-sign_number front kind right_paren = refl
-sign_number front kind left_brace = refl
-sign_number front kind right_brace = refl
-sign_number front kind left_bracket = refl
-sign_number front kind right_bracket = refl
-sign_number front kind comma = refl
-sign_number front kind semicolon = refl
-sign_number front kind dot = refl
-sign_number front kind colon = refl
-sign_number front kind less = refl
-sign_number front kind greater = refl
-sign_number front kind plus = refl
-sign_number front kind minus = refl
-sign_number front kind star = refl
-sign_number front kind not = refl
+sign_number front kind _ = refl
 
 token_number : (kind : TokenKind) (n : ℕ) (front rest : List ℕ) → IsToken kind n front rest → n ≡ number_in front
 token_number kind n front rest (word {b = b} {bs = bs} h all s) =

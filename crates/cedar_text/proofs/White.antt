@@ -1,5 +1,5 @@
 -- The white space that the reader finds is that of the grammar.
-use Rattle.std.proofs.Common.{◌≡◌, refl, sym, ap, subst, ◌∙◌, ℕ, zero, suc, ◌+◌, ◌-◌, ◌/◌, ◌%◌, ◌≤◌, ◌<◌, Bool, true, false, cond, eqb, leb, ltb, ◌&&◌, ◌||◌, List, [], ◌∷◌, ◌++◌, length, inl, inr, arith}
+use Rattle.std.proofs.Common.{◌≡◌, refl, sym, ap, subst, ◌∙◌, ℕ, zero, suc, ◌+◌, ◌-◌, ◌/◌, ◌%◌, ◌≤◌, ◌<◌, Bool, true, false, cond, eqb, leb, ltb, ◌&&◌, ◌||◌, List, ◌∷◌, ◌++◌, length, inl, inr, arith, []}
 use Rattle.std.specs.Prelude.{encode_utf8, slice_index}
 use Rattle.std.proofs.lemmas.Bool.{cond_both, cond-true, cond-false, and_parts, and_from, and_right, or_from, or_left, or_right, or_cases, eqb-true, leb-true, le-leb, le-ltb, lt-ltb}
 use Rattle.std.proofs.lemmas.Str.{encode_ascii}
@@ -59,15 +59,10 @@ white_again _ rest (control c low high) =
 white_again _ rest space = (1, omega arith, ascii_found 32 rest (omega arith) refl)
 white_again _ rest next_line = (2, omega arith, (refl, refl))
 white_again _ rest no_break_space = (2, omega arith, (refl, refl))
-white_again _ rest ogham_space = (3, omega arith, (refl, refl))
 white_again _ rest (typographic c low high) =
     let e : 0x2000 + (c - 0x2000) ≡ c = omega arith in
     (3, omega arith, subst (λ (x : ℕ). Found x rest 3) e (typographic_found (c - 0x2000) rest (omega arith)))
-white_again _ rest line_separator = (3, omega arith, (refl, refl))
-white_again _ rest paragraph_separator = (3, omega arith, (refl, refl))
-white_again _ rest narrow_space = (3, omega arith, (refl, refl))
-white_again _ rest mathematical_space = (3, omega arith, (refl, refl))
-white_again _ rest ideographic_space = (3, omega arith, (refl, refl))
+white_again _ rest _ = (3, omega arith, (refl, refl))
 
 -- ---- what is found is white space of the grammar
 

@@ -1,5 +1,5 @@
 -- Cutting from left to right gives the tokens of the text, and the fault that stands next.
-use Rattle.std.proofs.Common.{◌≡◌, ◌≢◌, refl, sym, ap, subst, ◌∙◌, ℕ, zero, suc, ◌+◌, ◌≤◌, ◌<◌, false, List, [], ◌∷◌, ◌++◌, length, take, drop, Option, Some, None, Result, Ok, Err, ◌⊎◌, inl, inr, length-append, length-take, length-drop, arith}
+use Rattle.std.proofs.Common.{◌≡◌, ◌≢◌, refl, sym, ap, subst, ◌∙◌, ℕ, zero, suc, ◌+◌, ◌≤◌, ◌<◌, false, List, ◌∷◌, ◌++◌, length, take, drop, Option, Some, None, Result, Ok, Err, ◌⊎◌, inl, inr, length-append, length-take, length-drop, arith, []}
 use Rattle.std.specs.Prelude.{encode_utf8, IfOk, IfErr}
 use Rattle.std.specs.Global.{Vec}
 use Rattle.std.proofs.lemmas.List.{take_at, drop_at, take-append-drop}
@@ -12,7 +12,7 @@ use Rattle.cedar_text.specs.Lexeme.{Lexemes, lexemes}
 use Rattle.cedar_text.specs.Bytes.{is_digit}
 use Rattle.cedar_text.specs.Blanks.{IsWhite, IsBlank, white, comment}
 use Rattle.cedar_text.specs.Signs.{IsSign}
-use Rattle.cedar_text.specs.Tokens.{IsToken, word, number, string, slot, sign, AreTokens, IsCut, done, blank, token}
+use Rattle.cedar_text.specs.Tokens.{IsToken, number, sign, AreTokens, IsCut, done, blank, token}
 use Rattle.cedar_text.specs.Faults.{IsBadCharacter, IsUnclosed, IsBadEscape, IsTooLarge, HasTokens, HasFault}
 use Rattle.cedar_text.specs.Private.Outcomes.{Gives}
 use Rattle.cedar_text.specs.Private.Lexing.{Refusal, BadCharacter, UnclosedString, BadEscape, NumberTooLarge, skipped, lexed, piece, add, and_then, lex}
@@ -71,9 +71,7 @@ first_is : (at n : ℕ) (b : ℕ) (bs : List ℕ) (r : Result Piece Refusal) →
     → LexIs at (b ∷ bs) (and_then r (λ p. and_then (lex n (at + p.len) (drop p.len (b ∷ bs))) (λ ts. Ok (add at (b ∷ bs) p ts))))
 first_is at n b bs (Ok p) e f le h = step_is at (b ∷ bs) p _ f (h p.len f.some)
 first_is at n b bs (Err BadCharacter) e f le h = ([], b ∷ bs, done, bad_character b bs e f.0 f.1)
-first_is at n b bs (Err UnclosedString) e f le h = ([], b ∷ bs, done, f)
-first_is at n b bs (Err BadEscape) e f le h = ([], b ∷ bs, done, f)
-first_is at n b bs (Err NumberTooLarge) e f le h = ([], b ∷ bs, done, f)
+first_is at n b bs _ e f le h = ([], b ∷ bs, done, f)
 
 pub lex_is : (n at : ℕ) (bs : List ℕ) → length bs ≤ n → LexIs at bs (lex n at bs)
 unfolding lex
@@ -101,11 +99,8 @@ blank_some front rest (white {c = c} w) = white_some c w
 blank_some front rest (comment h s) = omega arith
 
 pub token_some : (kind : TokenKind) (n : ℕ) (front rest : List ℕ) → IsToken kind n front rest → 0 < length front
-token_some kind n front rest (word h a s) = omega arith
-token_some kind n front rest (number h a s l) = omega arith
-token_some kind n front rest (string s) = omega arith
-token_some kind n front rest (slot h a s) = omega arith
 token_some kind n front rest (sign i l) = sign_some front kind i
+token_some kind n front rest _ = omega arith
 
 blank_on : (n at : ℕ) (front more : List ℕ) (ts : Lexemes) → IsBlank front more → lex n (at + length front) more ≡ Ok ts → lex (suc n) at (front ++ more) ≡ Ok ts
 blank_on n at front more ts i h =
@@ -167,15 +162,9 @@ pub only_by : (source : List ℕ) (x : Result (Vec Token) TextFault) → Gives (
     → HasTokens ts x
 only_by source (Ok v) h ts c = oks_one (lexemes v.items) ts (sym h ∙ whole_again source ts c)
 only_by source (Err f.OutOfMemory) h ts c = tt
-only_by source (Err (f.BadCharacter at)) h ts c = let e = whole_again source ts c in absurd cc
-only_by source (Err (f.UnclosedString at)) h ts c = let e = whole_again source ts c in absurd cc
-only_by source (Err (f.BadEscape at)) h ts c = let e = whole_again source ts c in absurd cc
-only_by source (Err (f.NumberTooLarge at)) h ts c = let e = whole_again source ts c in absurd cc
+only_by source _ h ts c = let e = whole_again source ts c in absurd cc
 
 pub fault_by : (source : List ℕ) (x : Result (Vec Token) TextFault) → Gives (λ v. lexemes v.items) (lex (length source) 0 source) x → IfErr x (HasFault source)
 fault_by source (Ok v) h = tt
 fault_by source (Err f.OutOfMemory) h = tt
-fault_by source (Err (f.BadCharacter at)) h = subst (LexIs 0 source) h (lex_is (length source) 0 source (omega arith))
-fault_by source (Err (f.UnclosedString at)) h = subst (LexIs 0 source) h (lex_is (length source) 0 source (omega arith))
-fault_by source (Err (f.BadEscape at)) h = subst (LexIs 0 source) h (lex_is (length source) 0 source (omega arith))
-fault_by source (Err (f.NumberTooLarge at)) h = subst (LexIs 0 source) h (lex_is (length source) 0 source (omega arith))
+fault_by source _ h = subst (LexIs 0 source) h (lex_is (length source) 0 source (omega arith))

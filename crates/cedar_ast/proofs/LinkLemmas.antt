@@ -1,5 +1,5 @@
 -- What is at an id, and which templates have no link.
-use Rattle.std.proofs.Common.{◌≡◌, ℕ, Bool, true, false, List, [], ◌∷◌, map, length, get_or, Option, Some, None, cond, refl, sym, ap, ◌∙◌, arith, String, string_bytes, inl, inr}
+use Rattle.std.proofs.Common.{◌≡◌, ℕ, Bool, true, false, List, [], ◌∷◌, map, Option, Some, None, cond, refl, sym, ap, ◌∙◌, arith, String, string_bytes, inl, inr}
 use Rattle.std.specs.Prelude.{Contains, is_some, ok_or, IfOk, IfErr}
 use Rattle.std.specs.Map.{lookup}
 use Rattle.std.specs.Str.{bytes_eq}
@@ -54,15 +54,13 @@ absent-value id es k a stand none here same =
 no_scope : (s : TemplateEntityScope) (given : Option Uid) → entity_scope_linked s given ≡ None → IsMissing s given
 no_scope template.Any given none = cc
 no_scope (template.Equal (Entity u)) given none = cc
-no_scope (template.Equal Slot) None none = (refl, refl)
 no_scope (template.Equal Slot) (Some u) none = cc
 no_scope (template.In (Entity u)) given none = cc
-no_scope (template.In Slot) None none = (refl, refl)
 no_scope (template.In Slot) (Some u) none = cc
 no_scope (template.Is ty) given none = cc
 no_scope (template.IsIn ty (Entity u)) given none = cc
-no_scope (template.IsIn ty Slot) None none = (refl, refl)
 no_scope (template.IsIn ty Slot) (Some u) none = cc
+no_scope _ None none = (refl, refl)
 
 -- a template without a link lacks a uid for one of its slots
 pub no_link : (t : TemplateTree) (id : List ℕ) (slots : Slots) → link_of t id slots ≡ None → HasMissingSlot t slots

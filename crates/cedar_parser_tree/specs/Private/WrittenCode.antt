@@ -1,143 +1,66 @@
--- Expressions as written, as trees of numbers that give them back, so that types which contracts see as such expressions can hold some.
-use Rattle.std.specs.Prelude.{◌≡◌, ℕ, zero, suc, false, List, [], ◌∷◌, Some, None, refl}
-use Rattle.std.proofs.Common.{ap}
+-- Expressions as written, as trees of numbers, one to one, so that types which contracts see as such expressions can hold some.
+use Rattle.std.specs.Prelude.{◌≡◌, ℕ, List, refl}
+use Rattle.std.proofs.Common.{ap, arith}
+use Rattle.std.specs.Coded.{codes, coded_ℕ, coded_bool, coded_list, coded_option}
 use base.Stored.{Gv, gnil, gnum, gcons, Coded}
-use denote.Struct.Codes.{code_by, itself}
-use Rattle.cedar_value.specs.Private.DatumCode.{bytes_tree, bytes_from, bytes_back, truth_tree, truth_from, truth_back}
-use Rattle.cedar_ast_expressions.specs.Private.OperatorCode.{elements_tree, elements_from, elements_back, variable_tree, variable_from, variable_back}
+use Rattle.cedar_ext.specs.declared.pattern.Element.{Element}
+use Rattle.cedar_ast_expressions.specs.Private.ExpressionCode.{variable_code, text_code}
 use Rattle.cedar_parser_tokens.specs.declared.content.WrittenUid.{WrittenUid}
 use Rattle.cedar_parser_tree.specs.declared.sign.ChainSign.{ChainSign}
-use Rattle.cedar_parser_tree.specs.declared.sign.ChainSign.TheVariants as c
 use Rattle.cedar_parser_tree.specs.declared.sign.RelationSign.{RelationSign}
-use Rattle.cedar_parser_tree.specs.declared.sign.RelationSign.TheVariants as r
 use Rattle.cedar_parser_tokens.specs.Content.{Content}
 use Rattle.cedar_parser_tree.specs.Written.{Written, truth, number, negative, text, entity, variable, slot, group, not, negated, relation, has, like, is, is_in, chain, choice, set, record_of, call, Links, no_links, operand, attribute, method, Members, no_members, member, Fields, no_fields, field}
 
-abbrev chain_sign_tree : ChainSign → Gv
-chain_sign_tree c.Or = gnum zero
-chain_sign_tree c.And = gnum (suc zero)
-chain_sign_tree c.Plus = gnum (suc (suc zero))
-chain_sign_tree c.Minus = gnum (suc (suc (suc zero)))
-chain_sign_tree c.Times = gnum (suc (suc (suc (suc zero))))
+pub chain_sign_code : Coded ChainSign
+chain_sign_code = Prim.hlevel codes
 
-abbrev chain_sign_from : Gv → ChainSign
-chain_sign_from gnil = c.Or
-chain_sign_from (gnum zero) = c.Or
-chain_sign_from (gnum (suc zero)) = c.And
-chain_sign_from (gnum (suc (suc zero))) = c.Plus
-chain_sign_from (gnum (suc (suc (suc zero)))) = c.Minus
-chain_sign_from (gnum (suc (suc (suc (suc n))))) = c.Times
-chain_sign_from (gcons a b) = c.Or
+pub relation_sign_code : Coded RelationSign
+relation_sign_code = Prim.hlevel codes
 
-chain_sign_back : (s : ChainSign) → chain_sign_from (chain_sign_tree s) ≡ s
-chain_sign_back c.Or = refl
-chain_sign_back c.And = refl
-chain_sign_back c.Plus = refl
-chain_sign_back c.Minus = refl
-chain_sign_back c.Times = refl
+pub elements_code : Coded (List Element)
+elements_code = Prim.hlevel codes
 
-abbrev relation_sign_tree : RelationSign → Gv
-relation_sign_tree r.Less = gnum zero
-relation_sign_tree r.LessEqual = gnum (suc zero)
-relation_sign_tree r.Greater = gnum (suc (suc zero))
-relation_sign_tree r.GreaterEqual = gnum (suc (suc (suc zero)))
-relation_sign_tree r.Equal = gnum (suc (suc (suc (suc zero))))
-relation_sign_tree r.NotEqual = gnum (suc (suc (suc (suc (suc zero)))))
-relation_sign_tree r.In = gnum (suc (suc (suc (suc (suc (suc zero))))))
+pub uid_code : Coded WrittenUid
+uid_code = Prim.hlevel codes
 
-abbrev relation_sign_from : Gv → RelationSign
-relation_sign_from gnil = r.Less
-relation_sign_from (gnum zero) = r.Less
-relation_sign_from (gnum (suc zero)) = r.LessEqual
-relation_sign_from (gnum (suc (suc zero))) = r.Greater
-relation_sign_from (gnum (suc (suc (suc zero)))) = r.GreaterEqual
-relation_sign_from (gnum (suc (suc (suc (suc zero))))) = r.Equal
-relation_sign_from (gnum (suc (suc (suc (suc (suc zero)))))) = r.NotEqual
-relation_sign_from (gnum (suc (suc (suc (suc (suc (suc n))))))) = r.In
-relation_sign_from (gcons a b) = r.Less
+abbrev pub content_code : Coded Content
+content_code = coded_option text_code
 
-relation_sign_back : (s : RelationSign) → relation_sign_from (relation_sign_tree s) ≡ s
-relation_sign_back r.Less = refl
-relation_sign_back r.LessEqual = refl
-relation_sign_back r.Greater = refl
-relation_sign_back r.GreaterEqual = refl
-relation_sign_back r.Equal = refl
-relation_sign_back r.NotEqual = refl
-relation_sign_back r.In = refl
+abbrev pub names_code : Coded (List (List ℕ))
+names_code = coded_list text_code
 
-abbrev content_tree : Content → Gv
-content_tree None = gnil
-content_tree (Some s) = gcons gnil (bytes_tree s)
-
-abbrev content_from : Gv → Content
-content_from gnil = None
-content_from (gnum n) = None
-content_from (gcons a s) = Some (bytes_from s)
-
-content_back : (c : Content) → content_from (content_tree c) ≡ c
-content_back None = refl
-content_back (Some s) = ap Some (bytes_back s)
-
-abbrev names_tree : List (List ℕ) → Gv
-names_tree [] = gnil
-names_tree (s ∷ names) = gcons (bytes_tree s) (names_tree names)
-
-abbrev names_from : Gv → List (List ℕ)
-names_from gnil = []
-names_from (gnum n) = []
-names_from (gcons s t) = bytes_from s ∷ names_from t
-
-names_back : (names : List (List ℕ)) → names_from (names_tree names) ≡ names
-names_back [] = refl
-names_back (s ∷ names) = λ k. bytes_back s k ∷ names_back names k
-
-abbrev pub uid_tree : WrittenUid → Gv
-uid_tree u = gcons (bytes_tree u.ty) (content_tree u.id)
-
-abbrev pub uid_from : Gv → WrittenUid
-uid_from gnil = record { ty = []; id = None }
-uid_from (gnum n) = record { ty = []; id = None }
-uid_from (gcons t i) = record { ty = bytes_from t; id = content_from i }
-
-pub uid_back : (u : WrittenUid) → uid_from (uid_tree u) ≡ u
-uid_back u = λ k. record { ty = bytes_back u.ty k; id = content_back u.id k }
-
-abbrev number_of : Gv → ℕ
-number_of gnil = 0
-number_of (gnum n) = n
-number_of (gcons a b) = 0
-
-abbrev nothing : Written
-nothing = truth false
+abbrev form : Gv → ℕ
+form (gcons (gnum n) t) = n
+form _ = 0
 
 abbrev mutual
   pub tree : Written → Gv
-  tree (truth b) = gcons (gnum zero) (truth_tree b)
-  tree (number n) = gcons (gnum (suc zero)) (gnum n)
-  tree (negative n) = gcons (gnum (suc (suc zero))) (gnum n)
-  tree (text c) = gcons (gnum (suc (suc (suc zero)))) (content_tree c)
-  tree (entity u) = gcons (gnum (suc (suc (suc (suc zero))))) (uid_tree u)
-  tree (variable x) = gcons (gnum (suc (suc (suc (suc (suc zero)))))) (variable_tree x)
-  tree (slot x) = gcons (gnum (suc (suc (suc (suc (suc (suc zero))))))) (variable_tree x)
-  tree (group a) = gcons (gnum (suc (suc (suc (suc (suc (suc (suc zero)))))))) (tree a)
-  tree (not a) = gcons (gnum (suc (suc (suc (suc (suc (suc (suc (suc zero))))))))) (tree a)
-  tree (negated a) = gcons (gnum (suc (suc (suc (suc (suc (suc (suc (suc (suc zero)))))))))) (tree a)
-  tree (relation s a b) = gcons (gnum (suc (suc (suc (suc (suc (suc (suc (suc (suc (suc zero))))))))))) (gcons (relation_sign_tree s) (gcons (tree a) (tree b)))
-  tree (has a c names) = gcons (gnum (suc (suc (suc (suc (suc (suc (suc (suc (suc (suc (suc zero)))))))))))) (gcons (tree a) (gcons (content_tree c) (names_tree names)))
-  tree (like a p) = gcons (gnum (suc (suc (suc (suc (suc (suc (suc (suc (suc (suc (suc (suc zero))))))))))))) (gcons (tree a) (elements_tree p))
-  tree (is a ty) = gcons (gnum (suc (suc (suc (suc (suc (suc (suc (suc (suc (suc (suc (suc (suc zero)))))))))))))) (gcons (tree a) (bytes_tree ty))
-  tree (is_in a ty b) = gcons (gnum (suc (suc (suc (suc (suc (suc (suc (suc (suc (suc (suc (suc (suc (suc zero))))))))))))))) (gcons (tree a) (gcons (bytes_tree ty) (tree b)))
-  tree (chain a ls) = gcons (gnum (suc (suc (suc (suc (suc (suc (suc (suc (suc (suc (suc (suc (suc (suc (suc zero)))))))))))))))) (gcons (tree a) (links_tree ls))
-  tree (choice c a b) = gcons (gnum (suc (suc (suc (suc (suc (suc (suc (suc (suc (suc (suc (suc (suc (suc (suc (suc zero))))))))))))))))) (gcons (tree c) (gcons (tree a) (tree b)))
-  tree (set ms) = gcons (gnum (suc (suc (suc (suc (suc (suc (suc (suc (suc (suc (suc (suc (suc (suc (suc (suc (suc zero)))))))))))))))))) (members_tree ms)
-  tree (record_of fs) = gcons (gnum (suc (suc (suc (suc (suc (suc (suc (suc (suc (suc (suc (suc (suc (suc (suc (suc (suc (suc zero))))))))))))))))))) (fields_tree fs)
-  tree (call name ms) = gcons (gnum (suc (suc (suc (suc (suc (suc (suc (suc (suc (suc (suc (suc (suc (suc (suc (suc (suc (suc (suc zero)))))))))))))))))))) (gcons (bytes_tree name) (members_tree ms))
+  tree (truth b) = gcons (gnum 0) (coded_bool.code b)
+  tree (number n) = gcons (gnum 1) (coded_ℕ.code n)
+  tree (negative n) = gcons (gnum 2) (coded_ℕ.code n)
+  tree (text c) = gcons (gnum 3) (content_code.code c)
+  tree (entity u) = gcons (gnum 4) (uid_code.code u)
+  tree (variable x) = gcons (gnum 5) (variable_code.code x)
+  tree (slot x) = gcons (gnum 6) (variable_code.code x)
+  tree (group a) = gcons (gnum 7) (tree a)
+  tree (not a) = gcons (gnum 8) (tree a)
+  tree (negated a) = gcons (gnum 9) (tree a)
+  tree (relation s a b) = gcons (gnum 10) (gcons (relation_sign_code.code s) (gcons (tree a) (tree b)))
+  tree (has a c names) = gcons (gnum 11) (gcons (tree a) (gcons (content_code.code c) (names_code.code names)))
+  tree (like a p) = gcons (gnum 12) (gcons (tree a) (elements_code.code p))
+  tree (is a ty) = gcons (gnum 13) (gcons (tree a) (text_code.code ty))
+  tree (is_in a ty b) = gcons (gnum 14) (gcons (tree a) (gcons (text_code.code ty) (tree b)))
+  tree (chain a ls) = gcons (gnum 15) (gcons (tree a) (links_tree ls))
+  tree (choice c a b) = gcons (gnum 16) (gcons (tree c) (gcons (tree a) (tree b)))
+  tree (set ms) = gcons (gnum 17) (members_tree ms)
+  tree (record_of fs) = gcons (gnum 18) (fields_tree fs)
+  tree (call name ms) = gcons (gnum 19) (gcons (text_code.code name) (members_tree ms))
 
   pub links_tree : Links → Gv
   links_tree no_links = gnil
-  links_tree (operand s a ls) = gcons (gcons (gnum zero) (gcons (chain_sign_tree s) (tree a))) (links_tree ls)
-  links_tree (attribute c ls) = gcons (gcons (gnum (suc zero)) (content_tree c)) (links_tree ls)
-  links_tree (method name ms ls) = gcons (gcons (gnum (suc (suc zero))) (gcons (bytes_tree name) (members_tree ms))) (links_tree ls)
+  links_tree (operand s a ls) = gcons (gnum 0) (gcons (chain_sign_code.code s) (gcons (tree a) (links_tree ls)))
+  links_tree (attribute c ls) = gcons (gnum 1) (gcons (content_code.code c) (links_tree ls))
+  links_tree (method name ms ls) = gcons (gnum 2) (gcons (text_code.code name) (gcons (members_tree ms) (links_tree ls)))
 
   pub members_tree : Members → Gv
   members_tree no_members = gnil
@@ -145,122 +68,48 @@ abbrev mutual
 
   pub fields_tree : Fields → Gv
   fields_tree no_fields = gnil
-  fields_tree (field key a fs) = gcons (gcons (content_tree key) (tree a)) (fields_tree fs)
-
-abbrev mutual
-  pub from : Gv → Written
-  from gnil = nothing
-  from (gnum n) = nothing
-  from (gcons gnil t) = nothing
-  from (gcons (gcons a b) t) = nothing
-  from (gcons (gnum zero) x) = truth (truth_from x)
-  from (gcons (gnum (suc zero)) x) = number (number_of x)
-  from (gcons (gnum (suc (suc zero))) x) = negative (number_of x)
-  from (gcons (gnum (suc (suc (suc zero)))) x) = text (content_from x)
-  from (gcons (gnum (suc (suc (suc (suc zero))))) x) = entity (uid_from x)
-  from (gcons (gnum (suc (suc (suc (suc (suc zero)))))) x) = variable (variable_from x)
-  from (gcons (gnum (suc (suc (suc (suc (suc (suc zero))))))) x) = slot (variable_from x)
-  from (gcons (gnum (suc (suc (suc (suc (suc (suc (suc zero)))))))) x) = group (from x)
-  from (gcons (gnum (suc (suc (suc (suc (suc (suc (suc (suc zero))))))))) x) = not (from x)
-  from (gcons (gnum (suc (suc (suc (suc (suc (suc (suc (suc (suc zero)))))))))) x) = negated (from x)
-  from (gcons (gnum (suc (suc (suc (suc (suc (suc (suc (suc (suc (suc zero))))))))))) gnil) = nothing
-  from (gcons (gnum (suc (suc (suc (suc (suc (suc (suc (suc (suc (suc zero))))))))))) (gnum m)) = nothing
-  from (gcons (gnum (suc (suc (suc (suc (suc (suc (suc (suc (suc (suc zero))))))))))) (gcons x gnil)) = nothing
-  from (gcons (gnum (suc (suc (suc (suc (suc (suc (suc (suc (suc (suc zero))))))))))) (gcons x (gnum m))) = nothing
-  from (gcons (gnum (suc (suc (suc (suc (suc (suc (suc (suc (suc (suc zero))))))))))) (gcons x (gcons y z))) = relation (relation_sign_from x) (from y) (from z)
-  from (gcons (gnum (suc (suc (suc (suc (suc (suc (suc (suc (suc (suc (suc zero)))))))))))) gnil) = nothing
-  from (gcons (gnum (suc (suc (suc (suc (suc (suc (suc (suc (suc (suc (suc zero)))))))))))) (gnum m)) = nothing
-  from (gcons (gnum (suc (suc (suc (suc (suc (suc (suc (suc (suc (suc (suc zero)))))))))))) (gcons x gnil)) = nothing
-  from (gcons (gnum (suc (suc (suc (suc (suc (suc (suc (suc (suc (suc (suc zero)))))))))))) (gcons x (gnum m))) = nothing
-  from (gcons (gnum (suc (suc (suc (suc (suc (suc (suc (suc (suc (suc (suc zero)))))))))))) (gcons x (gcons y z))) = has (from x) (content_from y) (names_from z)
-  from (gcons (gnum (suc (suc (suc (suc (suc (suc (suc (suc (suc (suc (suc (suc zero))))))))))))) gnil) = nothing
-  from (gcons (gnum (suc (suc (suc (suc (suc (suc (suc (suc (suc (suc (suc (suc zero))))))))))))) (gnum m)) = nothing
-  from (gcons (gnum (suc (suc (suc (suc (suc (suc (suc (suc (suc (suc (suc (suc zero))))))))))))) (gcons x y)) = like (from x) (elements_from y)
-  from (gcons (gnum (suc (suc (suc (suc (suc (suc (suc (suc (suc (suc (suc (suc (suc zero)))))))))))))) gnil) = nothing
-  from (gcons (gnum (suc (suc (suc (suc (suc (suc (suc (suc (suc (suc (suc (suc (suc zero)))))))))))))) (gnum m)) = nothing
-  from (gcons (gnum (suc (suc (suc (suc (suc (suc (suc (suc (suc (suc (suc (suc (suc zero)))))))))))))) (gcons x y)) = is (from x) (bytes_from y)
-  from (gcons (gnum (suc (suc (suc (suc (suc (suc (suc (suc (suc (suc (suc (suc (suc (suc zero))))))))))))))) gnil) = nothing
-  from (gcons (gnum (suc (suc (suc (suc (suc (suc (suc (suc (suc (suc (suc (suc (suc (suc zero))))))))))))))) (gnum m)) = nothing
-  from (gcons (gnum (suc (suc (suc (suc (suc (suc (suc (suc (suc (suc (suc (suc (suc (suc zero))))))))))))))) (gcons x gnil)) = nothing
-  from (gcons (gnum (suc (suc (suc (suc (suc (suc (suc (suc (suc (suc (suc (suc (suc (suc zero))))))))))))))) (gcons x (gnum m))) = nothing
-  from (gcons (gnum (suc (suc (suc (suc (suc (suc (suc (suc (suc (suc (suc (suc (suc (suc zero))))))))))))))) (gcons x (gcons y z))) = is_in (from x) (bytes_from y) (from z)
-  from (gcons (gnum (suc (suc (suc (suc (suc (suc (suc (suc (suc (suc (suc (suc (suc (suc (suc zero)))))))))))))))) gnil) = nothing
-  from (gcons (gnum (suc (suc (suc (suc (suc (suc (suc (suc (suc (suc (suc (suc (suc (suc (suc zero)))))))))))))))) (gnum m)) = nothing
-  from (gcons (gnum (suc (suc (suc (suc (suc (suc (suc (suc (suc (suc (suc (suc (suc (suc (suc zero)))))))))))))))) (gcons x y)) = chain (from x) (links_from y)
-  from (gcons (gnum (suc (suc (suc (suc (suc (suc (suc (suc (suc (suc (suc (suc (suc (suc (suc (suc zero))))))))))))))))) gnil) = nothing
-  from (gcons (gnum (suc (suc (suc (suc (suc (suc (suc (suc (suc (suc (suc (suc (suc (suc (suc (suc zero))))))))))))))))) (gnum m)) = nothing
-  from (gcons (gnum (suc (suc (suc (suc (suc (suc (suc (suc (suc (suc (suc (suc (suc (suc (suc (suc zero))))))))))))))))) (gcons x gnil)) = nothing
-  from (gcons (gnum (suc (suc (suc (suc (suc (suc (suc (suc (suc (suc (suc (suc (suc (suc (suc (suc zero))))))))))))))))) (gcons x (gnum m))) = nothing
-  from (gcons (gnum (suc (suc (suc (suc (suc (suc (suc (suc (suc (suc (suc (suc (suc (suc (suc (suc zero))))))))))))))))) (gcons x (gcons y z))) = choice (from x) (from y) (from z)
-  from (gcons (gnum (suc (suc (suc (suc (suc (suc (suc (suc (suc (suc (suc (suc (suc (suc (suc (suc (suc zero)))))))))))))))))) x) = set (members_from x)
-  from (gcons (gnum (suc (suc (suc (suc (suc (suc (suc (suc (suc (suc (suc (suc (suc (suc (suc (suc (suc (suc zero))))))))))))))))))) x) = record_of (fields_from x)
-  from (gcons (gnum (suc (suc (suc (suc (suc (suc (suc (suc (suc (suc (suc (suc (suc (suc (suc (suc (suc (suc (suc n)))))))))))))))))))) gnil) = nothing
-  from (gcons (gnum (suc (suc (suc (suc (suc (suc (suc (suc (suc (suc (suc (suc (suc (suc (suc (suc (suc (suc (suc n)))))))))))))))))))) (gnum m)) = nothing
-  from (gcons (gnum (suc (suc (suc (suc (suc (suc (suc (suc (suc (suc (suc (suc (suc (suc (suc (suc (suc (suc (suc n)))))))))))))))))))) (gcons x y)) = call (bytes_from x) (members_from y)
-
-  pub links_from : Gv → Links
-  links_from gnil = no_links
-  links_from (gnum n) = no_links
-  links_from (gcons gnil t) = no_links
-  links_from (gcons (gnum n) t) = no_links
-  links_from (gcons (gcons gnil x) t) = no_links
-  links_from (gcons (gcons (gcons a b) x) t) = no_links
-  links_from (gcons (gcons (gnum zero) gnil) t) = no_links
-  links_from (gcons (gcons (gnum zero) (gnum m)) t) = no_links
-  links_from (gcons (gcons (gnum zero) (gcons s x)) t) = operand (chain_sign_from s) (from x) (links_from t)
-  links_from (gcons (gcons (gnum (suc zero)) x) t) = attribute (content_from x) (links_from t)
-  links_from (gcons (gcons (gnum (suc (suc n))) gnil) t) = no_links
-  links_from (gcons (gcons (gnum (suc (suc n))) (gnum m)) t) = no_links
-  links_from (gcons (gcons (gnum (suc (suc n))) (gcons x y)) t) = method (bytes_from x) (members_from y) (links_from t)
-
-  pub members_from : Gv → Members
-  members_from gnil = no_members
-  members_from (gnum n) = no_members
-  members_from (gcons x t) = member (from x) (members_from t)
-
-  pub fields_from : Gv → Fields
-  fields_from gnil = no_fields
-  fields_from (gnum n) = no_fields
-  fields_from (gcons gnil t) = no_fields
-  fields_from (gcons (gnum n) t) = no_fields
-  fields_from (gcons (gcons x y) t) = field (content_from x) (from y) (fields_from t)
+  fields_tree (field key a fs) = gcons (content_code.code key) (gcons (tree a) (fields_tree fs))
 
 mutual
-  pub back : (w : Written) → from (tree w) ≡ w
-  back (truth b) = λ k. truth (truth_back b k)
-  back (number n) = refl
-  back (negative n) = refl
-  back (text c) = λ k. text (content_back c k)
-  back (entity u) = λ k. entity (uid_back u k)
-  back (variable x) = λ k. variable (variable_back x k)
-  back (slot x) = λ k. slot (variable_back x k)
-  back (group a) = λ k. group (back a k)
-  back (not a) = λ k. not (back a k)
-  back (negated a) = λ k. negated (back a k)
-  back (relation s a b) = λ k. relation (relation_sign_back s k) (back a k) (back b k)
-  back (has a c names) = λ k. has (back a k) (content_back c k) (names_back names k)
-  back (like a p) = λ k. like (back a k) (elements_back p k)
-  back (is a ty) = λ k. is (back a k) (bytes_back ty k)
-  back (is_in a ty b) = λ k. is_in (back a k) (bytes_back ty k) (back b k)
-  back (chain a ls) = λ k. chain (back a k) (links_back ls k)
-  back (choice c a b) = λ k. choice (back c k) (back a k) (back b k)
-  back (set ms) = λ k. set (members_back ms k)
-  back (record_of fs) = λ k. record_of (fields_back fs k)
-  back (call name ms) = λ k. call (bytes_back name k) (members_back ms k)
+  pub one : (v w : Written) → tree v ≡ tree w → v ≡ w
+  one (truth b) (truth e) h = λ k. truth (coded_bool.inj b e (cc) k)
+  one (number n) (number n') h = λ k. number (coded_ℕ.inj n n' (cc) k)
+  one (negative n) (negative n') h = λ k. negative (coded_ℕ.inj n n' (cc) k)
+  one (text c) (text f) h = λ k. text (content_code.inj c f (cc) k)
+  one (entity u) (entity u') h = λ k. entity (uid_code.inj u u' (cc) k)
+  one (variable x) (variable x') h = λ k. variable (variable_code.inj x x' (cc) k)
+  one (slot x) (slot x') h = λ k. slot (variable_code.inj x x' (cc) k)
+  one (group a) (group d) h = λ k. group (one a d (cc) k)
+  one (not a) (not d) h = λ k. not (one a d (cc) k)
+  one (negated a) (negated d) h = λ k. negated (one a d (cc) k)
+  one (relation s a b) (relation s' d e) h = λ k. relation (relation_sign_code.inj s s' (cc) k) (one a d (cc) k) (one b e (cc) k)
+  one (has a c names) (has d f names') h = λ k. has (one a d (cc) k) (content_code.inj c f (cc) k) (names_code.inj names names' (cc) k)
+  one (like a p) (like d p') h = λ k. like (one a d (cc) k) (elements_code.inj p p' (cc) k)
+  one (is a ty) (is d ty') h = λ k. is (one a d (cc) k) (text_code.inj ty ty' (cc) k)
+  one (is_in a ty b) (is_in d ty' e) h = λ k. is_in (one a d (cc) k) (text_code.inj ty ty' (cc) k) (one b e (cc) k)
+  one (chain a ls) (chain d ls') h = λ k. chain (one a d (cc) k) (links_one ls ls' (cc) k)
+  one (choice c a b) (choice f d e) h = λ k. choice (one c f (cc) k) (one a d (cc) k) (one b e (cc) k)
+  one (set ms) (set ms') h = λ k. set (members_one ms ms' (cc) k)
+  one (record_of fs) (record_of fs') h = λ k. record_of (fields_one fs fs' (cc) k)
+  one (call name ms) (call name' ms') h = λ k. call (text_code.inj name name' (cc) k) (members_one ms ms' (cc) k)
+  one v w h = absurd (omega (arith, ap form h))
 
-  pub links_back : (ls : Links) → links_from (links_tree ls) ≡ ls
-  links_back no_links = refl
-  links_back (operand s a ls) = λ k. operand (chain_sign_back s k) (back a k) (links_back ls k)
-  links_back (attribute c ls) = λ k. attribute (content_back c k) (links_back ls k)
-  links_back (method name ms ls) = λ k. method (bytes_back name k) (members_back ms k) (links_back ls k)
+  pub links_one : (ks ls : Links) → links_tree ks ≡ links_tree ls → ks ≡ ls
+  links_one no_links no_links h = refl
+  links_one (operand s a ks) (operand t b ls) h = λ k. operand (chain_sign_code.inj s t (cc) k) (one a b (cc) k) (links_one ks ls (cc) k)
+  links_one (attribute c ks) (attribute d ls) h = λ k. attribute (content_code.inj c d (cc) k) (links_one ks ls (cc) k)
+  links_one (method name ms ks) (method name' ns ls) h = λ k. method (text_code.inj name name' (cc) k) (members_one ms ns (cc) k) (links_one ks ls (cc) k)
+  links_one ks ls h = absurd (cc)
 
-  pub members_back : (ms : Members) → members_from (members_tree ms) ≡ ms
-  members_back no_members = refl
-  members_back (member a ms) = λ k. member (back a k) (members_back ms k)
+  pub members_one : (ms ns : Members) → members_tree ms ≡ members_tree ns → ms ≡ ns
+  members_one no_members no_members h = refl
+  members_one (member a ms) (member b ns) h = λ k. member (one a b (cc) k) (members_one ms ns (cc) k)
+  members_one ms ns h = absurd (cc)
 
-  pub fields_back : (fs : Fields) → fields_from (fields_tree fs) ≡ fs
-  fields_back no_fields = refl
-  fields_back (field key a fs) = λ k. field (content_back key k) (back a k) (fields_back fs k)
+  pub fields_one : (fs gs : Fields) → fields_tree fs ≡ fields_tree gs → fs ≡ gs
+  fields_one no_fields no_fields h = refl
+  fields_one (field key a fs) (field key' b gs) h = λ k. field (content_code.inj key key' (cc) k) (one a b (cc) k) (fields_one fs gs (cc) k)
+  fields_one fs gs h = absurd (cc)
 
 abbrev pub written_code : Coded Written
-written_code = code_by Gv itself tree from back
+written_code = record { code = tree; inj = one }

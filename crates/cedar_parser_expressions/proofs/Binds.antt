@@ -1,5 +1,7 @@
 -- How tightly a token binds to what comes before it, and which tokens begin a phrase.
-use Rattle.std.proofs.Common.{◌≡◌, refl, ap, ◌∙◌, ℕ, zero, suc, ◌<◌, ◌≤◌, false, List, [], ◌∷◌, Option, Some, None, ◌⊎◌, inl, inr, arith}
+use Rattle.std.proofs.Common.{◌≡◌, refl, sym, ap, ◌∙◌, ℕ, zero, suc, ◌<◌, ◌≤◌, false, List, [], ◌∷◌, Option, Some, None, ◌⊎◌, inl, inr, arith}
+use denote.Enum.Bare.{false_same}
+use Rattle.cedar_text.specs.contracts.token_kind.TokenKind.{the_type}
 use Rattle.cedar_text.specs.declared.token_kind.TokenKind.{TokenKind}
 use Rattle.cedar_text.specs.declared.token_kind.TokenKind.TheVariants as k
 use Rattle.cedar_parser_tree.specs.declared.sign.ChainSign.{ChainSign}
@@ -9,7 +11,7 @@ use Rattle.cedar_parser_tokens.specs.Marks.{Mark, Marks}
 use Rattle.cedar_parser_tree.specs.Written.{Written}
 use Rattle.cedar_parser_expressions.specs.Grammar as g
 use Rattle.cedar_parser_tokens.specs.Names.{Rule, Takes, Text, Key, Path, Entity}
-use Rattle.cedar_parser_expressions.specs.Grammar.{Opens, Series, Entry, Primary, Suffixes, Member, Signed, Unary, Operands, Chain, or_sign, and_sign, add_sign, mult_sign, relation_sign_of, Mult, Add, Relation, And, Or, Expression, Nested}
+use Rattle.cedar_parser_expressions.specs.Grammar.{Series, Entry, Primary, Suffixes, Member, Signed, Unary, Operands, Chain, or_sign, and_sign, add_sign, mult_sign, relation_sign_of, Mult, Add, Relation, And, Or, Expression, Nested}
 use Rattle.cedar_parser_tokens.specs.Reading.{same_kind, sees, kind_at, sign_at}
 
 abbrev pub bind : TokenKind → ℕ
@@ -100,54 +102,14 @@ pub mult_below : Below 6 mult_sign
 mult_below k.Star sign h = omega arith
 mult_below _ sign h = absurd cc
 
-pub no_has : (q : TokenKind) → bind q < 3 → same_kind q k.Has ≡ false
-no_has k.Has h = absurd (omega arith)
-no_has _ h = refl
+-- No sign of a relation is of a kind that none of them has.
+pub sign_apart : (q kind : TokenKind) (sign : RelationSign) → relation_sign_of q ≡ Some sign → relation_sign_of kind ≡ None → same_kind q kind ≡ false
+sign_apart q kind sign h none = false_same the_type tt q kind (λ e. let f = ap relation_sign_of e in absurd cc)
 
-pub no_like : (q : TokenKind) → bind q < 3 → same_kind q k.Like ≡ false
-no_like k.Like h = absurd (omega arith)
-no_like _ h = refl
-
-pub no_is : (q : TokenKind) → bind q < 3 → same_kind q k.Is ≡ false
-no_is k.Is h = absurd (omega arith)
-no_is _ h = refl
-
-pub no_in : (q : TokenKind) → bind q < 3 → same_kind q k.In ≡ false
-no_in k.In h = absurd (omega arith)
-no_in _ h = refl
-
-pub no_dot : (q : TokenKind) → bind q < 6 → same_kind q k.Dot ≡ false
-no_dot k.Dot h = absurd (omega arith)
-no_dot _ h = refl
-
-pub no_bracket : (q : TokenKind) → bind q < 6 → same_kind q k.LeftBracket ≡ false
-no_bracket k.LeftBracket h = absurd (omega arith)
-no_bracket _ h = refl
-
-pub no_paren : (q : TokenKind) → bind q < 7 → same_kind q k.LeftParen ≡ false
-no_paren k.LeftParen h = absurd (omega arith)
-no_paren _ h = refl
-
-pub no_colon : (q : TokenKind) → bind q < 7 → same_kind q k.DoubleColon ≡ false
-no_colon k.DoubleColon h = absurd (omega arith)
-no_colon _ h = refl
-
-pub sign_no_has : (q : TokenKind) (sign : RelationSign) → relation_sign_of q ≡ Some sign → same_kind q k.Has ≡ false
-sign_no_has k.Has sign h = absurd cc
-sign_no_has _ sign h = refl
-
-pub sign_no_like : (q : TokenKind) (sign : RelationSign) → relation_sign_of q ≡ Some sign → same_kind q k.Like ≡ false
-sign_no_like k.Like sign h = absurd cc
-sign_no_like _ sign h = refl
-
-pub sign_no_is : (q : TokenKind) (sign : RelationSign) → relation_sign_of q ≡ Some sign → same_kind q k.Is ≡ false
-sign_no_is k.Is sign h = absurd cc
-sign_no_is _ sign h = refl
-
-pub sees_nothing : (n : ℕ) (kind : TokenKind) → ((q : TokenKind) → bind q < n → same_kind q kind ≡ false) → (ts : Marks) → bind_at ts < n → sees kind ts ≡ false
+pub sees_nothing : (kind : TokenKind) (ts : Marks) → bind_at ts < bind kind → sees kind ts ≡ false
 unfolding sees
-sees_nothing n kind h [] b = refl
-sees_nothing n kind h (t ∷ ts) b = h t.kind b
+sees_nothing kind [] b = refl
+sees_nothing kind (t ∷ ts) b = false_same the_type tt t.kind kind (λ e. let f = ap bind e in omega arith)
 
 pub no_sign : {S : Type 0} (n : ℕ) (signs : TokenKind → Option S) → Above n signs → (ts : Marks) → bind_at ts < n → sign_at signs ts ≡ None
 unfolding kind_at
@@ -272,31 +234,7 @@ series_starts Item high item ts _ us (g.next s c i) = series_starts Item high it
 
 -- ---- what is not there
 
-pub sees_no : (kind : TokenKind) (ts : Marks) → ((q : TokenKind) → start q ≡ start_at ts → same_kind q kind ≡ false) → sees kind ts ≡ false
+pub sees_no : (kind : TokenKind) (ts : Marks) → (start kind ≡ start_at ts → ⊥) → sees kind ts ≡ false
 unfolding sees
 sees_no kind [] h = refl
-sees_no kind (t ∷ ts) h = h t.kind refl
-
-pub not_if : (q : TokenKind) → start q ≤ 3 → same_kind q k.If ≡ false
-not_if k.If h = absurd (omega arith)
-not_if _ h = refl
-
-pub not_minus : (q : TokenKind) → start q ≤ 2 → same_kind q k.Minus ≡ false
-not_minus k.Minus h = absurd (omega arith)
-not_minus _ h = refl
-
-pub not_not : (q : TokenKind) → start q ≡ 1 → same_kind q k.Not ≡ false
-not_not k.Not h = absurd (omega arith)
-not_not _ h = refl
-
-pub not_paren : (q : TokenKind) → 1 ≤ start q → same_kind q k.RightParen ≡ false
-not_paren k.RightParen h = absurd (omega arith)
-not_paren _ h = refl
-
-pub not_bracket : (q : TokenKind) → 1 ≤ start q → same_kind q k.RightBracket ≡ false
-not_bracket k.RightBracket h = absurd (omega arith)
-not_bracket _ h = refl
-
-pub not_brace : (q : TokenKind) → 1 ≤ start q → same_kind q k.RightBrace ≡ false
-not_brace k.RightBrace h = absurd (omega arith)
-not_brace _ h = refl
+sees_no kind (t ∷ ts) h = false_same the_type tt t.kind kind (λ e. h (sym (ap start e)))

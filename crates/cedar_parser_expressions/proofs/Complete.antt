@@ -77,13 +77,13 @@ module _ {A : Type 0} (P : Type 0) (Item : Rule A) (item : Parser A) (high : ℕ
   series_stops zero xs us h = given
   series_stops (suc turns) xs us h = if_false _ _ h given
 
-  pub arguments_complete : (closer : TokenKind) → bind closer < 1 → same_kind closer k.Comma ≡ false → ((q : TokenKind) → 1 ≤ start q → same_kind q closer ≡ false)
+  pub arguments_complete : (closer : TokenKind) → bind closer < 1 → same_kind closer k.Comma ≡ false → start closer ≡ 0
       → (ts us vs : Marks) (t : Mark) (xs : List A) → Arguments Item ts xs us → Takes closer t us vs → Answers P (r.arguments item closer ts) xs vs
   unfolding r.arguments
   arguments_complete closer loose comma no_start ts us vs t xs g.none c = if_true _ _ (sees_yes c) (answers_by (ap (λ (ys : Marks). Ok ([], ys)) (next_is c)) given)
   arguments_complete closer loose comma no_start ts us vs t xs (g.some s) c =
       let starts = b.series_starts Item high begins _ _ _ s in
-      let unseen = sees_no closer ts (λ q e. no_start q (omega arith)) in
+      let unseen = sees_no closer ts (λ e. omega arith) in
       let bound = takes_bind c in
       if_false _ _ unseen
       (answers_then (r.series item ts) xs us _ xs vs
@@ -179,7 +179,7 @@ module _ (P : Type 0) (d' d : ℕ) (less : d < d' → P) (Inner : Rule Written) 
 
   called_complete : {us vs ws xs : Marks} {l q : Mark} {found : List Written} → Opens d' k.LeftParen l us vs → Arguments Inner vs found ws → Takes k.RightParen q ws xs → Answers P (r.called d inner us) found xs
   unfolding r.called
-  called_complete o xs c = open_then _ o (arguments_complete P Inner inner 4 advances begins complete k.RightParen (omega arith) refl b.not_paren _ _ _ _ _ xs c)
+  called_complete o xs c = open_then _ o (arguments_complete P Inner inner 4 advances begins complete k.RightParen (omega arith) refl refl _ _ _ _ _ xs c)
 
   primary_at : {q : TokenKind} {t : Mark} {ts us vs : Marks} {a : Written} → Takes q t ts us → Answers P (r.primary_by d inner q t ts) a vs → Answers P (r.primary d inner ts) a vs
   unfolding r.primary r.first
@@ -188,8 +188,8 @@ module _ (P : Type 0) (d' d : ℕ) (less : d < d' → P) (Inner : Rule Written) 
   named_variable : {t : Mark} {ts us : Marks} {x : Variable} → Takes k.Identifier t ts us → variable_of t.text ≡ Some x → bind_at us < 7 → Answers P (r.named d inner ts) (w.variable x) us
   unfolding r.named r.variable
   named_variable {t = t} {ts = ts} {us = us} h e lt =
-      if_false _ _ (neither_true (sees k.DoubleColon (next ts)) (sees k.LeftParen (next ts)) (ap (sees k.DoubleColon) (next_is h) ∙ sees_nothing 7 k.DoubleColon b.no_colon us lt)
-      (ap (sees k.LeftParen) (next_is h) ∙ sees_nothing 7 k.LeftParen b.no_paren us lt))
+      if_false _ _ (neither_true (sees k.DoubleColon (next ts)) (sees k.LeftParen (next ts)) (ap (sees k.DoubleColon) (next_is h) ∙ sees_nothing k.DoubleColon us lt)
+      (ap (sees k.LeftParen) (next_is h) ∙ sees_nothing k.LeftParen us lt))
       (expect_then (λ t us. r.variable_read (variable_of t.text) us) h (answers_by (ap (λ (o : Option Variable). r.variable_read o us) e) given))
 
   slot_read : {t : Mark} {ts us : Marks} {x : Variable} → Takes k.Slot t ts us → slot_of t.text ≡ Some x → Answers P (r.slot ts) (w.slot x) us
@@ -218,14 +218,14 @@ module _ (P : Type 0) (d' d : ℕ) (less : d < d' → P) (Inner : Rule Written) 
   unfolding r.set
   set_of {us = us} {ws = ws} {found = found} o list c =
       open_then _ o (answers_then (r.arguments inner k.RightBracket us) found ws _ (w.set (members_of found)) ws
-      (arguments_complete P Inner inner 4 advances begins complete k.RightBracket (omega arith) refl b.not_bracket _ _ _ _ _ list c) given)
+      (arguments_complete P Inner inner 4 advances begins complete k.RightBracket (omega arith) refl refl _ _ _ _ _ list c) given)
 
   record_with : {ts us vs ws : Marks} {l q : Mark} {found : List Field} → Opens d' k.LeftBrace l ts us → Arguments (Entry Inner) us found vs → Takes k.RightBrace q vs ws
       → Answers P (r.record_of d inner ts) (w.record_of (fields_of found)) ws
   unfolding r.record_of
   record_with {us = us} {ws = ws} {found = found} o list c =
       open_then _ o (answers_then (r.arguments (r.entry inner) k.RightBrace us) found ws _ (w.record_of (fields_of found)) ws
-      (arguments_complete P (Entry Inner) (r.entry inner) 1 (m.entry_moves Inner advances) (b.entry_starts Inner) entry_complete k.RightBrace (omega arith) refl b.not_brace _ _ _ _ _ list c) given)
+      (arguments_complete P (Entry Inner) (r.entry inner) 1 (m.entry_moves Inner advances) (b.entry_starts Inner) entry_complete k.RightBrace (omega arith) refl refl _ _ _ _ _ list c) given)
 
   text_at : {ts us : Marks} {c : Content} → Text ts c us → Answers P (r.primary d inner ts) (w.text c) us
   text_at (g.string h) = primary_at h (known_then (λ s us. Ok (w.text s, us)) (text_yes (g.string h)) given)
@@ -256,7 +256,7 @@ module _ (P : Type 0) (d' d : ℕ) (less : d < d' → P) (Inner : Rule Written) 
 
   attribute_there : {us vs ws : Marks} {p t : Mark} → Takes k.Dot p us vs → Takes k.Identifier t vs ws → bind_at ws < 7 → Answers P (r.suffix d inner us) (Attribute (Some t.text)) ws
   unfolding r.suffix r.dotted
-  attribute_there {ws = ws} p t lt = if_true _ _ (sees_yes p) (at_next (r.dotted d inner) p (expect_then _ t (if_false _ _ (sees_nothing 7 k.LeftParen b.no_paren ws lt) given)))
+  attribute_there {ws = ws} p t lt = if_true _ _ (sees_yes p) (at_next (r.dotted d inner) p (expect_then _ t (if_false _ _ (sees_nothing k.LeftParen ws lt) given)))
 
   index_there : {us vs ws xs : Marks} {l q : Mark} {c : Content} → Opens d' k.LeftBracket l us vs → Text vs c ws → Takes k.RightBracket q ws xs → Answers P (r.suffix d inner us) (Attribute c) xs
   unfolding r.suffix r.indexed
@@ -300,7 +300,7 @@ module _ (P : Type 0) (d' d : ℕ) (less : d < d' → P) (Inner : Rule Written) 
 
   pub member_complete : Complete P (Member d' Inner) 6 (r.member d inner)
   member_complete ts _ us (g.suffixes {a = a} {ls = ls} s) lt =
-      let none = neither_true (sees k.Dot us) (sees k.LeftBracket us) (sees_nothing 6 k.Dot b.no_dot us lt) (sees_nothing 6 k.LeftBracket b.no_bracket us lt) in
+      let none = neither_true (sees k.Dot us) (sees k.LeftBracket us) (sees_nothing k.Dot us lt) (sees_nothing k.LeftBracket us lt) in
       member_on ts a ls us s (omega arith) ls us (λ turns _. member_stops turns ls us none)
 
   -- ---- signs
@@ -311,7 +311,7 @@ module _ (P : Type 0) (d' d : ℕ) (less : d < d' → P) (Inner : Rule Written) 
     where
       go : (n : ℕ) → Answers P (r.nots d inner n ts) a us
       go zero = member_complete ts a us p lt
-      go (suc n) = let s = b.member_starts d' Inner ts a us p in if_false _ _ (sees_no k.Not ts (λ q e. b.not_not q (omega arith))) (member_complete ts a us p lt)
+      go (suc n) = let s = b.member_starts d' Inner ts a us p in if_false _ _ (sees_no k.Not ts (λ e. omega arith)) (member_complete ts a us p lt)
   nots_complete _ ts _ us (g.signed {n = n} {us = xs} {a = a} t p) lt =
       if_true _ _ (sees_yes t) (at_next (λ zs. and_then (r.nots d inner n zs) (λ x zs. Ok (w.not x, zs))) t
       (answers_then (r.nots d inner n xs) a us _ (w.not a) us (nots_complete n xs a us p lt) given))
@@ -322,7 +322,7 @@ module _ (P : Type 0) (d' d : ℕ) (less : d < d' → P) (Inner : Rule Written) 
     where
       go : (n : ℕ) → Answers P (r.minuses d inner n ts) a us
       go zero = member_complete ts a us p lt
-      go (suc n) = let s = b.member_starts d' Inner ts a us p in if_false _ _ (sees_no k.Minus ts (λ q e. b.not_minus q (omega arith))) (member_complete ts a us p lt)
+      go (suc n) = let s = b.member_starts d' Inner ts a us p in if_false _ _ (sees_no k.Minus ts (λ e. omega arith)) (member_complete ts a us p lt)
   minuses_complete _ ts _ us (g.signed {n = n} {us = xs} {a = a} t p) lt =
       if_true _ _ (sees_yes t) (at_next (λ zs. and_then (r.minuses d inner n zs) (λ x zs. Ok (w.minus x, zs))) t
       (answers_then (r.minuses d inner n xs) a us _ (w.minus a) us (minuses_complete n xs a us p lt) given))
@@ -330,10 +330,10 @@ module _ (P : Type 0) (d' d : ℕ) (less : d < d' → P) (Inner : Rule Written) 
   unary_complete : Complete P (Unary d' Inner) 6 (r.unary d inner)
   unfolding r.unary
   unary_complete ts a us (g.nots p) lt =
-      if_false _ _ (sees_no k.Minus ts (λ q e. b.not_minus q (elim (b.signed_starts d' Inner k.Not w.not 4 ts a us p) [ inl h ↦ omega arith | inr h ↦ omega arith ]))) (nots_complete 4 ts a us p lt)
+      if_false _ _ (sees_no k.Minus ts (λ e. (elim (b.signed_starts d' Inner k.Not w.not 4 ts a us p) [ inl h ↦ omega arith | inr h ↦ omega arith ]))) (nots_complete 4 ts a us p lt)
   unary_complete ts a us (g.minuses (g.bare p)) lt =
       let s = b.member_starts d' Inner ts a us p in
-      if_false _ _ (sees_no k.Minus ts (λ q e. b.not_minus q (omega arith))) (nots_complete 4 ts a us (g.bare p) lt)
+      if_false _ _ (sees_no k.Minus ts (λ e. omega arith)) (nots_complete 4 ts a us (g.bare p) lt)
   unary_complete ts a us (g.minuses (g.signed t p)) lt = if_true _ _ (sees_yes t) (minuses_complete 4 ts a us (g.signed t p) lt)
 
   mult_complete : Complete P (Mult d' Inner) 5 (r.mult d inner)
@@ -359,7 +359,7 @@ module _ (P : Type 0) (d' d : ℕ) (less : d < d' → P) (Inner : Rule Written) 
   typed_there : {vs ws : Marks} {ty : List ℕ} (a : Written) → Path vs ty ws → bind_at ws < 3 → Answers P (r.typed d inner a vs) (w.is a ty) ws
   unfolding r.typed r.of_type
   typed_there {ws = ws} a p lt =
-      known_then _ (path_yes p (no_path_on ws (sees_nothing 7 k.DoubleColon b.no_colon ws (omega arith)))) (if_false _ _ (sees_nothing 3 k.In b.no_in ws lt) given)
+      known_then _ (path_yes p (no_path_on ws (sees_nothing k.DoubleColon ws (omega arith)))) (if_false _ _ (sees_nothing k.In ws lt) given)
 
   typed_in_there : {vs ws xs us : Marks} {ty : List ℕ} {t : Mark} (a c : Written) → Path vs ty ws → Takes k.In t ws xs → Add d' Inner xs c us → bind_at us < 3
       → Answers P (r.typed d inner a vs) (w.is_in a ty c) us
@@ -372,13 +372,13 @@ module _ (P : Type 0) (d' d : ℕ) (less : d < d' → P) (Inner : Rule Written) 
   unfolding r.relation r.relation_from r.asked r.matched r.pattern sees
   relation_complete ts a us (g.alone q) lt =
       answers_then (r.add d inner ts) a us _ a us (add_complete ts a us q (omega arith))
-      (if_false _ _ (sees_nothing 3 k.Has b.no_has us lt) (if_false _ _ (sees_nothing 3 k.Like b.no_like us lt) (if_false _ _ (sees_nothing 3 k.Is b.no_is us lt) (related_alone a us lt))))
+      (if_false _ _ (sees_nothing k.Has us lt) (if_false _ _ (sees_nothing k.Like us lt) (if_false _ _ (sees_nothing k.Is us lt) (related_alone a us lt))))
   relation_complete ts _ us (g.pair {us = xs} {a = a} {b = c} {t = t} {sign = sign} q e i) lt =
       answers_then (r.add d inner ts) a (t ∷ xs) _ (w.relation sign a c) us (add_complete ts a (t ∷ xs) q (b.relation_below t.kind sign e))
-      (if_false _ _ (b.sign_no_has t.kind sign e) (if_false _ _ (b.sign_no_like t.kind sign e) (if_false _ _ (b.sign_no_is t.kind sign e) (related_pair a c t xs us sign e i lt))))
+      (if_false _ _ (b.sign_apart t.kind k.Has sign e refl) (if_false _ _ (b.sign_apart t.kind k.Like sign e refl) (if_false _ _ (b.sign_apart t.kind k.Is sign e refl) (related_pair a c t xs us sign e i lt))))
   relation_complete ts _ us (g.has {us = xs} {a = a} {path = path} q t i) lt =
       answers_then (r.add d inner ts) a xs _ (w.has a path.0 path.1) us (add_complete ts a xs q (let e = takes_bind t in omega arith))
-      (if_true _ _ (sees_yes t) (at_next (r.asked a) t (known_then _ (attributes_yes i (sees_nothing 6 k.Dot b.no_dot us (omega arith))) given)))
+      (if_true _ _ (sees_yes t) (at_next (r.asked a) t (known_then _ (attributes_yes i (sees_nothing k.Dot us (omega arith))) given)))
   relation_complete ts _ us (g.like {us = xs} {vs = ys} {a = a} {s = s} q t i) lt =
       answers_then (r.add d inner ts) a xs _ (w.like a (pattern_of s.letters)) us (add_complete ts a xs q (let e = takes_bind t in omega arith))
       (if_false _ _ (sees_other k.Has t refl) (if_true _ _ (sees_yes t) (at_next (r.matched a) t (answers_flat (expect k.String ys) _ _ (expect_then _ i given)))))
@@ -401,7 +401,7 @@ module _ (P : Type 0) (d' d : ℕ) (less : d < d' → P) (Inner : Rule Written) 
   unfolding r.expression r.choice r.branches r.before_else r.behind_else
   expression_complete ts a us (g.or o) lt =
       let s = b.ors_start d' Inner ts a us o in
-      if_false _ _ (sees_no k.If ts (λ q e. b.not_if q (omega arith))) (or_complete ts a us o lt)
+      if_false _ _ (sees_no k.If ts (λ e. omega arith)) (or_complete ts a us o lt)
   expression_complete ts _ us (g.choice {c0 = c0} {c1 = c1} {a0 = a0} {a1 = a1} {b0 = b0} {c = c} {a = x} {b = y} i p t q s o) lt =
       let bound_t = takes_bind t in
       let bound_s = takes_bind s in

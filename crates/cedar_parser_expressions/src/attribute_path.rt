@@ -32,7 +32,7 @@ pub fn parse_attribute_path(
 }
 
 // Parses dots, each with the identifier after it.
-#[tactic(auto, unfolding(crate::specs::Reading::further))]
+#[tactic(auto, using(cedar_parser_tokens::proofs::Turns::one_left), unfolding(crate::specs::Reading::further, crate::specs::Reading::further_from))]
 fn parse_further_attributes(alloc: Global, tokens: &mut Cursor<'_>) -> Result<Vec<Text>, ParseFault>
     ensures { ReadsItems (spec.further tokens.old) result tokens.new }
 {

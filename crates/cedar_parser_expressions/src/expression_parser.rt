@@ -72,6 +72,7 @@ impl<F: Fn(Global, &mut Cursor<'_>, u8) -> Result<Box<Written>, ParseFault>> Exp
     }
 
     // Parses signs, each with the operand after it.
+    #[tactic(auto, using(cedar_parser_tokens::proofs::Turns::one_left), unfolding(crate::specs::Reading::links_from))]
     fn parse_links<P>(
         &self,
         tokens: &mut Cursor<'_>,
@@ -299,6 +300,7 @@ impl<F: Fn(Global, &mut Cursor<'_>, u8) -> Result<Box<Written>, ParseFault>> Exp
 
     // Parses accesses to the member before them. It is never inlined, so that a bracket without accesses needs little of the call
     // stack.
+    #[tactic(auto, using(cedar_parser_tokens::proofs::Turns::one_left), unfolding(crate::specs::Reading::suffixes_from))]
     #[inline(never)]
     fn parse_accesses(&self, tokens: &mut Cursor<'_>) -> Result<Vec<Link>, ParseFault>
         requires { Nests self.now.depth (F.pre self.now.inner) (F.post self.now.inner) }
@@ -474,6 +476,7 @@ impl<F: Fn(Global, &mut Cursor<'_>, u8) -> Result<Box<Written>, ParseFault>> Exp
         Ok(found)
     }
 
+    #[tactic(auto, using(cedar_parser_tokens::proofs::Turns::one_left), unfolding(crate::specs::Reading::series_from))]
     fn parse_expressions(&self, tokens: &mut Cursor<'_>) -> Result<Vec<Written>, ParseFault>
         requires { Nests self.now.depth (F.pre self.now.inner) (F.post self.now.inner) }
         ensures { ReadsItems (spec.series (spec.nested self.now.depth) tokens.old) result tokens.new }
@@ -507,6 +510,7 @@ impl<F: Fn(Global, &mut Cursor<'_>, u8) -> Result<Box<Written>, ParseFault>> Exp
         Ok(found)
     }
 
+    #[tactic(auto, using(cedar_parser_tokens::proofs::Turns::one_left), unfolding(crate::specs::Reading::series_from))]
     fn parse_fields(&self, tokens: &mut Cursor<'_>) -> Result<Vec<Field>, ParseFault>
         requires { Nests self.now.depth (F.pre self.now.inner) (F.post self.now.inner) }
         ensures { ReadsItems (spec.series (spec.entry (spec.nested self.now.depth)) tokens.old) result tokens.new }

@@ -11,13 +11,13 @@ use Rattle.cedar_parser_tree.specs.declared.written.Link.{Link}
 use Rattle.cedar_parser_tree.specs.declared.written.Link.TheVariants.{Operand, Attribute, Method}
 use Rattle.cedar_parser_tree.specs.declared.written_statement.WrittenCondition.{WrittenCondition}
 use Rattle.cedar_parser_tree.specs.Written as w
-use Rattle.cedar_parser_tree.specs.Written.{Written, truth, number, negative, text, entity, variable, slot, group, not, negated, relation, has, like, is, is_in, chain, choice, set, record_of, call, Links, no_links, operand, attribute, method, Members, no_members, member, Fields, no_fields, field, members_of, minus}
+use Rattle.cedar_parser_tree.specs.Written.{Written, number, text, group, not, negated, relation, has, like, is, is_in, chain, choice, set, record_of, call, Links, no_links, operand, attribute, method, Members, no_members, member, Fields, no_fields, field, members_of, minus}
 use Rattle.cedar_parser_tree.specs.WrittenKind.{links_of, fields_of}
 use Rattle.cedar_parser_tree.specs.StatementTree.{StatementTree}
 use Rattle.cedar_parser_expressions.specs.Grammar as g
 use Rattle.cedar_parser_expressions.specs.Grammar.{Series, Arguments, Entry, Primary, Suffixes, Member, Signed, Unary, Operands, Chain, chained, or_sign, and_sign, add_sign, mult_sign, Mult, Add}
 use Rattle.cedar_parser_statements.specs.Earlier as o
-use Rattle.cedar_parser_statements.specs.Earlier.{EarlierRelation, EarlierOrs, EarlierExpression, EarlierNested, EarlierBlock, EarlierConditions, EarlierStatement, EarlierStatements}
+use Rattle.cedar_parser_statements.specs.Earlier.{EarlierRelation, EarlierExpression, EarlierNested, EarlierBlock, EarlierConditions, EarlierStatement, EarlierStatements}
 
 abbrev mutual
   -- each `has` in an expression asks for one attribute
@@ -124,17 +124,11 @@ chain_free signs R f ts a us (g.operands {a = first} {ls = ls} h) =
 
 module _ (d : ℕ) (R : Rule Written) (f : Free R) where
   primary_free : Free (Primary d R)
-  primary_free ts a us (g.yes h) = tt
-  primary_free ts a us (g.no h) = tt
-  primary_free ts a us (g.number h) = tt
-  primary_free ts a us (g.text h) = tt
-  primary_free ts a us (g.uid h) = tt
-  primary_free ts a us (g.variable h e) = tt
-  primary_free ts a us (g.slot h e) = tt
   primary_free ts a us (g.call p l q c) = arguments_free R f _ _ _ q
   primary_free ts a us (g.group l i c) = f _ _ _ i
   primary_free ts a us (g.set l q c) = arguments_free R f _ _ _ q
   primary_free ts a us (g.record_of l q c) = fields_free R f _ _ _ q
+  primary_free ts a us _ = tt
 
   suffixes_free : (ts : Marks) (a : Written) (ls : List Link) (us : Marks) → Suffixes d R ts a ls us → HasNoPath a × LinksHaveNoPath (links_of ls)
   suffixes_free ts a ls us (g.first p) = (primary_free _ _ _ p, tt)

@@ -23,17 +23,7 @@ refused_by : (ts us vs : Marks) (s : StatementTree) (x : ParseFault) → Refuses
 refused_by ts us vs s f.OutOfMemory h i = tt
 refused_by ts us vs s (f.Syntax at) h i = statement_none 101 101 ts s vs i h
 refused_by ts us vs s (f.TooDeep at) h i = statement_too_deep 101 ts s vs i h
-refused_by ts us vs s (f.Text at) h i = h
-refused_by ts us vs s (f.EscapedStar at) h i = h
-refused_by ts us vs s (f.NumberTooLarge at) h i = h
-refused_by ts us vs s (f.TooHigh at) h i = h
-refused_by ts us vs s (f.DuplicateKey at) h i = h
-refused_by ts us vs s (f.DuplicateId at) h i = h
-refused_by ts us vs s (f.UnknownFunction at) h i = h
-refused_by ts us vs s (f.Arity at) h i = h
-refused_by ts us vs s (f.SlotMisplaced at) h i = h
-refused_by ts us vs s (f.DuplicateAnnotation at) h i = h
-refused_by ts us vs s (f.TooLarge at) h i = h
+refused_by ts us vs s _ h i = h
 
 pub only_by : (ts us : Marks) (x : Result StatementTree ParseFault) → Reads (r.statement 101 ts) x us → (s : StatementTree) (vs : Marks) → IsStatement ts s vs → HasStatement s vs x us
 only_by ts us (Ok found) h s vs i = statement_same 101 101 ts s found vs us i h
@@ -46,17 +36,7 @@ fault_there : (ts : Marks) (x : ParseFault) → Refuses (r.statement 101 ts) x �
 fault_there ts f.OutOfMemory h = tt
 fault_there ts (f.Syntax at) h = λ d s us i. statement_none d 101 ts s us i h
 fault_there ts (f.TooDeep at) h = over_deep 100 ts (deep_by ts h)
-fault_there ts (f.Text at) h = absurd h
-fault_there ts (f.EscapedStar at) h = absurd h
-fault_there ts (f.NumberTooLarge at) h = absurd h
-fault_there ts (f.TooHigh at) h = absurd h
-fault_there ts (f.DuplicateKey at) h = absurd h
-fault_there ts (f.DuplicateId at) h = absurd h
-fault_there ts (f.UnknownFunction at) h = absurd h
-fault_there ts (f.Arity at) h = absurd h
-fault_there ts (f.SlotMisplaced at) h = absurd h
-fault_there ts (f.DuplicateAnnotation at) h = absurd h
-fault_there ts (f.TooLarge at) h = absurd h
+fault_there ts _ h = absurd h
 
 pub fault_by : (ts us : Marks) (x : Result StatementTree ParseFault) → Reads (r.statement 101 ts) x us → IfErr x (HasStatementFault ts)
 fault_by ts us (Ok s) h = tt

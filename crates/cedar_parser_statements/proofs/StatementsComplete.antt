@@ -166,7 +166,7 @@ action_answers P {us = us} (g.among {vs = vs} {ws = ws} {list = list} w t l h c)
     known_then _ (word_yes w) (if_false _ _ (sees_other k.Equal t refl) (if_true _ _ (sees_yes t) (at_next r.entities t
     (if_true _ _ (sees_yes l) (at_next (λ zs. and_then (arguments entity k.RightBracket zs) (λ list us. Ok (action_scope.InSet list, us))) l
     (answers_then (arguments entity k.RightBracket ws) list us _ (action_scope.InSet list) us
-    (arguments_complete P Entity entity 1 entity_moves b.entity_starts (entity_complete P) k.RightBracket (omega arith) refl b.not_bracket _ _ _ _ _ h c) given))))))
+    (arguments_complete P Entity entity 1 entity_moves b.entity_starts (entity_complete P) k.RightBracket (omega arith) refl refl _ _ _ _ _ h c) given))))))
 
 scope_answers : (P : Type 0) {ts us : Marks} {s : WrittenScope} → Scopes ts s us → Answers P (r.scope ts) s us
 unfolding r.scope r.behind_principal r.behind_action r.resource

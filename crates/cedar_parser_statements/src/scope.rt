@@ -207,6 +207,7 @@ fn parse_entity_list(alloc: Global, tokens: &mut Cursor<'_>) -> Result<Vec<Writt
     Ok(found)
 }
 
+#[tactic(auto, using(cedar_parser_tokens::proofs::Turns::one_left), unfolding(cedar_parser_expressions::specs::Reading::series_from))]
 fn parse_entities(alloc: Global, tokens: &mut Cursor<'_>) -> Result<Vec<WrittenUid>, ParseFault>
     ensures { ReadsItems (reading.series reading.entity tokens.old) result tokens.new }
 {

@@ -96,7 +96,7 @@ fn parse_statement_end(
     Ok(conditions)
 }
 
-#[tactic(auto, unfolding(crate::specs::StatementReading::annotations))]
+#[tactic(auto, using(cedar_parser_tokens::proofs::Turns::one_left), unfolding(crate::specs::StatementReading::annotations, crate::specs::StatementReading::annotations_from))]
 fn parse_annotations(
     alloc: Global,
     tokens: &mut Cursor<'_>,
@@ -148,7 +148,7 @@ fn effect_of(word: &str) -> Option<Effect>
     }
 }
 
-#[tactic(auto, unfolding(crate::specs::StatementReading::conditions))]
+#[tactic(auto, using(cedar_parser_tokens::proofs::Turns::one_left), unfolding(crate::specs::StatementReading::conditions, crate::specs::StatementReading::conditions_from))]
 fn parse_conditions(
     alloc: Global,
     tokens: &mut Cursor<'_>,

@@ -53,17 +53,7 @@ broken_by : (z : Size) (s : StatementTree) → z ≡ capped (condition_size s) �
 broken_by z s e (f.TooHigh at) h = high_from z (condition_size s) e h
 broken_by z s e (f.TooLarge at) h = large_from z (condition_size s) e h
 broken_by z s e f.OutOfMemory h = tt
-broken_by z s e (f.Text at) h = absurd h
-broken_by z s e (f.EscapedStar at) h = absurd h
-broken_by z s e (f.NumberTooLarge at) h = absurd h
-broken_by z s e (f.Syntax at) h = absurd h
-broken_by z s e (f.TooDeep at) h = absurd h
-broken_by z s e (f.DuplicateKey at) h = absurd h
-broken_by z s e (f.DuplicateId at) h = absurd h
-broken_by z s e (f.UnknownFunction at) h = absurd h
-broken_by z s e (f.Arity at) h = absurd h
-broken_by z s e (f.SlotMisplaced at) h = absurd h
-broken_by z s e (f.DuplicateAnnotation at) h = absurd h
+broken_by z s e _ h = absurd h
 
 pub broken_of : (r : Result (Unit {0}) ParseFault) (z : Size) (s : StatementTree) → z ≡ capped (condition_size s) → IfErr r (BreaksSize z) → IfErr r (Breaks s)
 broken_of (Ok u) z s e h = tt

@@ -83,38 +83,15 @@ links_split c (Operand s a) ls h = (h.0, h.1)
 links_split c (Attribute k) ls h = (h.0, h.1)
 links_split c (Method n ms) ls h = (h.0, h.1)
 
-links_join : (c : SideCondition) (l : Link) (ls : List Link) → KeepLink c l → KeepLinks c (links_of ls) → KeepLinks c (links_of (l ∷ ls))
-links_join c (Operand s a) ls p q = (p, q)
-links_join c (Attribute k) ls p q = (p, q)
-links_join c (Method n ms) ls p q = (p, q)
-
 -- what the parts from a place on keep, and the part there with those after
 pub links_here : (c : SideCondition) (ls : List Link) (i : ℕ) (x : Link) → i < length ls → x ≡ get_or ls i x → KeepLinks c (links_of (drop i ls)) → KeepLink c x × KeepLinks c (links_of (drop (i + 1) ls))
 links_here c ls i x lt e h = links_split c x (drop (i + 1) ls) (subst (λ (ys : List Link). KeepLinks c (links_of ys)) (from_place ls i x lt e) h)
 
-pub links_there : (c : SideCondition) (ls : List Link) (i : ℕ) (x : Link) → i < length ls → x ≡ get_or ls i x → KeepLink c x → KeepLinks c (links_of (drop (i + 1) ls)) → KeepLinks c (links_of (drop i ls))
-links_there c ls i x lt e p q = subst (λ (ys : List Link). KeepLinks c (links_of ys)) (sym (from_place ls i x lt e)) (links_join c x (drop (i + 1) ls) p q)
-
-pub links_end : (c : SideCondition) (ls : List Link) (i : ℕ) → length ls ≤ i → KeepLinks c (links_of (drop i ls))
-links_end c ls i le = subst (λ (ys : List Link). KeepLinks c (links_of ys)) (sym (none_left ls i le)) tt
-
 pub members_here : (c : SideCondition) (xs : List Written) (i : ℕ) (x : Written) → i < length xs → x ≡ get_or xs i x → KeepMembers c (members_of (drop i xs)) → Keeps c x × KeepMembers c (members_of (drop (i + 1) xs))
 members_here c xs i x lt e h = subst (λ (ys : List Written). KeepMembers c (members_of ys)) (from_place xs i x lt e) h
 
-pub members_there : (c : SideCondition) (xs : List Written) (i : ℕ) (x : Written) → i < length xs → x ≡ get_or xs i x → Keeps c x → KeepMembers c (members_of (drop (i + 1) xs)) → KeepMembers c (members_of (drop i xs))
-members_there c xs i x lt e p q = subst (λ (ys : List Written). KeepMembers c (members_of ys)) (sym (from_place xs i x lt e)) (p, q)
-
-pub members_end : (c : SideCondition) (xs : List Written) (i : ℕ) → length xs ≤ i → KeepMembers c (members_of (drop i xs))
-members_end c xs i le = subst (λ (ys : List Written). KeepMembers c (members_of ys)) (sym (none_left xs i le)) tt
-
 pub fields_here : (c : SideCondition) (xs : List Field) (i : ℕ) (x : Field) → i < length xs → x ≡ get_or xs i x → KeepFields c (fields_of (drop i xs)) → KeepField c x × KeepFields c (fields_of (drop (i + 1) xs))
 fields_here c xs i x lt e h = subst (λ (ys : List Field). KeepFields c (fields_of ys)) (from_place xs i x lt e) h
-
-pub fields_there : (c : SideCondition) (xs : List Field) (i : ℕ) (x : Field) → i < length xs → x ≡ get_or xs i x → KeepField c x → KeepFields c (fields_of (drop (i + 1) xs)) → KeepFields c (fields_of (drop i xs))
-fields_there c xs i x lt e p q = subst (λ (ys : List Field). KeepFields c (fields_of ys)) (sym (from_place xs i x lt e)) (p, q)
-
-pub fields_end : (c : SideCondition) (xs : List Field) (i : ℕ) → length xs ≤ i → KeepFields c (fields_of (drop i xs))
-fields_end c xs i le = subst (λ (ys : List Field). KeepFields c (fields_of ys)) (sym (none_left xs i le)) tt
 
 -- ---- what they make
 
@@ -129,14 +106,6 @@ grouped-fold a [] = refl
 grouped-fold a (l ∷ ls) = step_grouped a l ls ∙ grouped-fold (behind a l) ls
 
 -- ---- the parts up to a place
-
-fold-one : {A B : Type 0} (f : A → B → A) (a : A) (xs : List B) (x : B) → fold f a (xs ++ x ∷ []) ≡ f (fold f a xs) x
-fold-one f a [] x = refl
-fold-one f a (y ∷ xs) x = fold-one f (f a y) xs x
-
--- one more link after an expression
-pub behind_next : (a : Expression) (ls : List Link) (i : ℕ) (x : Link) → i < length ls → x ≡ get_or ls i x → fold behind a (take (i + 1) ls) ≡ behind (fold behind a (take i ls)) x
-behind_next a ls i x lt e = ap (fold behind a) (take_next ls i x lt e) ∙ fold-one behind a (take i ls) x
 
 pub behind_all : (a : Expression) (ls : List Link) (i : ℕ) → length ls ≤ i → fold behind a (take i ls) ≡ grouped a (links_of ls)
 behind_all a ls i le = ap (fold behind a) (take_all i ls le) ∙ sym (grouped-fold a ls)
@@ -182,13 +151,6 @@ distinct_keys (f ∷ fs) h =
 pub entries_of_pairs : (fs : List Field) → entries_of (pairs_of fs) ≡ to_entries (fields_of fs)
 entries_of_pairs [] = refl
 entries_of_pairs (f ∷ fs) = ap (e.entry (text_of f.key) (to_expression f.value)) (entries_of_pairs fs)
-
-map_next : {A B : Type 0} (f : A → B) (xs : List A) (x : A) → map f (xs ++ x ∷ []) ≡ map f xs ++ f x ∷ []
-map_next f [] x = refl
-map_next f (y ∷ xs) x = ap (λ ys. f y ∷ ys) (map_next f xs x)
-
-pub map_taken : {A B : Type 0} (f : A → B) (xs : List A) (i : ℕ) (x : A) → i < length xs → x ≡ get_or xs i x → map f (take (i + 1) xs) ≡ map f (take i xs) ++ f x ∷ []
-map_taken f xs i x lt e = ap (map f) (take_next xs i x lt e) ∙ map_next f (take i xs) x
 
 expressions_one : (xs : List Expression) (x : Expression) (ys : List Written) (y : Written) → e.expressions_of xs ≡ to_expressions (members_of ys) → x ≡ to_expression y
     → e.expressions_of (xs ++ x ∷ []) ≡ to_expressions (members_of (ys ++ y ∷ []))

@@ -188,12 +188,7 @@ pub fn content_breach(condition: SideCondition, content: &Content) -> Option<usi
     ensures { MatchOption result (Stands condition content.now) (λ at. Stands condition content.now → ⊥) }
 {
     match condition {
-        SideCondition::Strings => {
-            if content.text().is_some() {
-                return None;
-            }
-            Some(content.place())
-        }
+        SideCondition::Strings if content.text().is_none() => Some(content.place()),
         _ => None,
     }
 }
@@ -202,12 +197,7 @@ fn number_breach(condition: SideCondition, start: usize, number: u64) -> Option<
     ensures { MatchOption result (Fits condition number) (λ at. Fits condition number → ⊥) }
 {
     match condition {
-        SideCondition::Numbers => {
-            if number <= i64::MAX as u64 {
-                return None;
-            }
-            Some(start)
-        }
+        SideCondition::Numbers if number > i64::MAX as u64 => Some(start),
         _ => None,
     }
 }
@@ -216,12 +206,7 @@ fn negative_breach(condition: SideCondition, start: usize, number: u64) -> Optio
     ensures { MatchOption result (FitsNegative condition number) (λ at. FitsNegative condition number → ⊥) }
 {
     match condition {
-        SideCondition::Numbers => {
-            if number <= 1 << 63 {
-                return None;
-            }
-            Some(start)
-        }
+        SideCondition::Numbers if number > 1 << 63 => Some(start),
         _ => None,
     }
 }
@@ -239,12 +224,7 @@ fn function_breach(condition: SideCondition, start: usize, name: &Name) -> Optio
     ensures { MatchOption result (IsKnown condition (function_of name.now)) (λ at. IsKnown condition (function_of name.now) → ⊥) }
 {
     match condition {
-        SideCondition::Names => {
-            if function_of(name.as_str()).is_some() {
-                return None;
-            }
-            Some(start)
-        }
+        SideCondition::Names if function_of(name.as_str()).is_none() => Some(start),
         _ => None,
     }
 }
@@ -253,12 +233,7 @@ fn method_breach(condition: SideCondition, name: &Word) -> Option<usize>
     ensures { MatchOption result (IsKnown condition (method_of name.now)) (λ at. IsKnown condition (method_of name.now) → ⊥) }
 {
     match condition {
-        SideCondition::Names => {
-            if method_of(name.as_str()).is_some() {
-                return None;
-            }
-            Some(name.place())
-        }
+        SideCondition::Names if method_of(name.as_str()).is_none() => Some(name.place()),
         _ => None,
     }
 }

@@ -165,12 +165,7 @@ fn reference_breach(
     match reference {
         Reference::Entity(uid) => content_breach(condition, &uid.id),
         Reference::Slot(start, slot) => match condition {
-            SideCondition::Slots => {
-                if variable == *slot {
-                    return None;
-                }
-                Some(*start)
-            }
+            SideCondition::Slots if variable != *slot => Some(*start),
             _ => None,
         },
     }

@@ -5,9 +5,11 @@ use Rattle.cedar_ast_expressions.specs.Expression as e
 use Rattle.cedar_ast_expressions.specs.Expression.{Expression, Expressions, expressions_of}
 use Rattle.cedar_parser_tree.specs.Written.{Members, no_members, member}
 use Rattle.cedar_parser_limits.specs.declared.functions.Method.{Method}
-use Rattle.cedar_parser_limits.specs.declared.side_condition.SideCondition.TheVariants.{Counts}
+use Rattle.cedar_parser_limits.specs.declared.side_condition.SideCondition.{SideCondition}
+use Rattle.cedar_parser_limits.specs.declared.side_condition.SideCondition.TheVariants.{Strings, Numbers, Keys, Names, Counts, Slots}
 use Rattle.cedar_parser_limits.specs.Meaning.{to_expressions}
 use Rattle.cedar_parser_limits.specs.Limits.{count_of, arity_of, HasArity}
+use Rattle.cedar_parser.specs.Private.Kept.{Every}
 
 -- how many expressions there are
 abbrev count : Expressions → ℕ
@@ -34,3 +36,7 @@ method_arguments o m ms xs is h q = length_count xs ms q ∙ subst (λ (p : Opti
 pub function_argument : (o : Option UnaryOperator) (ms : Members) (xs : List Expression) → IsSome o → HasArity Counts (option_map (λ f. 1) o) ms → expressions_of xs ≡ to_expressions ms → length xs ≡ 1
 function_argument None ms xs known h q = absurd cc
 function_argument (Some op) ms xs known h q = length_count xs ms q ∙ h
+
+-- what follows of each side condition follows of all
+pub each : (P Q : SideCondition → Type 0) → ((s : SideCondition) → P s → Q s) → Every P → Every Q
+each P Q f h = (f Numbers h.0, f Keys h.1, f Strings h.2, f Names h.3, f Counts h.4, f Slots h.5)

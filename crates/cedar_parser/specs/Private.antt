@@ -1,2 +1,3 @@
 -- What proofs, models and private contracts use. No contract of a function that another crate calls cites it.
 pub mod Entering
+pub mod Kept

@@ -13,6 +13,7 @@ ghost use Rattle.cedar_parser_limits.specs.declared.functions.Method.TheVariants
 ghost use Rattle.cedar_parser_tokens.specs.Content.{text_of};
 ghost use Rattle.cedar_parser_limits.specs.Limits.{Keeps, KeepMembers, KeepFields, arity_of};
 ghost use Rattle.cedar_parser_limits.specs.Private.Parts.{KeepLink, behind, pairs_of};
+ghost use Rattle.cedar_parser.specs.Private.Kept.{Every};
 
 use crate::boxes::{
     and, binary, boolean, boxed, literal, long, negate, not, push, push_pair, set, unary, variable,
@@ -43,12 +44,7 @@ pub fn to_expression(alloc: Global, written: &Written) -> Result<Expr, AllocErro
 // expression needs little of the call stack.
 #[cycle(expression)]
 fn to_boxed(alloc: Global, written: &Written) -> Result<Box<Expr>, AllocError>
-    requires numbers { Keeps Numbers written.now }
-    requires keys { Keeps Keys written.now }
-    requires strings { Keeps Strings written.now }
-    requires names { Keeps Names written.now }
-    requires counts { Keeps Counts written.now }
-    requires slots { Keeps Slots written.now }
+    requires { Every (λ c. Keeps c written.now) }
     ensures { IfOk result (λ b. b.value ≡ to_expression written.now) }
 {
     match written.kind() {
@@ -110,12 +106,7 @@ fn to_unary(
     operator: UnaryOperator,
     operand: &Written,
 ) -> Result<Box<Expr>, AllocError>
-    requires numbers { Keeps Numbers operand.now }
-    requires keys { Keeps Keys operand.now }
-    requires strings { Keeps Strings operand.now }
-    requires names { Keeps Names operand.now }
-    requires counts { Keeps Counts operand.now }
-    requires slots { Keeps Slots operand.now }
+    requires { Every (λ c. Keeps c operand.now) }
     ensures { IfOk result (λ b. b.value ≡ unary operator (to_expression operand.now)) }
 {
     let operand = to_boxed(alloc, operand)?;
@@ -154,12 +145,7 @@ fn to_is_in(
     ty: &Name,
     right: &Written,
 ) -> Result<Box<Expr>, AllocError>
-    requires numbers { Keeps Numbers (tree.is_in left.now ty.now right.now) }
-    requires keys { Keeps Keys (tree.is_in left.now ty.now right.now) }
-    requires strings { Keeps Strings (tree.is_in left.now ty.now right.now) }
-    requires names { Keeps Names (tree.is_in left.now ty.now right.now) }
-    requires counts { Keeps Counts (tree.is_in left.now ty.now right.now) }
-    requires slots { Keeps Slots (tree.is_in left.now ty.now right.now) }
+    requires { Every (λ c. Keeps c (tree.is_in left.now ty.now right.now)) }
     ensures { IfOk result (λ b. b.value ≡ to_expression (tree.is_in left.now ty.now right.now)) }
 {
     let asked = make_is(alloc, to_boxed(alloc, left)?, ty)?;
@@ -190,12 +176,7 @@ fn to_if_else(
     if_true: &Written,
     if_false: &Written,
 ) -> Result<Box<Expr>, AllocError>
-    requires numbers { Keeps Numbers (tree.choice condition.now if_true.now if_false.now) }
-    requires keys { Keeps Keys (tree.choice condition.now if_true.now if_false.now) }
-    requires strings { Keeps Strings (tree.choice condition.now if_true.now if_false.now) }
-    requires names { Keeps Names (tree.choice condition.now if_true.now if_false.now) }
-    requires counts { Keeps Counts (tree.choice condition.now if_true.now if_false.now) }
-    requires slots { Keeps Slots (tree.choice condition.now if_true.now if_false.now) }
+    requires { Every (λ c. Keeps c (tree.choice condition.now if_true.now if_false.now)) }
     ensures { IfOk result (λ b. b.value ≡ to_expression (tree.choice condition.now if_true.now if_false.now)) }
 {
     let condition = to_boxed(alloc, condition)?;
@@ -208,12 +189,7 @@ fn to_if_else(
 #[cycle(expression)]
 #[inline(never)]
 fn to_chain(alloc: Global, first: &Written, links: &[Link]) -> Result<Box<Expr>, AllocError>
-    requires numbers { Keeps Numbers (chain first.now (links_of links.now)) }
-    requires keys { Keeps Keys (chain first.now (links_of links.now)) }
-    requires strings { Keeps Strings (chain first.now (links_of links.now)) }
-    requires names { Keeps Names (chain first.now (links_of links.now)) }
-    requires counts { Keeps Counts (chain first.now (links_of links.now)) }
-    requires slots { Keeps Slots (chain first.now (links_of links.now)) }
+    requires { Every (λ c. Keeps c (chain first.now (links_of links.now))) }
     ensures { IfOk result (λ b. b.value ≡ to_expression (chain first.now (links_of links.now))) }
 {
     let mut left = to_boxed(alloc, first)?;
@@ -226,12 +202,7 @@ fn to_chain(alloc: Global, first: &Written, links: &[Link]) -> Result<Box<Expr>,
 // The expression to the left with the link after it.
 #[cycle(expression)]
 fn append_link(alloc: Global, left: Box<Expr>, link: &Link) -> Result<Box<Expr>, AllocError>
-    requires numbers { KeepLink Numbers link.now }
-    requires keys { KeepLink Keys link.now }
-    requires strings { KeepLink Strings link.now }
-    requires names { KeepLink Names link.now }
-    requires counts { KeepLink Counts link.now }
-    requires slots { KeepLink Slots link.now }
+    requires { Every (λ c. KeepLink c link.now) }
     ensures { IfOk result (λ b. b.value ≡ behind left.value link.now) }
 {
     match link {
@@ -261,12 +232,7 @@ fn attribute(alloc: Global, left: Box<Expr>, key: &Content) -> Result<Box<Expr>,
 #[cycle(expression)]
 #[inline(never)]
 fn to_expressions(alloc: Global, members: &[Written]) -> Result<Vec<Expr>, AllocError>
-    requires numbers { KeepMembers Numbers (members_of members.now) }
-    requires keys { KeepMembers Keys (members_of members.now) }
-    requires strings { KeepMembers Strings (members_of members.now) }
-    requires names { KeepMembers Names (members_of members.now) }
-    requires counts { KeepMembers Counts (members_of members.now) }
-    requires slots { KeepMembers Slots (members_of members.now) }
+    requires { Every (λ c. KeepMembers c (members_of members.now)) }
     ensures { IfOk result (λ v. expressions_of v.items ≡ to_expressions (members_of members.now)) }
 {
     let mut found = Vec::new(alloc);
@@ -280,12 +246,7 @@ fn to_expressions(alloc: Global, members: &[Written]) -> Result<Vec<Expr>, Alloc
 #[cycle(expression)]
 #[inline(never)]
 fn to_record(alloc: Global, fields: &[Field]) -> Result<Box<Expr>, AllocError>
-    requires numbers { Keeps Numbers (tree.record_of (fields_of fields.now)) }
-    requires keys { Keeps Keys (tree.record_of (fields_of fields.now)) }
-    requires strings { Keeps Strings (tree.record_of (fields_of fields.now)) }
-    requires names { Keeps Names (tree.record_of (fields_of fields.now)) }
-    requires counts { Keeps Counts (tree.record_of (fields_of fields.now)) }
-    requires slots { Keeps Slots (tree.record_of (fields_of fields.now)) }
+    requires { Every (λ c. Keeps c (tree.record_of (fields_of fields.now))) }
     ensures { IfOk result (λ b. b.value ≡ to_expression (tree.record_of (fields_of fields.now))) }
 {
     let pairs = to_pairs(alloc, fields)?;
@@ -294,12 +255,7 @@ fn to_record(alloc: Global, fields: &[Field]) -> Result<Box<Expr>, AllocError>
 
 #[cycle(expression)]
 fn to_pairs(alloc: Global, fields: &[Field]) -> Result<Vec<(SharedText, Expr)>, AllocError>
-    requires numbers { KeepFields Numbers (fields_of fields.now) }
-    requires keys { KeepFields Keys (fields_of fields.now) }
-    requires strings { KeepFields Strings (fields_of fields.now) }
-    requires names { KeepFields Names (fields_of fields.now) }
-    requires counts { KeepFields Counts (fields_of fields.now) }
-    requires slots { KeepFields Slots (fields_of fields.now) }
+    requires { Every (λ c. KeepFields c (fields_of fields.now)) }
     ensures { IfOk result (λ v. v.items ≡ pairs_of fields.now) }
 {
     let mut found = Vec::new(alloc);

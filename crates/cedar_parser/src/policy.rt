@@ -5,6 +5,7 @@ ghost use Rattle.cedar_parser_tokens.specs.Content.{text_of};
 ghost use Rattle.cedar_parser_tokens.specs.Names.{to_uid};
 ghost use Rattle.cedar_parser_limits.specs.StatementMeaning.{to_entity, to_reference, to_entity_scope, to_template_entity_scope, to_action_scope, to_scope, to_template_scope, is_slot, asks_slot, has_slot, to_annotation, to_condition, to_statement, id_in, id_at};
 ghost use Rattle.cedar_parser_limits.specs.StatementLimits.{KeepConditions};
+ghost use Rattle.cedar_parser.specs.Private.Kept.{Every};
 
 use crate::expression::to_expression;
 use cedar_ast::{
@@ -192,12 +193,7 @@ fn to_annotation(alloc: Global, annotation: WrittenAnnotation) -> Annotation
 }
 
 fn to_conditions(alloc: Global, written: &[WrittenCondition]) -> Result<Vec<Condition>, AllocError>
-    requires numbers { KeepConditions Numbers written.now }
-    requires keys { KeepConditions Keys written.now }
-    requires strings { KeepConditions Strings written.now }
-    requires names { KeepConditions Names written.now }
-    requires counts { KeepConditions Counts written.now }
-    requires slots { KeepConditions Slots written.now }
+    requires { Every (λ c. KeepConditions c written.now) }
     ensures { IfOk result (λ v. v.items ≡ map to_condition written.now) }
 {
     let mut found = Vec::with_capacity(alloc, written.len())?;

@@ -1,24 +1,24 @@
-use Rattle.std.proofs.Common.{◌≡◌, List, sym, ap, subst, ◌∙◌, ◌<◌, length, arith}
+use Rattle.std.proofs.Common.{◌≡◌, ◌+◌, List, drop, sym, ap, subst, ◌∙◌, ◌<◌, length, arith}
 use Rattle.std.specs.Prelude.{IfOk}
 use Rattle.std.specs.Global.{Box}
 use Rattle.cedar_ast_expressions.specs.Expression.{Expression, Entries, expressions_of, entries_of, record_with}
 use Rattle.cedar_ast_expressions.specs.Keys.{AreDistinct, keys_of}
-use Rattle.cedar_parser_limits.specs.declared.side_condition.SideCondition.TheVariants.{Strings, Numbers, Keys, Names, Counts, Slots}
+use Rattle.cedar_parser_limits.specs.declared.side_condition.SideCondition.TheVariants.{Names, Counts}
 use Rattle.cedar_parser_tree.specs.Written.{Written, members_of}
-use Rattle.cedar_parser_tree.specs.WrittenKind.{written_of}
+use Rattle.cedar_parser_tree.specs.WrittenKind.{written_of, links_of, fields_of}
 use Rattle.cedar_parser_tree.specs.declared.written.WrittenKind.{WrittenKind}
 use Rattle.cedar_parser_limits.specs.Meaning.{to_expression, to_expressions, function_of, method_of}
-use Rattle.cedar_parser_limits.specs.Limits.{Keeps}
+use Rattle.cedar_parser_limits.specs.Limits.{Keeps, KeepLinks, KeepMembers, KeepFields}
 use Rattle.cedar_parser_limits.specs.Private.Parts.{KeepLink}
 use Rattle.cedar_parser_limits.proofs.PartLemmas.{link_lighter, member_lighter, field_lighter, links_here, members_here, fields_here, behind_all, expressions_next, keys_of_pairs, entries_of_pairs}
-use Rattle.cedar_parser.proofs.CallLemmas.{method_arguments, function_argument}
+use Rattle.cedar_parser.proofs.CallLemmas.{each, method_arguments, function_argument}
 use Rattle.cedar_parser.proofs.expression.+expression.Goals as goal
 
 pub to_chain-append_link-requires : goal.to_chain-append_link-requires
 to_chain-append_link-requires t c =
     let within : c.loop-link.link-index < length c.args.links.now = omega arith in (
       omega (arith, link_lighter c.args.links.now c.loop-link.link-index c.link-item.result within c.link-item.is, c.decreases),
-      ((links_here Numbers c.args.links.now c.loop-link.link-index c.link-item.result within c.link-item.is c.loop-link.invariant.numbers).0, ((links_here Keys c.args.links.now c.loop-link.link-index c.link-item.result within c.link-item.is c.loop-link.invariant.keys).0, ((links_here Strings c.args.links.now c.loop-link.link-index c.link-item.result within c.link-item.is c.loop-link.invariant.strings).0, ((links_here Names c.args.links.now c.loop-link.link-index c.link-item.result within c.link-item.is c.loop-link.invariant.names).0, ((links_here Counts c.args.links.now c.loop-link.link-index c.link-item.result within c.link-item.is c.loop-link.invariant.counts).0, (links_here Slots c.args.links.now c.loop-link.link-index c.link-item.result within c.link-item.is c.loop-link.invariant.slots).0))))),
+      each (λ s. KeepLinks s (links_of (drop c.loop-link.link-index c.args.links.now))) (λ s. KeepLink s c.link-item.result) (λ s h. (links_here s c.args.links.now c.loop-link.link-index c.link-item.result within c.link-item.is h).0) c.loop-link.invariant.kept,
     )
 
 pub to_chain-returns : goal.to_chain-returns
@@ -28,7 +28,7 @@ pub to_expressions-to_boxed-requires : goal.to_expressions-to_boxed-requires
 to_expressions-to_boxed-requires t c =
     let within : c.loop-member.member-index < length c.args.members.now = omega arith in (
       omega (arith, member_lighter c.args.members.now c.loop-member.member-index c.member-item.result within c.member-item.is, c.decreases),
-      ((members_here Numbers c.args.members.now c.loop-member.member-index c.member-item.result within c.member-item.is c.loop-member.invariant.numbers).0, ((members_here Keys c.args.members.now c.loop-member.member-index c.member-item.result within c.member-item.is c.loop-member.invariant.keys).0, ((members_here Strings c.args.members.now c.loop-member.member-index c.member-item.result within c.member-item.is c.loop-member.invariant.strings).0, ((members_here Names c.args.members.now c.loop-member.member-index c.member-item.result within c.member-item.is c.loop-member.invariant.names).0, ((members_here Counts c.args.members.now c.loop-member.member-index c.member-item.result within c.member-item.is c.loop-member.invariant.counts).0, (members_here Slots c.args.members.now c.loop-member.member-index c.member-item.result within c.member-item.is c.loop-member.invariant.slots).0))))),
+      each (λ s. KeepMembers s (members_of (drop c.loop-member.member-index c.args.members.now))) (λ s. Keeps s c.member-item.result) (λ s h. (members_here s c.args.members.now c.loop-member.member-index c.member-item.result within c.member-item.is h).0) c.loop-member.invariant.kept,
     )
 
 pub to_expressions-loop-member-preserved : goal.to_expressions-loop-member-preserved
@@ -37,24 +37,19 @@ to_expressions-loop-member-preserved t c =
     record {
       done = ap expressions_of c.in_ok-push.ensures
           ∙ expressions_next c.loop-member.found.items c.in_ok-item.item.value c.args.members.now c.loop-member.member-index c.member-item.result within c.member-item.is c.loop-member.invariant.done c.in_ok-item.ensures;
-      numbers = (members_here Numbers c.args.members.now c.loop-member.member-index c.member-item.result within c.member-item.is c.loop-member.invariant.numbers).1;
-      keys = (members_here Keys c.args.members.now c.loop-member.member-index c.member-item.result within c.member-item.is c.loop-member.invariant.keys).1;
-      strings = (members_here Strings c.args.members.now c.loop-member.member-index c.member-item.result within c.member-item.is c.loop-member.invariant.strings).1;
-      names = (members_here Names c.args.members.now c.loop-member.member-index c.member-item.result within c.member-item.is c.loop-member.invariant.names).1;
-      counts = (members_here Counts c.args.members.now c.loop-member.member-index c.member-item.result within c.member-item.is c.loop-member.invariant.counts).1;
-      slots = (members_here Slots c.args.members.now c.loop-member.member-index c.member-item.result within c.member-item.is c.loop-member.invariant.slots).1;
+      kept = each (λ s. KeepMembers s (members_of (drop c.loop-member.member-index c.args.members.now))) (λ s. KeepMembers s (members_of (drop (c.loop-member.member-index + 1) c.args.members.now))) (λ s h. (members_here s c.args.members.now c.loop-member.member-index c.member-item.result within c.member-item.is h).1) c.loop-member.invariant.kept;
     }
 
 pub to_pairs-to_boxed-requires : goal.to_pairs-to_boxed-requires
 to_pairs-to_boxed-requires t c =
     let within : c.loop-field.field-index < length c.args.fields.now = omega arith in (
       omega (arith, field_lighter c.args.fields.now c.loop-field.field-index c.field-item.result within c.field-item.is, c.decreases),
-      ((fields_here Numbers c.args.fields.now c.loop-field.field-index c.field-item.result within c.field-item.is c.loop-field.invariant.numbers).0.1, ((fields_here Keys c.args.fields.now c.loop-field.field-index c.field-item.result within c.field-item.is c.loop-field.invariant.keys).0.1, ((fields_here Strings c.args.fields.now c.loop-field.field-index c.field-item.result within c.field-item.is c.loop-field.invariant.strings).0.1, ((fields_here Names c.args.fields.now c.loop-field.field-index c.field-item.result within c.field-item.is c.loop-field.invariant.names).0.1, ((fields_here Counts c.args.fields.now c.loop-field.field-index c.field-item.result within c.field-item.is c.loop-field.invariant.counts).0.1, (fields_here Slots c.args.fields.now c.loop-field.field-index c.field-item.result within c.field-item.is c.loop-field.invariant.slots).0.1))))),
+      each (λ s. KeepFields s (fields_of (drop c.loop-field.field-index c.args.fields.now))) (λ s. Keeps s c.field-item.result.value) (λ s h. (fields_here s c.args.fields.now c.loop-field.field-index c.field-item.result within c.field-item.is h).0.1) c.loop-field.invariant.kept,
     )
 
 pub to_record-record-requires : goal.to_record-record-requires
 to_record-record-requires t c =
-    subst AreDistinct (sym (ap keys_of c.in_ok-pairs.ensures ∙ keys_of_pairs c.args.fields.now c.requires.strings.1)) c.requires.keys.0
+    subst AreDistinct (sym (ap keys_of c.in_ok-pairs.ensures ∙ keys_of_pairs c.args.fields.now c.requires.2.1)) c.requires.1.0
 
 pub to_record-returns : goal.to_record-returns
 to_record-returns t c =
@@ -64,12 +59,12 @@ pub append_link-method_call-requires : goal.append_link-method_call-requires
 append_link-method_call-requires t c =
     method_arguments (method_of c.in-Method.name) c.in-Some.method (members_of c.in-Method.arguments) c.in_ok-arguments-in-Method.arguments.items
     (ap method_of (sym c.as_str.ensures) ∙ sym c.method_of.ensures ∙ c.in-Some.is)
-    (subst (KeepLink Counts) c.in-Method.is c.requires.counts).1
+    (subst (KeepLink Counts) c.in-Method.is c.requires.4).1
     (c.in_ok-arguments-in-Method.ensures ∙ ap (λ (xs : List Written). to_expressions (members_of xs)) c.items.ensures)
 
 pub to_boxed-function_call-requires-clause-argument : goal.to_boxed-function_call-requires-clause-argument
 to_boxed-function_call-requires-clause-argument t c =
     function_argument (function_of c.in-Call.name) (members_of c.in-Call.arguments) c.in_ok-arguments-in-Call.arguments.items
-    (subst (λ (k : WrittenKind). Keeps Names (written_of k)) c.in-Call.is (subst (Keeps Names) (sym c.kind.ensures) c.requires.names)).0
-    (subst (λ (k : WrittenKind). Keeps Counts (written_of k)) c.in-Call.is (subst (Keeps Counts) (sym c.kind.ensures) c.requires.counts)).1
+    (subst (λ (k : WrittenKind). Keeps Names (written_of k)) c.in-Call.is (subst (Keeps Names) (sym c.kind.ensures) c.requires.3)).0
+    (subst (λ (k : WrittenKind). Keeps Counts (written_of k)) c.in-Call.is (subst (Keeps Counts) (sym c.kind.ensures) c.requires.4)).1
     (c.in_ok-arguments-in-Call.ensures ∙ ap (λ (xs : List Written). to_expressions (members_of xs)) c.items-in-Call.ensures)

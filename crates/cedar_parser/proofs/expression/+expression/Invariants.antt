@@ -1,12 +1,12 @@
 use Rattle.std.proofs.Common.{◌≡◌, suc, ◌+◌, ◌*◌, take, drop, fold}
 use Rattle.cedar_ast_expressions.specs.Expression.{expressions_of}
-use Rattle.cedar_parser_limits.specs.declared.side_condition.SideCondition.TheVariants.{Strings, Numbers, Keys, Names, Counts, Slots}
 use Rattle.cedar_parser_tree.specs.WrittenKind.{links_of, fields_of}
 use Rattle.cedar_parser_tree.specs.Written.{parts, link_parts, member_parts, field_parts, members_of}
 use Rattle.cedar_parser_limits.specs.Meaning.{to_expression, to_expressions}
 use Rattle.cedar_parser_limits.specs.Limits.{KeepLinks, KeepMembers, KeepFields}
 use Rattle.cedar_parser_limits.specs.Private.Parts.{behind, pairs_of}
 use Rattle.cedar_parser_limits.proofs.PartLemmas.{link_weight}
+use Rattle.cedar_parser.specs.Private.Kept.{Every}
 use Rattle.cedar_parser.proofs.expression.+expression.Given as goal
 
 abbrev pub decreases-to_boxed : goal.decreases-to_boxed
@@ -39,32 +39,17 @@ decreases-to_pairs l = 2 * field_parts (fields_of l.fields.now)
 abbrev pub invariant-to_chain-loop-link : goal.invariant-to_chain-loop-link
 invariant-to_chain-loop-link l = record {
   done : l.left.value ≡ fold behind (to_expression l.first) (take l.link-index l.links);
-  numbers : KeepLinks Numbers (links_of (drop l.link-index l.links));
-  keys : KeepLinks Keys (links_of (drop l.link-index l.links));
-  strings : KeepLinks Strings (links_of (drop l.link-index l.links));
-  names : KeepLinks Names (links_of (drop l.link-index l.links));
-  counts : KeepLinks Counts (links_of (drop l.link-index l.links));
-  slots : KeepLinks Slots (links_of (drop l.link-index l.links));
+  kept : Every (λ s. KeepLinks s (links_of (drop l.link-index l.links)));
 }
 
 abbrev pub invariant-to_expressions-loop-member : goal.invariant-to_expressions-loop-member
 invariant-to_expressions-loop-member l = record {
   done : expressions_of l.found.items ≡ to_expressions (members_of (take l.member-index l.members));
-  numbers : KeepMembers Numbers (members_of (drop l.member-index l.members));
-  keys : KeepMembers Keys (members_of (drop l.member-index l.members));
-  strings : KeepMembers Strings (members_of (drop l.member-index l.members));
-  names : KeepMembers Names (members_of (drop l.member-index l.members));
-  counts : KeepMembers Counts (members_of (drop l.member-index l.members));
-  slots : KeepMembers Slots (members_of (drop l.member-index l.members));
+  kept : Every (λ s. KeepMembers s (members_of (drop l.member-index l.members)));
 }
 
 abbrev pub invariant-to_pairs-loop-field : goal.invariant-to_pairs-loop-field
 invariant-to_pairs-loop-field l = record {
   done : l.found.items ≡ pairs_of (take l.field-index l.fields);
-  numbers : KeepFields Numbers (fields_of (drop l.field-index l.fields));
-  keys : KeepFields Keys (fields_of (drop l.field-index l.fields));
-  strings : KeepFields Strings (fields_of (drop l.field-index l.fields));
-  names : KeepFields Names (fields_of (drop l.field-index l.fields));
-  counts : KeepFields Counts (fields_of (drop l.field-index l.fields));
-  slots : KeepFields Slots (fields_of (drop l.field-index l.fields));
+  kept : Every (λ s. KeepFields s (fields_of (drop l.field-index l.fields)));
 }

@@ -17,7 +17,7 @@ use Rattle.cedar_parser_tree.specs.declared.sign.ChainSign.TheVariants as chain_
 use Rattle.cedar_parser_tree.specs.declared.sign.RelationSign.{RelationSign}
 use Rattle.cedar_parser_tree.specs.declared.sign.RelationSign.TheVariants as relation_sign
 use Rattle.cedar_parser_tree.specs.declared.written_statement.WrittenCondition.{WrittenCondition}
-use Rattle.cedar_parser_tree.specs.Written.{Written, truth, number, negative, text, entity, variable, slot, group, not, negated, relation, has, like, is, is_in, chain, choice, set, record_of, call, Links, no_links, operand, attribute, method, Members, no_members, member, Fields, no_fields, field}
+use Rattle.cedar_parser_tree.specs.Written.{Written, group, not, negated, relation, has, like, is, is_in, chain, choice, set, record_of, call, Links, no_links, operand, attribute, method, Members, no_members, member, Fields, no_fields, field}
 use Rattle.cedar_parser_tree.specs.StatementTree.{StatementTree}
 use Rattle.cedar_parser_statements.proofs.EarlierPaths.{HasNoPath, LinksHaveNoPath, MembersHaveNoPath, FieldsHaveNoPath, AskForNoPath}
 use Rattle.cedar_parser_limits.specs.declared.functions.Method.{Method}
@@ -86,19 +86,11 @@ same_call o es h = subst (λ (x : Option UnaryOperator). earlier_call es ≡ cal
 
 same_linked : (s : ChainSign) (a b : Expression) → earlier_linked s a b ≡ linked s a b
 same_linked chain_sign.Or a b = refl
-same_linked chain_sign.And a b = refl
-same_linked chain_sign.Plus a b = refl
-same_linked chain_sign.Minus a b = refl
-same_linked chain_sign.Times a b = refl
+same_linked _ a b = refl
 
 same_related : (s : RelationSign) (a b : Expression) → earlier_related s a b ≡ related s a b
 same_related relation_sign.Less a b = refl
-same_related relation_sign.LessEqual a b = refl
-same_related relation_sign.Greater a b = refl
-same_related relation_sign.GreaterEqual a b = refl
-same_related relation_sign.Equal a b = refl
-same_related relation_sign.NotEqual a b = refl
-same_related relation_sign.In a b = refl
+same_related _ a b = refl
 
 one_asked : (x : Expression) (a : List ℕ) (more : List (List ℕ)) → more ≡ [] → e.unary (Has a) x ≡ asked_of x a more
 one_asked x a more h = subst (λ (m : List (List ℕ)). e.unary (Has a) x ≡ asked_of x a m) (sym h) refl
@@ -107,13 +99,6 @@ one_asked x a more h = subst (λ (m : List (List ℕ)). e.unary (Has a) x ≡ as
 
 mutual
   pub same_expression : (w : Written) → HasNoPath w → UsesEarlier w → earlier_expression w ≡ to_expression w
-  same_expression (truth b) p u = refl
-  same_expression (number n) p u = refl
-  same_expression (negative n) p u = refl
-  same_expression (text c) p u = refl
-  same_expression (entity x) p u = refl
-  same_expression (variable x) p u = refl
-  same_expression (slot x) p u = refl
   same_expression (group a) p u = same_expression a p u
   same_expression (not a) p u = ap (λ (x : Expression). e.unary Not x) (same_expression a p u)
   same_expression (negated a) p u = ap (λ (x : Expression). e.unary Negate x) (same_expression a p u)
@@ -132,6 +117,7 @@ mutual
   same_expression (record_of fs) p u = ap e.record_with (same_entries fs p u)
   same_expression (call name ms) p u =
       ap earlier_call (same_expressions ms p u.2) ∙ same_call (function_of name) (to_expressions ms) (earlier_function name u.0)
+  same_expression _ p u = refl
 
   pub same_grouped : (ls : Links) → LinksHaveNoPath ls → LinksUseEarlier ls → (left right : Expression) → left ≡ right → earlier_grouped left ls ≡ grouped right ls
   same_grouped no_links p u left right q = q

@@ -20,18 +20,7 @@ parsed_only source ms r t only set h = only set (subst (λ (ns : Marks). ArePoli
 fault_there : (source : List ℕ) (ms : Marks) → IsText source ms → (x : ParseFault) → TokensFault ms x → HasFault source x
 fault_there source ms t f.OutOfMemory h = tt
 fault_there source ms t (f.Text y) h = absurd h
-fault_there source ms t (f.Syntax at) h = (ms, t.are, h)
-fault_there source ms t (f.EscapedStar at) h = (ms, t.are, h)
-fault_there source ms t (f.NumberTooLarge at) h = (ms, t.are, h)
-fault_there source ms t (f.TooDeep at) h = (ms, t.are, h)
-fault_there source ms t (f.TooHigh at) h = (ms, t.are, h)
-fault_there source ms t (f.DuplicateKey at) h = (ms, t.are, h)
-fault_there source ms t (f.DuplicateId at) h = (ms, t.are, h)
-fault_there source ms t (f.UnknownFunction at) h = (ms, t.are, h)
-fault_there source ms t (f.Arity at) h = (ms, t.are, h)
-fault_there source ms t (f.SlotMisplaced at) h = (ms, t.are, h)
-fault_there source ms t (f.DuplicateAnnotation at) h = (ms, t.are, h)
-fault_there source ms t (f.TooLarge at) h = (ms, t.are, h)
+fault_there source ms t _ h = (ms, t.are, h)
 
 pub parsed_fault : (source : List ℕ) (ms : Marks) (r : Result PolicySetTree ParseFault) → IsText source ms → IfErr r (TokensFault ms) → IfErr r (HasFault source)
 parsed_fault source ms (Ok set) t h = tt
@@ -41,32 +30,9 @@ parsed_fault source ms (Err x) t h = fault_there source ms t x h
 
 pub unread_answers : (ms : Marks) (set : PolicySetTree) (x : ParseFault) → HasMarks ms (Err x) → x ≡ f.OutOfMemory
 unread_answers ms set f.OutOfMemory h = refl
-unread_answers ms set (f.Text at) h = absurd h
-unread_answers ms set (f.Syntax at) h = absurd h
-unread_answers ms set (f.EscapedStar at) h = absurd h
-unread_answers ms set (f.NumberTooLarge at) h = absurd h
-unread_answers ms set (f.TooDeep at) h = absurd h
-unread_answers ms set (f.TooHigh at) h = absurd h
-unread_answers ms set (f.DuplicateKey at) h = absurd h
-unread_answers ms set (f.DuplicateId at) h = absurd h
-unread_answers ms set (f.UnknownFunction at) h = absurd h
-unread_answers ms set (f.Arity at) h = absurd h
-unread_answers ms set (f.SlotMisplaced at) h = absurd h
-unread_answers ms set (f.DuplicateAnnotation at) h = absurd h
-unread_answers ms set (f.TooLarge at) h = absurd h
+unread_answers ms set _ h = absurd h
 
 pub unread_text : (source : List ℕ) (x : ParseFault) → HasMarksFault source x → HasFault source x
 unread_text source f.OutOfMemory h = tt
 unread_text source (f.Text at) h = h
-unread_text source (f.Syntax at) h = absurd h
-unread_text source (f.EscapedStar at) h = absurd h
-unread_text source (f.NumberTooLarge at) h = absurd h
-unread_text source (f.TooDeep at) h = absurd h
-unread_text source (f.TooHigh at) h = absurd h
-unread_text source (f.DuplicateKey at) h = absurd h
-unread_text source (f.DuplicateId at) h = absurd h
-unread_text source (f.UnknownFunction at) h = absurd h
-unread_text source (f.Arity at) h = absurd h
-unread_text source (f.SlotMisplaced at) h = absurd h
-unread_text source (f.DuplicateAnnotation at) h = absurd h
-unread_text source (f.TooLarge at) h = absurd h
+unread_text source _ h = absurd h

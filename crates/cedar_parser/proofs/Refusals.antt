@@ -64,17 +64,7 @@ pub unread_only : (ts us : Marks) (n : ℕ) (ps : PolicySetTree) → IsReadSoFar
 unread_only ts us n ps so some f.OutOfMemory e set h = refl
 unread_only ts us n ps so some (f.Syntax at) e set h = absurd (none_refused ts us n ps so some e 101 h.statements h.reading)
 unread_only ts us n ps so some (f.TooDeep at) e set h = absurd (none_deep ts us n ps so some e h.statements h.reading)
-unread_only ts us n ps so some (f.Text x) e set h = absurd e
-unread_only ts us n ps so some (f.DuplicateId at) e set h = absurd e
-unread_only ts us n ps so some (f.EscapedStar at) e set h = absurd e
-unread_only ts us n ps so some (f.NumberTooLarge at) e set h = absurd e
-unread_only ts us n ps so some (f.DuplicateKey at) e set h = absurd e
-unread_only ts us n ps so some (f.UnknownFunction at) e set h = absurd e
-unread_only ts us n ps so some (f.Arity at) e set h = absurd e
-unread_only ts us n ps so some (f.SlotMisplaced at) e set h = absurd e
-unread_only ts us n ps so some (f.DuplicateAnnotation at) e set h = absurd e
-unread_only ts us n ps so some (f.TooHigh at) e set h = absurd e
-unread_only ts us n ps so some (f.TooLarge at) e set h = absurd e
+unread_only ts us n ps so some _ e set h = absurd e
 
 pub unread_fault : (ts us : Marks) (n : ℕ) (ps : PolicySetTree) → IsReadSoFar ts us n ps → 0 < length us → (x : ParseFault) → Refuses (st.statement 101 us) x → TokensFault ts x
 unread_fault ts us n ps so some f.OutOfMemory e = tt
@@ -83,16 +73,7 @@ unread_fault ts us n ps so some (f.TooDeep at) e =
     let over : IsOver 101 us = subst (Meets (λ s vs. Statement 101 us s vs) (IsOver 101 us)) e (statement_reads 101 us) in
     over_deep 100 ts (statements_over 101 ts us so.are_policies.statements so.are_policies.reading over)
 unread_fault ts us n ps so some (f.Text x) e = e
-unread_fault ts us n ps so some (f.DuplicateId at) e = absurd e
-unread_fault ts us n ps so some (f.EscapedStar at) e = absurd e
-unread_fault ts us n ps so some (f.NumberTooLarge at) e = absurd e
-unread_fault ts us n ps so some (f.DuplicateKey at) e = absurd e
-unread_fault ts us n ps so some (f.UnknownFunction at) e = absurd e
-unread_fault ts us n ps so some (f.Arity at) e = absurd e
-unread_fault ts us n ps so some (f.SlotMisplaced at) e = absurd e
-unread_fault ts us n ps so some (f.DuplicateAnnotation at) e = absurd e
-unread_fault ts us n ps so some (f.TooHigh at) e = absurd e
-unread_fault ts us n ps so some (f.TooLarge at) e = absurd e
+unread_fault ts us n ps so some _ e = absurd e
 
 -- ---- a statement that is not entered
 
@@ -214,18 +195,7 @@ unentered_fault ts us vs n ps s so i x e = go x e
 refused_add : (set : PolicySetTree) (n : ℕ) (s : StatementTree) (y : Entry) → IsWithinLimits s → id_of y ≡ id_at n s → (x : ParseFault) → RefusesAdd set y x → RefusesEntry set n s x
 refused_add set n s y w e f.OutOfMemory h = tt
 refused_add set n s y w e (f.DuplicateId at) h = (w, subst (λ id. Contains (ids_in set) id) e h)
-refused_add set n s y w e (f.Text at) h = absurd h
-refused_add set n s y w e (f.EscapedStar at) h = absurd h
-refused_add set n s y w e (f.NumberTooLarge at) h = absurd h
-refused_add set n s y w e (f.Syntax at) h = absurd h
-refused_add set n s y w e (f.TooDeep at) h = absurd h
-refused_add set n s y w e (f.TooHigh at) h = absurd h
-refused_add set n s y w e (f.DuplicateKey at) h = absurd h
-refused_add set n s y w e (f.UnknownFunction at) h = absurd h
-refused_add set n s y w e (f.Arity at) h = absurd h
-refused_add set n s y w e (f.SlotMisplaced at) h = absurd h
-refused_add set n s y w e (f.DuplicateAnnotation at) h = absurd h
-refused_add set n s y w e (f.TooLarge at) h = absurd h
+refused_add set n s y w e _ h = absurd h
 
 pub not_entered : (set : PolicySetTree) (n : ℕ) (s : StatementTree) (y : Entry) (r : Result (Unit {0}) ParseFault) → IsWithinLimits s → id_of y ≡ id_at n s → IfErr r (RefusesAdd set y) → IfErr r (RefusesEntry set n s)
 not_entered set n s y (Ok u) w e h = tt
@@ -242,15 +212,4 @@ refused_where P n start h = refused_by P n start (eqb n 204) refl h
 pub judged : (set : PolicySetTree) (n : ℕ) (s : StatementTree) (x : ParseFault) → Breaks s x → RefusesEntry set n s x
 judged set n s f.OutOfMemory h = tt
 judged set n s (f.DuplicateId at) h = absurd h
-judged set n s (f.Text at) h = h
-judged set n s (f.Syntax at) h = h
-judged set n s (f.TooDeep at) h = h
-judged set n s (f.EscapedStar at) h = h
-judged set n s (f.NumberTooLarge at) h = h
-judged set n s (f.DuplicateKey at) h = h
-judged set n s (f.UnknownFunction at) h = h
-judged set n s (f.Arity at) h = h
-judged set n s (f.SlotMisplaced at) h = h
-judged set n s (f.DuplicateAnnotation at) h = h
-judged set n s (f.TooHigh at) h = h
-judged set n s (f.TooLarge at) h = h
+judged set n s _ h = h

@@ -14,7 +14,7 @@ use Rattle.cedar_ast_expressions.specs.Expression.{Expression, literal, and, or,
 use Rattle.cedar_schema_types.specs.declared.truth.Truth.{Truth}
 use Rattle.cedar_schema_types.specs.declared.truth.Truth.TheVariants.{True, False, Any}
 use Rattle.cedar_schema_spec.specs.declared.environment.Environment.{Environment}
-use Rattle.cedar_schema_types.specs.Types.{TypeTree, Attributes, no_attributes, is_record}
+use Rattle.cedar_schema_types.specs.Types.{TypeTree, Attributes, is_record}
 use Rattle.cedar_schema_types.specs.Types as kind
 use Rattle.cedar_schema_types.specs.Joining.{only_if, join}
 use Rattle.cedar_schema_types.specs.Joins.{Join}
@@ -23,7 +23,7 @@ use Rattle.cedar_schema_spec.specs.SchemaTree.{SchemaTree}
 use Rattle.cedar_schema_types.specs.Membership.{known}
 use Rattle.cedar_schema_spec.specs.Declarations.{IsAction, is_entity_type, is_action, is_action_type, type_below}
 use Rattle.cedar_check_spec.specs.Capabilities.{Capability, Capabilities, Has, IsUnion, IsCommon, AreSame}
-use Rattle.cedar_check_spec.specs.Typing.{flipped, is_arithmetic, is_comparison, is_decimal_comparison, is_set_comparison, MayHold, written_uids, AreWritten, IsInOne, Target, one_entity, entity_set, is_literal, TypesWith, of_boolean, of_long, of_text, of_uid, of_principal, of_resource, of_context, of_not, and_false, and_then_false, and_then_true, and_then_any, or_true, or_false, or_any_true, or_any_false, or_any_any, if_true, if_false, if_any, of_negative, of_arithmetic, of_comparison, equal_literals, equal_joined, equal_apart, has_none, has_held, has_required, has_any, of_get, of_like, of_is, in_written, in_related, in_unrelated, of_contains, of_set_comparison, of_is_empty, of_set, of_record, of_decimal, of_any_decimal, of_decimals, JoinsOnto, joined_all, joined_more, AddsOnto, added_all, added_more}
+use Rattle.cedar_check_spec.specs.Typing.{flipped, is_arithmetic, is_comparison, is_decimal_comparison, is_set_comparison, MayHold, written_uids, AreWritten, IsInOne, Target, one_entity, entity_set, is_literal, TypesWith, of_uid, of_not, and_false, and_then_false, and_then_true, and_then_any, or_true, or_false, or_any_true, or_any_false, or_any_any, if_true, if_false, if_any, of_negative, of_arithmetic, of_comparison, equal_literals, equal_joined, equal_apart, has_none, has_held, has_required, has_any, of_get, of_like, of_is, in_written, in_related, in_unrelated, of_contains, of_set_comparison, of_is_empty, of_set, of_record, of_decimal, of_any_decimal, of_decimals, JoinsOnto, joined_all, joined_more, AddsOnto, added_all, added_more}
 use Rattle.cedar_schema_types.specs.Lookup.{attribute_at}
 use Rattle.cedar_schema_types.specs.Ordered.{with_attribute}
 use Rattle.cedar_check_spec.specs.Rows.{Typed, as_type, gaining, truth_in, entity_in, target_in, apart, any_or, equal_literal_type, any_if, names_action, is_or_descends, is_in_written, in_truth, any_where, binary_type, decimal_type}
@@ -168,13 +168,7 @@ module _ (settings : Settings) (s : SchemaTree) (env : Environment) where
 
   mutual
     pub exact : {h g : Capabilities} {e : Expression} {t : TypeTree} → TypesWith settings s env h e t g → (k : Capabilities) → AreSame h k → Exact k e t g
-    exact of_boolean k p = plainly k _ _ refl
-    exact of_long k p = plainly k _ _ refl
-    exact of_text k p = plainly k _ _ refl
     exact (of_uid {u = u} m) k p = plainly k (literal (uid u)) (kind.entity u.ty) (ap (λ b. only_if b (as_type (kind.entity u.ty))) (either (is_entity_type s u.ty) (is_action s u) (⊎_elim (λ z. inl z) (λ z. inr ((is_action-Decides s u).1 z)) m)))
-    exact of_principal k p = plainly k _ _ refl
-    exact of_resource k p = plainly k _ _ refl
-    exact of_context k p = plainly k _ _ refl
     exact (of_not {g = g} {e = e} {f = f} d) k p = one k operator.Not e (kind.boolean f) (kind.boolean (flipped f)) g (exact d k p) (λ h. refl)
     exact (and_false {a = a} {b = b} d) k p = let x = exact d k p in plainly k (and a b) (kind.boolean False) (ap (λ r. on_boolean r (and_type k (λ h. type_of_with settings s env h b))) x.gives)
     exact (and_then_false {h = h} {ga = ga} {gb = gb} {hb = hb} {a = a} {b = b} {f = f} da m u db) k p =
@@ -289,6 +283,7 @@ module _ (settings : Settings) (s : SchemaTree) (env : Environment) where
     exact (of_decimal {t = t} e) k p = plainly k (unary operator.Decimal (literal (text t))) kind.decimal (ap (λ r. only_if (is_some r) (as_type kind.decimal)) e)
     exact (of_any_decimal {g = g} {e = e} on n d) k p = one k operator.Decimal e kind.string kind.decimal g (exact d k p) (λ h. decimal_exact e n on)
     exact (of_decimals {ga = ga} {gb = gb} {a = a} {b = b} {op = op} is da db) k p = two k op a b kind.decimal kind.decimal (kind.boolean Any) ga gb (exact da k p) (exact db k p) (decimals_exact op a b is)
+    exact _ k p = plainly k _ _ refl
 
     exact_onto : {h : Capabilities} {es : Expressions} {t v : TypeTree} → JoinsOnto settings s env h t es v → (k : Capabilities) → AreSame h k → types_onto settings s env k t es ≡ Some v
     exact_onto joined_all k p = refl

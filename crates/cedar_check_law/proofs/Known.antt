@@ -5,7 +5,7 @@ use Rattle.cedar_schema_types.specs.declared.truth.Truth.TheVariants.{True, Fals
 use Rattle.cedar_schema_spec.specs.declared.environment.Environment.{Environment}
 use Rattle.cedar_schema_types.specs.Types.{TypeTree}
 use Rattle.cedar_schema_spec.specs.SchemaTree.{SchemaTree}
-use Rattle.cedar_schema_types.specs.Joins.{Join, join_boolean, join_long, join_string, join_entity, join_decimal, join_set, join_record}
+use Rattle.cedar_schema_types.specs.Joins.{Join, join_boolean}
 use Rattle.cedar_check_spec.specs.Capabilities.{Capability, Capabilities, Has}
 use Rattle.cedar_check_spec.specs.Typing.{TypesWith, and_then_true, and_then_any, or_false, or_any_false, or_any_any, if_true, if_false, if_any, has_any}
 use Rattle.cedar_check_spec.specs.Determined.{IsKnown, KnownGainsNothingWith}
@@ -21,12 +21,7 @@ known_right (join_boolean {f = False} {g = Any}) k = k
 known_right (join_boolean {f = Any} {g = True}) k = tt
 known_right (join_boolean {f = Any} {g = False}) k = tt
 known_right (join_boolean {f = Any} {g = Any}) k = k
-known_right join_long k = k
-known_right join_string k = k
-known_right join_entity k = k
-known_right join_decimal k = k
-known_right (join_set j) k = k
-known_right (join_record j) k = k
+known_right _ k = k
 
 module _ (settings : Settings) (s : SchemaTree) (env : Environment) where
   none : {h g : Capabilities} {e : Expression} {t : TypeTree} → TypesWith settings s env h e t g → IsKnown t → (x : Capability) → ¬ Has x g

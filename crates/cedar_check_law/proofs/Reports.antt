@@ -4,7 +4,7 @@ use Rattle.std.specs.Prelude.{is_some, map, filter}
 use Rattle.std.specs.List.{list_all}
 use Rattle.cedar_ast.specs.PolicyTree.{PolicyTree}
 use Rattle.cedar_schema_types.specs.declared.truth.Truth.{Truth}
-use Rattle.cedar_schema_types.specs.declared.truth.Truth.TheVariants.{True, False, Any}
+use Rattle.cedar_schema_types.specs.declared.truth.Truth.TheVariants.{False}
 use Rattle.cedar_schema_spec.specs.declared.environment.Environment.{Environment}
 use Rattle.cedar_schema_spec.specs.SchemaTree.{SchemaTree, environments_of}
 use Rattle.cedar_check_spec.specs.Acceptance.{HasFormWith, IsAcceptedInWith, IsAcceptedWith, IsImpossibleWith}
@@ -74,9 +74,7 @@ module _ (settings : Settings) (s : SchemaTree) where
 
     known : (o : Option Truth) → is_known_false o ≡ true → o ≡ Some False
     known (Some False) e = refl
-    known (Some True) e = cc
-    known (Some Any) e = cc
-    known None e = cc
+    known _ e = cc
 
     all_false : (envs : List Environment) → list_all (λ env. is_known_false (form_in_with settings s env p)) envs ≡ true → (env : Environment) → Contains envs env → HasFormWith settings s env p False
     all_false [] e x m = absurd (nowhere x m)

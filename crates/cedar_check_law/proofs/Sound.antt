@@ -10,7 +10,7 @@ use Rattle.cedar_value.specs.Records.{value_at, record_from}
 use Rattle.cedar_value.specs.Sets.{has_member}
 use Rattle.cedar_value.specs.World.{World}
 use Rattle.cedar_value.specs.declared.request.Request.{Request}
-use Rattle.cedar_ast_expressions.specs.declared.variable.Variable.TheVariants.{Principal, Action, Resource, Context}
+use Rattle.cedar_ast_expressions.specs.declared.variable.Variable.TheVariants.{Action}
 use Rattle.cedar_ast_expressions.specs.declared.operator.UnaryOperator.{UnaryOperator}
 use Rattle.cedar_ast_expressions.specs.declared.operator.UnaryOperator.TheVariants as operator
 use Rattle.cedar_ast_expressions.specs.declared.operator.BinaryOperator.{BinaryOperator}
@@ -24,7 +24,7 @@ use Rattle.cedar_ast_expressions.specs.Keys.{AreDistinct, keys_in}
 use Rattle.cedar_schema_types.specs.declared.truth.Truth.{Truth}
 use Rattle.cedar_schema_types.specs.declared.truth.Truth.TheVariants.{True, False, Any}
 use Rattle.cedar_schema_spec.specs.declared.environment.Environment.{Environment}
-use Rattle.cedar_schema_types.specs.Types.{TypeTree, Attributes, no_attributes}
+use Rattle.cedar_schema_types.specs.Types.{TypeTree, Attributes}
 use Rattle.cedar_schema_types.specs.Types as kind
 use Rattle.cedar_schema_spec.specs.SchemaTree.{SchemaTree}
 use Rattle.cedar_schema_types.specs.Membership.{known, HasTruth, Member, At}
@@ -193,11 +193,6 @@ sound_typing settings s env q w h g e t apart conforms fits held d =
 -- the variable `action` and its value
 mutual
   pub replaced : SoundReplacement
-  replaced q w (literal v) = refl
-  replaced q w (variable Principal) = refl
-  replaced q w (variable Action) = refl
-  replaced q w (variable Resource) = refl
-  replaced q w (variable Context) = refl
   replaced q w (and a b) = ap₂ (λ x y. with_answer x (λ v. and_of v y)) (replaced q w a) (replaced q w b)
   replaced q w (or a b) = ap₂ (λ x y. with_answer x (λ v. or_of v y)) (replaced q w a) (replaced q w b)
   replaced q w (if_else i a b) =
@@ -207,6 +202,8 @@ mutual
   replaced q w (binary op a b) = ap₂ (λ x y. with_answer x (λ v. with_answer y (binary_of w op v))) (replaced q w a) (replaced q w b)
   replaced q w (set_with es) = ap (λ x. with_answer x (λ vs. Ok (set_of_values vs))) (replaced_all q w es)
   replaced q w (record_with fs) = ap (λ x. with_answer x (λ ps. Ok (record_of_pairs ps))) (replaced_entries q w fs)
+  replaced q w (variable Action) = refl
+  replaced q w _ = refl
 
   replaced_all : (q : Request) (w : World) (es : Expressions) → eval_all (replace_all q.action es) q w ≡ eval_all es q w
   replaced_all q w no_more = refl

@@ -61,16 +61,11 @@ kept_common one two kept h = h.by_test (λ x. is_held x two) (held_told two)
 -- the rows of one operand
 same_row : (settings : Settings) (s : SchemaTree) (h : Capabilities) (op : UnaryOperator) (e : Expression) (t : Typed) (holds : Capability → Bool) → TellsHeld holds h
     → unary_type settings s h op e t ≡ unary_row settings s holds op e t
-same_row settings s h operator.Not e t holds told = refl
-same_row settings s h operator.Negate e t holds told = refl
 same_row settings s h (operator.Has a) e t holds told =
     ap (λ b. option_and_then (λ at. has_row b e a t.ty (attribute_at a at)) (attributes_in s t.ty)) (one_test holds h told (record { on = e; key = a }))
 same_row settings s h (operator.Get a) e t holds told =
     ap (λ b. option_and_then (λ at. get_row b (attribute_at a at)) (attributes_in s t.ty)) (one_test holds h told (record { on = e; key = a }))
-same_row settings s h (operator.Like p) e t holds told = refl
-same_row settings s h (operator.Is n) e t holds told = refl
-same_row settings s h operator.Decimal e t holds told = refl
-same_row settings s h operator.IsEmpty e t holds told = refl
+same_row settings s h _ e t holds told = refl
 
 pub unary_row_of : (settings : Settings) (s : SchemaTree) (h : Capabilities) (op : UnaryOperator) (e : Expression) (t : Typed) (typing : Option Typed)
     → typing ≡ unary_type settings s h op e t → IsUnaryRow settings s h op e t typing

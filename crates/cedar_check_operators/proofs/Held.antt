@@ -1,8 +1,8 @@
 -- Capabilities from a place on.
-use Rattle.std.proofs.Common.{◌≡◌, true, false, ℕ, ◌<◌, ◌+◌, Option, List, [], ◌∷◌, ◌++◌, cond, length, get_or, drop, drop-cons, add-one, refl, ap, ap₂, sym, ◌∙◌}
+use Rattle.std.proofs.Common.{◌≡◌, ℕ, ◌<◌, ◌+◌, Option, List, ◌∷◌, length, get_or, drop, drop-cons, add-one, ap, ap₂, sym, ◌∙◌}
 use Rattle.std.specs.Prelude.{◌||◌}
 use Rattle.cedar_check_spec.specs.Capabilities as spec
-use Rattle.cedar_check_spec.specs.Private.Checking.{is_held, same_capability, common}
+use Rattle.cedar_check_spec.specs.Private.Checking.{is_held, same_capability}
 use Rattle.cedar_ast_expressions.specs.Expression.{Expression}
 use Rattle.cedar_ast_expressions.specs.declared.operator.UnaryOperator.{UnaryOperator}
 use Rattle.cedar_schema_spec.specs.SchemaTree.{SchemaTree}
@@ -18,24 +18,6 @@ drop_here xs i x h e = drop-cons xs i x h ∙ ap₂ (λ y (n : ℕ). y ∷ drop 
 
 pub held_step : (x : spec.Capability) (hs : List Capability) (i : ℕ) (h : Capability) → i < length hs → h ≡ get_or hs i h → is_held x (held_view (drop i hs)) ≡ (same_capability (capability_view h) x || is_held x (held_view (drop (i + 1) hs)))
 held_step x hs i h lt e = ap (λ l. is_held x (held_view l)) (drop_here hs i h lt e)
-
-held_snoc : (xs : List Capability) (h : Capability) (rest : spec.Capabilities) → held_view (xs ++ h ∷ []) ++ rest ≡ held_view xs ++ capability_view h ∷ rest
-held_snoc [] h rest = refl
-held_snoc (x ∷ xs) h rest = ap (λ l. capability_view x ∷ l) (held_snoc xs h rest)
-
--- those of the first list that the second has, from a place on
-pub common_taken : (xs hs two : List Capability) (i : ℕ) (h : Capability) → i < length hs → h ≡ get_or hs i h → is_held (capability_view h) (held_view two) ≡ true
-    → held_view (xs ++ h ∷ []) ++ common (held_view (drop (i + 1) hs)) (held_view two) ≡ held_view xs ++ common (held_view (drop i hs)) (held_view two)
-common_taken xs hs two i h lt e is =
-    held_snoc xs h (common (held_view (drop (i + 1) hs)) (held_view two))
-    ∙ ap (λ l. held_view xs ++ l) (sym (ap (λ l. common (held_view l) (held_view two)) (drop_here hs i h lt e)
-    ∙ ap (λ b. cond b (capability_view h ∷ common (held_view (drop (i + 1) hs)) (held_view two)) (common (held_view (drop (i + 1) hs)) (held_view two))) is))
-
-pub common_left : (xs hs two : List Capability) (i : ℕ) (h : Capability) → i < length hs → h ≡ get_or hs i h → is_held (capability_view h) (held_view two) ≡ false
-    → held_view xs ++ common (held_view (drop (i + 1) hs)) (held_view two) ≡ held_view xs ++ common (held_view (drop i hs)) (held_view two)
-common_left xs hs two i h lt e is =
-    ap (λ l. held_view xs ++ l) (sym (ap (λ l. common (held_view l) (held_view two)) (drop_here hs i h lt e)
-    ∙ ap (λ b. cond b (capability_view h ∷ common (held_view (drop (i + 1) hs)) (held_view two)) (common (held_view (drop (i + 1) hs)) (held_view two))) is))
 
 -- what the function of the rows gives is the row
 pub unary_answered : (settings : Settings) (s : SchemaTree) (h : spec.Capabilities) (op : UnaryOperator) (e : Expression) (t : Typed) (typing : Option Typed)

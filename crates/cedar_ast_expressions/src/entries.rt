@@ -3,10 +3,10 @@ ghost use Rattle.std.specs.Prelude.{◌≡◌, ◌↔◌, IfOk, IfErr, IsTrue, m
 ghost use Rattle.cedar_ast_expressions.specs.Keys.{AreDistinct, keys_of};
 ghost use Rattle.cedar_ast_expressions.specs.RecordFault.{number_of, refused};
 
-use crate::copying::clone_pairs;
 use crate::expression::Expr;
 use crate::keys::{Keys, first_repeated};
 use crate::record_fault::RecordFault;
+use crate::replacement::replaced_pairs;
 use cedar_value::SharedText;
 use std::alloc::{AllocError, Global};
 use std::marker::Model;
@@ -97,11 +97,12 @@ impl Entries {
     /// # Errors
     ///
     /// Fails only when out of memory.
+    #[tactic(auto, using(crate::specs::Private::Replaced::kept_pairs))]
     pub fn try_clone(&self, alloc: Global) -> Result<Self, AllocError>
         ensures { IfOk result (λ r. r ≡ self.now) }
     {
         Ok(Entries {
-            pairs: clone_pairs(alloc, &self.pairs)?,
+            pairs: replaced_pairs(alloc, &self.pairs, None)?,
         })
     }
 }

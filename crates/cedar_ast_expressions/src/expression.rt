@@ -6,11 +6,10 @@ ghost use Rattle.cedar_ast_expressions.specs.Keys.{AreDistinct, keys_of};
 ghost use Rattle.cedar_ast_expressions.specs.RecordFault.{number_of, refused};
 ghost use Rattle.cedar_ast_expressions.specs.Replacement.{replace};
 
-use crate::copying::clone_part;
 use crate::entries::Entries;
 use crate::operator::{BinaryOperator, UnaryOperator};
 use crate::record_fault::RecordFault;
-use crate::replacement::replaced;
+use crate::replacement::replaced_part;
 use crate::variable::Variable;
 use cedar_value::{SharedText, Uid, Value};
 use std::alloc::{AllocError, Global};
@@ -192,7 +191,7 @@ impl Expr {
     pub fn with_action(&self, alloc: Global, action: &Uid) -> Result<Self, AllocError>
         ensures { IfOk result (λ e. e ≡ replace action.now self.now) }
     {
-        replaced(alloc, self, action)
+        Ok(Box::into_inner(replaced_part(alloc, self, Some(action))?))
     }
 
     /// The form, with its parts, lent.
@@ -210,7 +209,7 @@ impl Expr {
     pub fn try_clone(&self, alloc: Global) -> Result<Self, AllocError>
         ensures { IfOk result (λ e. e ≡ self.now) }
     {
-        Ok(Box::into_inner(clone_part(alloc, self)?))
+        Ok(Box::into_inner(replaced_part(alloc, self, None)?))
     }
 }
 

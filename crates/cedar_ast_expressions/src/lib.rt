@@ -13,7 +13,6 @@
 #![tactic(auto)]
 
 mod boxed;
-mod copying;
 mod entries;
 mod equality;
 mod error;

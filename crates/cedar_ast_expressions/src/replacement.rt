@@ -1,12 +1,11 @@
-//! Expressions with the variable `action` replaced by a uid.
+//! Copies of expressions, with the variable `action` replaced by a uid where one is given.
 //!
 //! Each form has a function of its own, which is not inlined and holds boxes alone. So a level of a high expression needs little
 //! of the call stack.
 ghost use Rattle.std.specs.Prelude.{◌≡◌, IfOk, map};
-ghost use Rattle.cedar_ast_expressions.specs.Expression.{literal, and, or, if_else, unary, binary, set_with, record_with, expressions_of, entries_of};
+ghost use Rattle.cedar_ast_expressions.specs.Expression.{literal, variable, and, or, if_else, unary, binary, set_with, record_with, expressions_of, entries_of};
 ghost use Rattle.cedar_value.specs.Datum.{uid};
-ghost use Rattle.cedar_ast_expressions.specs.Replacement.{replace, replace_variable};
-ghost use Rattle.cedar_ast_expressions.specs.Private.Replaced.{replace_pair};
+ghost use Rattle.cedar_ast_expressions.specs.Private.Replaced.{replaced_by, replaced_pair};
 
 use crate::boxed::{
     boxed_and, boxed_binary, boxed_if, boxed_literal, boxed_or, boxed_record, boxed_set,
@@ -19,18 +18,16 @@ use crate::variable::Variable;
 use cedar_value::{SharedText, Uid, Value};
 use std::alloc::{AllocError, Global};
 
-/// A copy of the expression with the action replaced.
-pub(crate) fn replaced(alloc: Global, expression: &Expr, action: &Uid) -> Result<Expr, AllocError>
-    ensures { IfOk result (λ e. e ≡ replace action.now expression.now) }
-{
-    Ok(Box::into_inner(replaced_part(alloc, expression, action)?))
-}
-
-// A copy of a part, in a box.
+/// A copy of an expression, in a box.
+#[tactic(auto, using(crate::specs::Private::Replaced::by_literal))]
 #[cycle(replace)]
 #[inline(never)]
-fn replaced_part(alloc: Global, part: &Expr, action: &Uid) -> Result<Box<Expr>, AllocError>
-    ensures { IfOk result (λ b. b.value ≡ replace action.now part.now) }
+pub(crate) fn replaced_part(
+    alloc: Global,
+    part: &Expr,
+    action: Option<&Uid>,
+) -> Result<Box<Expr>, AllocError>
+    ensures { IfOk result (λ b. b.value ≡ replaced_by action.entry part.now) }
 {
     match part.kind() {
         ExprKind::Literal(value) => boxed_literal(alloc, value),
@@ -51,9 +48,16 @@ fn replaced_part(alloc: Global, part: &Expr, action: &Uid) -> Result<Box<Expr>, 
 
 // A variable, or the uid in place of the action.
 #[inline(never)]
-fn replaced_variable(alloc: Global, name: Variable, action: &Uid) -> Result<Box<Expr>, AllocError>
-    ensures { IfOk result (λ b. b.value ≡ replace_variable action.now name) }
+fn replaced_variable(
+    alloc: Global,
+    name: Variable,
+    action: Option<&Uid>,
+) -> Result<Box<Expr>, AllocError>
+    ensures { IfOk result (λ b. b.value ≡ replaced_by action.entry (variable name)) }
 {
+    let Some(action) = action else {
+        return boxed_variable(alloc, name);
+    };
     match name {
         Variable::Action => boxed_action(alloc, action),
         other => boxed_variable(alloc, other),
@@ -68,36 +72,39 @@ fn boxed_action(alloc: Global, action: &Uid) -> Result<Box<Expr>, AllocError>
     Ok(Box::new(alloc, Expr::literal(action))?)
 }
 
+#[tactic(auto, using(crate::specs::Private::Replaced::by_and))]
 #[cycle(replace)]
 #[inline(never)]
 fn replaced_and(
     alloc: Global,
     left: &Expr,
     right: &Expr,
-    action: &Uid,
+    action: Option<&Uid>,
 ) -> Result<Box<Expr>, AllocError>
-    ensures { IfOk result (λ b. b.value ≡ replace action.now (and left.now right.now)) }
+    ensures { IfOk result (λ b. b.value ≡ replaced_by action.entry (and left.now right.now)) }
 {
     let left = replaced_part(alloc, left, action)?;
     let right = replaced_part(alloc, right, action)?;
     boxed_and(alloc, left, right)
 }
 
+#[tactic(auto, using(crate::specs::Private::Replaced::by_or))]
 #[cycle(replace)]
 #[inline(never)]
 fn replaced_or(
     alloc: Global,
     left: &Expr,
     right: &Expr,
-    action: &Uid,
+    action: Option<&Uid>,
 ) -> Result<Box<Expr>, AllocError>
-    ensures { IfOk result (λ b. b.value ≡ replace action.now (or left.now right.now)) }
+    ensures { IfOk result (λ b. b.value ≡ replaced_by action.entry (or left.now right.now)) }
 {
     let left = replaced_part(alloc, left, action)?;
     let right = replaced_part(alloc, right, action)?;
     boxed_or(alloc, left, right)
 }
 
+#[tactic(auto, using(crate::specs::Private::Replaced::by_if))]
 #[cycle(replace)]
 #[inline(never)]
 fn replaced_if(
@@ -105,9 +112,9 @@ fn replaced_if(
     condition: &Expr,
     if_true: &Expr,
     if_false: &Expr,
-    action: &Uid,
+    action: Option<&Uid>,
 ) -> Result<Box<Expr>, AllocError>
-    ensures { IfOk result (λ b. b.value ≡ replace action.now (if_else condition.now if_true.now if_false.now)) }
+    ensures { IfOk result (λ b. b.value ≡ replaced_by action.entry (if_else condition.now if_true.now if_false.now)) }
 {
     let condition = replaced_part(alloc, condition, action)?;
     let if_true = replaced_part(alloc, if_true, action)?;
@@ -115,20 +122,22 @@ fn replaced_if(
     boxed_if(alloc, condition, if_true, if_false)
 }
 
+#[tactic(auto, using(crate::specs::Private::Replaced::by_unary))]
 #[cycle(replace)]
 #[inline(never)]
 fn replaced_unary(
     alloc: Global,
     operator: &UnaryOperator,
     operand: &Expr,
-    action: &Uid,
+    action: Option<&Uid>,
 ) -> Result<Box<Expr>, AllocError>
-    ensures { IfOk result (λ b. b.value ≡ replace action.now (unary operator.now operand.now)) }
+    ensures { IfOk result (λ b. b.value ≡ replaced_by action.entry (unary operator.now operand.now)) }
 {
     let operand = replaced_part(alloc, operand, action)?;
     boxed_unary(alloc, operator, operand)
 }
 
+#[tactic(auto, using(crate::specs::Private::Replaced::by_binary))]
 #[cycle(replace)]
 #[inline(never)]
 fn replaced_binary(
@@ -136,19 +145,24 @@ fn replaced_binary(
     operator: BinaryOperator,
     left: &Expr,
     right: &Expr,
-    action: &Uid,
+    action: Option<&Uid>,
 ) -> Result<Box<Expr>, AllocError>
-    ensures { IfOk result (λ b. b.value ≡ replace action.now (binary operator left.now right.now)) }
+    ensures { IfOk result (λ b. b.value ≡ replaced_by action.entry (binary operator left.now right.now)) }
 {
     let left = replaced_part(alloc, left, action)?;
     let right = replaced_part(alloc, right, action)?;
     boxed_binary(alloc, operator, left, right)
 }
 
+#[tactic(auto, using(crate::specs::Private::Replaced::by_literal))]
 #[cycle(replace)]
 #[inline(never)]
-fn replaced_set(alloc: Global, members: &[Expr], action: &Uid) -> Result<Box<Expr>, AllocError>
-    ensures { IfOk result (λ b. b.value ≡ replace action.now (set_with (expressions_of members.now))) }
+fn replaced_set(
+    alloc: Global,
+    members: &[Expr],
+    action: Option<&Uid>,
+) -> Result<Box<Expr>, AllocError>
+    ensures { IfOk result (λ b. b.value ≡ replaced_by action.entry (set_with (expressions_of members.now))) }
 {
     let mut copies = Vec::new(alloc);
     for member in members {
@@ -162,22 +176,26 @@ fn replaced_set(alloc: Global, members: &[Expr], action: &Uid) -> Result<Box<Exp
 
 #[cycle(replace)]
 #[inline(never)]
-fn replaced_record(alloc: Global, entries: &Entries, action: &Uid) -> Result<Box<Expr>, AllocError>
-    ensures { IfOk result (λ b. b.value ≡ replace action.now (record_with (entries_of entries.now))) }
+fn replaced_record(
+    alloc: Global,
+    entries: &Entries,
+    action: Option<&Uid>,
+) -> Result<Box<Expr>, AllocError>
+    ensures { IfOk result (λ b. b.value ≡ replaced_by action.entry (record_with (entries_of entries.now))) }
 {
     let pairs = replaced_pairs(alloc, entries.pairs(), action)?;
     boxed_record(alloc, Entries::with_keys_of(entries, pairs))
 }
 
-// Copies of entries.
+/// Copies of entries.
 #[cycle(replace)]
 #[inline(never)]
-fn replaced_pairs(
+pub(crate) fn replaced_pairs(
     alloc: Global,
     pairs: &[(SharedText, Expr)],
-    action: &Uid,
+    action: Option<&Uid>,
 ) -> Result<Vec<(SharedText, Expr)>, AllocError>
-    ensures { IfOk result (λ v. v.items ≡ map (replace_pair action.now) pairs.now) }
+    ensures { IfOk result (λ v. v.items ≡ map (replaced_pair action.entry) pairs.now) }
 {
     let mut copies = Vec::new(alloc);
     for pair in pairs {

@@ -1,8 +1,7 @@
 use Rattle.std.proofs.Common.{◌≡◌, ◌+◌, ◌*◌, take, map}
 use Rattle.std.specs.Prelude.{max}
-use Rattle.cedar_ast_expressions.specs.Replacement.{replace}
 use Rattle.cedar_ast_expressions.specs.Private.Depth.{depth, list_depth, pairs_depth}
-use Rattle.cedar_ast_expressions.specs.Private.Replaced.{replace_pair}
+use Rattle.cedar_ast_expressions.specs.Private.Replaced.{replaced_by, replaced_pair}
 use Rattle.cedar_ast_expressions.proofs.replacement.+replace.Given as goal
 
 abbrev pub decreases-replaced_part : goal.decreases-replaced_part
@@ -33,7 +32,7 @@ abbrev pub decreases-replaced_pairs : goal.decreases-replaced_pairs
 decreases-replaced_pairs l = 3 * pairs_depth l.pairs.now
 
 abbrev pub invariant-replaced_set-loop-member : goal.invariant-replaced_set-loop-member
-invariant-replaced_set-loop-member l = l.copies.items ≡ map (replace l.action) (take l.member-index l.members)
+invariant-replaced_set-loop-member l = l.copies.items ≡ map (replaced_by l.action) (take l.member-index l.members)
 
 abbrev pub invariant-replaced_pairs-loop-pair : goal.invariant-replaced_pairs-loop-pair
-invariant-replaced_pairs-loop-pair l = l.copies.items ≡ map (replace_pair l.action) (take l.pair-index l.pairs)
+invariant-replaced_pairs-loop-pair l = l.copies.items ≡ map (replaced_pair l.action) (take l.pair-index l.pairs)

@@ -1,29 +1,13 @@
 -- The letters of a string that are written out so far.
-use Rattle.std.proofs.Common.{◌≡◌, sym, ap, ◌∙◌, ℕ, ◌+◌, ◌≤◌, ◌<◌, Bool, true, false, ◌&&◌, List, ◌++◌, length, get_or, drop, Some, None, append_assoc}
-use Rattle.std.specs.Prelude.{encode_utf8}
+use Rattle.std.proofs.Common.{◌≡◌, sym, ap, ◌∙◌, ℕ, ◌+◌, ◌≤◌, ◌<◌, Bool, false, ◌&&◌, List, ◌++◌, length, get_or, drop, Some, None}
 use Rattle.std.specs.List.{list_all}
 use Rattle.std.proofs.lemmas.Bool.{cond-true, cond-false}
 use Rattle.std.proofs.lemmas.List.{append-nil, at_drop_more, at_drop_all}
 use Rattle.cedar_text.specs.declared.letter.Letter.{Letter}
-use Rattle.cedar_text.specs.Letters.{is_plain, character_of, utf8_of, plain_text_of}
-
-pub utf8_turn : (bytes : List ℕ) (letters : List Letter) (i : ℕ) (l d : Letter) (c : ℕ) (total : List ℕ) → i < length letters → get_or letters i d ≡ l → c ≡ character_of l
-    → bytes ++ utf8_of (drop i letters) ≡ total → (bytes ++ encode_utf8 c) ++ utf8_of (drop (i + 1) letters) ≡ total
-utf8_turn bytes letters i l d c total lt e f so_far =
-    append_assoc bytes (encode_utf8 c) (utf8_of (drop (i + 1) letters))
-    ∙ ap (λ (x : ℕ). bytes ++ (encode_utf8 x ++ utf8_of (drop (i + 1) letters))) (f ∙ sym (ap character_of e))
-    ∙ sym (ap (λ (xs : List ℕ). bytes ++ xs) (at_drop_more utf8_of letters i d lt)) ∙ so_far
-
-and_true : (t u : Bool) → t ≡ true → (t && u) ≡ u
-and_true t u e = ap (λ (x : Bool). x && u) e
+use Rattle.cedar_text.specs.Letters.{is_plain, utf8_of, plain_text_of}
 
 and_false : (t u : Bool) → t ≡ false → (t && u) ≡ false
 and_false t u e = ap (λ (x : Bool). x && u) e
-
-pub plain_turn : (letters : List Letter) (i : ℕ) (l d : Letter) (total : Bool) → i < length letters → get_or letters i d ≡ l → is_plain l ≡ true
-    → list_all is_plain (drop i letters) ≡ total → list_all is_plain (drop (i + 1) letters) ≡ total
-plain_turn letters i l d total lt e p so_far =
-    sym (and_true (is_plain (get_or letters i d)) (list_all is_plain (drop (i + 1) letters)) (ap is_plain e ∙ p)) ∙ sym (at_drop_more (list_all is_plain) letters i d lt) ∙ so_far
 
 pub star_turn : (letters : List Letter) (i : ℕ) (l d : Letter) (total : Bool) → i < length letters → get_or letters i d ≡ l → is_plain l ≡ false → list_all is_plain (drop i letters) ≡ total → total ≡ false
 star_turn letters i l d total lt e p so_far =

@@ -36,14 +36,8 @@ by_names : (a b c d e f g h : Bool) (op : BinaryOperator)
     → cond a (Some (Binary operator.Contains)) (cond b (Some (Binary operator.ContainsAll)) (cond c (Some (Binary operator.ContainsAny)) (cond d (Some (Binary operator.DecimalLess))
     (cond e (Some (Binary operator.DecimalLessEqual)) (cond f (Some (Binary operator.DecimalGreater)) (cond g (Some (Binary operator.DecimalGreaterEqual)) (cond h (Some IsEmpty) None)))))))
     ≡ Some (Binary op)
-by_names true b c d e f g h op q = cc
-by_names false true c d e f g h op q = cc
-by_names false false true d e f g h op q = cc
-by_names false false false true e f g h op q = cc
-by_names false false false false true f g h op q = cc
-by_names false false false false false true g h op q = cc
-by_names false false false false false false true h op q = cc
 by_names false false false false false false false h op q = absurd cc
+by_names _ _ _ _ _ _ _ h op q = cc
 
 pub earlier_method : (name : List ℕ) (op : BinaryOperator) → earlier_method_of name ≡ Some op → method_of name ≡ Some (Binary op)
 earlier_method name op =

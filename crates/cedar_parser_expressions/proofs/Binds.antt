@@ -66,23 +66,11 @@ and_below _ sign h = absurd cc
 
 pub relation_above : Above 3 relation_sign_of
 relation_above k.Less h = absurd (omega arith)
-relation_above k.LessEqual h = absurd (omega arith)
-relation_above k.Greater h = absurd (omega arith)
-relation_above k.GreaterEqual h = absurd (omega arith)
-relation_above k.Equal h = absurd (omega arith)
-relation_above k.NotEqual h = absurd (omega arith)
-relation_above k.In h = absurd (omega arith)
-relation_above _ h = refl
+relation_above _ h = first_of (cc, grind arith)
 
 pub relation_below : Below 4 relation_sign_of
 relation_below k.Less sign h = omega arith
-relation_below k.LessEqual sign h = omega arith
-relation_below k.Greater sign h = omega arith
-relation_below k.GreaterEqual sign h = omega arith
-relation_below k.Equal sign h = omega arith
-relation_below k.NotEqual sign h = omega arith
-relation_below k.In sign h = omega arith
-relation_below _ sign h = absurd cc
+relation_below _ sign h = first_of (omega arith, grind arith)
 
 pub sum_above : Above 4 add_sign
 sum_above k.Plus h = absurd (omega arith)

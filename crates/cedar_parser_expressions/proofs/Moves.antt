@@ -112,13 +112,7 @@ mult_never _ sign h = absurd cc
 
 pub relation_never : NeverCloses relation_sign_of
 relation_never k.Less sign h = refl
-relation_never k.LessEqual sign h = refl
-relation_never k.Greater sign h = refl
-relation_never k.GreaterEqual sign h = refl
-relation_never k.Equal sign h = refl
-relation_never k.NotEqual sign h = refl
-relation_never k.In sign h = refl
-relation_never _ sign h = absurd cc
+relation_never _ sign h = cc
 
 -- ---- texts, paths, uids
 

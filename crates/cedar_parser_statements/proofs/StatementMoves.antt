@@ -14,16 +14,7 @@ use Rattle.cedar_parser_expressions.proofs.Moves.{Moves, Level, level_then, move
 
 word_never : (q : TokenKind) → is_word_kind q ≡ true → weight (closes q) ≡ 0
 word_never k.True h = refl
-word_never k.False h = refl
-word_never k.If h = refl
-word_never k.Then h = refl
-word_never k.Else h = refl
-word_never k.In h = refl
-word_never k.Is h = refl
-word_never k.Like h = refl
-word_never k.Has h = refl
-word_never k.Identifier h = refl
-word_never _ h = absurd cc
+word_never _ h = cc
 
 weaker : {ts us : Marks} {g l : ℕ} → Moves ts us g l → l ≤ g → Level ts us
 weaker m h = record { front = m.front; whole = m.whole; takes = m.takes; even = omega (arith, m.even) }

@@ -49,7 +49,3 @@ not_known false k r e same = refl
 pub still_known : (a k r : Bool) → r ≡ true → r ≡ k → a ≡ (a && k)
 still_known true k r e same = sym e ∙ same
 still_known false k r e same = refl
-
-pub all_so_far : (a : Bool) → (a && true) ≡ a
-all_so_far true = refl
-all_so_far false = refl

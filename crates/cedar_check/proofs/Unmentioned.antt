@@ -4,7 +4,7 @@ use Rattle.std.specs.Prelude.{◌||◌}
 use Rattle.cedar_value.specs.Datum.{uid}
 use Rattle.cedar_value.specs.declared.uid.Uid.{Uid}
 use Rattle.cedar_ast_expressions.specs.declared.operator.BinaryOperator.{BinaryOperator}
-use Rattle.cedar_ast_expressions.specs.declared.variable.Variable.TheVariants.{Principal, Action, Resource, Context}
+use Rattle.cedar_ast_expressions.specs.declared.variable.Variable.TheVariants.{Action}
 use Rattle.cedar_ast_expressions.specs.Expression.{Expression, literal, variable, and, or, if_else, unary, binary, set_with, record_with, Expressions, no_more, and_then, Entries, no_entries, entry}
 use Rattle.cedar_ast_expressions.specs.Replacement.{replace, replace_all, replace_entries}
 use Rattle.cedar_check.specs.Private.Condition.{asked}
@@ -20,11 +20,7 @@ second false b h = h
 
 mutual
   pub unmentioned : (u : Uid) (e : Expression) → mentions e ≡ false → replace u e ≡ e
-  unmentioned u (literal v) h = refl
-  unmentioned u (variable Principal) h = refl
   unmentioned u (variable Action) h = cc
-  unmentioned u (variable Resource) h = refl
-  unmentioned u (variable Context) h = refl
   unmentioned u (and a b) h = ap₂ and (unmentioned u a (first (mentions a) (mentions b) h)) (unmentioned u b (second (mentions a) (mentions b) h))
   unmentioned u (or a b) h = ap₂ or (unmentioned u a (first (mentions a) (mentions b) h)) (unmentioned u b (second (mentions a) (mentions b) h))
   unmentioned u (if_else c a b) h =
@@ -36,6 +32,7 @@ mutual
   unmentioned u (binary op a b) h = ap₂ (binary op) (unmentioned u a (first (mentions a) (mentions b) h)) (unmentioned u b (second (mentions a) (mentions b) h))
   unmentioned u (set_with es) h = ap set_with (unmentioned_all u es h)
   unmentioned u (record_with fs) h = ap record_with (unmentioned_entries u fs h)
+  unmentioned u _ h = refl
 
   unmentioned_all : (u : Uid) (es : Expressions) → any_mentions es ≡ false → replace_all u es ≡ es
   unmentioned_all u no_more h = refl

@@ -6,7 +6,7 @@ use Rattle.std.proofs.lemmas.List.{append_assoc, take_more, take_more_set}
 use Rattle.cedar_schema_types.specs.declared.truth.Truth.{Truth}
 use Rattle.cedar_schema_types.specs.declared.truth.Truth.TheVariants.{True, False, Any}
 use Rattle.cedar_schema_types.specs.Types.{boolean}
-use Rattle.cedar_ast_expressions.specs.Expression.{Expression, literal, variable, and, or, if_else, unary, binary, set_with, record_with}
+use Rattle.cedar_ast_expressions.specs.Expression.{Expression, and, or, if_else, unary, binary}
 use Rattle.cedar_ast_expressions.specs.Private.Depth.{depth}
 use Rattle.cedar_schema_spec.specs.SchemaTree.{SchemaTree}
 use Rattle.cedar_schema_spec.specs.declared.environment.Environment.{Environment}
@@ -30,15 +30,12 @@ led_further e l ps n q low left way = subst (λ es. Leads e es l) (sym (take_mor
 -- ---- depths
 
 left_lower : (e l : Expression) → left_of e ≡ Some l → depth l < depth e
-left_lower (literal v) l is = cc
-left_lower (variable x) l is = cc
 left_lower (and a b) l is = let same : a ≡ l = cc in omega (arith, ap depth same)
 left_lower (or a b) l is = let same : a ≡ l = cc in omega (arith, ap depth same)
 left_lower (if_else i x y) l is = let same : i ≡ l = cc in omega (arith, ap depth same)
 left_lower (unary op a) l is = let same : a ≡ l = cc in omega (arith, ap depth same)
 left_lower (binary op a b) l is = let same : a ≡ l = cc in omega (arith, ap depth same)
-left_lower (set_with es) l is = cc
-left_lower (record_with fs) l is = cc
+left_lower _ l is = cc
 
 -- the last part is as low as the expression
 pub last_low : (e f : Expression) (ps : List (Bor Expression)) → Leads e ps f → depth f ≤ depth e
@@ -64,15 +61,12 @@ way_up e f ps count n q fits one is way =
 module _ (settings : Settings) (s : SchemaTree) (env : Environment) (h : Capabilities) where
   -- the row of an expression, from the type of its left part
   pub row_whole : (e l : Expression) → left_of e ≡ Some l → row_from settings s env h e (type_of_with settings s env h l) ≡ type_of_with settings s env h e
-  row_whole (literal v) l is = cc
-  row_whole (variable x) l is = cc
   row_whole (and a b) l is = let same : a ≡ l = cc in ap (λ z. row_from settings s env h (and a b) (type_of_with settings s env h z)) (sym same)
   row_whole (or a b) l is = let same : a ≡ l = cc in ap (λ z. row_from settings s env h (or a b) (type_of_with settings s env h z)) (sym same)
   row_whole (if_else i x y) l is = let same : i ≡ l = cc in ap (λ z. row_from settings s env h (if_else i x y) (type_of_with settings s env h z)) (sym same)
   row_whole (unary op a) l is = let same : a ≡ l = cc in ap (λ z. row_from settings s env h (unary op a) (type_of_with settings s env h z)) (sym same)
   row_whole (binary op a b) l is = let same : a ≡ l = cc in ap (λ z. row_from settings s env h (binary op a b) (type_of_with settings s env h z)) (sym same)
-  row_whole (set_with es) l is = cc
-  row_whole (record_with fs) l is = cc
+  row_whole _ l is = cc
 
   pub rows_whole : (e f : Expression) (ps : List (Bor Expression)) → Leads e ps f → rows_from settings s env h ps (type_of_with settings s env h f) ≡ type_of_with settings s env h e
   rows_whole e f [] way = ap (λ z. type_of_with settings s env h z) (sym way)

@@ -1,15 +1,13 @@
 -- Where the variable `action` occurs in expressions.
 use Rattle.std.specs.Prelude.{Bool, true, false, ◌||◌}
 use Rattle.cedar_ast_expressions.specs.declared.variable.Variable.{Variable}
-use Rattle.cedar_ast_expressions.specs.declared.variable.Variable.TheVariants.{Principal, Action, Resource, Context}
+use Rattle.cedar_ast_expressions.specs.declared.variable.Variable.TheVariants.{Action}
 use Rattle.cedar_ast_expressions.specs.Expression.{Expression, literal, variable, and, or, if_else, unary, binary, set_with, record_with, Expressions, no_more, and_then, Entries, no_entries, entry}
 
 -- Whether the variable is the action.
 abbrev pub is_action : Variable → Bool
 is_action Action = true
-is_action Principal = false
-is_action Resource = false
-is_action Context = false
+is_action _ = false
 
 -- Whether the action occurs in an expression.
 abbrev mutual

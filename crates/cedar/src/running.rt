@@ -70,13 +70,7 @@ fn run_validate(rt: &HostRuntime, words: &Words<'_>, format: Option<Format>) -> 
     let files = NamedFiles::new(rt, words.files);
     let mut sink = CountingSink::new(StdSink::new(io::writer(rt)));
     let mut policies = None;
-    let end = validate_keeping(
-        rt.alloc(),
-        &files,
-        &mut sink,
-        words.settings,
-        &mut policies,
-    );
+    let end = validate_keeping(rt.alloc(), &files, &mut sink, words.settings, &mut policies);
     // The program ends soon, and the system then takes all its memory at once.
     forget(policies);
     let refused = sink.counts().refused_file;

@@ -8,4 +8,4 @@ returns-in-Ok-clause-faults g c = λ h.
     let found = c.in-Ok.ensures.reported in
     let s = found.0 in
     let ps = c.in-Ok.policies.policies in
-    (s, c.in-Ok.policies, found.1, some_found fault_view c.args.settings s ps c.in-Ok.report.faults.items found.2.faults (c.write_report.ensures.faults h), c.write_report.ensures.whole (inr h) c.args.settings s found.2)
+    (s, c.in-Ok.policies, found.1, some_found fault_view c.args.settings s ps c.in-Ok.report.faults.items found.2.faults (c.write_report-end.ensures.faults h), c.write_report-end.ensures.whole (inr h) c.args.settings s found.2)

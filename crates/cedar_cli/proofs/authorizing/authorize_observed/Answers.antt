@@ -12,13 +12,13 @@ returns-in-Err-clause-stands g c = λ h.
     ]
 
 pub returns-clause-done : goal.returns-clause-done
-returns-clause-done g c = λ h. (c.in-Ok.ready, c.in-Ok.ensures.held, rw c.in-Ok.ensures.untouched at c.answer.ensures.done h)
+returns-clause-done g c = λ h. (c.in-Ok.ready, c.in-Ok.ensures.held, rw c.in-Ok.ensures.untouched at c.answer-end.ensures.done h)
 
 pub returns-clause-stands : goal.returns-clause-stands
-returns-clause-stands g c = λ h. inr (inr (inr (c.in-Ok.ready, c.in-Ok.ensures.held, rw c.in-Ok.ensures.untouched at c.answer.ensures.stands h)))
+returns-clause-stands g c = λ h. inr (inr (inr (c.in-Ok.ready, c.in-Ok.ensures.held, rw c.in-Ok.ensures.untouched at c.answer-end.ensures.stands h)))
 
 pub returns-clause-stands_whole : goal.returns-clause-stands_whole
-returns-clause-stands_whole g c = λ h. inr (c.in-Ok.ready, c.in-Ok.ensures.held, rw c.in-Ok.ensures.untouched at c.answer.ensures.stands_whole h)
+returns-clause-stands_whole g c = λ h. inr (c.in-Ok.ready, c.in-Ok.ensures.held, rw c.in-Ok.ensures.untouched at c.answer-end.ensures.stands_whole h)
 
 pub returns-clause-device : goal.returns-clause-device
-returns-clause-device g c = λ h. inr (inr (inr (inr (rw c.in-Ok.ensures.untouched at c.answer.ensures.device h))))
+returns-clause-device g c = λ h. inr (inr (inr (inr (rw c.in-Ok.ensures.untouched at c.answer-end.ensures.device h))))

@@ -19,14 +19,14 @@ returns-clause-done g c = λ h. (
   c.in-Ok.ensures.held,
   (λ line q w d. subst (λ (settings : Settings). IsAnsweredSoundlyWith settings c.in-Ok.ready.policies.policies q w) c.in-Ok.ensures.held.settings_are
       (c.lines_with_entities_are_answered_soundly.ensures line q w d)),
-  rw c.in-Ok.ensures.untouched at c.answer_with_entities.ensures.done h,
+  rw c.in-Ok.ensures.untouched at c.answer_with_entities-end.ensures.done h,
 )
 
 pub returns-clause-stands : goal.returns-clause-stands
-returns-clause-stands g c = λ h. inr (inr (inr (c.in-Ok.ready, c.in-Ok.ensures.held, rw c.in-Ok.ensures.untouched at c.answer_with_entities.ensures.stands h)))
+returns-clause-stands g c = λ h. inr (inr (inr (c.in-Ok.ready, c.in-Ok.ensures.held, rw c.in-Ok.ensures.untouched at c.answer_with_entities-end.ensures.stands h)))
 
 pub returns-clause-stands_whole : goal.returns-clause-stands_whole
-returns-clause-stands_whole g c = λ h. inr (c.in-Ok.ready, c.in-Ok.ensures.held, rw c.in-Ok.ensures.untouched at c.answer_with_entities.ensures.stands_whole h)
+returns-clause-stands_whole g c = λ h. inr (c.in-Ok.ready, c.in-Ok.ensures.held, rw c.in-Ok.ensures.untouched at c.answer_with_entities-end.ensures.stands_whole h)
 
 pub returns-clause-device : goal.returns-clause-device
-returns-clause-device g c = λ h. inr (inr (inr (inr (rw c.in-Ok.ensures.untouched at c.answer_with_entities.ensures.device h))))
+returns-clause-device g c = λ h. inr (inr (inr (inr (rw c.in-Ok.ensures.untouched at c.answer_with_entities-end.ensures.device h))))

@@ -71,8 +71,12 @@ fn run_validate(rt: &HostRuntime, words: &Words<'_>, format: Option<Format>) -> 
     let mut sink = CountingSink::new(StdSink::new(io::writer(rt)));
     let mut policies = None;
     let end = validate_keeping(rt.alloc(), &files, &mut sink, words.settings, &mut policies);
-    // The program ends soon, and the system then takes all its memory at once.
-    forget(policies);
+    if format.is_none() || (end == End::Done && sink.counts().warnings == 0) {
+        // Nothing is explained. The system takes all memory at once when the program ends.
+        forget(policies);
+    } else {
+        drop(policies);
+    }
     let refused = sink.counts().refused_file;
     let status = ended(rt, &files, words, format, end, refused);
     if end != End::Done || sink.counts().warnings == 0 {

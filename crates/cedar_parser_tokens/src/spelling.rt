@@ -41,7 +41,7 @@ impl<'t> SpelledTokens<'t> {
 }
 
 /// The tokens of a text, each string with the letters that it writes (Cedar language reference, grammar). A token takes 32
-/// bytes of memory, and a string 32 more. A byte of a string takes 8, unless the string is plain ASCII.
+/// bytes of memory, and a string at most 32 more. A byte of a string takes 8, or none where the string is ASCII without `\` and `*`.
 ///
 /// # Errors
 ///

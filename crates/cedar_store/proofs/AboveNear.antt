@@ -28,13 +28,13 @@ key_of number (x ∷ us) (y ∷ ns) n h m = elim (first_or_later y ns n m) [
   | inr later ↦ (let rest = key_of number us ns n h.1 later in (rest.0, there x us rest.0 rest.1, rest.2))
 ]
 
-equal_numbers : (a b : ℕ) → nat_eq a b ≡ true → a ≡ b
+pub equal_numbers : (a b : ℕ) → nat_eq a b ≡ true → a ≡ b
 equal_numbers a b h = grind (arith, h)
 
-equal_self : (n : ℕ) → nat_eq n n ≡ true
+pub equal_self : (n : ℕ) → nat_eq n n ≡ true
 equal_self n = grind arith
 
-told_number : (rows : List (List ℕ)) (near : List ℕ) (o : Option ℕ) → ahead_told rows near o ≡ true → (m : ℕ) × (o ≡ Some m) × (has_ahead rows near m ≡ true)
+pub told_number : (rows : List (List ℕ)) (near : List ℕ) (o : Option ℕ) → ahead_told rows near o ≡ true → (m : ℕ) × (o ≡ Some m) × (has_ahead rows near m ≡ true)
 told_number rows near None h = cc
 told_number rows near (Some m) h = (m, refl, h)
 

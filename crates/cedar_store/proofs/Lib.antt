@@ -15,6 +15,7 @@ pub mod Marked
 pub mod MarkedToo
 pub mod Members
 pub mod MoreChanges
+pub mod Near
 pub mod NoChanges
 pub mod Numbered
 pub mod OnceEach

@@ -4,7 +4,7 @@
 ghost use Rattle.std.specs.Prelude.{◌≡◌, ◌||◌, ℕ, [], IfOk, OnOk, IsTrue, false, get_or};
 ghost use Rattle.std.specs.List.{list_any};
 ghost use Rattle.base_bits.specs.Bits.{has_bit};
-ghost use Rattle.cedar_store.specs.Private.Kept.{has_ahead, has_datum, in_ahead, is_ahead_of as is_number_ahead_of};
+ghost use Rattle.cedar_store.specs.Private.Kept.{has_ahead, has_datum, has_row, in_ahead, is_ahead_of as is_number_ahead_of, is_number_of};
 
 use crate::marks::have_common;
 use crate::numbers::Numbers;
@@ -12,8 +12,71 @@ use base_search::Row;
 use cedar_value::{Uid, ValueKind, ValueSet};
 use std::alloc::{AllocError, Global};
 
-/// Whether the uid has a number, and the number is ahead of some near ones.
+// How many near numbers there may be where the uid is compared with theirs.
+const MOST_COMPARED: usize = 4;
+
+/// Whether the uid has a number, and the number is ahead of some near ones. Where these are few, the uid is compared with theirs. It is
+/// hashed only where that does not decide: where they are many, or there is something in their rows.
 pub(crate) fn is_ahead(numbers: &Numbers, rows: &[Row], near: &[usize], uid: &Uid) -> bool
+    ensures { result ≡ in_ahead numbers.now.keys rows.now near.now uid.now }
+{
+    if near.len() <= MOST_COMPARED {
+        if is_near(numbers.as_slice(), near, uid) {
+            return true;
+        }
+        if !has_rows(rows, near) {
+            return false;
+        }
+    }
+    is_number_found_ahead(numbers, rows, near, uid)
+}
+
+// Whether one of the near numbers is that of the uid.
+fn is_near(uids: &[Uid], near: &[usize], uid: &Uid) -> bool
+    ensures { result ≡ list_any (is_number_of uids.now uid.now) near.now }
+{
+    for at in near {
+        if is_number_of(uids, uid, *at) {
+            return true;
+        }
+    }
+    false
+}
+
+// Whether the uid is the one of the number.
+fn is_number_of(uids: &[Uid], uid: &Uid, number: usize) -> bool
+    ensures { result ≡ is_number_of uids.now uid.now number }
+{
+    match uids.get(number) {
+        Some(found) => uid == found,
+        None => false,
+    }
+}
+
+// Whether there is something in the row of one of the near numbers.
+fn has_rows(rows: &[Row], near: &[usize]) -> bool
+    ensures { result ≡ list_any (has_row rows.now) near.now }
+{
+    for at in near {
+        if has_row(rows, *at) {
+            return true;
+        }
+    }
+    false
+}
+
+// Whether there is something in the row at a place.
+fn has_row(rows: &[Row], place: usize) -> bool
+    ensures { result ≡ has_row rows.now place }
+{
+    match rows.get(place) {
+        Some(row) => !row.words().is_empty(),
+        None => false,
+    }
+}
+
+// The same as `is_ahead`, by the number of the uid, which is looked up.
+fn is_number_found_ahead(numbers: &Numbers, rows: &[Row], near: &[usize], uid: &Uid) -> bool
     ensures { result ≡ in_ahead numbers.now.keys rows.now near.now uid.now }
 {
     match numbers.get_index_of(uid) {

@@ -1,5 +1,5 @@
 -- What the stores keep in addition to their entities.
-use Rattle.std.specs.Prelude.{◌≡◌, ◌↔◌, ℕ, ◌<◌, ◌||◌, Bool, false, List, [], Option, None, Some, Contains, get_or, length, nat_eq, position}
+use Rattle.std.specs.Prelude.{◌≡◌, ◌↔◌, ℕ, ◌<◌, ◌||◌, not, Bool, false, List, [], Option, None, Some, Contains, get_or, length, nat_eq, option_map, position, unwrap_or}
 use Rattle.std.specs.BTreeSet.{BTreeSet, contains}
 use Rattle.std.specs.List.{AllZip, list_any, slice_get}
 use Rattle.indexmap.specs.IndexMap.{IndexMap, get}
@@ -86,3 +86,11 @@ ahead_told rows near (Some m) = has_ahead rows near m
 -- whether the uid's number is ahead of the near ones
 abbrev pub in_ahead : List Uid → List (List ℕ) → List ℕ → Uid → Bool
 in_ahead keys rows near u = ahead_told rows near (number_in keys u)
+
+-- whether the uid is the key at the place n
+abbrev pub is_number_of : List Uid → Uid → ℕ → Bool
+is_number_of keys u n = unwrap_or (option_map (same_uid u) (slice_get keys n)) false
+
+-- whether there is something in the row of the number n
+abbrev pub has_row : List (List ℕ) → ℕ → Bool
+has_row rows n = not (nat_eq (length (get_or rows n [])) 0)

@@ -12,8 +12,8 @@
  * not copied. The library asks malloc, realloc and free for memory. A call that returns CEDAR_MEMORY has changed nothing.
  *
  * Stack: 4 MiB for cedar_explain and cedar_explain_changes, 512 KiB for cedar_publish, cedar_publish_entities, cedar_publish_changes,
- * cedar_validate and cedar_free, 64 KiB for the other calls. Do not call from a signal handler, nor in the forked child of a process with
- * several threads. No call starts a thread, waits, or reads a file. */
+ * cedar_validate, cedar_share and cedar_free, 64 KiB for the other calls. Do not call from a signal handler, nor in the forked child of a
+ * process with several threads. No call starts a thread, waits, or reads a file. */
 #ifndef CEDAR_H
 #define CEDAR_H
 #include <stddef.h>
@@ -287,7 +287,8 @@ static inline uint32_t cedar_explain_changes(cedar_bytes schema, cedar_bytes cha
     return cedar_written(status, text, used);
 }
 
-/* Has `other`, which cedar_new made, lead to the engine to which `engine` leads. */
+/* Has `other`, which cedar_new made, lead to the engine to which `engine` leads. The engine to which `other` led before is freed, where no
+ * other handle shares it. */
 static inline uint32_t cedar_share(cedar_engine *engine, cedar_engine *other) {
     if (!engine || !engine->at || !other || !other->at || engine->at == other->at) {
         return CEDAR_ARGUMENT;

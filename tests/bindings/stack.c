@@ -99,8 +99,11 @@ static uint32_t status_of(size_t other) { return other == 0 ? CEDAR_OK : CEDAR_R
 #define CHANGED_CHAIN 1000
 
 static cedar_files files;
-static cedar_engine engine;
+/* The engine of the texts, and another one that is small. */
+static cedar_engine engine, small;
 static cedar_bytes asked_line, changes;
+/* Why the last changes were refused, or 0. */
+static cedar_refusal refusal = {sizeof refusal, 0, 0, 0};
 static char room[1 << 16];
 
 static cedar_bytes text_of(const form *form) {
@@ -152,7 +155,25 @@ static void *publishes_entities(void *none) {
 }
 
 static void *publishes_changes(void *none) {
-    is_right = cedar_publish_changes(&engine, changes, NULL, NULL) == wanted;
+    is_right = cedar_publish_changes(&engine, changes, &refusal, NULL) == wanted;
+    return none;
+}
+
+/* Explains the changes in each format: with the number for which they were refused, or with a number that changes may get. */
+static void *explains_changes(void *none) {
+    uint32_t number = refusal.number ? refusal.number : 504;
+    is_right = 1;
+    for (uint32_t format = CEDAR_WORDS; format <= CEDAR_JSON; format++) {
+        cedar_buffer text = {room, sizeof room, 0};
+        uint32_t status = cedar_explain_changes(files.schema, changes, number, format, &text);
+        is_right = is_right && status == CEDAR_OK && text.written > 0;
+    }
+    return none;
+}
+
+/* Has the handle lead to the small engine. It is the last one of its engine, which is freed. */
+static void *shares(void *none) {
+    is_right = cedar_share(&small, &engine) == CEDAR_OK;
     return none;
 }
 
@@ -232,6 +253,15 @@ static size_t least(void *(*call)(void *)) {
     return high;
 }
 
+/* Publishes a policy to the small engine. */
+static void open_small(void) {
+    cedar_files few = files;
+    few.policies = bytes_of("permit(principal, action, resource);");
+    if (cedar_new(&small) != CEDAR_OK || cedar_publish(&small, &few, NULL, NULL) != CEDAR_OK) {
+        exit(9);
+    }
+}
+
 static void open_engine(const form *form) {
     files.policies = text_of(form);
     if (cedar_new(&engine) != CEDAR_OK) {
@@ -278,6 +308,8 @@ static void check_text(uint32_t status) {
     changes = upserts(files.entities);
     on_a_stack(READING_STACK, publishes_changes);
     CHECK(is_right);
+    on_a_stack(EXPLAINING_STACK, explains_changes);
+    CHECK(is_right);
     check_line(status == CEDAR_OK);
     free((void *)changes.at);
     free((void *)files.entities.at);
@@ -318,7 +350,12 @@ static void print_least_for(const form *schema, const form *form, uint32_t statu
     changes = upserts(files.entities);
     asked_line = bringing(bytes_of(USER_LINE), files.entities);
     printf("| %s: %s |", schema->name, form->name);
-    printf(" %zu | %zu | %zu |\n", least(publishes_entities), least(publishes_changes), least(answers_with_entities));
+    printf(" %zu | %zu | %zu |", least(publishes_entities), least(publishes_changes), least(answers_with_entities));
+    refusal.number = 0;
+    if (status == CEDAR_REFUSED) {
+        on_a_stack(64 << 20, publishes_changes);
+    }
+    printf(" %zu |\n", least(explains_changes));
     fflush(stdout);
     free((void *)asked_line.at);
     free((void *)changes.at);
@@ -326,7 +363,8 @@ static void print_least_for(const form *schema, const form *form, uint32_t statu
 }
 
 static void print_least_of_entities(void) {
-    printf("\n| Entities | publish entities | publish changes | answer a line that brings them |\n|---|---|---|---|\n");
+    printf("\n| Entities | publish entities | publish changes | answer a line that brings them | explain changes |\n");
+    printf("|---|---|---|---|---|\n");
     for (size_t i = 0; i < COUNT(schemas); i++) {
         open_schema(&schemas[i]);
         print_least_for(&schemas[i], &entities[i], CEDAR_OK);
@@ -338,12 +376,13 @@ static void print_least_of_entities(void) {
 }
 
 static void print_least(void) {
-    printf("| Policies | publish | validate | explain | free |\n|---|---|---|---|---|\n");
+    printf("| Policies | publish | validate | explain | share | free |\n|---|---|---|---|---|---|\n");
     for (size_t i = 0; i < COUNT(policies); i++) {
         open_engine(&policies[i]);
         printf("| %s | %zu | %zu | %zu |", policies[i].name, least(publishes), least(validates), least(explains));
         fflush(stdout);
         on_a_stack(64 << 20, publishes);
+        printf(" %zu |", least(shares));
         printf(" %zu |\n", least(frees));
         close_engine();
     }
@@ -378,6 +417,10 @@ static void check(const form *form) {
         }
         free((void *)asked_line.at);
     }
+    on_a_stack(READING_STACK, shares);
+    CHECK(is_right);
+    on_a_stack(READING_STACK, publishes);
+    CHECK(is_right);
     on_a_stack(READING_STACK, frees);
     CHECK(is_right);
     close_engine();
@@ -389,6 +432,7 @@ int main(int count, char **words) {
     }
     files = files_of(words[1]);
     free((void *)files.policies.at);
+    open_small();
     if (count == 3) {
         print_least();
         return 0;
@@ -399,5 +443,6 @@ int main(int count, char **words) {
     files.policies = (cedar_bytes){NULL, 0};
     free_files(&files);
     check_all_entities();
+    cedar_free(&small);
     return counted();
 }

@@ -1,4 +1,5 @@
-// Eight threads ask while versions are published: threads FOLDER SECONDS, where FOLDER is examples/notes.
+// Eight threads ask while versions are published: threads FOLDER SECONDS, where FOLDER is examples/notes. Each of the three phases below
+// lasts so many seconds.
 //
 // The id of the policy of a version is its number; even versions permit, and odd ones forbid. Each answer has to be that of a version that
 // was current during its call: not older than the last that was published before it, and not newer than the last that was begun after it.

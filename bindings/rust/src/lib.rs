@@ -17,12 +17,11 @@
 //! answer is that of files that were current during its call.
 //!
 //! All `unsafe` code is in `src/raw.rs`.
-#![deny(missing_docs)]
+#![deny(missing_docs, unsafe_code)]
 
 mod answer;
 mod error;
 mod pool;
-#[allow(unsafe_code)]
 mod raw;
 
 use std::borrow::Cow;

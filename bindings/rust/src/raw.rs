@@ -1,4 +1,5 @@
 //! The calls of libcedar, and the places of the handles: all `unsafe` code of this crate.
+#![allow(unsafe_code)]
 use std::ffi::c_void;
 use std::ptr;
 use std::sync::atomic::{AtomicPtr, Ordering};

@@ -1,5 +1,5 @@
 -- An object that was read from its own bytes is the next item of the list that they begin.
-use Rattle.std.proofs.Common.{◌≡◌, ℕ, ◌<◌, ◌≤◌, ◌+◌, ◌-◌, List, [], ◌∷◌, ◌++◌, length, take, drop, get_or, Option, Some, None, option_map, refl, sym, ap, ◌∙◌, append_assoc, arith}
+use Rattle.std.proofs.Common.{◌≡◌, ℕ, ◌<◌, ◌≤◌, ◌+◌, ◌-◌, List, [], ◌∷◌, ◌++◌, length, take, drop, get_or, Option, Some, None, option_and_then, option_map, refl, sym, ap, ◌∙◌, append_assoc, arith}
 use Rattle.std.proofs.lemmas.List.{take_more, take-append-drop}
 use Rattle.json.specs.Token.{Token}
 use Rattle.json.specs.Json.{Json, after_end_array, value}
@@ -8,7 +8,7 @@ use Rattle.json.proofs.Grammar.{value_is, closed_array, left, skip_value-shorter
 use Rattle.json.proofs.Found.{not_found}
 use Rattle.serde_json.specs.Data.{Data, item}
 use Rattle.serde_json.specs.Read.{of_json, converted}
-use Rattle.base_json.specs.Items.{to_come}
+use Rattle.base_json.specs.Items.{if_at_end, to_come}
 use Rattle.base_json.specs.Private.Modes.{mode_behind}
 use Rattle.base_json.proofs.Coming.{item_to_come}
 use Rattle.base_json.proofs.Followed.{no_bad, value_followed}
@@ -66,3 +66,9 @@ cut_item text end left d some within brace mode read after =
       ap (λ xs. to_come (tokens xs)) (sym whole) ∙ tree ∙ ap (λ ts. option_map (item d) (to_come ts)) after,
       omega (arith, size, ap length after, ap (λ xs. length (tokens xs)) whole),
     )
+
+-- what was read up to the end of a text was all of it
+pub read_whole : {A : Type 0} (o : Option (A × List Token)) (x : A) → option_and_then (λ p. if_at_end p.0 p.1) o ≡ Some x → o ≡ Some (x, [])
+read_whole None x e = cc
+read_whole (Some (y, [])) x e = let same : y ≡ x = cc in ap (λ z. Some (z, [])) same
+read_whole (Some (y, t ∷ ts)) x e = cc

@@ -5,6 +5,7 @@ mod Digits
 mod FirstItem
 mod Followed
 mod Joined
+mod LentItems
 mod LentObjects
 mod Punctuated
 mod QuotedMembers

@@ -5,7 +5,7 @@ use Rattle.std.proofs.lemmas.Bool.{and_parts, eqb-false, ltb-false, not-true}
 use Rattle.json.specs.Token.{Token, begin_object, end_object, key, string}
 use Rattle.json.specs.Text.{content, plain}
 use Rattle.json.specs.Print.{escape, escape_byte}
-use Rattle.json.specs.Lex.{Lexeme, token, comma, colon, between, in_string, lex, string_token, fresh, after_value, after_comma, after_key, begins_colon, place_token, punctuate, tokens}
+use Rattle.json.specs.Lex.{Lexeme, token, colon, between, in_string, lex, string_token, fresh, after_value, after_comma, begins_colon, place_token, punctuate, tokens}
 use Rattle.json.proofs.Printed.Strings.{content-escape, lex-escape, escape_byte_plain}
 use Rattle.json.proofs.Grammar.{value_is}
 use Rattle.serde_json.specs.Data as Data

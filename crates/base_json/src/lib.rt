@@ -39,22 +39,43 @@
 //!     }
 //! }
 //! ```
+//!
+//! A list whose items need no tree is a [`ListText`]: it lends the text of each object, and a reader lends the members of that text:
+//!
+//! ```rust
+//! use base_json::{JsonReader, ListText};
+//!
+//! let mut reader = JsonReader::new(alloc)?;
+//! if let Ok(mut list) = ListText::open(bytes) {
+//!     while let Some(object) = list.object() {
+//!         let passed = object.passed;
+//!         let Some(item) = reader.lent_item(alloc, object.text)? else {
+//!             break;
+//!         };
+//!         println!(rt; "{} members", item.members.len())?;
+//!         list.pass(passed)?;
+//!     }
+//! }
+//! ```
 #![tactic(auto)]
 
 mod behind;
-mod first_object;
 mod items;
 mod json_tree;
+mod lent_item;
 mod lent_object;
 mod lent_value;
+mod list_text;
 mod members;
 mod number;
 mod object_end;
+mod object_text;
 mod objects;
 mod quoted_member;
 mod quoted_text;
 mod reader;
 mod scalars;
+mod single_item;
 mod step;
 mod three_quoted;
 mod tree;
@@ -62,9 +83,12 @@ mod tree_fault;
 
 pub use items::ItemReader;
 pub use json_tree::read_json;
+pub use lent_item::{ItemMember, LentItem};
 pub use lent_object::{LentMember, LentObject, LentPart};
 pub use lent_value::LentValue;
+pub use list_text::ListText;
 pub use members::MemberReader;
+pub use object_text::ObjectText;
 pub use objects::ObjectReader;
 pub use quoted_text::QuotedText;
 pub use reader::JsonReader;

@@ -1,16 +1,21 @@
 //! JSON texts one after another.
-ghost use Rattle.std.specs.Prelude.{◌≡◌, ◌≢◌, Some, None, IfOk, MatchOption, MatchResult, option_and_then, option_map};
+ghost use Rattle.std.specs.Prelude.{◌≡◌, ◌≢◌, Some, None, IfOk, IfSome, MatchOption, MatchResult, option_and_then, option_map};
+ghost use Rattle.json.specs.Lex.{tokens};
 ghost use Rattle.serde_json.specs.Data.{array, no_members, object};
 ghost use Rattle.serde_json.specs.Find.{as_array, as_object};
 ghost use Rattle.serde_json.specs.Read.{read as tree_of_text};
 ghost use Rattle.serde_json.specs.View.{view};
 ghost use Rattle.base_json.specs.JsonTree.{json_of};
 ghost use Rattle.base_json.specs.Items.{to_come};
+ghost use Rattle.base_json.specs.LentItems.{item_of, item_view};
 ghost use Rattle.base_json.specs.Members.{members_to_come};
 ghost use Rattle.base_json.specs.declared.tree_fault.TreeFault.TheVariants.{OutOfMemory};
 
 use crate::items::ItemReader;
+use crate::lent_item::LentItem;
+use crate::list_text::ListText;
 use crate::members::MemberReader;
+use crate::single_item::{read_item, read_lent_item};
 use crate::tree::read_tree;
 use crate::tree_fault::TreeFault;
 use json::{Reader, Scratch};
@@ -94,6 +99,44 @@ impl JsonReader {
             return Ok(None);
         };
         MemberReader::open(text, &mut *self.scratch)
+    }
+
+    /// The tree of an item of a list, from the item's own text. None where the text is not JSON, or nests deeper than an item may.
+    ///
+    /// # Errors
+    ///
+    /// Fails only when out of memory.
+    pub fn item(&mut self, alloc: Global, text: &str) -> Result<Option<Value>, AllocError>
+        ensures { IfOk result (λ found. IfSome found (λ v. item_of text.now ≡ Some (view v))) }
+    {
+        read_item(alloc, text, &mut *self.scratch)
+    }
+
+    /// The members of an item of a list that is an object, from the item's own text. None where the text is not an object, or nests
+    /// deeper than an item may.
+    ///
+    /// # Errors
+    ///
+    /// Fails only when out of memory.
+    pub fn lent_item<'r>(
+        &'r mut self,
+        alloc: Global,
+        text: &'r str,
+    ) -> Result<Option<LentItem<'r>>, AllocError>
+        ensures { IfOk result (λ found. IfSome found (λ o. item_of text.now ≡ Some (item_view o))) }
+    {
+        read_lent_item(alloc, text, &mut *self.scratch)
+    }
+
+    /// The items of a list that are left, to be read one after another.
+    ///
+    /// # Errors
+    ///
+    /// Fails only when out of memory.
+    pub fn items_left<'r>(&'r mut self, list: &'r ListText) -> Result<ItemReader<'r>, AllocError>
+        ensures { IfOk result (λ items. items ≡ tokens list.now) }
+    {
+        ItemReader::over(list.left(), &mut *self.scratch)
     }
 }
 

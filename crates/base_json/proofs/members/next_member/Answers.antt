@@ -1,4 +1,4 @@
-use Rattle.std.proofs.Common.{◌≡◌, Some, None, Err, ap, arith}
+use Rattle.std.proofs.Common.{◌≡◌, Some, None, arith}
 use Rattle.json.specs.Json.{read_key}
 use Rattle.base_json.specs.Members.{lent_view}
 use Rattle.base_json.proofs.ComingMembers.{ended, behind, member_to_come, no_member, no_key}

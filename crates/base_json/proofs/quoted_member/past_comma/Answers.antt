@@ -1,4 +1,4 @@
-use Rattle.std.proofs.Common.{◌≡◌, ◌∷◌, false, sym, ap, subst, ◌∙◌}
+use Rattle.std.proofs.Common.{sym, ap, ◌∙◌}
 use Rattle.json.specs.Lex.{after_value, begins_colon, between, lex, punctuate}
 use Rattle.base_json.proofs.QuotedMembers.{brace_after_value, brace_no_colon, comma_no_colon, quote_after_comma}
 use Rattle.json.specs.Lex.{tokens}

@@ -1,4 +1,4 @@
-use Rattle.std.proofs.Common.{◌≡◌, ◌∷◌, ap, ◌∙◌}
+use Rattle.std.proofs.Common.{◌∷◌, ap, ◌∙◌}
 use Rattle.json.specs.Token.{key, string}
 use Rattle.json.specs.Lex.{after_value, begins_colon, between, colon, fresh, lex, punctuate, token}
 use Rattle.base_json.proofs.QuotedMembers.{colon_passed, member_begins}

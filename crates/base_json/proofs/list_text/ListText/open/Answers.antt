@@ -9,7 +9,7 @@ use Rattle.std.specs.Prelude.{option_map}
 use Rattle.base_json.specs.Items.{to_come}
 use Rattle.base_json.specs.Private.Trees.{tree_of_tokens}
 use Rattle.base_json.proofs.Coming.{list_opened}
-use Rattle.base_json.proofs.objects.ObjectReader.open.Goals as goal
+use Rattle.base_json.proofs.list_text.ListText.open.Goals as goal
 
 pub returns-in-Some : goal.returns-in-Some
 returns-in-Some c =

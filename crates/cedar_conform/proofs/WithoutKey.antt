@@ -19,7 +19,8 @@ use Rattle.cedar_conform.specs.Private.Fields.{AreFieldsOf}
 use Rattle.cedar_conform.specs.Private.WithEntities.{AreFieldsWith, begun_with}
 use Rattle.cedar_conform.specs.Requests.{is_request_key}
 use Rattle.cedar_conform.specs.RequestsWithEntities.{members_without}
-use Rattle.cedar_conform.proofs.FieldLemmas.{apart, are_only-put, no_fields, three_put}
+use Rattle.cedar_conform.proofs.FieldLemmas.{apart, no_fields, three_put}
+use Rattle.cedar_conform_values.proofs.OnlyKeys.{are_only-put}
 
 -- ---- another key is passed over
 

@@ -1,12 +1,8 @@
 -- Whether the keys of an object are declared, a member at a time.
-use Rattle.std.proofs.Common.{◌≡◌, ℕ, Bool, true, false, List, [], ◌∷◌, ◌++◌, Ordering, Less, Equal, Greater, nat_cmp, is_eq, not, ◌&&◌, ◌<◌, ◌+◌, length, drop, get_or, lit<, refl, sym, ap, ◌∙◌, if◌then◌else◌}
+use Rattle.std.proofs.Common.{◌≡◌, ℕ, Bool, true, false, List, [], ◌∷◌, ◌++◌, not, ◌&&◌, ◌<◌, ◌+◌, length, drop, get_or, lit<, refl, sym, ap, ◌∙◌, if◌then◌else◌}
 use Rattle.std.specs.List.{list_all}
-use Rattle.std.specs.Ordering.{match_ordering}
-use Rattle.std.specs.Cmp.Lexicographic.{slice_cmp}
 use Rattle.std.proofs.lemmas.List.{drop_more}
-use Rattle.std.proofs.lemmas.Map.Text.{is_eq-slice_cmp}
-use Rattle.std.proofs.lemmas.Slice.Eq.{bytes_eq-Decides}
-use Rattle.serde_json.specs.Data.{Data, Members, no_members, member, put}
+use Rattle.serde_json.specs.Data.{Members, no_members, member, put}
 use Rattle.base_json.specs.LentObjects.{part_view, put_all}
 use Rattle.base_json.specs.declared.lent_object.LentMember.{LentMember}
 use Rattle.cedar_conform_values.specs.Faults.{Told, fault_if}
@@ -14,36 +10,11 @@ use Rattle.cedar_conform_values.specs.Objects.{are_only}
 use Rattle.cedar_conform_values.specs.Values.{extra_faults, is_declared}
 use Rattle.cedar_conform_values.specs.declared.conform_fault.ConformFault.TheVariants.{ExtraAttribute}
 use Rattle.cedar_conform_values.proofs.KindLemmas.{told_first}
+use Rattle.cedar_conform_values.proofs.OnlyKeys.{are_only-put}
 
 -- ---- whether each key is allowed
 
-swapped : (a b c : Bool) → (if a then (if b then c else false) else false) ≡ (if b then (if a then c else false) else false)
-swapped true true c = refl
-swapped true false c = refl
-swapped false true c = refl
-swapped false false c = refl
-
-once : (a c : Bool) → (if a then c else false) ≡ (if a then (if a then c else false) else false)
-once true c = refl
-once false c = refl
-
 module _ (may : List ℕ → Bool) where
-  module _ (k : List ℕ) (d : Data) where
-    abbrev Allows : Bool → Members → Type 0
-    Allows b ms = b ≡ (if may k then are_only may ms else false)
-
-    allows_at : (o : Ordering) (l : List ℕ) (e : Data) (ms : Members) → slice_cmp nat_cmp k l ≡ o → Allows (are_only may (put k d ms)) ms
-        → Allows (are_only may (match_ordering o (member k d (member l e ms)) (member l d ms) (member l e (put k d ms)))) (member l e ms)
-    allows_at Less l e ms is later = refl
-    allows_at Equal l e ms is later =
-        let same : k ≡ l = (bytes_eq-Decides k l).0 (sym (is_eq-slice_cmp k l) ∙ ap is_eq is) in
-        once (may l) (are_only may ms) ∙ ap (λ (x : List ℕ). if may x then (if may l then are_only may ms else false) else false) (sym same)
-    allows_at Greater l e ms is later = ap (λ b. if may l then b else false) later ∙ swapped (may l) (may k) (are_only may ms)
-
-    only_put : (ms : Members) → Allows (are_only may (put k d ms)) ms
-    only_put no_members = refl
-    only_put (member l e ms) = allows_at _ l e ms refl (only_put ms)
-
   abbrev all : List LentMember → Bool
   all ms = list_all (λ (m : LentMember). may m.key.now) ms
 
@@ -56,7 +27,7 @@ module _ (may : List ℕ → Bool) where
   only_put_all : (ms : List LentMember) (old : Members) → are_only may (put_all ms old) ≡ (if all ms then are_only may old else false)
   only_put_all [] old = refl
   only_put_all (m ∷ ms) old =
-      only_put_all ms (put m.key.now (part_view m.value) old) ∙ ap (λ b. if all ms then b else false) (only_put m.key.now (part_view m.value) old)
+      only_put_all ms (put m.key.now (part_view m.value) old) ∙ ap (λ b. if all ms then b else false) (are_only-put may m.key.now (part_view m.value) old)
       ∙ joined (all ms) (may m.key.now) (are_only may old)
 
   -- the keys of an object are those of its members
@@ -69,9 +40,9 @@ module _ (may : List ℕ → Bool) where
 
 -- ---- all members, one after another
 
-module _ (test : LentMember → Bool) (ms : List LentMember) (i : ℕ) (m : LentMember) (within : i < length ms) (is : m ≡ get_or ms i m) where
+module _ {A : Type 0} (test : A → Bool) (ms : List A) (i : ℕ) (m : A) (within : i < length ms) (is : m ≡ get_or ms i m) where
   first_left : list_all test (drop i ms) ≡ (test m && list_all test (drop (i + 1) ms))
-  first_left = ap (list_all test) (drop_more ms i m within) ∙ ap (λ (x : LentMember). test x && list_all test (drop (i + 1) ms)) (sym is)
+  first_left = ap (list_all test) (drop_more ms i m within) ∙ ap (λ (x : A). test x && list_all test (drop (i + 1) ms)) (sym is)
 
   pub walk_on : test m ≡ true → list_all test (drop i ms) ≡ list_all test (drop (i + 1) ms)
   walk_on e = first_left ∙ ap (λ b. b && list_all test (drop (i + 1) ms)) e

@@ -6,5 +6,6 @@ pub mod KindLemmas
 pub mod MemberCounts
 pub mod MemberKinds
 pub mod MemberTold
+pub mod OnlyKeys
 pub mod TypeHeights
 pub mod UidLemmas

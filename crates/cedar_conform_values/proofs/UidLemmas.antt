@@ -1,5 +1,5 @@
 -- Which uid a JSON writes.
-use Rattle.std.proofs.Common.{◌≡◌, ℕ, List, Option, None, Some, Err, Result, refl, sym, ap, ◌∙◌, subst}
+use Rattle.std.proofs.Common.{◌≡◌, ℕ, List, Option, None, Some, Err, Result, refl, sym, ◌∙◌, subst}
 use Rattle.std.specs.Prelude.{IfOk, MatchOption}
 use Rattle.serde_json.specs.Data.{Data}
 use Rattle.serde_json.specs.Find.{as_str}

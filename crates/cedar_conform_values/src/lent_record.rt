@@ -19,7 +19,7 @@ use cedar_value::{Record, SharedText, Value};
 use std::alloc::Global;
 
 /// How many members are looked through for each attribute. A longer object becomes a tree, in which they are found faster.
-const MOST_MEMBERS: usize = 32;
+pub const MOST_MEMBERS: usize = 32;
 
 /// The record of the type that an object denotes, with the rules of [`read_value`]. An object of up to 32 members is read without a JSON
 /// tree of it.
@@ -37,7 +37,7 @@ pub fn read_lent_record(
     if found.members.len() > MOST_MEMBERS {
         return read_long_object(alloc, attributes, found);
     }
-    read_short_object(alloc, attributes, &found)
+    read_short_record(alloc, attributes, &found)
 }
 
 // It is not inlined, so that its room is not cleared for short objects.
@@ -53,7 +53,13 @@ fn read_long_object(
     read_record(alloc, attributes, &tree)
 }
 
-fn read_short_object(
+/// The same for an object that is lent. The time grows with the number of members for each attribute, so it is for objects of up to
+/// [`MOST_MEMBERS`].
+///
+/// # Errors
+///
+/// Those of [`read_value`].
+pub fn read_short_record(
     alloc: Global,
     attributes: &RecordType,
     found: &LentObject<'_>,

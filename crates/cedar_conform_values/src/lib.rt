@@ -25,7 +25,7 @@ mod value;
 
 pub use conform_fault::ConformFault;
 pub use laws::{one_written_uid, read_values_belong};
-pub use lent_record::read_lent_record;
+pub use lent_record::{MOST_MEMBERS, read_lent_record, read_short_record};
 pub use lent_uid::{LentUid, uid_of_lent};
 pub use membership::{is_member, is_record_member};
 pub use object::{size_of, text_at};

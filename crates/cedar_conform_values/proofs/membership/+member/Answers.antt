@@ -1,4 +1,4 @@
-use Rattle.std.proofs.Common.{◌≡◌, arith, refl, sym, ap, ◌∙◌}
+use Rattle.std.proofs.Common.{arith, refl, sym, ◌∙◌}
 use Rattle.cedar_schema_types.specs.TypeKind.{attributes_of}
 use Rattle.cedar_conform_values.specs.Private.MemberTest.{is_member, are_fields}
 use Rattle.cedar_conform_values.proofs.Belongs.{list_of-members_of, pairs_of-fields_of}

@@ -1,5 +1,4 @@
-use Rattle.std.proofs.Common.{sym, ap, ◌∙◌}
-use Rattle.cedar_conform_values.specs.Private.MemberTest.{are_fields}
+use Rattle.std.proofs.Common.{sym, ◌∙◌}
 use Rattle.cedar_conform_values.proofs.MemberTold.{record_told}
 use Rattle.cedar_conform_values.proofs.membership.is_record_member.Goals as goal
 

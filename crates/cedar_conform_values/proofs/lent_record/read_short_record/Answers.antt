@@ -6,8 +6,8 @@ use Rattle.cedar_schema_types.specs.Types.{names_of}
 use Rattle.cedar_conform_values.specs.Values.{extra_faults}
 use Rattle.cedar_conform_values.proofs.FieldLemmas.{record_is, record_key_refused, read_pairs_ascend}
 use Rattle.cedar_conform_values.proofs.KeyCounts.{as_many}
-use Rattle.cedar_conform_values.proofs.lent_record.read_short_object.Goals as goal
-use Rattle.cedar_conform_values.proofs.lent_record.read_short_object.Goals.{then-len+in_ok-check_lent_keys-in-Ok, else-len}
+use Rattle.cedar_conform_values.proofs.lent_record.read_short_record.Goals as goal
+use Rattle.cedar_conform_values.proofs.lent_record.read_short_record.Goals.{then-len+in_ok-check_lent_keys-in-Ok, else-len}
 
 pub returns-in_err-check_lent_keys-in-Ok : goal.returns-in_err-check_lent_keys-in-Ok
 returns-in_err-check_lent_keys-in-Ok c =

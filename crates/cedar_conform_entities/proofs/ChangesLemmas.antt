@@ -1,5 +1,5 @@
 -- From the parts of changes that are read to the store after them.
-use Rattle.std.proofs.Common.{◌≡◌, ℕ, suc, Bool, true, false, inl, inr, ⊎_elim, List, [], ◌∷◌, ◌++◌, length, map, Contains, Option, Some, None, MatchOption, Result, Ok, Err, MatchResult, IfOk, IfErr, OnOk, refl, sym, subst, ◌∙◌, append_assoc, append-nil}
+use Rattle.std.proofs.Common.{◌≡◌, ℕ, suc, Bool, true, false, inl, inr, ⊎_elim, List, [], ◌∷◌, ◌++◌, length, map, Contains, Option, Some, None, MatchOption, Result, Ok, Err, MatchResult, IfOk, IfErr, refl, sym, subst, ◌∙◌, append_assoc, append-nil}
 use Rattle.std.specs.BTreeSet.{BTreeSet, IsEmpty}
 use Rattle.serde_json.specs.Data.{Data, Items, no_items, item}
 use Rattle.serde_json.specs.Find.{as_array}

@@ -8,6 +8,7 @@ pub mod EntryLemmas
 mod Exact
 mod ListLemmas
 mod OnceLemmas
+mod PlainLemmas
 mod Repeats
 mod SameConforming
 mod StoreLemmas

@@ -2,4 +2,5 @@
 pub mod Changing
 pub mod Coming
 pub mod Parts
+pub mod Plain
 pub mod Progress

@@ -13,7 +13,7 @@ ghost use Rattle.cedar_store.specs.Entities.{AreUidsDistinct, IsAcyclic};
 use crate::actions::action_entities;
 use crate::laws::denoted_worlds_conform;
 use crate::list::{read_list, read_objects};
-use base_json::{JsonReader, ObjectReader, read_json};
+use base_json::{JsonReader, ListText, read_json};
 use cedar_conform_values::ConformFault;
 use cedar_schema::Schema;
 use cedar_store::{Entity, Store, StoreFault};
@@ -66,9 +66,10 @@ fn entities_of(alloc: Global, schema: &Schema, bytes: Vec<u8>) -> Result<Vec<Ent
         (λ f. f ≢ OutOfMemory → BytesHaveFault schema.now bytes.items f) }
 {
     let actions = action_entities(alloc, schema)?;
-    match ObjectReader::open(alloc, bytes) {
-        Ok(mut objects) => read_objects(alloc, schema, &mut objects, actions),
-        Err(bytes) => read_items(alloc, schema, &bytes, actions),
+    let mut reader = JsonReader::new(alloc)?;
+    match ListText::open(bytes) {
+        Ok(mut list) => read_objects(alloc, schema, &mut reader, &mut list, actions),
+        Err(bytes) => read_items(alloc, schema, &mut reader, &bytes, actions),
     }
 }
 
@@ -76,6 +77,7 @@ fn entities_of(alloc: Global, schema: &Schema, bytes: Vec<u8>) -> Result<Vec<Ent
 fn read_items(
     alloc: Global,
     schema: &Schema,
+    reader: &mut JsonReader,
     bytes: &[u8],
     actions: Vec<Entity>,
 ) -> Result<Vec<Entity>, ConformFault>
@@ -84,7 +86,6 @@ fn read_items(
         (λ v. AreRead schema.now bytes.now v.items)
         (λ f. f ≢ OutOfMemory → BytesHaveFault schema.now bytes.now f) }
 {
-    let mut reader = JsonReader::new(alloc)?;
     match reader.items(bytes)? {
         Some(mut items) => read_list(alloc, schema, &mut items, actions),
         None => Err(no_list_fault(alloc, schema, bytes)),

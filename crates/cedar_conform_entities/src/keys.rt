@@ -30,8 +30,9 @@ fn are_entry_keys(members: &Map<String, Json>) -> bool
     true
 }
 
+/// Whether an entry may have the key.
 #[tactic(auto, unfolding(crate::specs::Entries::is_entry_key))]
-fn is_entry_key(key: &str) -> bool
+pub(crate) fn is_entry_key(key: &str) -> bool
     ensures { result ≡ is_entry_key key.now }
 {
     key == "uid" || key == "attrs" || key == "parents" || key == "tags"

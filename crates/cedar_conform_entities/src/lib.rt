@@ -28,6 +28,7 @@ mod laws;
 mod list;
 mod noted;
 mod objects;
+mod plain;
 mod removals;
 mod upserting;
 mod upserts;

@@ -4,12 +4,13 @@ ghost use Rattle.serde_json.specs.Data.{Items};
 ghost use Rattle.cedar_conform_entities.specs.Private.Coming.{ComingProgress, IsComingRead, RefusesComing};
 ghost use Rattle.cedar_conform_entities.specs.Private.Progress.{Entered, RefusesTwice};
 ghost use Rattle.base_json.specs.Items.{to_come};
+ghost use Rattle.base_json.specs.Lists.{left_in};
 ghost use Rattle.cedar_value.specs.World.{World};
 
 use crate::entries::{after_fault, next_entry};
 use crate::entry::Entry;
 use crate::objects::{after_object_fault, next_object_entry};
-use base_json::{ItemReader, ObjectReader};
+use base_json::{ItemReader, JsonReader, ListText};
 use cedar_conform_values::ConformFault;
 use cedar_schema::Schema;
 use cedar_store::Entity;
@@ -23,21 +24,22 @@ use std::collections::BTreeSet;
 pub(crate) fn read_objects(
     alloc: Global,
     schema: &Schema,
-    objects: &mut ObjectReader,
+    reader: &mut JsonReader,
+    list: &mut ListText,
     first: Vec<Entity>,
 ) -> Result<Vec<Entity>, ConformFault>
     ensures { MatchResult result
-        (λ v. IsComingRead schema.now first.items (to_come objects.old) v.items)
-        (RefusesComing schema.now (to_come objects.old)) }
+        (λ v. IsComingRead schema.now first.items (left_in list.old) v.items)
+        (RefusesComing schema.now (left_in list.old)) }
 {
     let mut entities = first;
     let mut repeated = BTreeSet::new(alloc);
-    'walk: while let Some(entry) = next_object_entry(alloc, schema, objects)? {
+    'walk: while let Some(entry) = next_object_entry(alloc, schema, reader, list)? {
         if let Err(fault) = enter(&mut entities, &mut repeated, entry) {
-            return Err(after_object_fault(alloc, objects, fault));
+            return Err(after_object_fault(alloc, reader, list, fault));
         }
     }
-    let mut items = objects.rest()?;
+    let mut items = reader.items_left(list)?;
     read_rest(alloc, schema, &mut items, entities, repeated)
 }
 

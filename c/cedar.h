@@ -277,8 +277,8 @@ static inline uint32_t cedar_explain(const cedar_files *files, uint32_t format, 
     return cedar_written(status, text, used);
 }
 
-/* Says in words why changes of entities are refused: `number` is that of the refusal, and the schema that of the engine. The text has no
- * bytes where changes do not get the number, and where memory runs out, with CEDAR_MEMORY. */
+/* Says in words why changes of entities are refused: `number` is that of the refusal, and the schema that of the engine. The text is empty
+ * where the number is none with which changes are refused, and where memory runs out, with CEDAR_MEMORY. */
 static inline uint32_t cedar_explain_changes(cedar_bytes schema, cedar_bytes changes, uint32_t number, uint32_t format, cedar_buffer *text) {
     char no_room = 0;
     cedar_buffer spare, *used = cedar_usable(text, &spare, &no_room);

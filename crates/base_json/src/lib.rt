@@ -53,6 +53,7 @@
 //!             break;
 //!         };
 //!         println!(rt; "{} members", item.members.len())?;
+//!         drop(item);
 //!         list.pass(passed)?;
 //!     }
 //! }

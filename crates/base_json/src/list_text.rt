@@ -7,7 +7,7 @@ ghost use Rattle.base_json.specs.Lists.{ComesNext, left_in};
 
 use crate::behind::items_start;
 use crate::object_text::{ObjectText, first_object};
-use std::alloc::{AllocError, Global};
+use std::alloc::AllocError;
 use std::marker::Model;
 
 // How many bytes are passed at least before they are freed, so that the rest is not moved often.

@@ -1,6 +1,5 @@
 //! The entries of a JSON list of objects, one after another, each read from its own bytes.
 ghost use Rattle.std.specs.Prelude.{◌≡◌, ◌<◌, length, IfOk, IfSome, MatchOption, MatchResult, OnSome};
-ghost use Rattle.cedar_conform_entities.specs.Denotes.{DenotesEntity};
 ghost use Rattle.cedar_conform_entities.specs.Private.Coming.{ComesFirst, IsToldAfter, RefusesComing};
 ghost use Rattle.cedar_conform_entities.specs.Private.Plain.{DenotesItem};
 ghost use Rattle.base_json.specs.Lists.{left_in};

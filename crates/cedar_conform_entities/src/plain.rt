@@ -78,7 +78,7 @@ fn read_plain(
     Ok(Some(WrittenEntity { uid, parents }))
 }
 
-// Whether there are attributes and no tags, and the keys are those of an entry.
+// Whether the keys are those of an entry, the attributes are an object or absent, and there are no tags.
 fn is_plain(item: &LentItem<'_>) -> bool
     ensures { IsTrue result → IsPlain (item_view item.now) }
 {

@@ -92,7 +92,7 @@ pub or_first : (a b c : Bool) → (a || (b || c)) ≡ ((a || b) || c)
 or_first true b c = refl
 or_first false b c = refl
 
-any_push : {A : Type 0} (p : A → Bool) (xs : List A) (x : A) → list_any p (xs ++ x ∷ []) ≡ (list_any p xs || p x)
+pub any_push : {A : Type 0} (p : A → Bool) (xs : List A) (x : A) → list_any p (xs ++ x ∷ []) ≡ (list_any p xs || p x)
 any_push p [] x = or_none (p x)
 any_push p (y ∷ xs) x = ap (λ b. p y || b) (any_push p xs x) ∙ or_first (p y) (list_any p xs) (p x)
 

@@ -16,6 +16,7 @@ pub mod MarkedToo
 pub mod Members
 pub mod MoreChanges
 pub mod Near
+pub mod NearMembers
 pub mod NoChanges
 pub mod Numbered
 pub mod OnceEach

@@ -1,5 +1,5 @@
 -- Numbers of uids that are compared, without the number of a uid being looked up.
-use Rattle.std.proofs.Common.{◌≡◌, ℕ, ◌<◌, Bool, true, false, not, List, [], ◌∷◌, length, get_or, Option, Some, None, nat_eq, option_map, unwrap_or, ⊎_elim, sym, ap, ◌∙◌, arith, Contains}
+use Rattle.std.proofs.Common.{◌≡◌, ℕ, true, false, not, List, [], ◌∷◌, length, get_or, Option, Some, None, nat_eq, option_map, unwrap_or, ⊎_elim, sym, ap, ◌∙◌, arith}
 use Rattle.std.specs.List.{IsDistinct, list_any, slice_get}
 use Rattle.std.proofs.lemmas.List.Quantifiers.{position-Some}
 use Rattle.std.proofs.lemmas.Option.{slice_get-get_or}
@@ -9,7 +9,7 @@ use Rattle.base_search.proofs.Finding.{no_bit}
 use Rattle.cedar_value.specs.Datum.{same_uid}
 use Rattle.cedar_value.specs.Private.Equality.{same_uid-Decides}
 use Rattle.cedar_value.specs.declared.uid.Uid.{Uid}
-use Rattle.cedar_store.specs.Private.Kept.{has_ahead, has_row, in_ahead, ahead_told, is_ahead_of, is_number_of, number_in}
+use Rattle.cedar_store.specs.Private.Kept.{has_row, in_ahead, ahead_told, is_ahead_of, is_number_of, number_in}
 use Rattle.cedar_store.proofs.AboveNear.{equal_numbers, equal_self, told_number}
 use Rattle.cedar_store.proofs.Members.{position_here}
 

@@ -1,4 +1,5 @@
 -- What proofs and contracts within the crate cite, and nobody needs to believe.
+pub mod Ascents
 pub mod Based
 pub mod Branches
 pub mod Called

@@ -4,6 +4,7 @@
 ghost use Rattle.std.specs.Prelude.{◌≡◌, ◌||◌, ℕ, [], IfOk, OnOk, IsTrue, false, get_or};
 ghost use Rattle.std.specs.List.{list_any};
 ghost use Rattle.base_bits.specs.Bits.{has_bit};
+ghost use Rattle.cedar_value.specs.Datum.{same_uid};
 ghost use Rattle.cedar_store.specs.Private.Kept.{has_ahead, has_datum, has_row, in_ahead, is_ahead_of as is_number_ahead_of, is_number_of};
 
 use crate::marks::have_common;
@@ -85,8 +86,65 @@ fn is_number_found_ahead(numbers: &Numbers, rows: &[Row], near: &[usize], uid: &
     }
 }
 
-/// Whether some uid of a set of values has a number that is ahead of some near ones.
+/// Whether some uid of a set of values has a number that is ahead of some near ones. Where these are few, the uid of each is compared with the
+/// members. The members are hashed only where that does not decide.
 pub(crate) fn is_any_ahead(
+    numbers: &Numbers,
+    rows: &[Row],
+    near: &[usize],
+    values: &ValueSet,
+) -> bool
+    ensures { result ≡ list_any (has_datum (in_ahead numbers.now.keys rows.now near.now)) values.now }
+{
+    if near.len() <= MOST_COMPARED {
+        if is_any_near(numbers.as_slice(), near, values) {
+            return true;
+        }
+        if !has_rows(rows, near) {
+            return false;
+        }
+    }
+    is_any_number_found_ahead(numbers, rows, near, values)
+}
+
+// Whether one of the near numbers is that of a member.
+fn is_any_near(uids: &[Uid], near: &[usize], values: &ValueSet) -> bool
+    ensures { result ≡ list_any (has_datum (λ u. list_any (is_number_of uids.now u) near.now)) values.now }
+{
+    for at in near {
+        if has_uid_at(uids, *at, values) {
+            return true;
+        }
+    }
+    false
+}
+
+// Whether the uid of the number is a member.
+fn has_uid_at(uids: &[Uid], number: usize, values: &ValueSet) -> bool
+    ensures { result ≡ list_any (has_datum (λ u. is_number_of uids.now u number)) values.now }
+{
+    match uids.get(number) {
+        Some(uid) => has_uid(values, uid),
+        None => false,
+    }
+}
+
+// Whether the uid is a member.
+fn has_uid(values: &ValueSet, uid: &Uid) -> bool
+    ensures { result ≡ list_any (has_datum (λ u. same_uid u uid.now)) values.now }
+{
+    for value in values.members() {
+        if let ValueKind::Uid(member) = value.kind() {
+            if **member == *uid {
+                return true;
+            }
+        }
+    }
+    false
+}
+
+// The same as `is_any_ahead`, by the numbers of the members, which are looked up.
+fn is_any_number_found_ahead(
     numbers: &Numbers,
     rows: &[Row],
     near: &[usize],
@@ -96,7 +154,7 @@ pub(crate) fn is_any_ahead(
 {
     for value in values.members() {
         if let ValueKind::Uid(uid) = value.kind() {
-            if is_ahead(numbers, rows, near, &**uid) {
+            if is_number_found_ahead(numbers, rows, near, &**uid) {
                 return true;
             }
         }

@@ -6,12 +6,14 @@ ghost use Rattle.cedar_value.specs.declared.uid.Uid.{Uid as Uids};
 ghost use Rattle.cedar_store.specs.Ancestors.{AddsAncestors};
 ghost use Rattle.cedar_store.specs.Entities.{AreUidsDistinct, IsAcyclic};
 ghost use Rattle.cedar_store.specs.Faults.{IsThere};
+ghost use Rattle.cedar_store.specs.Private.Ascents.{reaches};
 ghost use Rattle.cedar_store.specs.Private.Based.{IsMarked};
 ghost use Rattle.cedar_store.specs.Private.Gathered.{Gathers, KeepsFirst};
-ghost use Rattle.cedar_store.specs.Private.Kept.{in_row, number_in};
+ghost use Rattle.cedar_store.specs.Private.Kept.{AreAncestors, in_row, number_in};
 
 use crate::ahead::{is_ahead, is_any_ahead, is_mark_ahead, is_mark_ahead_of, row_ahead};
 use crate::ancestors::push_members;
+use crate::ascent::Ascent;
 use crate::entity::Entity;
 use crate::entity_table::EntityTable;
 use crate::gathering::gather_members;
@@ -156,6 +158,17 @@ impl Base {
         ensures { result ≡ false → (u : Uids) → number_in self.now.keys u ≡ Some number → ¬ IsMarked self.now marks.now u }
     {
         is_mark_ahead_of(&self.rows, number, marks)
+    }
+
+    /// The ways up from an entity, whose parents are looked up. There is none from an entity that is not there.
+    pub(crate) fn ascent(&self, uid: &Uid) -> Ascent<'_>
+        ensures { AreAncestors self.now.world uid.now (reaches result) }
+    {
+        Ascent {
+            numbers: &self.numbers,
+            rows: &self.rows,
+            near: parent_numbers(&self.table, &self.parents, uid),
+        }
     }
 
     /// Appends each uid that `low` is below, once (Cedar language reference, hierarchy). An entity that is not in the store is

@@ -15,6 +15,7 @@
 
 mod ahead;
 mod ancestors;
+mod ascent;
 mod base;
 mod call_marks;
 mod change;
@@ -24,6 +25,7 @@ mod change_tree;
 mod changed_links;
 mod changing;
 mod cycles;
+mod descendant;
 mod entity;
 mod entity_table;
 mod gathering;
@@ -45,6 +47,7 @@ mod uid_hashing;
 
 pub use base_bits::any_common;
 pub use cedar_value::{Hierarchy, NoEntities, below_is_a_chain_of_links};
+pub use descendant::Descendant;
 pub use entity::Entity;
 pub use plain_store::PlainStore;
 pub use store::Store;

@@ -1,14 +1,18 @@
 //! The entity store.
-ghost use Rattle.std.specs.Prelude.{◌≡◌, IfErr, IfOk, OnErr, OnOk};
+ghost use Rattle.std.specs.Prelude.{◌≡◌, IfErr, IfOk, IfSome, OnErr, OnOk};
 ghost use Rattle.cedar_store.specs.Ancestors.{AddsAncestors};
 ghost use Rattle.cedar_store.specs.Changes.{changed, HaveSameEntities, IsThereInChanges};
 ghost use Rattle.cedar_store.specs.Entities.{AreUidsDistinct, IsAcyclic};
 ghost use Rattle.cedar_store.specs.Faults.{IsThere};
+ghost use Rattle.cedar_store.specs.Private.Ascents.{reaches};
+ghost use Rattle.cedar_store.specs.Private.Kept.{AreAncestors};
 ghost use Rattle.cedar_store.specs.Private.Overlaid.{IsOverlaid, world_over};
 
+use crate::ascent::Ascent;
 use crate::base::Base;
 use crate::change_map::ChangeMap;
 use crate::changing;
+use crate::descendant::Descendant;
 use crate::entity::Entity;
 use crate::entity_table::EntityTable;
 use crate::overlay::Overlay;
@@ -138,6 +142,30 @@ impl Store {
             self.base.ancestors(low, found)
         } else {
             self.overlay().ancestors(low, found)
+        }
+    }
+
+    /// The entity with a uid as a descendant, which is asked many times what it is below. It is looked up here, and not again. Takes no
+    /// memory.
+    pub fn descendant<'s>(&'s self, uid: &'s Uid) -> Descendant<'s>
+        ensures world { result.world ≡ self.now }
+        ensures uid { result.uid ≡ uid.now }
+    {
+        Descendant {
+            store: self,
+            uid,
+            ascent: self.ascent(uid),
+        }
+    }
+
+    // The ways up from the entity, where no changes are kept over the entities that were read whole.
+    fn ascent(&self, uid: &Uid) -> Option<Ascent<'_>>
+        ensures { IfSome result (λ a. AreAncestors self.now uid.now (reaches a)) }
+    {
+        if self.changes.is_empty() {
+            Some(self.base.ascent(uid))
+        } else {
+            None
         }
     }
 

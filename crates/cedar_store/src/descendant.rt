@@ -1,14 +1,14 @@
 //! An entity that is asked many times what it is below.
-ghost use Rattle.std.specs.Prelude.{◌≡◌};
-ghost use Rattle.cedar_value.specs.World.{below};
+ghost use Rattle.std.specs.Prelude.{◌≡◌, ◌↔◌, IsTrue};
+ghost use Rattle.cedar_value.specs.World.{Below, below};
 
 use crate::ascent::Ascent;
 use crate::store::Store;
 use cedar_value::{Hierarchy, Uid};
 use std::marker::Model;
 
-/// An entity of a store, whose parents were looked up once: it is asked many times what it is below, as the principal of a request is
-/// by the policies. Contracts see a `DescendantView`.
+/// An entity of a store, whose parents were looked up once. It is asked many times what it is below, for example by the policies of a
+/// request. Contracts see a `DescendantView`.
 ///
 /// Where the store keeps changes over the entities that were read whole, each question looks the entity up.
 #[derive(Drop)]
@@ -38,6 +38,7 @@ impl<'s> Model for Descendant<'s> {
 impl<'s> Descendant<'s> {
     /// Whether the entity is below the other, as [`Hierarchy::is_below`] says of both (Cedar language reference, `in`). Takes no memory.
     pub fn is_below(&self, high: &Uid) -> bool
+        ensures chain { IsTrue result ↔ Below self.now.world self.now.uid high.now }
         ensures gives { result ≡ below self.now.world self.now.uid high.now }
     {
         match &self.ascent {

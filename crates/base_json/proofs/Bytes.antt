@@ -9,7 +9,7 @@ use Rattle.base_json.specs.Private.Modes.{mode_next, mode_behind, is_between}
 
 -- ---- spaces and operators
 
-space_class : (x : ℕ) → is_space x ≡ true → class x ≡ space
+pub space_class : (x : ℕ) → is_space x ≡ true → class x ≡ space
 space_class x h = last (or_cases _ _ h)
   where
     is : (c : ℕ) → class c ≡ space → (x == c) ≡ true → class x ≡ space
@@ -38,7 +38,7 @@ lex_operator x xs e = ap (λ c. lex_byte between c x xs (λ m. lex m xs)) e
 pub past_space : (bs : List ℕ) (i : ℕ) → i < length bs → is_space (get_or bs i 0) ≡ true → lex between (drop i bs) ≡ lex between (drop (i + 1) bs)
 past_space bs i h e = ap (lex between) (drop_more bs i 0 h) ∙ lex_space (get_or bs i 0) _ (space_class (get_or bs i 0) e)
 
-past_operator : (c : ℕ) (bs : List ℕ) (i : ℕ) → class c ≡ operator → i < length bs → get_or bs i 0 ≡ c → lex between (drop i bs) ≡ operator_lexeme c ∷ lex between (drop (i + 1) bs)
+pub past_operator : (c : ℕ) (bs : List ℕ) (i : ℕ) → class c ≡ operator → i < length bs → get_or bs i 0 ≡ c → lex between (drop i bs) ≡ operator_lexeme c ∷ lex between (drop (i + 1) bs)
 past_operator c bs i k h e = ap (lex between) (drop_more bs i 0 h ∙ ap (λ x. x ∷ drop (i + 1) bs) e) ∙ lex_operator c _ k
 
 -- ---- what is around an item

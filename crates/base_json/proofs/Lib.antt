@@ -7,6 +7,8 @@ mod Followed
 mod Joined
 mod LentItems
 mod LentObjects
+mod PlainValues
+mod PlainWords
 mod Punctuated
 mod QuotedMembers
 mod Reading

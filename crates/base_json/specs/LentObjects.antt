@@ -1,7 +1,7 @@
 -- Objects whose keys and strings are lent.
-use Rattle.std.specs.Prelude.{List, [], ◌∷◌}
-use Rattle.serde_json.specs.Data.{Data, string, object, Members, no_members, put}
-use Rattle.serde_json.specs.View.{view}
+use Rattle.std.specs.Prelude.{List, [], ◌∷◌, map}
+use Rattle.serde_json.specs.Data.{Data, string, object, Items, Members, no_members, put}
+use Rattle.serde_json.specs.View.{items_of, view}
 use Rattle.base_json.specs.declared.lent_object.LentMember.{LentMember}
 use Rattle.base_json.specs.declared.lent_object.LentObject.{LentObject}
 use Rattle.base_json.specs.declared.lent_object.LentPart.{LentPart}
@@ -21,3 +21,7 @@ put_all (m ∷ ms) old = put_all ms (put m.key.now (part_view m.value) old)
 -- What a lent object is (RFC 8259, section 4).
 abbrev pub object_view : LentObject → Data
 object_view o = object (put_all o.members.items no_members)
+
+-- What a list of lent objects has as its items (RFC 8259, section 5).
+abbrev pub items_of_objects : List LentObject → Items
+items_of_objects os = items_of (map object_view os)

@@ -1,5 +1,5 @@
 //! What comes before an item of a list and after it, without the spaces.
-ghost use Rattle.std.specs.Prelude.{◌≡◌, ◌+◌, ◌<◌, ◌≤◌, ◌∷◌, drop, length, slice_index, IfSome};
+ghost use Rattle.std.specs.Prelude.{◌≡◌, ◌+◌, ◌<◌, ◌≤◌, ◌∷◌, drop, length, slice_index, IfSome, IsTrue};
 ghost use Rattle.std.specs.Str.{IsCharBoundary};
 ghost use Rattle.json.specs.Token.{begin_array};
 ghost use Rattle.json.specs.Lex.{between, after_value, lex, punctuate, tokens};
@@ -36,18 +36,26 @@ pub(crate) fn left_behind(bytes: &[u8], end: usize) -> Option<usize>
     next_at(bytes, comma + 1, b'{')
 }
 
-// The position of the byte, if it is the first after spaces.
-fn next_at(bytes: &[u8], from: usize, byte: u8) -> Option<usize>
+/// The position of the byte, if it is the first after spaces.
+pub(crate) fn next_at(bytes: &[u8], from: usize, byte: u8) -> Option<usize>
     ensures lexemes { IfSome result (λ at. lex between (drop from bytes.now) ≡ lex between (drop at bytes.now)) }
     ensures within { IfSome result (λ at. at < length bytes.now) }
     ensures here { IfSome result (λ at. slice_index bytes.now at ≡ byte) }
 {
     let at = skip_spaces(bytes, from);
-    if at < bytes.len() && bytes[at] == byte {
+    if is_at(bytes, at, byte) {
         Some(at)
     } else {
         None
     }
+}
+
+/// Whether the byte is at the position.
+pub(crate) fn is_at(bytes: &[u8], at: usize, byte: u8) -> bool
+    ensures within { IsTrue result → at < length bytes.now }
+    ensures here { IsTrue result → slice_index bytes.now at ≡ byte }
+{
+    at < bytes.len() && bytes[at] == byte
 }
 
 /// The position of the first byte from `from` on that is not a space.

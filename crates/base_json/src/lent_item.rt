@@ -4,11 +4,11 @@ ghost use Rattle.json.specs.Json.{members, value};
 ghost use Rattle.serde_json.specs.Data.{no_members};
 ghost use Rattle.serde_json.specs.Find.{get, get_member};
 ghost use Rattle.serde_json.specs.Read.{of_members, converted};
-ghost use Rattle.base_json.specs.LentItems.{item_view, put_values};
-ghost use Rattle.base_json.specs.Members.{lent_view};
+ghost use Rattle.base_json.specs.LentItems.{item_view, put_values, value_view};
 ghost use Rattle.base_json.specs.declared.tree_fault.TreeFault.TheVariants.{Invalid};
 
-use crate::lent_value::{LentValue, read_lent};
+use crate::item_value::ItemValue;
+use crate::lent_value::read_lent;
 use crate::tree_fault::TreeFault;
 use json::Reader;
 use std::alloc::Global;
@@ -27,14 +27,14 @@ pub struct ItemMember<'t> {
     /// The key, without quotation marks and escapes.
     pub key: &'t str,
     /// The value.
-    pub value: LentValue<'t>,
+    pub value: ItemValue<'t>,
 }
 
 impl<'t> LentItem<'t> {
     /// The value at a key. Takes no memory, and as many comparisons as there are members.
     #[inline(always)]
-    pub fn value(&self, key: &str) -> Option<&LentValue<'t>>
-        ensures { option_map (λ v. lent_view v.now) result ≡ get key.now (item_view self.now) }
+    pub fn value(&self, key: &str) -> Option<&ItemValue<'t>>
+        ensures { option_map (λ v. value_view v.now) result ≡ get key.now (item_view self.now) }
     {
         last_at(&self.members, key)
     }
@@ -42,8 +42,8 @@ impl<'t> LentItem<'t> {
 
 // The value of the last member with the key.
 #[inline(always)]
-fn last_at<'p, 't>(members: &'p [ItemMember<'t>], key: &str) -> Option<&'p LentValue<'t>>
-    ensures { option_map (λ v. lent_view v.now) result ≡ get_member key.now (put_values members.now no_members) }
+fn last_at<'p, 't>(members: &'p [ItemMember<'t>], key: &str) -> Option<&'p ItemValue<'t>>
+    ensures { option_map (λ v. value_view v.now) result ≡ get_member key.now (put_values members.now no_members) }
 {
     let mut left = members.len();
     'walk: while left > 0 {
@@ -70,7 +70,8 @@ pub(crate) fn read_item_members<'t>(
 {
     let mut found = Vec::new(alloc);
     'members: while let Some(key) = reader.next_key()? {
-        let value = read_lent(alloc, reader, depth)?;
+        let lent = read_lent(alloc, reader, depth)?;
+        let value = ItemValue::of_lent(lent);
         found.push(ItemMember { key, value })?;
     }
     Ok(LentItem { members: found })

@@ -3,6 +3,7 @@ ghost use Rattle.std.specs.Prelude.{◌≡◌, ◌<◌, length, None, Some, Err,
 ghost use Rattle.json.specs.Json.{value};
 ghost use Rattle.serde_json.specs.Read.{of_json, converted};
 ghost use Rattle.base_json.specs.Members.{lent_view};
+ghost use Rattle.base_json.specs.Private.Whole.{IsWhole};
 ghost use Rattle.base_json.specs.declared.tree_fault.TreeFault.TheVariants.{Invalid};
 
 use crate::lent_object::{LentObject, read_object};
@@ -35,6 +36,7 @@ pub(crate) fn read_lent<'t>(
     depth: usize,
 ) -> Result<LentValue<'t>, TreeFault>
     ensures ok { IfOk result (λ v. converted of_json (value depth reader.old) ≡ Some (lent_view v, reader.new)) }
+    ensures whole { IfOk result IsWhole }
     ensures shorter { OnOk result (length reader.new < length reader.old) }
     ensures err { result ≡ Err Invalid → converted of_json (value depth reader.old) ≡ None }
 {

@@ -40,13 +40,20 @@
 //! }
 //! ```
 //!
-//! A list whose items need no tree is a [`ListText`]: it lends the text of each object, and a reader lends the members of that text:
+//! A list whose items need no tree is a [`ListText`]: it lends the members of each object in the plain form. Of other objects it lends the
+//! text, and a reader lends the members of that text:
 //!
 //! ```rust
 //! use base_json::{JsonReader, ListText};
 //!
 //! let mut reader = JsonReader::new(alloc)?;
 //! if let Ok(mut list) = ListText::open(bytes) {
+//!     while let Some(next) = list.plain_item(alloc)? {
+//!         let passed = next.passed;
+//!         println!(rt; "{} members", next.item.members.len())?;
+//!         drop(next);
+//!         list.pass(passed)?;
+//!     }
 //!     while let Some(object) = list.object() {
 //!         let passed = object.passed;
 //!         let Some(item) = reader.lent_item(alloc, object.text)? else {
@@ -61,6 +68,7 @@
 #![tactic(auto)]
 
 mod behind;
+mod item_value;
 mod items;
 mod json_tree;
 mod lent_item;
@@ -70,8 +78,14 @@ mod list_text;
 mod members;
 mod number;
 mod object_end;
+mod object_member;
 mod object_text;
 mod objects;
+mod plain_integer;
+mod plain_item;
+mod plain_member;
+mod plain_object;
+mod plain_scalar;
 mod quoted_member;
 mod quoted_text;
 mod reader;
@@ -82,12 +96,13 @@ mod three_quoted;
 mod tree;
 mod tree_fault;
 
+pub use item_value::ItemValue;
 pub use items::ItemReader;
 pub use json_tree::read_json;
 pub use lent_item::{ItemMember, LentItem};
 pub use lent_object::{LentMember, LentObject, LentPart};
 pub use lent_value::LentValue;
-pub use list_text::ListText;
+pub use list_text::{ListText, PlainItem};
 pub use members::MemberReader;
 pub use object_text::ObjectText;
 pub use objects::ObjectReader;

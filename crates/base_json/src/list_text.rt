@@ -3,15 +3,27 @@ ghost use Rattle.std.specs.Prelude.{◌≡◌, drop, IfOk, IfSome, MatchResult, 
 ghost use Rattle.std.specs.Str.{IsCharBoundary};
 ghost use Rattle.serde_json.specs.Data.{array};
 ghost use Rattle.base_json.specs.JsonTree.{json_of};
-ghost use Rattle.base_json.specs.Lists.{ComesNext, left_in};
+ghost use Rattle.base_json.specs.LentItems.{item_view};
+ghost use Rattle.base_json.specs.Lists.{ComesNext, IsNext, left_in};
 
-use crate::behind::items_start;
+use crate::behind::{items_start, left_behind};
+use crate::lent_item::LentItem;
 use crate::object_text::{ObjectText, first_object};
-use std::alloc::AllocError;
+use crate::plain_item::item_at;
+use std::alloc::{AllocError, Global};
 use std::marker::Model;
 
 // How many bytes are passed at least before they are freed, so that the rest is not moved often.
 const LET_GO: usize = 65536;
+
+/// An object in the plain form that comes next in a list.
+#[derive(Drop)]
+pub struct PlainItem<'t> {
+    /// The object.
+    pub item: LentItem<'t>,
+    /// How many bytes of the list come before the items that are after the object.
+    pub passed: usize,
+}
 
 /// A JSON text that is a list, of which the first items were passed (RFC 8259, section 5). What was passed is freed, so memory depends
 /// on what is left of the text. Contracts see the bytes that the list goes on with.
@@ -57,7 +69,26 @@ impl ListText {
         first_object(self.left())
     }
 
-    /// Passes the first bytes, as many as [`ObjectText`] says.
+    /// The next item, where it is an object in the plain form and more follows it: its members are strings without escapes, whole numbers
+    /// and truths, objects of such members, and lists of such objects. None for another item. Nothing is passed yet.
+    ///
+    /// # Errors
+    ///
+    /// Fails only when out of memory.
+    pub fn plain_item(&self, alloc: Global) -> Result<Option<PlainItem<'_>>, AllocError>
+        ensures { IfOk result (λ found. IfSome found (λ o. IsNext (item_view o.item) o.passed self.now)) }
+    {
+        let text = self.left();
+        let Some((item, end)) = item_at(alloc, text, 0)? else {
+            return Ok(None);
+        };
+        match left_behind(text.as_bytes(), end) {
+            Some(passed) => Ok(Some(PlainItem { item, passed })),
+            None => Ok(None),
+        }
+    }
+
+    /// Passes the first bytes, as many as [`ObjectText`] or [`PlainItem`] says.
     ///
     /// # Errors
     ///

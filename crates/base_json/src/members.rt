@@ -11,6 +11,7 @@ ghost use Rattle.base_json.specs.Private.Trees.{tree_of_tokens};
 ghost use Rattle.base_json.specs.declared.tree_fault.TreeFault.TheVariants.{Invalid};
 
 use crate::lent_value::{LentValue, read_lent};
+use crate::object_member::object_member;
 use crate::quoted_member::{after, is_end, quoted_member};
 use crate::three_quoted::{ThreeQuoted, three_members};
 use crate::tree_fault::TreeFault;
@@ -96,6 +97,10 @@ impl<'r> MemberReader<'r> {
             }
             if is_end(text) {
                 return Ok(None);
+            }
+            if let Some(found) = object_member(alloc, text)? {
+                *text = found.rest;
+                return Ok(Some((found.key, LentValue::Object(found.value))));
             }
         }
         self.next_by_tokens(alloc)

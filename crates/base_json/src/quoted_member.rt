@@ -102,8 +102,8 @@ fn after_escaped_quote(text: &str) -> Option<&str>
     after(after(text, b'\\')?, b'"')
 }
 
-// The plain bytes that the text begins with, and what follows them.
-fn plain_start(text: &str) -> Option<(&str, &str)>
+/// The plain bytes that the text begins with, and what follows them.
+pub(crate) fn plain_start(text: &str) -> Option<(&str, &str)>
     ensures whole { IfSome result (λ found. text.now ≡ found.0.now ++ found.1.now) }
     ensures plain { IfSome result (λ found. list_all is_plain found.0.now ≡ true) }
 {

@@ -73,9 +73,9 @@ fn past_key<'t>(text: &'t str, wanted: &str) -> Option<&'t str>
     Some(rest)
 }
 
-// What follows the text that the other text begins with.
+/// What follows the text that the other text begins with.
 #[inline(always)]
-fn past_text<'t>(text: &'t str, wanted: &str) -> Option<&'t str>
+pub(crate) fn past_text<'t>(text: &'t str, wanted: &str) -> Option<&'t str>
     ensures { IfSome result (λ rest. text.now ≡ wanted.now ++ rest.now) }
 {
     let (begun, rest) = text.split_at_checked(wanted.len())?;

@@ -8,7 +8,7 @@ use Rattle.cedar_parser_limits.specs.Meaning.{asked_from, asked_of}
 use Rattle.cedar_parser_limits.specs.Limits.{above, above_both, size_of}
 use Rattle.cedar_parser_limits.specs.Private.Capped.{capped}
 use Rattle.cedar_parser_limits.specs.Private.AskedSizes.{sizes_from}
-use Rattle.cedar_parser_limits.proofs.PartLemmas.{from_place, none_left, IsAlike, alike_capped}
+use Rattle.cedar_parser_limits.proofs.PartLemmas.{from_place, none_left, alike_capped}
 
 -- one attribute further
 pub asked_next : (asked place asked' place' : Expression) (more : List (List ℕ)) (i : ℕ) (name : List ℕ) → i < length more → name ≡ get_or more i name

@@ -1,27 +1,23 @@
--- Side conditions, one by one, and limits.
-use Rattle.std.proofs.Common.{◌≡◌, ap, ◌<◌, ◌≤◌, List, [], ◌∷◌, length, map, Result, Ok, Err, arith}
+-- Side conditions of parts, and limits.
+use Rattle.std.proofs.Common.{◌≡◌, sym, ap, subst, ◌<◌, ◌≤◌, List, [], ◌∷◌, length, map, Result, Ok, Err, arith}
 use Rattle.std.specs.Prelude.{OnOk, IfErr}
 use Rattle.cedar_parser_tokens.specs.declared.parse_fault.ParseFault.{ParseFault}
 use Rattle.cedar_parser_tokens.specs.declared.parse_fault.ParseFault.TheVariants as f
 use Rattle.cedar_ast_expressions.specs.Keys.{AreDistinct}
 use Rattle.cedar_parser_tree.specs.declared.written_statement.WrittenAnnotation.{WrittenAnnotation}
-use Rattle.cedar_parser_limits.specs.Private.Judging.{BreaksSize}
+use Rattle.cedar_parser_limits.specs.Private.Judging.{BreaksSize, Judges, IsLeft, IsOfCondition, condition_of}
 use Rattle.cedar_parser_limits.specs.declared.side_condition.SideCondition.{SideCondition}
-use Rattle.cedar_parser_limits.specs.declared.side_condition.SideCondition.TheVariants.{Strings, Numbers, Keys, Names, Counts, Slots, Annotations}
+use Rattle.cedar_parser_limits.specs.declared.breach.Breach.{Breach}
+use Rattle.cedar_parser_limits.specs.declared.sought.Sought.{Sought}
 use Rattle.cedar_parser_limits.specs.declared.size.Size.{Size}
 use Rattle.cedar_parser_limits.specs.Private.Capped.{capped}
 use Rattle.cedar_parser_tree.specs.StatementTree.{StatementTree}
-use Rattle.cedar_parser_limits.specs.StatementLimits.{KeepsStatement, condition_size, Breaks}
+use Rattle.cedar_parser_limits.specs.StatementLimits.{condition_size, Breaks}
 
-pub keeps_all : (s : StatementTree) → KeepsStatement Strings s → KeepsStatement Numbers s → KeepsStatement Keys s → KeepsStatement Names s → KeepsStatement Counts s → KeepsStatement Slots s → KeepsStatement Annotations s
-    → (c : SideCondition) → KeepsStatement c s
-keeps_all s a b d e f g h Strings = a
-keeps_all s a b d e f g h Numbers = b
-keeps_all s a b d e f g h Keys = d
-keeps_all s a b d e f g h Names = e
-keeps_all s a b d e f g h Counts = f
-keeps_all s a b d e f g h Slots = g
-keeps_all s a b d e f g h Annotations = h
+-- Where a part breaks a side condition, so do the parts that are left, and all of them.
+pub refused_left : (s : Sought) (here left whole : SideCondition → Type 0) (r : Result (Unit {0}) Breach) (b : Breach) → r ≡ Err b → ((c : SideCondition) → left c → here c) → IsLeft s left whole → (IsOfCondition b → here (condition_of b) → ⊥)
+    → Judges s whole r
+refused_left s here left whole r b e split kept broken = subst (Judges s whole) (sym e) ((λ c k. tt), λ k all. broken k (split (condition_of b) ((kept (condition_of b)).1 all)))
 
 -- there are too few annotations for one to repeat the name of another
 pub few_names : (notes : List WrittenAnnotation) → length notes < 2 → AreDistinct (map (λ a. a.name) notes)

@@ -1,11 +1,9 @@
 -- Lists of parts, one by one.
-use Rattle.std.specs.Prelude.{◌≢◌, All, IsSome}
-use Rattle.std.proofs.lemmas.List.Elements.{All-cons, All-nil}
-use Rattle.std.proofs.lemmas.List.Kept.{AllPairs-cons}
+use Rattle.std.specs.Prelude.{IsSome}
 use Rattle.std.proofs.Common.{◌≡◌, refl, sym, ap, subst, ◌∙◌, false, ℕ, zero, suc, ◌+◌, ◌<◌, ◌≤◌, min, max, List, [], ◌∷◌, ◌++◌, length, get_or, take, drop, drop-cons, add-one, fold, map, Option, Some, None, arith}
 use Rattle.std.proofs.lemmas.List.{take_all}
 use Rattle.cedar_value.specs.Datum.{boolean}
-use Rattle.cedar_ast_expressions.specs.Keys.{AreDistinct, keys_of}
+use Rattle.cedar_ast_expressions.specs.Keys.{keys_of}
 use Rattle.cedar_ast_expressions.specs.declared.operator.UnaryOperator.{UnaryOperator}
 use Rattle.cedar_ast_expressions.specs.declared.operator.UnaryOperator.TheVariants as operator
 use Rattle.cedar_parser_limits.specs.declared.functions.Method.TheVariants.{IsEmpty, Binary}
@@ -120,33 +118,9 @@ keys_one : (key : Content) (a : Written) (fs : Fields) → IsSome key → keys_i
 keys_one (Some k) a fs h = refl
 keys_one None a fs h = absurd cc
 
--- Where each key denotes a text, the keys are these texts.
-pub keys_map : (fs : List Field) → KeepFields Strings (fields_of fs) → keys_in (fields_of fs) ≡ map (λ (f : Field). text_of f.key) fs
-keys_map [] h = refl
-keys_map (f ∷ fs) h = keys_one f.key f.value (fields_of fs) h.0.0 ∙ ap (λ ks. text_of f.key ∷ ks) (keys_map fs h.1)
-
 pub keys_of_pairs : (fs : List Field) → KeepFields Strings (fields_of fs) → keys_of (pairs_of fs) ≡ keys_in (fields_of fs)
 keys_of_pairs [] h = refl
 keys_of_pairs (f ∷ fs) h = ap (λ ks. text_of f.key ∷ ks) (keys_of_pairs fs h.1) ∙ sym (keys_one f.key f.value (fields_of fs) h.0.0)
-
-all_with : (P : List ℕ → Type 0) (key : Content) (a : Written) (fs : Fields) → P (text_of key) → All P (keys_in fs) → All P (keys_in (field key a fs))
-all_with P None a fs p h = h
-all_with P (Some k) a fs p h = All-cons P k (keys_in fs) p h
-
-all_keys : (P : List ℕ → Type 0) (fs : List Field) → All P (map (λ (f : Field). text_of f.key) fs) → All P (keys_in (fields_of fs))
-all_keys P [] h = All-nil P
-all_keys P (f ∷ fs) h = all_with P f.key f.value (fields_of fs) (h 0 [] (omega arith)) (all_keys P fs (λ k d lt. h (suc k) d (omega arith)))
-
-distinct_with : (key : Content) (a : Written) (fs : Fields) → All (λ k. text_of key ≢ k) (keys_in fs) → AreDistinct (keys_in fs) → AreDistinct (keys_in (field key a fs))
-distinct_with None a fs p h = h
-distinct_with (Some k) a fs p h = AllPairs-cons (λ x y. x ≢ y) k (keys_in fs) p h
-
--- Where no two texts are the same, what denotes none counted as the empty one, no key is repeated.
-pub distinct_keys : (fs : List Field) → AreDistinct (map (λ (f : Field). text_of f.key) fs) → AreDistinct (keys_in (fields_of fs))
-distinct_keys [] h = h
-distinct_keys (f ∷ fs) h =
-    distinct_with f.key f.value (fields_of fs) (all_keys (λ k. text_of f.key ≢ k) fs (λ k d lt. h zero (suc k) d (omega arith) (omega arith)))
-    (distinct_keys fs (λ i j d lt within. h (suc i) (suc j) d (omega arith) (omega arith)))
 
 pub entries_of_pairs : (fs : List Field) → entries_of (pairs_of fs) ≡ to_entries (fields_of fs)
 entries_of_pairs [] = refl

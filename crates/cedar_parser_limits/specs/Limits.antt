@@ -9,7 +9,7 @@ use Rattle.cedar_parser_limits.specs.declared.functions.Method.{Method}
 use Rattle.cedar_parser_limits.specs.declared.functions.Method.TheVariants.{IsEmpty, Binary}
 use Rattle.cedar_parser_limits.specs.declared.size.Size.{Size}
 use Rattle.cedar_parser_tokens.specs.Content.{Content}
-use Rattle.cedar_parser_tree.specs.Written.{Written, truth, number, negative, text, entity, variable, slot, group, not, negated, relation, has, like, is, is_in, chain, choice, set, record_of, call, Links, no_links, operand, attribute, method, Members, no_members, member, Fields, no_fields, field}
+use Rattle.cedar_parser_tree.specs.Written.{Written, number, negative, text, entity, slot, group, not, negated, relation, has, like, is, is_in, chain, choice, set, record_of, call, Links, no_links, operand, attribute, method, Members, no_members, member, Fields, no_fields, field}
 use Rattle.cedar_parser_limits.specs.Meaning.{function_of, method_of}
 
 -- ---- side conditions

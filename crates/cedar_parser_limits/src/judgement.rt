@@ -1,15 +1,16 @@
 //! Checks of a statement beyond the grammar.
-ghost use Rattle.std.specs.Prelude.{◌≡◌, ◌≤◌, IfOk, IfErr, MatchOption, OnOk, map};
+ghost use Rattle.std.specs.Prelude.{◌≡◌, ◌≤◌, IfOk, IfErr, OnOk, map};
 ghost use Rattle.cedar_parser_limits.specs.StatementLimits.{KeepsReference, KeepsEntityScope, KeepUids, KeepsActionScope, HasDistinctNames, KeepAnnotations, KeepConditions, KeepsStatement, condition_size, IsWithinLimits, Breaks};
 ghost use Rattle.cedar_parser_limits.specs.Limits.{max_height, max_nodes};
-ghost use Rattle.cedar_parser_limits.specs.Private.Judging.{BreaksSize, KeepsBefore};
+ghost use Rattle.cedar_parser_limits.specs.Private.Judging.{BreaksSize, Seeks, Judges};
 ghost use Rattle.cedar_parser_limits.specs.declared.side_condition.SideCondition.{SideCondition as Conditions};
-ghost use Rattle.cedar_parser_limits.specs.declared.side_condition.SideCondition.TheVariants.{Strings};
 
-use crate::breach::{content_breach, expression_breach};
+use crate::breach::Breach;
 use crate::condition_size::condition_size;
+use crate::expression_judgement::{judge_content, judge_expression};
 use crate::side_condition::SideCondition;
 use crate::size::Size;
+use crate::sought::Sought;
 use cedar_ast_expressions::{Variable, first_repeated};
 use cedar_parser_tokens::{ParseFault, WrittenUid};
 use cedar_parser_tree::{
@@ -23,6 +24,17 @@ const MAX_HEIGHT: usize = 2_000;
 
 /// How many nodes the condition of a statement may have.
 const MAX_NODES: usize = 100_000;
+
+/// The side conditions, in the order in which they are checked.
+const IN_ORDER: [SideCondition; 7] = [
+    SideCondition::Strings,
+    SideCondition::Numbers,
+    SideCondition::Keys,
+    SideCondition::Names,
+    SideCondition::Counts,
+    SideCondition::Slots,
+    SideCondition::Annotations,
+];
 
 /// Refuses a statement that breaks a side condition or a limit.
 ///
@@ -48,19 +60,20 @@ pub fn judge(alloc: Global, statement: &WrittenStatement) -> Result<(), ParseFau
     Ok(())
 }
 
-// Refuses a statement that breaks a side condition.
+// Refuses a statement that breaks a side condition. One walk looks for all of them. Where it refuses the statement, a walk for
+// each of them finds the first in order. Where none of these refuses it, memory failed in the first walk.
 fn judge_side_conditions(alloc: Global, statement: &WrittenStatement) -> Result<(), ParseFault>
     ensures kept { OnOk result ((c : Conditions) → KeepsStatement c statement.now) }
     ensures broken { IfErr result (Breaks statement.now) }
 {
-    judge_side_condition(alloc, SideCondition::Strings, statement)?;
-    judge_side_condition(alloc, SideCondition::Numbers, statement)?;
-    judge_side_condition(alloc, SideCondition::Keys, statement)?;
-    judge_side_condition(alloc, SideCondition::Names, statement)?;
-    judge_side_condition(alloc, SideCondition::Counts, statement)?;
-    judge_side_condition(alloc, SideCondition::Slots, statement)?;
-    judge_side_condition(alloc, SideCondition::Annotations, statement)?;
-    Ok(())
+    let fault = match judge_sought(alloc, Sought::All, statement) {
+        Ok(()) => return Ok(()),
+        Err(fault) => fault,
+    };
+    for condition in IN_ORDER {
+        judge_sought(alloc, Sought::Only(condition), statement)?;
+    }
+    Err(fault)
 }
 
 // Refuses a statement whose condition is too high or too large.
@@ -88,157 +101,130 @@ fn judge_limits(size: Size, start: usize) -> Result<(), ParseFault>
     Ok(())
 }
 
-// Refuses a statement that breaks this side condition.
-fn judge_side_condition(
+// Refuses a statement that breaks a side condition which is sought.
+fn judge_sought(
     alloc: Global,
-    condition: SideCondition,
+    sought: Sought,
     statement: &WrittenStatement,
 ) -> Result<(), ParseFault>
-    requires { KeepsBefore condition statement.now }
-    ensures kept { OnOk result (KeepsStatement condition statement.now) }
+    ensures kept { (c : Conditions) → Seeks sought c → OnOk result (KeepsStatement c statement.now) }
     ensures broken { IfErr result (Breaks statement.now) }
 {
-    let Some(at) = statement_breach(alloc, condition, statement)? else {
+    let Err(breach) = judge_parts(alloc, sought, statement) else {
         return Ok(());
     };
-    match condition {
-        SideCondition::Strings => Err(ParseFault::EscapedStar(at)),
-        SideCondition::Numbers => Err(ParseFault::NumberTooLarge(at)),
-        SideCondition::Keys => Err(ParseFault::DuplicateKey(at)),
-        SideCondition::Names => Err(ParseFault::UnknownFunction(at)),
-        SideCondition::Counts => Err(ParseFault::Arity(at)),
-        SideCondition::Slots => Err(ParseFault::SlotMisplaced(at)),
-        SideCondition::Annotations => Err(ParseFault::DuplicateAnnotation(at)),
+    match breach {
+        Breach::OutOfMemory => Err(ParseFault::OutOfMemory),
+        Breach::Of(SideCondition::Strings, at) => Err(ParseFault::EscapedStar(at)),
+        Breach::Of(SideCondition::Numbers, at) => Err(ParseFault::NumberTooLarge(at)),
+        Breach::Of(SideCondition::Keys, at) => Err(ParseFault::DuplicateKey(at)),
+        Breach::Of(SideCondition::Names, at) => Err(ParseFault::UnknownFunction(at)),
+        Breach::Of(SideCondition::Counts, at) => Err(ParseFault::Arity(at)),
+        Breach::Of(SideCondition::Slots, at) => Err(ParseFault::SlotMisplaced(at)),
+        Breach::Of(SideCondition::Annotations, at) => Err(ParseFault::DuplicateAnnotation(at)),
     }
 }
 
-// The place where a statement breaks a side condition, if it does.
-fn statement_breach(
-    alloc: Global,
-    condition: SideCondition,
-    statement: &WrittenStatement,
-) -> Result<Option<usize>, AllocError>
-    ensures { IfOk result (λ o. MatchOption o (KeepsStatement condition statement.now) (λ at. KeepsStatement Strings statement.now → KeepsStatement condition statement.now → ⊥)) }
+// Judges the parts of a statement, one after another.
+fn judge_parts(alloc: Global, sought: Sought, statement: &WrittenStatement) -> Result<(), Breach>
+    ensures { Judges sought (λ c. KeepsStatement c statement.now) result }
 {
-    if let Some(at) = annotation_names_breach(alloc, condition, &statement.annotations)? {
-        return Ok(Some(at));
-    }
-    if let Some(at) = annotations_breach(condition, &statement.annotations) {
-        return Ok(Some(at));
-    }
+    judge_annotation_names(alloc, sought, &statement.annotations)?;
+    judge_annotations(sought, &statement.annotations)?;
     let scope = &statement.scope;
-    if let Some(at) = entity_scope_breach(condition, Variable::Principal, &scope.principal) {
-        return Ok(Some(at));
-    }
-    if let Some(at) = action_scope_breach(condition, &scope.action) {
-        return Ok(Some(at));
-    }
-    if let Some(at) = entity_scope_breach(condition, Variable::Resource, &scope.resource) {
-        return Ok(Some(at));
-    }
-    conditions_breach(alloc, condition, &statement.conditions)
+    judge_entity_scope(sought, Variable::Principal, &scope.principal)?;
+    judge_action_scope(sought, &scope.action)?;
+    judge_entity_scope(sought, Variable::Resource, &scope.resource)?;
+    judge_conditions(alloc, sought, &statement.conditions)
 }
 
-fn entity_scope_breach(
-    condition: SideCondition,
+fn judge_entity_scope(
+    sought: Sought,
     variable: Variable,
     scope: &WrittenEntityScope,
-) -> Option<usize>
-    ensures { MatchOption result (KeepsEntityScope condition variable scope.now) (λ at. KeepsEntityScope condition variable scope.now → ⊥) }
+) -> Result<(), Breach>
+    ensures { Judges sought (λ c. KeepsEntityScope c variable scope.now) result }
 {
     match scope {
-        WrittenEntityScope::Any => None,
-        WrittenEntityScope::Equal(reference) => reference_breach(condition, variable, reference),
-        WrittenEntityScope::In(reference) => reference_breach(condition, variable, reference),
-        WrittenEntityScope::Is(_) => None,
-        WrittenEntityScope::IsIn(_, reference) => reference_breach(condition, variable, reference),
+        WrittenEntityScope::Any => Ok(()),
+        WrittenEntityScope::Equal(reference) => judge_reference(sought, variable, reference),
+        WrittenEntityScope::In(reference) => judge_reference(sought, variable, reference),
+        WrittenEntityScope::Is(_) => Ok(()),
+        WrittenEntityScope::IsIn(_, reference) => judge_reference(sought, variable, reference),
     }
 }
 
-fn reference_breach(
-    condition: SideCondition,
-    variable: Variable,
-    reference: &Reference,
-) -> Option<usize>
-    ensures { MatchOption result (KeepsReference condition variable reference.now) (λ at. KeepsReference condition variable reference.now → ⊥) }
+fn judge_reference(sought: Sought, variable: Variable, reference: &Reference) -> Result<(), Breach>
+    ensures { Judges sought (λ c. KeepsReference c variable reference.now) result }
 {
     match reference {
-        Reference::Entity(uid) => content_breach(condition, &uid.id),
-        Reference::Slot(start, slot) => match condition {
-            SideCondition::Slots if variable != *slot => Some(*start),
-            _ => None,
-        },
+        Reference::Entity(uid) => judge_content(sought, &uid.id),
+        Reference::Slot(start, slot) => {
+            if sought.has(SideCondition::Slots) && variable != *slot {
+                return Err(Breach::Of(SideCondition::Slots, *start));
+            }
+            Ok(())
+        }
     }
 }
 
-fn action_scope_breach(condition: SideCondition, scope: &WrittenActionScope) -> Option<usize>
-    ensures { MatchOption result (KeepsActionScope condition scope.now) (λ at. KeepsActionScope condition scope.now → ⊥) }
+fn judge_action_scope(sought: Sought, scope: &WrittenActionScope) -> Result<(), Breach>
+    ensures { Judges sought (λ c. KeepsActionScope c scope.now) result }
 {
     match scope {
-        WrittenActionScope::Any => None,
-        WrittenActionScope::Equal(uid) => content_breach(condition, &uid.id),
-        WrittenActionScope::In(uid) => content_breach(condition, &uid.id),
-        WrittenActionScope::InSet(uids) => uids_breach(condition, uids.as_slice()),
+        WrittenActionScope::Any => Ok(()),
+        WrittenActionScope::Equal(uid) => judge_content(sought, &uid.id),
+        WrittenActionScope::In(uid) => judge_content(sought, &uid.id),
+        WrittenActionScope::InSet(uids) => judge_uids(sought, uids.as_slice()),
     }
 }
 
-fn uids_breach(condition: SideCondition, uids: &[WrittenUid]) -> Option<usize>
-    ensures { MatchOption result (KeepUids condition uids.now) (λ at. KeepUids condition uids.now → ⊥) }
+fn judge_uids(sought: Sought, uids: &[WrittenUid]) -> Result<(), Breach>
+    ensures { Judges sought (λ c. KeepUids c uids.now) result }
 {
     for uid in uids {
-        if let Some(at) = content_breach(condition, &uid.id) {
-            return Some(at);
-        }
+        judge_content(sought, &uid.id)?;
     }
-    None
+    Ok(())
 }
 
-fn annotations_breach(condition: SideCondition, annotations: &[WrittenAnnotation]) -> Option<usize>
-    ensures { MatchOption result (KeepAnnotations condition annotations.now) (λ at. KeepAnnotations condition annotations.now → ⊥) }
+fn judge_annotations(sought: Sought, annotations: &[WrittenAnnotation]) -> Result<(), Breach>
+    ensures { Judges sought (λ c. KeepAnnotations c annotations.now) result }
 {
     for annotation in annotations {
-        if let Some(at) = content_breach(condition, &annotation.value) {
-            return Some(at);
-        }
+        judge_content(sought, &annotation.value)?;
     }
-    None
+    Ok(())
 }
 
-fn conditions_breach(
+fn judge_conditions(
     alloc: Global,
-    condition: SideCondition,
+    sought: Sought,
     conditions: &[WrittenCondition],
-) -> Result<Option<usize>, AllocError>
-    ensures { IfOk result (λ o. MatchOption o (KeepConditions condition conditions.now) (λ at. KeepConditions Strings conditions.now → KeepConditions condition conditions.now → ⊥)) }
+) -> Result<(), Breach>
+    ensures { Judges sought (λ c. KeepConditions c conditions.now) result }
 {
     for clause in conditions {
-        if let Some(at) = expression_breach(alloc, condition, &clause.body)? {
-            return Ok(Some(at));
-        }
+        judge_expression(alloc, sought, &clause.body)?;
     }
-    Ok(None)
+    Ok(())
 }
 
 #[tactic(auto, using(crate::proofs::JudgeLemmas::few_names))]
-fn annotation_names_breach(
+fn judge_annotation_names(
     alloc: Global,
-    condition: SideCondition,
+    sought: Sought,
     annotations: &[WrittenAnnotation],
-) -> Result<Option<usize>, AllocError>
-    ensures { IfOk result (λ o. MatchOption o (HasDistinctNames condition annotations.now) (λ at. HasDistinctNames condition annotations.now → ⊥)) }
+) -> Result<(), Breach>
+    ensures { Judges sought (λ c. HasDistinctNames c annotations.now) result }
 {
-    match condition {
-        SideCondition::Annotations => {
-            if annotations.len() < 2 {
-                return Ok(None);
-            }
-            let names = lent_names(alloc, annotations)?;
-            match first_repeated(alloc, &names)? {
-                None => Ok(None),
-                Some(position) => Ok(Some(annotations[position].start)),
-            }
-        }
-        _ => Ok(None),
+    if !sought.has(SideCondition::Annotations) || annotations.len() < 2 {
+        return Ok(());
+    }
+    let names = lent_names(alloc, annotations)?;
+    match first_repeated(alloc, &names)? {
+        None => Ok(()),
+        Some(position) => Err(Breach::Of(SideCondition::Annotations, annotations[position].start)),
     }
 }
 

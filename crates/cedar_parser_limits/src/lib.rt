@@ -18,11 +18,13 @@
 mod attribute_path_size;
 mod breach;
 mod condition_size;
+mod expression_judgement;
 mod expression_size;
 mod functions;
 mod judgement;
 mod side_condition;
 mod size;
+mod sought;
 
 pub use functions::{Method, function_of, method_of};
 pub use judgement::judge;

@@ -1,13 +1,15 @@
 -- What judging a statement ensures.
-use Rattle.std.specs.Prelude.{◌<◌}
+use Rattle.std.specs.Prelude.{◌≡◌, ◌<◌, Result, OnOk, IfErr}
 use Rattle.cedar_parser_tokens.specs.declared.parse_fault.ParseFault.{ParseFault}
 use Rattle.cedar_parser_tokens.specs.declared.parse_fault.ParseFault.TheVariants as f
+use Rattle.cedar_parser_limits.specs.declared.breach.Breach.{Breach}
+use Rattle.cedar_parser_limits.specs.declared.breach.Breach.TheVariants.{OutOfMemory, Of}
 use Rattle.cedar_parser_limits.specs.declared.side_condition.SideCondition.{SideCondition}
 use Rattle.cedar_parser_limits.specs.declared.side_condition.SideCondition.TheVariants.{Strings}
+use Rattle.cedar_parser_limits.specs.declared.sought.Sought.{Sought}
+use Rattle.cedar_parser_limits.specs.declared.sought.Sought.TheVariants.{All, Only}
 use Rattle.cedar_parser_limits.specs.declared.size.Size.{Size}
 use Rattle.cedar_parser_limits.specs.Limits.{max_height, max_nodes}
-use Rattle.cedar_parser_tree.specs.StatementTree.{StatementTree}
-use Rattle.cedar_parser_limits.specs.StatementLimits.{KeepsStatement}
 
 -- why a size is refused
 abbrev pub BreaksSize : Size → ParseFault → Type 0
@@ -15,7 +17,25 @@ BreaksSize size (f.TooHigh at) = max_height < size.height
 BreaksSize size (f.TooLarge at) = max_nodes < size.nodes
 BreaksSize size fault = ⊥
 
--- Strings are judged before all else: only where each denotes a text are the keys compared as texts.
-abbrev pub KeepsBefore : SideCondition → StatementTree → Type 0
-KeepsBefore Strings s = Unit {0}
-KeepsBefore _ s = KeepsStatement Strings s
+-- a walk looks for a side condition
+abbrev pub Seeks : Sought → SideCondition → Type 0
+Seeks All c = Unit {0}
+Seeks (Only one) c = one ≡ c
+
+-- a breach is of a side condition, and not out of memory
+abbrev pub IsOfCondition : Breach → Type 0
+IsOfCondition OutOfMemory = ⊥
+IsOfCondition (Of c at) = Unit {0}
+
+-- the side condition of a breach, where it is of one
+abbrev pub condition_of : Breach → SideCondition
+condition_of OutOfMemory = Strings
+condition_of (Of c at) = c
+
+-- A part that is accepted keeps each side condition that is sought, and one that is refused breaks that of the breach.
+abbrev pub Judges : Sought → (SideCondition → Type 0) → Result (Unit {0}) Breach → Type 0
+Judges sought kept r = ((c : SideCondition) → Seeks sought c → OnOk r (kept c)) × IfErr r (λ b. IsOfCondition b → kept (condition_of b) → ⊥)
+
+-- Where the parts that are left keep a side condition that is sought, all do, and the other way round.
+abbrev pub IsLeft : Sought → (left whole : SideCondition → Type 0) → Type 0
+IsLeft sought left whole = (c : SideCondition) → (Seeks sought c → left c → whole c) × (whole c → left c)

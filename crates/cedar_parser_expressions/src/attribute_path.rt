@@ -1,5 +1,5 @@
 //! The parser of the path of attributes after `has`.
-ghost use Rattle.std.specs.Prelude.{◌≡◌, ◌++◌, ◌∷◌, [], OnOk};
+ghost use Rattle.std.specs.Prelude.{◌≡◌};
 ghost use Rattle.cedar_parser_expressions.specs.Reading as spec;
 ghost use Rattle.cedar_parser_tokens.specs.Contract.{Reads, ReadsItems};
 
@@ -7,7 +7,7 @@ use cedar_parser_tokens::{Content, Cursor, ParseFault, parse_string};
 use cedar_parser_tree::AttributePath;
 use cedar_text::TokenKind;
 use cedar_value::Text;
-use std::alloc::{AllocError, Global};
+use std::alloc::Global;
 
 /// Parses the path of attributes after `has` (Cedar language reference, operators: has).
 ///
@@ -43,15 +43,7 @@ fn parse_further_attributes(alloc: Global, tokens: &mut Cursor<'_>) -> Result<Ve
         }
         tokens.skip();
         let token = tokens.expect(TokenKind::Identifier)?;
-        push(&mut found, Text::read(alloc, token.text())?)?;
+        found.push(Text::read(alloc, token.text())?)?;
     }
     Ok(found)
-}
-
-// Appends an attribute.
-fn push(names: &mut Vec<Text>, name: Text) -> Result<(), AllocError>
-    ensures { OnOk result (names.new.items ≡ names.old.items ++ name ∷ []) }
-{
-    names.push(name)?;
-    Ok(())
 }

@@ -14,7 +14,6 @@ use cedar_ext::Pattern;
 use cedar_parser_tokens::Content;
 use cedar_parser_tree::{
     AttributePath, ChainSign, Field, Link, RelationSign, Series, Span, Written, WrittenKind,
-    push_field as append_field, push_item as append_item, push_link,
 };
 use cedar_value::Name;
 use std::alloc::{AllocError, Global};
@@ -37,7 +36,8 @@ pub fn push_operand(
 ) -> Result<(), AllocError>
     ensures { OnOk result (links.new.items ≡ links.old.items ++ Operand sign operand.value ∷ []) }
 {
-    push_link(links, Link::Operand(sign, Box::into_inner(operand)))
+    links.push(Link::Operand(sign, Box::into_inner(operand)))?;
+    Ok(())
 }
 
 /// Appends an expression.
@@ -45,7 +45,8 @@ pub fn push_operand(
 pub fn push_item(items: &mut Vec<Written>, item: Box<Written>) -> Result<(), AllocError>
     ensures { OnOk result (items.new.items ≡ items.old.items ++ item.value ∷ []) }
 {
-    append_item(items, Box::into_inner(item))
+    items.push(Box::into_inner(item))?;
+    Ok(())
 }
 
 /// An entry of a record as it is written, with its value in a box.
@@ -64,7 +65,8 @@ pub fn push_field(fields: &mut Vec<Field>, field: BoxedField) -> Result<(), Allo
 {
     let BoxedField { key, value } = field;
     let value = Box::into_inner(value);
-    append_field(fields, Field { key, value })
+    fields.push(Field { key, value })?;
+    Ok(())
 }
 
 /// A first operand with the links after it; without links the operand itself.

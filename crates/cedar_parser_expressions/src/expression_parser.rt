@@ -18,7 +18,7 @@ use crate::leaves::{
 };
 use crate::lookup::{chain_sign, relation_sign};
 use cedar_parser_tokens::{Content, Cursor, ParseFault, Word, parse_key, parse_path, parse_string};
-use cedar_parser_tree::{Field, Link, Series, Written, push_link};
+use cedar_parser_tree::{Field, Link, Series, Written};
 use cedar_text::TokenKind;
 use cedar_value::{Name, Text};
 use std::alloc::Global;
@@ -312,7 +312,7 @@ impl<F: Fn(Global, &mut Cursor<'_>, u8) -> Result<Box<Written>, ParseFault>> Exp
                 return Ok(found);
             }
             let link = self.parse_access(tokens)?;
-            push_link(&mut found, link)?;
+            found.push(link)?;
         }
         Ok(found)
     }

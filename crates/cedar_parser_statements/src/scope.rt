@@ -1,5 +1,5 @@
 //! The parser of scopes.
-ghost use Rattle.std.specs.Prelude.{◌≡◌, ◌++◌, ◌∷◌, [], OnOk};
+ghost use Rattle.std.specs.Prelude.{◌≡◌};
 ghost use Rattle.cedar_text.specs.declared.token_kind.TokenKind.TheVariants as kind;
 ghost use Rattle.cedar_parser_expressions.specs.Reading as reading;
 ghost use Rattle.cedar_parser_statements.specs.StatementReading as spec;
@@ -11,7 +11,7 @@ use cedar_parser_tree::{
     Reference, WrittenActionScope, WrittenEntityScope, WrittenScope, WrittenUids,
 };
 use cedar_text::TokenKind;
-use std::alloc::{AllocError, Global};
+use std::alloc::Global;
 
 /// Parses a scope with its round brackets (Cedar language reference, grammar: scope).
 #[tactic(auto, unfolding(crate::specs::StatementReading::scope))]
@@ -213,24 +213,16 @@ fn parse_entities(alloc: Global, tokens: &mut Cursor<'_>) -> Result<Vec<WrittenU
 {
     let mut found = Vec::new(alloc);
     let first = parse_entity(alloc, tokens)?;
-    push(&mut found, first)?;
+    found.push(first)?;
     for _turn in 0..tokens.left() {
         if !tokens.sees(TokenKind::Comma) {
             return Ok(found);
         }
         tokens.skip();
         let uid = parse_entity(alloc, tokens)?;
-        push(&mut found, uid)?;
+        found.push(uid)?;
     }
     Ok(found)
-}
-
-// Appends an entity.
-fn push(uids: &mut Vec<WrittenUid>, uid: WrittenUid) -> Result<(), AllocError>
-    ensures { OnOk result (uids.new.items ≡ uids.old.items ++ uid ∷ []) }
-{
-    uids.push(uid)?;
-    Ok(())
 }
 
 // Takes the word `name`.

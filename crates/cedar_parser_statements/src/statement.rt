@@ -1,5 +1,5 @@
 //! The parser of statements.
-ghost use Rattle.std.specs.Prelude.{◌≡◌, ◌++◌, ◌∷◌, [], OnOk, IfOk, IfErr};
+ghost use Rattle.std.specs.Prelude.{◌≡◌, IfOk, IfErr};
 ghost use Rattle.cedar_parser_statements.specs.Statements as grammar;
 ghost use Rattle.cedar_parser_tree.specs.StatementTree.{StatementTree};
 ghost use Rattle.cedar_parser_statements.specs.StatementText.{IsStatement, HasStatement, HasStatementFault};
@@ -13,7 +13,7 @@ use cedar_parser_expressions::parse_expression;
 use cedar_parser_tokens::{Cursor, ParseFault, Word, parse_string};
 use cedar_parser_tree::{Written, WrittenAnnotation, WrittenCondition, WrittenStatement};
 use cedar_text::TokenKind;
-use std::alloc::{AllocError, Global};
+use std::alloc::Global;
 
 /// How many brackets may be open at one place inside a condition.
 const MAX_OPEN: u8 = 100;
@@ -109,7 +109,7 @@ fn parse_annotations(
             return Ok(found);
         }
         let annotation = parse_annotation(alloc, tokens)?;
-        push_annotation(&mut found, annotation)?;
+        found.push(annotation)?;
     }
     Ok(found)
 }
@@ -125,17 +125,6 @@ fn parse_annotation(alloc: Global, tokens: &mut Cursor<'_>) -> Result<WrittenAnn
     let value = parse_string(alloc, tokens)?;
     tokens.expect(TokenKind::RightParen)?;
     Ok(WrittenAnnotation { start, name, value })
-}
-
-// Appends an annotation.
-fn push_annotation(
-    annotations: &mut Vec<WrittenAnnotation>,
-    annotation: WrittenAnnotation,
-) -> Result<(), AllocError>
-    ensures { OnOk result (annotations.new.items ≡ annotations.old.items ++ annotation ∷ []) }
-{
-    annotations.push(annotation)?;
-    Ok(())
 }
 
 fn effect_of(word: &str) -> Option<Effect>
@@ -162,7 +151,7 @@ fn parse_conditions(
         };
         tokens.skip();
         let body = parse_condition_body(alloc, tokens)?;
-        push_condition(&mut found, kind, body)?;
+        found.push(WrittenCondition { kind, body })?;
     }
     Ok(found)
 }
@@ -187,18 +176,6 @@ fn condition_kind_of(word: &str) -> Option<ConditionKind>
         "unless" => Some(ConditionKind::Unless),
         _ => None,
     }
-}
-
-// Appends a condition.
-fn push_condition(
-    conditions: &mut Vec<WrittenCondition>,
-    kind: ConditionKind,
-    body: Written,
-) -> Result<(), AllocError>
-    ensures { OnOk result (conditions.new.items ≡ conditions.old.items ++ record { kind = kind; body = body } ∷ []) }
-{
-    conditions.push(WrittenCondition { kind, body })?;
-    Ok(())
 }
 
 // Parses the expression of a condition, in braces.

@@ -1,10 +1,10 @@
 //! The tree of statements and expressions as they are written.
 //!
 //! ```
-//! use cedar_parser_tree::{Written, WrittenKind, not};
+//! use cedar_parser_tree::{Written, WrittenKind};
 //!
-//! let flag = Written::new(WrittenKind::Truth(true));
-//! let denied = not(rt.alloc(), flag)?;
+//! let flag = Box::new(rt.alloc(), Written::new(WrittenKind::Truth(true)))?;
+//! let denied = Written::new(WrittenKind::Not(flag));
 //! assert!(rt; matches!(denied.kind(), WrittenKind::Not(_)));
 //! ```
 //!
@@ -13,16 +13,12 @@
 #![tactic(auto)]
 
 mod attribute_path;
-mod constructors;
 mod series;
 mod sign;
 mod written;
 mod written_statement;
 
 pub use attribute_path::AttributePath;
-pub use constructors::{
-    group, has, if_else, is, is_in, like, minus, not, push_field, push_item, push_link, relation,
-};
 pub use series::Series;
 pub use sign::{ChainSign, RelationSign};
 pub use written::{Field, Link, Span, Written, WrittenKind};

@@ -6,13 +6,11 @@ use Rattle.cedar_value.specs.World.{World}
 use Rattle.cedar_value.specs.declared.request.Request.{Request}
 use Rattle.cedar_value.specs.declared.uid.Uid.{Uid}
 use Rattle.cedar_ast.specs.PolicyTree.{PolicyTree}
-use Rattle.cedar_schema.specs.Positions.{IsEnvironmentAt}
-use Rattle.cedar_schema_spec.specs.Conformance.{FitsIn}
-use Rattle.cedar_schema_spec.specs.SchemaTree.{SchemaTree, environments_of}
+use Rattle.cedar_schema_spec.specs.SchemaTree.{SchemaTree}
 use Rattle.cedar_schema_spec.specs.declared.environment.Environment.{Environment}
 use Rattle.cedar_check_spec.specs.Candidates.{IsCandidate, MayMeet, Meets}
 use Rattle.cedar_auth_spec.specs.Candidates.{AreCandidates, Ascend}
-use Rattle.cedar_auth_candidates.specs.Candidates.{AreCandidatesFor, CandidatesTree, HasPositions, HasSelected, HasSelectedInOrder, HasSelectedInOrderAt, IsKeptFor, IsSelected, listing_at}
+use Rattle.cedar_auth_candidates.specs.Candidates.{CandidatesTree, HasPositions, HasSelected, HasSelectedInOrder, HasSelectedInOrderAt, IsKeptFor, IsSelected, listing_at}
 use Rattle.cedar_auth_candidates.specs.Index.{HasReached, IsIndexOf, IsListingBy, ListingTree}
 use Rattle.cedar_auth_candidates.specs.Private.Chosen.{IsChosen}
 

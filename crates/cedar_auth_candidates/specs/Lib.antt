@@ -2,4 +2,5 @@ pub mod Candidates
 pub mod Index
 pub mod Private
 pub mod Reached
+pub mod ScopeMatcherView
 pub mod Scopes

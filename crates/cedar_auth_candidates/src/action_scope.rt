@@ -4,16 +4,17 @@ ghost use Rattle.cedar_ast.specs.Condition.{action_scope_of};
 ghost use Rattle.cedar_code.specs.Code.{size, most_instructions};
 ghost use Rattle.cedar_auth_candidates.specs.Private.Met.{is_action_met, is_within_one_of};
 
-use crate::entity_scope::is_within;
+use crate::request_entity::RequestEntity;
 use cedar_ast::ActionScope;
 use cedar_value::{Hierarchy, Uid};
 
 // Whether the action is one of these, or below one.
-fn is_within_one<H: Hierarchy>(action: &Uid, uids: &[Uid], hierarchy: &H) -> bool
-    ensures { result ≡ is_within_one_of (H.world hierarchy.now) action.now uids.now }
+fn is_within_one<H: Hierarchy>(uids: &[Uid], action: &mut RequestEntity<'_, H>) -> bool
+    ensures met { result ≡ is_within_one_of action.old.world action.old.uid uids.now }
+    ensures same { action.new ≡ action.old }
 {
     for uid in uids {
-        if is_within(action, uid, hierarchy) {
+        if action.is_within(uid) {
             return true;
         }
     }
@@ -21,14 +22,15 @@ fn is_within_one<H: Hierarchy>(action: &Uid, uids: &[Uid], hierarchy: &H) -> boo
 }
 
 /// Whether the action is what the scope requires (Cedar language reference, policy scope).
-pub(crate) fn is_met<H: Hierarchy>(scope: &ActionScope, action: &Uid, hierarchy: &H) -> bool
-    ensures { result ≡ is_action_met (H.world hierarchy.now) action.now scope.now }
+pub(crate) fn is_met<H: Hierarchy>(scope: &ActionScope, action: &mut RequestEntity<'_, H>) -> bool
+    ensures met { result ≡ is_action_met action.old.world action.old.uid scope.now }
+    ensures same { action.new ≡ action.old }
 {
     match scope {
         ActionScope::Any => true,
-        ActionScope::Equal(uid) => action == uid,
-        ActionScope::In(uid) => is_within(action, uid, hierarchy),
-        ActionScope::InSet(uids) => is_within_one(action, uids.as_slice(), hierarchy),
+        ActionScope::Equal(uid) => action.uid() == uid,
+        ActionScope::In(uid) => action.is_within(uid),
+        ActionScope::InSet(uids) => is_within_one(uids.as_slice(), action),
     }
 }
 

@@ -1,32 +1,25 @@
 //! What a scope requires of the principal or the resource.
-ghost use Rattle.std.specs.Prelude.{◌≡◌, ◌||◌};
-ghost use Rattle.cedar_value.specs.Datum.{same_uid};
-ghost use Rattle.cedar_value.specs.World.{below};
+ghost use Rattle.std.specs.Prelude.{◌≡◌};
 ghost use Rattle.cedar_ast_expressions.specs.declared.variable.Variable.{Variable};
 ghost use Rattle.cedar_ast.specs.Condition.{entity_scope_of};
 ghost use Rattle.cedar_code.specs.Code.{size};
 ghost use Rattle.cedar_auth_candidates.specs.Private.Met.{is_entity_met};
 
+use crate::request_entity::RequestEntity;
 use cedar_ast::EntityScope;
-use cedar_value::{Hierarchy, Uid};
-
-/// Whether the one entity is the other, or below it (Cedar language reference, operators, `in`).
-pub(crate) fn is_within<H: Hierarchy>(low: &Uid, high: &Uid, hierarchy: &H) -> bool
-    ensures { result ≡ (same_uid low.now high.now || below (H.world hierarchy.now) low.now high.now) }
-{
-    low == high || hierarchy.is_below(low, high)
-}
+use cedar_value::Hierarchy;
 
 /// Whether the entity is what the scope requires (Cedar language reference, policy scope).
-pub(crate) fn is_met<H: Hierarchy>(scope: &EntityScope, entity: &Uid, hierarchy: &H) -> bool
-    ensures { result ≡ is_entity_met (H.world hierarchy.now) entity.now scope.now }
+pub(crate) fn is_met<H: Hierarchy>(scope: &EntityScope, entity: &mut RequestEntity<'_, H>) -> bool
+    ensures met { result ≡ is_entity_met entity.old.world entity.old.uid scope.now }
+    ensures same { entity.new ≡ entity.old }
 {
     match scope {
         EntityScope::Any => true,
-        EntityScope::Equal(uid) => entity == uid,
-        EntityScope::In(uid) => is_within(entity, uid, hierarchy),
-        EntityScope::Is(name) => entity.ty == *name,
-        EntityScope::IsIn(name, uid) => entity.ty == *name && is_within(entity, uid, hierarchy),
+        EntityScope::Equal(uid) => entity.uid() == uid,
+        EntityScope::In(uid) => entity.is_within(uid),
+        EntityScope::Is(name) => entity.uid().ty == *name,
+        EntityScope::IsIn(name, uid) => entity.uid().ty == *name && entity.is_within(uid),
     }
 }
 

@@ -10,7 +10,7 @@ ghost use Rattle.cedar_value.specs.declared.uid.Uid.{Uid as UidTree};
 
 use base_bits::has_bit;
 use cedar_store::{Store, UidHashing};
-use cedar_value::{Hierarchy, Uid};
+use cedar_value::Uid;
 use indexmap::IndexMap;
 use std::alloc::{AllocError, Global};
 
@@ -81,7 +81,8 @@ pub(crate) fn push_lists(
     Ok(())
 }
 
-/// Appends the positions that are kept under each uid that the entity is below. Each uid with a list is tested.
+/// Appends the positions that are kept under each uid that the entity is below. Each uid with a list is tested, and the entity is looked
+/// up once.
 pub(crate) fn push_below(
     lists: &UidLists,
     entity: &Uid,
@@ -91,8 +92,9 @@ pub(crate) fn push_below(
     ensures kept { OnOk result (Holds positions.old.items positions.new.items) }
     ensures added { OnOk result ((u : UidTree) → Below store.now entity.now u → Holds (list_at lists.now u) positions.new.items) }
 {
+    let entity = store.descendant(entity);
     for (uid, list) in lists.iter() {
-        if store.is_below(entity, uid) {
+        if entity.is_below(uid) {
             positions.extend_from_slice(list)?;
         }
     }

@@ -86,8 +86,8 @@ fn is_number_found_ahead(numbers: &Numbers, rows: &[Row], near: &[usize], uid: &
     }
 }
 
-/// Whether some uid of a set of values has a number that is ahead of some near ones. Where these are few, the uid of each is compared with the
-/// members. The members are hashed only where that does not decide.
+/// Whether some uid of a set of values has a number that is ahead of some near ones. Where these are few, the uid of each is compared
+/// with the members. The members are hashed only where that does not decide.
 pub(crate) fn is_any_ahead(
     numbers: &Numbers,
     rows: &[Row],

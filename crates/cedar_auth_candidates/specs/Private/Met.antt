@@ -1,11 +1,12 @@
 -- Whether a scope is met, as a test.
-use Rattle.std.specs.Prelude.{Bool, true, ◌&&◌, ◌||◌, List}
+use Rattle.std.specs.Prelude.{◌≡◌, Bool, true, ◌&&◌, ◌||◌, List}
 use Rattle.std.specs.List.{list_any}
 use Rattle.std.specs.Str.{bytes_eq}
 use Rattle.cedar_value.specs.Datum.{same_uid}
 use Rattle.cedar_value.specs.World.{World, below}
 use Rattle.cedar_value.specs.declared.request.Request.{Request}
 use Rattle.cedar_value.specs.declared.uid.Uid.{Uid}
+use Rattle.cedar_store.specs.DescendantView.{DescendantView}
 use Rattle.cedar_ast.specs.declared.scope.EntityScope.{EntityScope}
 use Rattle.cedar_ast.specs.declared.scope.EntityScope.TheVariants as entity
 use Rattle.cedar_ast.specs.declared.scope.ActionScope.{ActionScope}
@@ -38,3 +39,7 @@ is_action_met w v (action.InSet us) = is_within_one_of w v us
 -- the request meets each of the three sides
 abbrev pub is_scope_met : World → Request → Scope → Bool
 is_scope_met w q s = is_entity_met w q.resource s.resource && (is_entity_met w q.principal s.principal && is_action_met w q.action s.action)
+
+-- what is kept for an entity of a request is that entity in that world
+abbrev pub IsEntityOf : World → Uid → DescendantView → Type 0
+IsEntityOf w u d = (d.world ≡ w) × (d.uid ≡ u)

@@ -30,7 +30,7 @@ loop-uid-preserved c =
     let old = c.loop-uid.positions.items in (
       c.loop-uid.invariant.0,
       asked_more w e all c.next.new.self c.in-Some.uid.now c.in-Some.list.now old old (λ k m. m)
-          (λ below. let told : false ≡ true = c.if-is_below.ensures.chain.1 below in cc told)
+          (λ below. let told : false ≡ true = (rw (c.descendant-entity.ensures.world, c.descendant-entity.ensures.uid) at c.if-is_below.ensures.chain).1 below in cc told)
           (subst (λ (es : List (Uid × Vec ℕ)). HoldsOrLeft w e all es old) c.in-Some.ensures.steps c.loop-uid.invariant.1),
     )
 

@@ -1,4 +1,4 @@
-use Rattle.std.proofs.Common.{◌≡◌, true, ℕ, List, Contains, subst, sym, ◌∙◌}
+use Rattle.std.proofs.Common.{ℕ, List, Contains, subst, sym, ◌∙◌}
 use Rattle.cedar_auth_candidates.specs.Index.{HasReached, IndexTree}
 use Rattle.cedar_auth_candidates.proofs.ListedPositions.{stays, is_added, listed_alone}
 use Rattle.cedar_auth_candidates.proofs.Selected.{selected}

@@ -23,7 +23,6 @@ mod fitting_request;
 mod guesses;
 mod laws;
 mod links;
-mod names;
 mod parts;
 mod plain_request;
 mod request;

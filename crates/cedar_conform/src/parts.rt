@@ -14,14 +14,13 @@ ghost use Rattle.cedar_conform.specs.Private.PartsAnswers.{AreUidsOf, IsUidOf};
 
 use crate::context::{absent_context, record_type};
 use crate::fitting_request::FittingRequest;
-use crate::names::Names;
 use crate::request::{RequestUids, context_type};
 use crate::request_reader::RequestReader;
 use crate::request_rooms::RequestRooms;
 use crate::uid_room::UidRoom;
 use crate::uids::named_uid;
 use base_json::JsonReader;
-use cedar_conform_values::{ConformFault, read_record, read_values_belong};
+use cedar_conform_values::{ConformFault, Names, read_record, read_values_belong};
 use cedar_schema::Schema;
 use cedar_schema_types::Type;
 use cedar_value::{Record, Request, Uid};

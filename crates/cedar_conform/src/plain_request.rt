@@ -7,13 +7,12 @@ ghost use Rattle.cedar_conform.specs.Private.Answers.{IsAnswer};
 ghost use Rattle.cedar_conform.specs.Private.Fields.{AreFieldsOf, AreWritten, LacksIn, LacksOne, WrittenIn, quoted_fields};
 
 use crate::context::no_context;
-use crate::names::Names;
 use crate::request::{RequestUids, context_type};
 use crate::request_rooms::RequestRooms;
 use crate::uid_room::UidRoom;
 use crate::uids::quoted_uid;
 use base_json::{QuotedText, ThreeQuoted};
-use cedar_conform_values::ConformFault;
+use cedar_conform_values::{ConformFault, Names};
 use cedar_schema::Schema;
 use cedar_value::{Request, Uid};
 use std::alloc::Global;

@@ -20,16 +20,13 @@ ghost use Rattle.cedar_conform.specs.Private.Fields.{AreFieldsOf, AreWritten, La
 use crate::context::{absent_context, record_type};
 use crate::fields::Fields;
 use crate::fitting_request::FittingRequest;
-use crate::names::Names;
 use crate::plain_request::plain_request;
 use crate::request_reader::RequestReader;
 use crate::request_rooms::RequestRooms;
 use crate::uid_room::UidRoom;
 use crate::uids::lent_uid;
 use base_json::{JsonReader, LentValue, MemberReader, ThreeQuoted, TreeFault};
-use cedar_conform_values::{
-    ConformFault, one_written_uid, read_lent_record, read_record, read_values_belong,
-};
+use cedar_conform_values::{ConformFault, Names, one_written_uid, read_lent_record, read_record, read_values_belong};
 use cedar_schema::Schema;
 use cedar_schema_types::Type;
 use cedar_value::{Record, Request, Uid};

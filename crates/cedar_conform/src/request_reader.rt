@@ -1,7 +1,7 @@
 //! What is kept from request to request.
-use crate::names::Names;
 use crate::request_rooms::RequestRooms;
 use base_json::JsonReader;
+use cedar_conform_values::Names;
 use cedar_value::Request;
 use std::alloc::{AllocError, Global};
 

@@ -9,14 +9,13 @@ ghost use Rattle.cedar_conform.specs.Private.WithEntities.{AreFieldsWith, IsAnsw
 
 use crate::fields_with_entities::FieldsWithEntities;
 use crate::laws::{requests_with_entities_fit, worlds_for_requests_conform};
-use crate::names::Names;
 use crate::plain_request::plain_request;
 use crate::request::{no_object_fault, request_of};
 use crate::request_reader::RequestReader;
 use crate::request_rooms::RequestRooms;
 use base_json::{LentValue, MemberReader, ThreeQuoted, TreeFault};
 use cedar_conform_entities::upsert_entities;
-use cedar_conform_values::ConformFault;
+use cedar_conform_values::{ConformFault, Names};
 use cedar_schema::Schema;
 use cedar_store::Store;
 use cedar_value::Request;

@@ -9,10 +9,9 @@ ghost use Rattle.cedar_value.specs.declared.uid.Uid.{Uid as UidTree};
 ghost use Rattle.cedar_parser_tokens.specs.UidText.{IsUidText};
 ghost use Rattle.cedar_conform_values.specs.WrittenUids.{IsUidObject, WritesUid};
 
-use crate::names::Names;
 use crate::uid_room::UidRoom;
 use base_json::{LentObject, LentValue, QuotedText};
-use cedar_conform_values::{uid_of_lent, uid_of_object, uid_of_text, written_uid};
+use cedar_conform_values::{Names, uid_of_lent, uid_of_object, uid_of_text, written_uid};
 use cedar_parser_tokens::plain_uid_texts;
 use cedar_value::Uid;
 use std::alloc::{AllocError, Global};

@@ -1,5 +1,5 @@
 use Rattle.std.proofs.Common.{◌-◌, ◌≤◌, length}
-use Rattle.cedar_conform.proofs.names.Names.place.Given as goal
+use Rattle.cedar_conform_values.proofs.names.Names.place.Given as goal
 
 abbrev pub invariant-halves : goal.invariant-halves
 invariant-halves l = (l.low ≤ l.high) × (l.high ≤ length l.self-inside.names.items)

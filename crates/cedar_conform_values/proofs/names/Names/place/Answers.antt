@@ -3,7 +3,7 @@ use Rattle.std.proofs.lemmas.Grind.{common_steps}
 use Rattle.std.proofs.lemmas.Slice.Eq.{bytes_eq-Decides}
 use Rattle.cedar_value.specs.Names.{IsName}
 use Rattle.cedar_value.specs.Private.Laws.{text_ties}
-use Rattle.cedar_conform.proofs.names.Names.place.Goals as goal
+use Rattle.cedar_conform_values.proofs.names.Names.place.Goals as goal
 
 pub returns-in-Equal : goal.returns-in-Equal
 returns-in-Equal c =

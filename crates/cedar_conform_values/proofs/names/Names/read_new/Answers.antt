@@ -2,7 +2,7 @@ use Rattle.std.proofs.Common.{◌≡◌, ◌++◌, ◌∷◌, ℕ, List, Option,
 use Rattle.std.specs.Prelude.{IfSome, IsSome}
 use Rattle.std.proofs.lemmas.List.Elements.{All-append, All-cons, All-take, All-drop}
 use Rattle.cedar_value.specs.Names.{IsName}
-use Rattle.cedar_conform.proofs.names.Names.read_new.Goals as goal
+use Rattle.cedar_conform_values.proofs.names.Names.read_new.Goals as goal
 
 -- one more name among names
 inserted : (xs : List (List ℕ)) (i : ℕ) (x : List ℕ) → All IsName xs → IsName x → All IsName (take i xs ++ x ∷ drop i xs)

@@ -10,10 +10,10 @@ use std::marker::Model;
 /// How many names are kept at most. Other names are read anew each time.
 const MOST_NAMES: usize = 256;
 
-/// Names that were read, in ascending order, so that the next request shares the name of its type and takes no memory for it. Each
+/// Names that were read, in ascending order, so that the next uid shares the name of its type and takes no memory for it. Each
 /// reader has its own: if threads shared them, they would count the holders of one name in turn. Contracts see the texts.
 #[derive(Drop)]
-pub(crate) struct Names {
+pub struct Names {
     names: Vec<Name>,
 }
 
@@ -30,7 +30,7 @@ impl Model for Names {
 
 impl Names {
     /// No names. It takes no memory yet.
-    pub(crate) fn new(alloc: Global) -> Names {
+    pub fn new(alloc: Global) -> Names {
         Names {
             names: Vec::new(alloc),
         }
@@ -38,7 +38,7 @@ impl Names {
 
     /// The name that the text writes, or None for another text. It is looked for at the place `guess` first, and otherwise found with as
     /// many comparisons as the logarithm of the number of names that are kept. Its place is the next guess.
-    pub(crate) fn read(
+    pub fn read(
         &mut self,
         alloc: Global,
         text: &str,

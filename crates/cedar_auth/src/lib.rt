@@ -25,6 +25,7 @@ mod answer;
 mod compiled;
 mod crossing;
 mod deciding;
+mod evaluator;
 mod judged;
 mod not_ready;
 mod not_validated;

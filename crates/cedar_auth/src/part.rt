@@ -6,12 +6,13 @@ ghost use Rattle.cedar_auth.specs.Private.Ruling.{ruled};
 ghost use Rattle.cedar_auth_candidates.specs.Scopes.{sides_of};
 ghost use Rattle.cedar_code.specs.TrueSides.{AreTrue};
 
+use crate::evaluator::Evaluator;
 use crate::ruling::{is_settled, ruled};
 use cedar_ast::{Effect, Policy};
 use cedar_ast_expressions::EvaluationError;
-use cedar_auth_candidates::{is_met, place_after_scope};
+use cedar_auth_candidates::place_after_scope;
 use cedar_code::{Code, true_sides_are_passed};
-use cedar_conjunctions::{Conjunction, Sources};
+use cedar_conjunctions::Conjunction;
 use cedar_machine::Operands;
 use cedar_value::{Hierarchy, Request};
 use std::alloc::{AllocError, Global};
@@ -63,20 +64,19 @@ impl<'v> Part<'v> {
         &self,
         alloc: Global,
         operands: &mut Option<Operands<'o>>,
-        sources: &mut Sources<'r, H>,
+        evaluator: &mut Evaluator<'r, H>,
     ) -> Result<Result<bool, EvaluationError>, AllocError>
     where
         'v: 'o,
-        ensures verdict { IfOk result (λ v. v ≡ verdict_of (meaning sources.old.request sources.old.world self.now)) }
-        ensures same { sources.new ≡ sources.old }
+        ensures verdict { IfOk result (λ v. v ≡ verdict_of (meaning evaluator.old.request evaluator.old.world self.now)) }
+        ensures same { evaluator.new ≡ evaluator.old }
     {
-        let (request, hierarchy) = (sources.request(), sources.hierarchy());
-        if !is_met(self.policy.scope(), request, hierarchy) {
+        if !evaluator.is_met(self.policy.scope()) {
             return Ok(Ok(false));
         }
         match self.conjunction {
-            Some(conjunction) => Ok(conjunction.truth(sources)),
-            None => self.run(alloc, operands, request, hierarchy),
+            Some(conjunction) => Ok(evaluator.truth(conjunction)),
+            None => self.run(alloc, operands, evaluator.request(), evaluator.hierarchy()),
         }
     }
 
@@ -111,18 +111,18 @@ impl<'v> Part<'v> {
         alloc: Global,
         ruling: Option<Effect>,
         operands: &mut Option<Operands<'o>>,
-        sources: &mut Sources<'r, H>,
+        evaluator: &mut Evaluator<'r, H>,
     ) -> Result<Option<Effect>, AllocError>
     where
         'v: 'o,
-        ensures ruled { IfOk result (λ r. r ≡ ruled ruling self.now.effect (verdict_of (meaning sources.old.request sources.old.world self.now))) }
-        ensures same { sources.new ≡ sources.old }
+        ensures ruled { IfOk result (λ r. r ≡ ruled ruling self.now.effect (verdict_of (meaning evaluator.old.request evaluator.old.world self.now))) }
+        ensures same { evaluator.new ≡ evaluator.old }
     {
         let effect = self.policy.effect();
         if is_settled(ruling, effect) {
             return Ok(ruling);
         }
-        let verdict = self.verdict(alloc, operands, sources)?;
+        let verdict = self.verdict(alloc, operands, evaluator)?;
         Ok(ruled(ruling, effect, verdict))
     }
 }

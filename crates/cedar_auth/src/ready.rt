@@ -24,6 +24,7 @@ ghost use Rattle.cedar_auth.specs.Private.ReadyTrees.{ready_tree};
 ghost use Rattle.cedar_auth.specs.Private.Selected.{LeavesFalse};
 ghost use Rattle.cedar_auth.specs.Private.Tally.{tally_of};
 
+use crate::evaluator::Evaluator;
 use crate::not_ready::NotReady;
 use crate::response::Response;
 use crate::tally::Tally;
@@ -443,8 +444,9 @@ impl Ready {
         ensures { OnOk result (tally.new ≡ tally_of request.now store.now self.now.policies.policies) }
     {
         let positions = self.selected_over(request, store, selection)?;
+        let mut evaluator = Evaluator::over(request, store);
         self.validated()
-            .tally(alloc, request, store, positions, tally)
+            .tally(alloc, &mut evaluator, positions, tally)
     }
 
     // The decision on the request. Keeps no list of policies.
@@ -456,8 +458,8 @@ impl Ready {
         self.premises();
         let mut selection = Selection::new(alloc);
         let positions = self.selected_over(request, self.store(), &mut selection)?;
-        self.validated()
-            .decide(alloc, request, self.store(), positions)
+        let mut evaluator = Evaluator::over(request, self.store());
+        self.validated().decide(alloc, &mut evaluator, positions)
     }
 
     // Like `tally`, for a request of whose environment the position is known.
@@ -473,8 +475,9 @@ impl Ready {
         ensures { OnOk result (tally.new ≡ tally_of found.now.request self.now.world self.now.policies.policies) }
     {
         let positions = self.selected_fitting(found, selection)?;
+        let mut evaluator = Evaluator::over(&found.request, self.store());
         self.validated()
-            .tally(alloc, &found.request, self.store(), positions, tally)
+            .tally(alloc, &mut evaluator, positions, tally)
     }
 
     // Like `decide`, for a request of whose environment the position is known.
@@ -489,8 +492,8 @@ impl Ready {
     {
         let mut selection = Selection::new(alloc);
         let positions = self.selected_fitting(found, &mut selection)?;
-        self.validated()
-            .decide(alloc, &found.request, self.store(), positions)
+        let mut evaluator = Evaluator::over(&found.request, self.store());
+        self.validated().decide(alloc, &mut evaluator, positions)
     }
 
     /// Every request that fits is answered soundly over each world that conforms to the schema: what [`engine_is_sound`] says of

@@ -10,6 +10,7 @@ ghost use Rattle.cedar_auth.specs.Private.Selected.{policies_at};
 ghost use Rattle.cedar_auth.specs.Private.Tally.{response_by, tally_of};
 
 use crate::compiled::Compiled;
+use crate::evaluator::Evaluator;
 use crate::judged::{Judged, judge_all};
 use crate::not_validated::NotValidated;
 use crate::part::Part;
@@ -21,7 +22,6 @@ use cedar_ast::{Decision, PolicySet};
 use cedar_auth_candidates::all_positions;
 use cedar_check_law::typing_is_determined;
 use cedar_check_spec::Settings;
-use cedar_conjunctions::Sources;
 use cedar_schema::Schema;
 use cedar_value::{Hierarchy, Request, Text};
 use std::alloc::{AllocError, Global};
@@ -183,22 +183,20 @@ impl Validated {
     pub(crate) fn tally<'v, 'r, H: Hierarchy>(
         &'v self,
         alloc: Global,
-        request: &'r Request,
-        hierarchy: &'r H,
+        evaluator: &mut Evaluator<'r, H>,
         positions: &[usize],
         tally: &mut Tally<'v>,
     ) -> Result<(), AllocError>
         requires within { (k : ℕ) → Contains positions.now k → k < length self.now.policies.policies }
-        ensures { OnOk result (tally.new ≡ tally_of request.now (H.world hierarchy.now) (policies_at self.now.policies.policies positions.now)) }
+        ensures { OnOk result (tally.new ≡ tally_of evaluator.old.request evaluator.old.world (policies_at self.now.policies.policies positions.now)) }
     {
         let mut operands = None;
-        let mut sources = Sources::new(request, hierarchy);
         tally.clear();
         for position in positions {
             let Some(part) = self.part(*position) else {
                 unreachable!()
             };
-            let verdict = part.verdict(alloc, &mut operands, &mut sources)?;
+            let verdict = part.verdict(alloc, &mut operands, evaluator)?;
             tally.enter(part.policy.id().as_str(), part.policy.effect(), verdict)?;
         }
         Ok(())
@@ -208,21 +206,19 @@ impl Validated {
     pub(crate) fn decide<'r, H: Hierarchy>(
         &self,
         alloc: Global,
-        request: &'r Request,
-        hierarchy: &'r H,
+        evaluator: &mut Evaluator<'r, H>,
         positions: &[usize],
     ) -> Result<Decision, AllocError>
         requires within { (k : ℕ) → Contains positions.now k → k < length self.now.policies.policies }
-        ensures { IfOk result (λ d. d ≡ (response_by (tally_of request.now (H.world hierarchy.now) (policies_at self.now.policies.policies positions.now))).decision) }
+        ensures { IfOk result (λ d. d ≡ (response_by (tally_of evaluator.old.request evaluator.old.world (policies_at self.now.policies.policies positions.now))).decision) }
     {
         let mut operands = None;
-        let mut sources = Sources::new(request, hierarchy);
         let mut ruling = None;
         for position in positions {
             let Some(part) = self.part(*position) else {
                 unreachable!()
             };
-            ruling = part.rule(alloc, ruling, &mut operands, &mut sources)?;
+            ruling = part.rule(alloc, ruling, &mut operands, evaluator)?;
         }
         Ok(decision_by(ruling))
     }
@@ -243,7 +239,8 @@ impl Validated {
     {
         let positions = all_positions(alloc, &self.policies)?;
         let mut tally = Tally::new(alloc);
-        self.tally(alloc, request, hierarchy, &positions, &mut tally)?;
+        let mut evaluator = Evaluator::new(request, hierarchy);
+        self.tally(alloc, &mut evaluator, &positions, &mut tally)?;
         Ok(tally.into_response())
     }
 }

@@ -31,4 +31,5 @@ returns c =
     (IfOk-weaker c.decide.result _ _
     (λ d e. e ∙ ap (λ (t : TallyTree). (response_by t).decision) same ∙ ap (λ (r : ResponseTree). r.decision) (response_by-tally q w ps))
     (subst (λ (v : ValidatedTree). IfOk c.decide.result (λ d. d ≡ (response_by (tally_of q w (policies_at v.policies.policies ks))).decision)) c.validated.ensures
-    (subst (λ (x : World). IfOk c.decide.result (λ d. d ≡ (response_by (tally_of q x (policies_at held.policies.policies ks))).decision)) (c.store-2.ensures ∙ sym c.store.ensures) c.decide.ensures)))
+    (subst (λ (x : World). IfOk c.decide.result (λ d. d ≡ (response_by (tally_of q x (policies_at held.policies.policies ks))).decision)) (c.store-2.ensures ∙ sym c.store.ensures)
+    (rw (c.over-evaluator.ensures.request, c.over-evaluator.ensures.world) at c.decide.ensures))))

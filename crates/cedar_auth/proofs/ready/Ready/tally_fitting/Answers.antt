@@ -21,4 +21,5 @@ returns c =
     let same = selected_gather q ready.world ready.policies.policies ks c.in_ok-positions.ensures.ascend c.in_ok-positions.ensures.others in
     on_ok_weaker c.tally.result (λ e. e ∙ same)
     (subst (λ (v : ValidatedTree). OnOk c.tally.result (c.tally.new.tally ≡ tally_of q ready.world (policies_at v.policies.policies ks))) c.validated.ensures
-    (subst (λ (w : World). OnOk c.tally.result (c.tally.new.tally ≡ tally_of q w (policies_at held.policies.policies ks))) c.store.ensures c.tally.ensures))
+    (subst (λ (w : World). OnOk c.tally.result (c.tally.new.tally ≡ tally_of q w (policies_at held.policies.policies ks))) c.store.ensures
+    (rw (c.over-evaluator.ensures.request, c.over-evaluator.ensures.world) at c.tally.ensures)))

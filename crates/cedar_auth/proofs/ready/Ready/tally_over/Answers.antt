@@ -20,4 +20,5 @@ returns c =
     let ks = c.in_ok-positions.positions.now in
     let same = selected_gather q w ready.policies.policies ks c.in_ok-positions.ensures.ascend c.in_ok-positions.ensures.others in
     on_ok_weaker c.tally.result (λ e. e ∙ same)
-    (subst (λ (v : ValidatedTree). OnOk c.tally.result (c.tally.new.tally ≡ tally_of q w (policies_at v.policies.policies ks))) c.validated.ensures c.tally.ensures)
+    (subst (λ (v : ValidatedTree). OnOk c.tally.result (c.tally.new.tally ≡ tally_of q w (policies_at v.policies.policies ks))) c.validated.ensures
+    (rw (c.over-evaluator.ensures.request, c.over-evaluator.ensures.world) at c.tally.ensures))

@@ -20,6 +20,7 @@ returns g c =
     let q = c.args.request.now in
     let w = g.H.Hierarchy.world c.args.hierarchy.now in
     let all : c.deref.result.now ≡ range_with_len 0 (length ps) = c.deref.ensures.value ∙ c.in_ok-positions.ensures ∙ ap (λ (v : ValidatedTree). range_with_len 0 (length v.policies.policies)) c.self.view_is in
+    let tallied = rw (c.new-evaluator.ensures.request, c.new-evaluator.ensures.world) at c.in_ok-tally.ensures in
     c.into_response.ensures
-    ∙ ap response_by (c.in_ok-tally.ensures ∙ ap (λ (ks : List ℕ). tally_of q w (policies_at ps ks)) all ∙ ap (tally_of q w) (policies_at-all ps))
+    ∙ ap response_by (tallied ∙ ap (λ (ks : List ℕ). tally_of q w (policies_at ps ks)) all ∙ ap (tally_of q w) (policies_at-all ps))
     ∙ response_by-tally q w ps

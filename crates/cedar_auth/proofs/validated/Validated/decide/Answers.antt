@@ -2,7 +2,6 @@ use Rattle.std.proofs.Common.{get_or, Some, sym, ap, ◌∙◌}
 use Rattle.std.proofs.lemmas.List.Elements.{Contains-get_or}
 use Rattle.cedar_auth.proofs.PoliciesAt.{not_past}
 use Rattle.cedar_auth.proofs.Rulings.{ruled_all, ruled_next}
-use Rattle.cedar_conjunctions.specs.SourcesView.{SourcesView}
 use Rattle.cedar_auth.proofs.validated.Validated.decide.Goals as goal
 
 pub unreachable-requires : goal.unreachable-requires
@@ -13,18 +12,17 @@ unreachable-requires g c =
 
 pub loop-position-preserved : goal.loop-position-preserved
 loop-position-preserved g c =
-    let same = c.in_ok-ruling.ensures.same in (
-      ruled_next c.args.request.now (g.H.Hierarchy.world c.args.hierarchy.now) c.args.self.now.policies.policies c.args.positions.now c.loop-position.position-index _ c.loop-position.ruling _
+    let before = c.loop-position.invariant.1 in (
+      ruled_next c.args.evaluator.now.request c.args.evaluator.now.world c.args.self.now.policies.policies c.args.positions.now c.loop-position.position-index _ c.loop-position.ruling _
           c.loop-position-test.true
           c.in-Some.ensures
           c.loop-position.invariant.0
-          (rw (c.loop-position.invariant.1, c.loop-position.invariant.2) at c.in_ok-ruling.ensures.ruled),
-      ap (λ (s : SourcesView). s.request) same ∙ c.loop-position.invariant.1,
-      ap (λ (s : SourcesView). s.world) same ∙ c.loop-position.invariant.2,
+          (rw before at c.in_ok-ruling.ensures.ruled),
+      c.in_ok-ruling.ensures.same ∙ before,
     )
 
 pub returns : goal.returns
 returns g c =
     c.decision_by.ensures
-    ∙ ruled_all c.args.request.now (g.H.Hierarchy.world c.args.hierarchy.now) c.args.self.now.policies.policies c.args.positions.now c.loop-position.position-index c.loop-position.ruling
+    ∙ ruled_all c.args.evaluator.now.request c.args.evaluator.now.world c.args.self.now.policies.policies c.args.positions.now c.loop-position.position-index c.loop-position.ruling
     c.loop-position-test.false c.loop-position.invariant.0

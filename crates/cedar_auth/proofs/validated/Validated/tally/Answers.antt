@@ -5,7 +5,6 @@ use Rattle.cedar_ast.specs.Response.{meaning}
 use Rattle.cedar_machine.specs.Verdict.{verdict_of}
 use Rattle.cedar_auth.proofs.PoliciesAt.{not_past}
 use Rattle.cedar_auth.proofs.Tallies.{tally_of-next}
-use Rattle.cedar_conjunctions.specs.SourcesView.{SourcesView}
 use Rattle.cedar_auth.proofs.validated.Validated.tally.Goals as goal
 
 pub unreachable-requires : goal.unreachable-requires
@@ -16,11 +15,11 @@ unreachable-requires g c =
 
 pub loop-position-preserved : goal.loop-position-preserved
 loop-position-preserved g c =
-    let q = c.args.request.now in
-    let w = g.H.Hierarchy.world c.args.hierarchy.now in
+    let q = c.args.evaluator.now.request in
+    let w = c.args.evaluator.now.world in
     let part = c.part-in-loop-position in
-    let same = c.in_ok-verdict.ensures.same in
-    let verdict = rw (c.loop-position.invariant.1, c.loop-position.invariant.2) at c.in_ok-verdict.ensures.verdict in (
+    let before = c.loop-position.invariant.1 in
+    let verdict = rw before at c.in_ok-verdict.ensures.verdict in (
       tally_of-next q w c.args.self.now.policies.policies c.args.positions.now c.loop-position.position-index part.inside.policy.now c.loop-position.tally c.enter.new.self c.as_str.result.now c.effect.result c.in_ok-verdict.verdict
           c.loop-position-test.true
           (ap (λ (x : PolicyTree). Some x) part.view_is ∙ c.in-Some.ensures)
@@ -29,6 +28,5 @@ loop-position-preserved g c =
           (c.as_str.ensures ∙ c.id.ensures)
           c.effect.ensures
           (verdict ∙ ap (λ (x : PolicyTree). verdict_of (meaning q w x)) (sym part.view_is)),
-      ap (λ (s : SourcesView). s.request) same ∙ c.loop-position.invariant.1,
-      ap (λ (s : SourcesView). s.world) same ∙ c.loop-position.invariant.2,
+      c.in_ok-verdict.ensures.same ∙ before,
     )

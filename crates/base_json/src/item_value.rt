@@ -24,7 +24,7 @@ pub enum ItemValue<'t> {
 }
 
 impl<'t> ItemValue<'t> {
-    /// The value that a member has, where it is no string in two parts.
+    /// The value that a member has, where it is not a string in two parts.
     pub(crate) fn of_lent(value: LentValue<'t>) -> ItemValue<'t>
         requires { IsWhole value }
         ensures { value_view result ≡ lent_view value.entry }

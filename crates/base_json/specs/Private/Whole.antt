@@ -3,7 +3,7 @@ use Rattle.std.specs.Prelude.{⊤}
 use Rattle.base_json.specs.declared.lent_value.LentValue.{LentValue}
 use Rattle.base_json.specs.declared.lent_value.LentValue.TheVariants.{String, Quoted, Object, Tree}
 
--- the value is no string in two parts
+-- the value is not a string in two parts
 abbrev pub IsWhole : LentValue → Type 0
 IsWhole (String s) = ⊤
 IsWhole (Quoted q) = ⊥

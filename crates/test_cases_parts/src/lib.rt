@@ -1,4 +1,4 @@
-//! Cases of the engine's parts: a case with its inputs, and 61 kinds of calls, from tokens to runs of the machine.
+//! Cases of the engine's parts: a case with its inputs, and 62 kinds of calls, from tokens to runs of the machine.
 //!
 //! - `language`: texts of policies and what they are made of, values, decimals, patterns, sets of policies.
 //! - `data`: schemas, and what is according to them.

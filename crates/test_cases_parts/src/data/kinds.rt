@@ -20,6 +20,7 @@ mod json_uid;
 mod links;
 mod member;
 mod objects;
+mod plain_items;
 mod read_schema;
 mod read_schema_chain;
 mod record_type;
@@ -48,6 +49,7 @@ pub fn outcome(alloc: Global, kind: &str, case: &Case) -> Result<Option<Outcome>
         "links" => links::outcome(alloc, case)?,
         "member" => member::outcome(alloc, case)?,
         "objects" => objects::outcome(alloc, case)?,
+        "plain-items" => plain_items::outcome(alloc, case)?,
         "read-schema" => read_schema::outcome(alloc, case)?,
         "read-schema-chain" => read_schema_chain::outcome(alloc, case)?,
         "record-type" => record_type::outcome(alloc, case)?,

@@ -4,9 +4,8 @@ use Rattle.std.specs.Prelude.{◌&&◌, if◌then◌else◌, is_some}
 use Rattle.std.specs.List.{list_all}
 use Rattle.std.proofs.lemmas.List.{length-drop}
 use Rattle.serde_json.specs.Data.{Data, Members, put}
-use Rattle.base_json.specs.LentItems.{item_of, put_values}
-use Rattle.base_json.specs.Lists.{ComesNext}
-use Rattle.base_json.specs.Members.{lent_view}
+use Rattle.base_json.specs.LentItems.{item_of, put_values, value_view}
+use Rattle.base_json.specs.Lists.{ComesNext, IsNext}
 use Rattle.base_json.specs.declared.lent_item.ItemMember.{ItemMember}
 use Rattle.cedar_conform_values.specs.Objects.{are_only}
 use Rattle.cedar_conform_values.proofs.OnlyKeys.{are_only-put}
@@ -20,8 +19,8 @@ pub are_only-put_values : (may : List ℕ → Bool) (ms : List ItemMember) (old 
 are_only-put_values may [] old e all = e
 are_only-put_values may (m ∷ ms) old e all =
     let (one, others) = both (may m.key.now) (list_all (λ (n : ItemMember). may n.key.now) ms) all in
-    are_only-put_values may ms (put m.key.now (lent_view m.value) old)
-    (are_only-put may m.key.now (lent_view m.value) old ∙ ap (λ b. if b then are_only may old else false) one ∙ e) others
+    are_only-put_values may ms (put m.key.now (value_view m.value) old)
+    (are_only-put may m.key.now (value_view m.value) old ∙ ap (λ b. if b then are_only may old else false) one ∙ e) others
 
 -- ---- the rest of a list
 
@@ -30,6 +29,11 @@ pub passes_some : (text : List ℕ) (passed : ℕ) (bytes : List ℕ) (d : Data)
 passes_some text zero bytes d next read = let less = next.shorter d read in let never : ⊥ = omega (arith, less) in absurd never
 passes_some text (suc n) [] d next read = let less = next.shorter d read in let never : ⊥ = omega (arith, less) in absurd never
 passes_some text (suc n) (x ∷ xs) d next read = let short = length-drop n xs in omega (arith, short)
+
+pub passes_next : (passed : ℕ) (bytes : List ℕ) (d : Data) → IsNext d passed bytes → length (drop passed bytes) < length bytes
+passes_next zero bytes d next = let never : ⊥ = omega (arith, next.shorter) in absurd never
+passes_next (suc n) [] d next = let never : ⊥ = omega (arith, next.shorter) in absurd never
+passes_next (suc n) (x ∷ xs) d next = let short = length-drop n xs in omega (arith, short)
 
 -- ---- a key that is absent
 

@@ -11,7 +11,7 @@ use crate::entries::{after_fault, next_entry};
 use crate::entry::Entry;
 use crate::objects::{after_object_fault, next_object_entry};
 use base_json::{ItemReader, JsonReader, ListText};
-use cedar_conform_values::ConformFault;
+use cedar_conform_values::{ConformFault, Names};
 use cedar_schema::Schema;
 use cedar_store::Entity;
 use cedar_value::Uid;
@@ -34,7 +34,8 @@ pub(crate) fn read_objects(
 {
     let mut entities = first;
     let mut repeated = BTreeSet::new(alloc);
-    'walk: while let Some(entry) = next_object_entry(alloc, schema, reader, list)? {
+    let mut names = Names::new(alloc);
+    'walk: while let Some(entry) = next_object_entry(alloc, schema, &mut names, reader, list)? {
         if let Err(fault) = enter(&mut entities, &mut repeated, entry) {
             return Err(after_object_fault(alloc, reader, list, fault));
         }

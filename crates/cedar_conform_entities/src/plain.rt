@@ -5,7 +5,7 @@ ghost use Rattle.serde_json.specs.Data.{no_members, object};
 ghost use Rattle.serde_json.specs.Find.{as_object};
 ghost use Rattle.serde_json.specs.View.{items_view};
 ghost use Rattle.base_json.specs.LentItems.{item_view};
-ghost use Rattle.base_json.specs.LentObjects.{object_view};
+ghost use Rattle.base_json.specs.LentObjects.{items_of_objects, object_view};
 ghost use Rattle.cedar_conform_values.specs.WrittenUids.{IsUidObject};
 ghost use Rattle.cedar_conform_entities.specs.Denotes.{DenotesEntity};
 ghost use Rattle.cedar_conform_entities.specs.Entries.{AreUids, IsUidOf, WritesEntity, attributes_in, is_entry_key};
@@ -15,13 +15,13 @@ ghost use Rattle.cedar_schema_spec.specs.WellFormed.{IsOrderedRecord};
 
 use crate::judging::{is_action_name, judge_parents};
 use crate::keys::is_entry_key;
-use crate::written::{WrittenEntity, read_uids, with_shared_type};
-use base_json::{ItemMember, LentItem, LentObject, LentValue};
-use cedar_conform_values::{ConformFault, MOST_MEMBERS, read_short_record, uid_of_lent};
+use crate::written::{WrittenEntity, read_uids};
+use base_json::{ItemMember, ItemValue, LentItem, LentObject};
+use cedar_conform_values::{ConformFault, MOST_MEMBERS, Names, read_short_record, uid_of_lent};
 use cedar_schema::Schema;
 use cedar_schema_types::{Type, TypeKind};
 use cedar_store::Entity;
-use cedar_value::{Name, Record, Text, Uid};
+use cedar_value::{Record, Text, Uid};
 use serde_json::Value as Json;
 use std::alloc::{AllocError, Global};
 
@@ -30,11 +30,12 @@ use std::alloc::{AllocError, Global};
 pub(crate) fn plain_entity(
     alloc: Global,
     schema: &Schema,
+    names: &mut Names,
     item: &LentItem<'_>,
 ) -> Result<Option<Entity>, AllocError>
     ensures { IfOk result (λ found. IfSome found (DenotesEntity schema.now (item_view item.now))) }
 {
-    let Some(written) = read_plain(alloc, schema, item)? else {
+    let Some(written) = read_plain(alloc, schema, names, item)? else {
         return Ok(None);
     };
     let Some(shape) = schema.attributes(&written.uid.ty) else {
@@ -59,6 +60,7 @@ pub(crate) fn plain_entity(
 fn read_plain(
     alloc: Global,
     schema: &Schema,
+    names: &mut Names,
     item: &LentItem<'_>,
 ) -> Result<Option<WrittenEntity>, AllocError>
     ensures { IfOk result (λ found. IfSome found (λ w. WritesEntity (item_view item.now) w.uid w.parents.items)) }
@@ -66,13 +68,13 @@ fn read_plain(
     if !is_plain(item) {
         return Ok(None);
     }
-    let Some(uid) = plain_uid(alloc, schema, item)? else {
+    let Some(uid) = plain_uid(alloc, names, item)? else {
         return Ok(None);
     };
     if is_action_name(&uid.ty) {
         return Ok(None);
     }
-    let Some(parents) = plain_parents(alloc, schema, item)? else {
+    let Some(parents) = plain_parents(alloc, schema, names, item)? else {
         return Ok(None);
     };
     Ok(Some(WrittenEntity { uid, parents }))
@@ -95,7 +97,7 @@ fn has_attributes(item: &LentItem<'_>) -> bool
     ensures { IsTrue result → IsSome (as_object (attributes_in (item_view item.now))) }
 {
     match item.value("attrs") {
-        Some(LentValue::Object(_)) | None => true,
+        Some(ItemValue::Object(_)) | None => true,
         Some(_) => false,
     }
 }
@@ -112,18 +114,22 @@ fn are_entry_keys(members: &[ItemMember<'_>]) -> bool
 }
 
 // The uid of an entry.
-fn plain_uid(alloc: Global, schema: &Schema, item: &LentItem<'_>) -> Result<Option<Uid>, AllocError>
+fn plain_uid(
+    alloc: Global,
+    names: &mut Names,
+    item: &LentItem<'_>,
+) -> Result<Option<Uid>, AllocError>
     ensures { IfOk result (λ found. IfSome found (IsUidOf (item_view item.now))) }
 {
     match item.value("uid") {
-        Some(LentValue::Object(object)) => object_uid(alloc, schema, object),
+        Some(ItemValue::Object(object)) => object_uid(alloc, names, object),
         _ => Ok(None),
     }
 }
 
 fn object_uid(
     alloc: Global,
-    schema: &Schema,
+    names: &mut Names,
     object: &LentObject<'_>,
 ) -> Result<Option<Uid>, AllocError>
     ensures { IfOk result (λ found. IfSome found (IsUidObject (object_view object.now))) }
@@ -131,30 +137,50 @@ fn object_uid(
     let Some(texts) = uid_of_lent(object) else {
         return Ok(None);
     };
-    let Some(ty) = Name::read(alloc, texts.ty)? else {
+    let mut guess = 0;
+    let Some(ty) = names.read(alloc, texts.ty, &mut guess)? else {
         return Ok(None);
     };
     let id = Text::read(alloc, texts.id)?;
-    let uid = with_shared_type(alloc, schema, Uid { ty, id })?;
-    Ok(Some(uid))
+    Ok(Some(Uid { ty, id }))
 }
 
 // The parents of an entry.
 fn plain_parents(
     alloc: Global,
     schema: &Schema,
+    names: &mut Names,
     item: &LentItem<'_>,
 ) -> Result<Option<Vec<Uid>>, AllocError>
     ensures { IfOk result (λ found. IfSome found (λ v. AreParentsOf (item_view item.now) v.items)) }
 {
     match item.value("parents") {
-        Some(LentValue::Tree(json)) => match json.as_array() {
+        Some(ItemValue::Objects(objects)) => object_uids(alloc, names, objects),
+        Some(ItemValue::Other(json)) => match json.as_array() {
             Some(items) => uids_of(alloc, schema, items),
             None => Ok(None),
         },
         Some(_) => Ok(None),
         None => Ok(Some(Vec::new(alloc))),
     }
+}
+
+// The uids that the objects write.
+fn object_uids(
+    alloc: Global,
+    names: &mut Names,
+    objects: &[LentObject<'_>],
+) -> Result<Option<Vec<Uid>>, AllocError>
+    ensures { IfOk result (λ found. IfSome found (λ v. AreUids (items_of_objects objects.now) v.items)) }
+{
+    let mut uids = Vec::with_capacity(alloc, objects.len())?;
+    for object in objects {
+        let Some(uid) = object_uid(alloc, names, object)? else {
+            return Ok(None);
+        };
+        uids.push(uid)?;
+    }
+    Ok(Some(uids))
 }
 
 // The uids that the items write, each as an object.
@@ -177,7 +203,7 @@ fn plain_attributes(
     ensures { IfOk result (λ found. IfSome found (AreAttributes shape.now (item_view item.now))) }
 {
     match item.value("attrs") {
-        Some(LentValue::Object(object)) => object_attributes(alloc, shape, object),
+        Some(ItemValue::Object(object)) => object_attributes(alloc, shape, object),
         Some(_) => Ok(None),
         None => no_attributes(alloc, shape),
     }

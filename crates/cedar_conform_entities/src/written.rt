@@ -54,8 +54,8 @@ fn read_uid(alloc: Global, schema: &Schema, json: &Json) -> Result<Uid, ConformF
     }
 }
 
-/// The uid. Its type shares its text with the schema where the type is declared.
-pub(crate) fn with_shared_type(alloc: Global, schema: &Schema, uid: Uid) -> Result<Uid, AllocError>
+// The uid. Its type shares its text with the schema where the type is declared.
+fn with_shared_type(alloc: Global, schema: &Schema, uid: Uid) -> Result<Uid, AllocError>
     ensures { IfOk result (λ shared. shared ≡ uid) }
 {
     match schema.entity_type(&uid.ty) {

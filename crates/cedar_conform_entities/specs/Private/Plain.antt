@@ -7,6 +7,7 @@ use Rattle.cedar_conform_values.specs.Values.{value_read}
 use Rattle.cedar_conform_entities.specs.Entries.{attributes_in, is_entry_key, tags_in}
 use Rattle.cedar_conform_entities.specs.Denotes.{DenotesEntity}
 use Rattle.base_json.specs.LentItems.{item_of}
+use Rattle.base_json.specs.Lists.{IsNext}
 use Rattle.cedar_schema_spec.specs.SchemaTree.{SchemaTree}
 use Rattle.cedar_schema_types.specs.Types.{TypeTree}
 use Rattle.cedar_value.specs.World.{EntityTree}
@@ -29,3 +30,7 @@ AreAttributes shape d = AreFields shape (attributes_in d)
 -- the text is an item of a list that denotes the entity
 abbrev pub DenotesItem : SchemaTree → List ℕ → EntityTree → Type 0
 DenotesItem s text e = (d : Data) × (item_of text ≡ Some d) × DenotesEntity s d e
+
+-- the next item of the list denotes the entity, and the others come after so many bytes
+abbrev pub DenotesFirst : SchemaTree → List ℕ → EntityTree → ℕ → Type 0
+DenotesFirst s bytes e passed = (d : Data) × IsNext d passed bytes × DenotesEntity s d e

@@ -26,7 +26,9 @@ use crate::request_rooms::RequestRooms;
 use crate::uid_room::UidRoom;
 use crate::uids::lent_uid;
 use base_json::{JsonReader, LentValue, MemberReader, ThreeQuoted, TreeFault};
-use cedar_conform_values::{ConformFault, Names, one_written_uid, read_lent_record, read_record, read_values_belong};
+use cedar_conform_values::{
+    ConformFault, Names, one_written_uid, read_lent_record, read_record, read_values_belong,
+};
 use cedar_schema::Schema;
 use cedar_schema_types::Type;
 use cedar_value::{Record, Request, Uid};

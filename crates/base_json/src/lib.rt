@@ -48,17 +48,17 @@
 //!
 //! let mut reader = JsonReader::new(alloc)?;
 //! if let Ok(mut list) = ListText::open(bytes) {
-//!     while let Some(next) = list.plain_item(alloc)? {
-//!         let passed = next.passed;
-//!         println!(rt; "{} members", next.item.members.len())?;
+//!     // The objects in the plain form that come first, and then the others.
+//!     'plain: loop {
+//!         let Some(next) = list.plain_item(alloc)? else { break };
+//!         let (passed, count) = (next.passed, next.item.members.len());
 //!         drop(next);
 //!         list.pass(passed)?;
+//!         println!(rt; "{count} members")?;
 //!     }
 //!     while let Some(object) = list.object() {
 //!         let passed = object.passed;
-//!         let Some(item) = reader.lent_item(alloc, object.text)? else {
-//!             break;
-//!         };
+//!         let Some(item) = reader.lent_item(alloc, object.text)? else { break };
 //!         println!(rt; "{} members", item.members.len())?;
 //!         drop(item);
 //!         list.pass(passed)?;

@@ -1,4 +1,4 @@
-//! The principal or the resource of a request.
+//! The principal, the action or the resource of a request.
 ghost use Rattle.std.specs.Prelude.{◌≡◌, ◌||◌};
 ghost use Rattle.cedar_value.specs.World.{below};
 ghost use Rattle.cedar_auth_candidates.specs.Private.Met.{is_within};

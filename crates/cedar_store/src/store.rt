@@ -145,8 +145,8 @@ impl Store {
         }
     }
 
-    /// The entity with a uid as a descendant, which is asked many times what it is below. It is looked up here, and not again. Takes no
-    /// memory.
+    /// The entity with a uid as a descendant, which is asked many times what it is below. It is looked up here, and not again unless the
+    /// store keeps changes. Takes no memory.
     pub fn descendant<'s>(&'s self, uid: &'s Uid) -> Descendant<'s>
         ensures world { result.world ≡ self.now }
         ensures uid { result.uid ≡ uid.now }

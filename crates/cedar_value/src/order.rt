@@ -3,26 +3,27 @@ ghost use Rattle.std.specs.Prelude.{◌≡◌};
 ghost use Rattle.std.specs.Cmp.Lexicographic.{slice_cmp};
 ghost use Rattle.cedar_value.specs.Order.{datum_cmp, pair_cmp};
 ghost use Rattle.cedar_value.specs.Private.Compare.{kind_number};
-ghost use Rattle.cedar_value.specs.ValueKind.{datum_of};
+ghost use Rattle.cedar_value.specs.Glance.{datum_seen};
 
+use crate::glance::Glance;
 use crate::shared_text::SharedText;
 use crate::value::{Value, ValueKind};
 use std::cmp::Ordering;
 
-/// How two values compare in the order of values.
+/// How a value compares with one that is looked at, in the order of values.
 #[cycle(order)]
-pub(crate) fn order_values(left: &Value, right: &Value) -> Ordering
-    ensures { result ≡ datum_cmp left.now right.now }
+pub(crate) fn order_glance(left: &Value, right: Glance<'_>) -> Ordering
+    ensures { result ≡ datum_cmp left.now (datum_seen right.entry) }
 {
-    match (left.kind(), right.kind()) {
-        (ValueKind::Boolean(one), ValueKind::Boolean(two)) => one.cmp(two),
-        (ValueKind::Long(one), ValueKind::Long(two)) => one.cmp(two),
-        (ValueKind::String(one), ValueKind::String(two)) => one.cmp(two),
-        (ValueKind::Uid(one), ValueKind::Uid(two)) => one.cmp(two),
-        (ValueKind::Set(one), ValueKind::Set(two)) => order_members(one.members(), two.members()),
-        (ValueKind::Record(one), ValueKind::Record(two)) => order_pairs(one.pairs(), two.pairs()),
-        (ValueKind::Decimal(one), ValueKind::Decimal(two)) => one.cmp(two),
-        _ => kind_number(left.kind()).cmp(&kind_number(right.kind())),
+    match (left.kind(), &right) {
+        (ValueKind::Boolean(one), Glance::Boolean(two)) => one.cmp(two),
+        (ValueKind::Long(one), Glance::Long(two)) => one.cmp(two),
+        (ValueKind::String(one), Glance::String(two)) => one.cmp(two),
+        (ValueKind::Uid(one), Glance::Uid(two)) => one.as_ref().cmp(two),
+        (ValueKind::Set(one), Glance::Set(two)) => order_members(one.members(), two.members()),
+        (ValueKind::Record(one), Glance::Record(two)) => order_pairs(one.pairs(), two.pairs()),
+        (ValueKind::Decimal(one), Glance::Decimal(two)) => one.cmp(two),
+        _ => kind_number(left.glance()).cmp(&kind_number(right)),
     }
 }
 
@@ -35,7 +36,7 @@ pub(crate) fn order_members(left: &[Value], right: &[Value]) -> Ordering
         let Some(two) = right.get(place) else {
             return Ordering::Greater;
         };
-        let found = order_values(one, two);
+        let found = order_glance(one, two.glance());
         if found != Ordering::Equal {
             return found;
         }
@@ -66,22 +67,22 @@ fn order_pair(left: &(SharedText, Value), right: &(SharedText, Value)) -> Orderi
     ensures { result ≡ pair_cmp left.now right.now }
 {
     match left.0.cmp(&right.0) {
-        Ordering::Equal => order_values(&left.1, &right.1),
+        Ordering::Equal => order_glance(&left.1, right.1.glance()),
         unequal => unequal,
     }
 }
 
-// The kinds in their order.
-fn kind_number(kind: &ValueKind) -> u8
-    ensures { result ≡ kind_number (datum_of kind.now) }
+// The number of a value's kind in the order of kinds.
+fn kind_number(value: Glance<'_>) -> u8
+    ensures { result ≡ kind_number (datum_seen value.entry) }
 {
-    match kind {
-        ValueKind::Boolean(_) => 1,
-        ValueKind::Long(_) => 2,
-        ValueKind::String(_) => 3,
-        ValueKind::Uid(_) => 4,
-        ValueKind::Set(_) => 5,
-        ValueKind::Record(_) => 6,
-        ValueKind::Decimal(_) => 7,
+    match value {
+        Glance::Boolean(_) => 1,
+        Glance::Long(_) => 2,
+        Glance::String(_) => 3,
+        Glance::Uid(_) => 4,
+        Glance::Set(_) => 5,
+        Glance::Record(_) => 6,
+        Glance::Decimal(_) => 7,
     }
 }

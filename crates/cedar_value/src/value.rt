@@ -8,7 +8,7 @@ ghost use Rattle.cedar_value.specs.Glance.{datum_seen};
 ghost use Rattle.cedar_value.specs.Datum.{same};
 
 use crate::glance::Glance;
-use crate::order::order_values;
+use crate::order::order_glance;
 use crate::text::Text;
 use crate::uid::Uid;
 use crate::value_record::Record;
@@ -253,6 +253,6 @@ impl Ord for Value {
     ghost matches_eq = { datum_ties };
 
     fn cmp(&self, other: &Self) -> Ordering {
-        order_values(self, other)
+        order_glance(self, other.glance())
     }
 }

@@ -4,8 +4,8 @@ use Rattle.cedar_value.specs.Private.Weight.{weight, list_weight, pairs_weight}
 use Rattle.cedar_value.proofs.Walk.{rest_cmp}
 use Rattle.cedar_value.proofs.order.+order.Given as goal
 
-abbrev pub decreases-order_values : goal.decreases-order_values
-decreases-order_values l = 2 * weight l.left.now
+abbrev pub decreases-order_glance : goal.decreases-order_glance
+decreases-order_glance l = 2 * weight l.left.now
 
 abbrev pub decreases-order_members : goal.decreases-order_members
 decreases-order_members l = 2 * list_weight l.left.now

@@ -7,5 +7,5 @@ pub(crate) const ROWS: [Row; 1] = [Row {
     refused: "the program",
     when: "out of memory",
     example: "`permit(principal, action, resource) when { ` 3,000,000 times `(`",
-    remedy: "give the process more memory. The answers to some first lines may have been written, each of them whole: send the other lines again",
+    remedy: "give the process more memory, and divide a policy text of more than 4 GiB. The answers to some first lines may have been written, each of them whole: send the other lines again",
 }];

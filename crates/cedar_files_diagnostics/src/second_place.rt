@@ -43,7 +43,7 @@ fn long_string(found: &[Token<'_>]) -> Option<SecondPlace> {
     let long = found.iter().find(|token| token.kind == TokenKind::String
         && token.text.contains('\n'))?;
     Some(SecondPlace {
-        at: long.start,
+        at: long.start(),
         says: "this string goes on over the end of its line: is its `\"` missing?",
     })
 }
@@ -72,7 +72,7 @@ pub fn before_unexpected(
     let mut end = None;
     let mut next = None;
     for token in found {
-        if token.start >= at {
+        if token.start() >= at {
             next = Some(*token);
             break;
         }
@@ -96,7 +96,7 @@ fn explained(
     match open {
         Some(bracket) if next.is_none_or(|token| leaves_open(bracket.kind, token.kind)) => Some(
             SecondPlace {
-                at: bracket.start,
+                at: bracket.start(),
                 says: "this bracket is still open",
             },
         ),

@@ -9,7 +9,7 @@ const MOST: usize = 40;
 
 // The token that begins at an offset.
 fn token_at<'t>(found: &[Token<'t>], at: usize) -> Option<Token<'t>> {
-    found.iter().find(|token| token.start == at).copied()
+    found.iter().find(|token| token.start() == at).copied()
 }
 
 /// What the mark says: the token that begins at an offset of a text that has these tokens, or the end of the text.

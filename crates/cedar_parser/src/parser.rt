@@ -31,7 +31,7 @@ use std::alloc::{AllocError, Global};
 ///
 /// # Errors
 ///
-/// - 1: out of memory.
+/// - 1: out of memory, or a token begins at 4 GiB or later.
 /// - 101 to 104: the text has no tokens.
 /// - 103: the escape `\*` is outside a pattern.
 /// - 104: a number is above 9223372036854775807, or after a minus sign above 9223372036854775808.

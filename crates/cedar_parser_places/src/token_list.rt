@@ -17,7 +17,7 @@ impl<'t> TokenList<'t> {
 
     /// The position of the token that begins at a byte.
     pub fn position(&self, start: usize) -> Option<usize> {
-        self.tokens.iter().position(|token| token.start == start)
+        self.tokens.iter().position(|token| token.start() == start)
     }
 
     /// Whether the token at a position is of a kind.
@@ -79,7 +79,7 @@ impl<'t> TokenList<'t> {
         let first = self.tokens.get(stretch.first)?;
         let last = self.tokens.get(stretch.last)?;
         Some(Extent {
-            start: first.start,
+            start: first.start(),
             end: last.end(),
         })
     }

@@ -1,12 +1,11 @@
 -- Characters of ASCII that strings and patterns write as themselves.
 use Rattle.std.proofs.Common.{◌≡◌, ℕ, ◌<◌, Bool, true, not, eqb, List, [], ◌∷◌, ◌++◌, Some, None, map, refl, sym, ap, ap₂, subst, cond, ◌∙◌, arith}
-use Rattle.std.specs.Prelude.{encode_utf8, nat_lt}
+use Rattle.std.specs.Prelude.{nat_lt}
 use Rattle.std.specs.Char.{IsScalar}
 use Rattle.std.specs.List.{list_all}
 use Rattle.std.proofs.lemmas.Bool.{and_parts, not-true, eq-eqb, ltb-true, both_ways}
 use Rattle.std.proofs.lemmas.Str.{encode_ascii}
 use lib.Utf8.{low_scalar}
-use Rattle.cedar_text.specs.declared.letter.Letter.{Letter}
 use Rattle.cedar_text.specs.declared.letter.Letter.TheVariants.{Character}
 use Rattle.cedar_text.specs.Letters.{plain, AreWritten, nothing, more, is_plain, utf8_of}
 use Rattle.cedar_ext.specs.declared.pattern.Element.{Element}

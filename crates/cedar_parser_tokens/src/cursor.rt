@@ -124,7 +124,7 @@ impl<'t> Cursor<'t> {
         ensures { self.new ≡ spec.next self.old }
     {
         if let [token, rest @ ..] = self.rest {
-            self.taken = token.start;
+            self.taken = token.start();
             self.rest = rest;
             self.strings = strings_after(token.kind, self.strings);
         }
@@ -138,7 +138,7 @@ impl<'t> Cursor<'t> {
         match self.rest {
             [token, rest @ ..] if token.kind == kind => {
                 let taken = spelled_token(token, self.strings);
-                self.taken = token.start;
+                self.taken = token.start();
                 self.rest = rest;
                 self.strings = strings_after(token.kind, self.strings);
                 Ok(taken)
@@ -155,7 +155,7 @@ impl<'t> Cursor<'t> {
         match self.rest {
             [token, rest @ ..] if is_word_kind(token.kind) => {
                 let taken = spelled_token(token, self.strings);
-                self.taken = token.start;
+                self.taken = token.start();
                 self.rest = rest;
                 self.strings = strings_after(token.kind, self.strings);
                 Ok(taken)
@@ -187,7 +187,7 @@ impl<'t> Cursor<'t> {
     {
         match self.rest {
             [] => 0,
-            [token, ..] => token.start,
+            [token, ..] => token.start(),
         }
     }
 
@@ -198,7 +198,7 @@ impl<'t> Cursor<'t> {
         match self.rest {
             [colons] if colons.kind == TokenKind::DoubleColon => self.reached = self.end,
             [colons, after, ..] if colons.kind == TokenKind::DoubleColon => {
-                self.reached = after.start;
+                self.reached = after.start();
             }
             _ => {}
         }
@@ -208,7 +208,7 @@ impl<'t> Cursor<'t> {
     pub fn offset(&self) -> usize {
         let next = match self.rest {
             [] => self.end,
-            [token, ..] => token.start,
+            [token, ..] => token.start(),
         };
         next.max(self.reached)
     }

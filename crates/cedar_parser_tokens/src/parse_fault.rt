@@ -6,7 +6,7 @@ use thiserror::Error;
 /// Why a text is not read, with the place of the fault in bytes from 0.
 #[derive(Clone, Copy, Debug, PartialEq, Eq, Error)]
 pub enum ParseFault {
-    /// 1: out of memory. It says nothing about the text.
+    /// 1: out of memory, or a token begins at 4 GiB or later.
     #[error("out of memory")]
     OutOfMemory,
     /// 101 to 104: the text has no tokens.

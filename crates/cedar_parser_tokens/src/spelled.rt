@@ -30,7 +30,7 @@ impl<'t> Spelled<'t> {
     pub fn start(&self) -> usize
         ensures { result ≡ (mark self.now).start }
     {
-        self.token.start
+        self.token.start()
     }
 
     /// The slice of the source that it is.
@@ -59,7 +59,7 @@ impl<'t> Spelled<'t> {
             Some(_) => 0,
             None => escaped_star(self.token.text),
         };
-        Ok(Content::new(text, self.token.start.saturating_add(place)))
+        Ok(Content::new(text, self.token.start().saturating_add(place)))
     }
 
     /// The pattern that a string writes.

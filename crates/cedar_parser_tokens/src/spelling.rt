@@ -40,12 +40,12 @@ impl<'t> SpelledTokens<'t> {
     }
 }
 
-/// The tokens of a text, each string with the letters that it writes (Cedar language reference, grammar). A token takes 32
+/// The tokens of a text, each string with the letters that it writes (Cedar language reference, grammar). A token takes 24
 /// bytes of memory, and a string at most 32 more. A byte of a string takes 8, or none where the string is ASCII without `\` and `*`.
 ///
 /// # Errors
 ///
-/// 1 when out of memory, and 101 to 104 where the text has no tokens.
+/// 1 when out of memory, or where a token begins at 4 GiB or later, and 101 to 104 where the text has no tokens.
 pub fn spelled_tokens(alloc: Global, source: &str) -> Result<SpelledTokens<'_>, ParseFault>
     // The result is the tokens of the text.
     ensures found { IfOk result (IsMarked source.now) }

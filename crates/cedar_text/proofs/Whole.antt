@@ -12,7 +12,7 @@ use Rattle.cedar_text.specs.Lexeme.{Lexemes, lexemes}
 use Rattle.cedar_text.specs.Bytes.{is_digit}
 use Rattle.cedar_text.specs.Blanks.{IsWhite, IsBlank, white, comment}
 use Rattle.cedar_text.specs.Signs.{IsSign}
-use Rattle.cedar_text.specs.Tokens.{IsToken, number, sign, AreTokens, IsCut, done, blank, token}
+use Rattle.cedar_text.specs.Tokens.{IsToken, sign, AreTokens, IsCut, done, blank, token}
 use Rattle.cedar_text.specs.Faults.{IsBadCharacter, IsUnclosed, IsBadEscape, IsTooLarge, HasTokens, HasFault}
 use Rattle.cedar_text.specs.Private.Outcomes.{Gives}
 use Rattle.cedar_text.specs.Private.Lexing.{Refusal, BadCharacter, UnclosedString, BadEscape, NumberTooLarge, skipped, lexed, piece, add, and_then, lex}

@@ -30,7 +30,7 @@ fn cut(source: &str, at: usize) -> Result<(Piece, &str, &str), TextFault>
     Ok((piece, front, rest))
 }
 
-/// Adds the token of a piece.
+/// Adds the token of a piece. Fails for one that begins at 4 GiB or later: its place has four bytes.
 fn push<'a>(
     found: &mut Vec<Token<'a>>,
     piece: Piece,
@@ -41,6 +41,9 @@ fn push<'a>(
     ensures { OnOk result (lexemes found.new.items ≡ spec.found_with piece.kind start text.now piece.len piece.number (lexemes found.old.items)) }
 {
     if let Some(kind) = piece.kind {
+        let Ok(start) = u32::try_from(start) else {
+            return Err(AllocError);
+        };
         found.push(Token { kind, start, text })?;
     }
     Ok(())
@@ -76,7 +79,7 @@ fn lex(alloc: Global, source: &str) -> Result<Vec<Token<'_>>, TextFault>
 /// - [`TextFault::UnclosedString`]: the string whose opening quote is there is not closed.
 /// - [`TextFault::BadEscape`]: the backslash there begins no escape.
 /// - [`TextFault::NumberTooLarge`]: a number above 9223372036854775808 begins there.
-/// - [`TextFault::OutOfMemory`].
+/// - [`TextFault::OutOfMemory`]: also where a token begins at 4 GiB or later, since a token has four bytes for its place.
 pub fn tokens(alloc: Global, source: &str) -> Result<Vec<Token<'_>>, TextFault>
     // The result is the tokens of the text.
     ensures found { IfOk result (λ v. AreTokens source.now (lexemes v.items)) }

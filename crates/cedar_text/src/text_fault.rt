@@ -4,7 +4,7 @@ use thiserror::Error;
 /// Why a text has no tokens, with the place of the fault in bytes from 0.
 #[derive(Clone, Copy, Debug, PartialEq, Eq, Error)]
 pub enum TextFault {
-    /// Out of memory. It says nothing about the text.
+    /// Out of memory, or a token begins at 4 GiB or later.
     #[error("out of memory")]
     OutOfMemory,
     /// No token begins with the character there.

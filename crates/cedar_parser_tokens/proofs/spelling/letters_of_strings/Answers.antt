@@ -1,4 +1,4 @@
-use Rattle.std.proofs.Common.{◌≡◌, [], List, Vec, take, ap, sym, subst, ◌∙◌}
+use Rattle.std.proofs.Common.{[], List, Vec, take, ap, sym, subst, ◌∙◌}
 use Rattle.std.specs.Global.{Global}
 use Rattle.cedar_text.specs.declared.letter.Letter.{Letter}
 use Rattle.cedar_text.specs.Lexeme.{lexemes}

@@ -26,7 +26,7 @@ fn places_text(alloc: Global, found: &[Token<'_>]) -> Result<String, AllocError>
 }
 
 fn place_line(alloc: Global, token: &Token<'_>) -> Result<String, AllocError> {
-    let start = token.start;
+    let start = token.start();
     let end = token.end();
     let number = token.number();
     let text = token.text;

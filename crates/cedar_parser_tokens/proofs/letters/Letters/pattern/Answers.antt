@@ -1,4 +1,4 @@
-use Rattle.std.proofs.Common.{◌≡◌, ℕ, List, map, ap, sym, ◌∙◌}
+use Rattle.std.proofs.Common.{ℕ, List, map, ap, sym, ◌∙◌}
 use Rattle.cedar_ext.specs.declared.pattern.Element.TheVariants.{Character}
 use Rattle.cedar_parser_tokens.specs.Marks.{pattern_of}
 use Rattle.cedar_parser_tokens.specs.Private.Kept.{letters_in}

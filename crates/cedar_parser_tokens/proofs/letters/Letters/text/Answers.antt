@@ -1,4 +1,4 @@
-use Rattle.std.proofs.Common.{◌≡◌, Some, true, ap, subst, sym, ◌∙◌}
+use Rattle.std.proofs.Common.{Some, ap, subst, sym, ◌∙◌}
 use Rattle.cedar_parser_tokens.specs.Marks.{content_of}
 use Rattle.cedar_parser_tokens.specs.Private.Kept.{IsKept, letters_in}
 use Rattle.cedar_parser_tokens.proofs.OwnLetters.{own_content}

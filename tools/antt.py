@@ -412,7 +412,8 @@ class House:
     def cites(self, it):
         """The definitions and types that a definition or type names."""
         if isinstance(it, Type):
-            return self.cited(it.file, it.believed())
+            # The parameters of a generic type are words of their own.
+            return self.cited(it.file, re.sub('[<>]', ' ', it.believed()))
         found = []
         for part in clauses(it):
             found += [x for x in self.cited(it.module, part, binders(self, it, part)) if x not in found]

@@ -9,11 +9,11 @@ use Rattle.std.proofs.lemmas.List.Elements.{Contains-append_right}
 use Rattle.std.proofs.lemmas.Slice.Eq.{bytes_eq-Decides}
 use Rattle.cedar_value.specs.declared.uid.Uid.{Uid}
 use Rattle.cedar_ast.specs.declared.scope.EntityScope.{EntityScope}
+use Rattle.cedar_ast.specs.declared.scope.EntityScope.TheVariants as entity
 use Rattle.cedar_ast.specs.declared.scope.Scope.{Scope}
 use Rattle.cedar_ast.specs.declared.slots.Slots.{Slots}
-use Rattle.cedar_ast.specs.declared.template_scope.EntityReference.TheVariants.{Entity, Slot}
-use Rattle.cedar_ast.specs.declared.template_scope.TemplateEntityScope.{TemplateEntityScope}
-use Rattle.cedar_ast.specs.declared.template_scope.TemplateEntityScope.TheVariants as template
+use Rattle.cedar_ast.specs.declared.entity_reference.EntityReference.{EntityReference}
+use Rattle.cedar_ast.specs.declared.entity_reference.EntityReference.TheVariants.{Entity, Slot}
 use Rattle.cedar_ast.specs.PolicySetTree.{PolicySetTree}
 use Rattle.cedar_ast.specs.PolicyTree.{PolicyTree, TemplateTree}
 use Rattle.cedar_ast.specs.LinkFault.{number_of}
@@ -51,22 +51,22 @@ absent-value id es k a stand none here same =
     let found = found-Contains k es key in
     cc (ap is_some none)
 
-no_scope : (s : TemplateEntityScope) (given : Option Uid) → entity_scope_linked s given ≡ None → IsMissing s given
-no_scope template.Any given none = cc
-no_scope (template.Equal (Entity u)) given none = cc
-no_scope (template.Equal Slot) (Some u) none = cc
-no_scope (template.In (Entity u)) given none = cc
-no_scope (template.In Slot) (Some u) none = cc
-no_scope (template.Is ty) given none = cc
-no_scope (template.IsIn ty (Entity u)) given none = cc
-no_scope (template.IsIn ty Slot) (Some u) none = cc
+no_scope : (s : EntityScope EntityReference) (given : Option Uid) → entity_scope_linked s given ≡ None → IsMissing s given
+no_scope entity.Any given none = cc
+no_scope (entity.Equal (Entity u)) given none = cc
+no_scope (entity.Equal Slot) (Some u) none = cc
+no_scope (entity.In (Entity u)) given none = cc
+no_scope (entity.In Slot) (Some u) none = cc
+no_scope (entity.Is ty) given none = cc
+no_scope (entity.IsIn ty (Entity u)) given none = cc
+no_scope (entity.IsIn ty Slot) (Some u) none = cc
 no_scope _ None none = (refl, refl)
 
 -- a template without a link lacks a uid for one of its slots
 pub no_link : (t : TemplateTree) (id : List ℕ) (slots : Slots) → link_of t id slots ≡ None → HasMissingSlot t slots
 no_link t id slots none = by (entity_scope_linked t.scope.principal slots.principal) (entity_scope_linked t.scope.resource slots.resource) refl refl
   where
-    by : (p r : Option EntityScope) → entity_scope_linked t.scope.principal slots.principal ≡ p → entity_scope_linked t.scope.resource slots.resource ≡ r → HasMissingSlot t slots
+    by : (p r : Option (EntityScope Uid)) → entity_scope_linked t.scope.principal slots.principal ≡ p → entity_scope_linked t.scope.resource slots.resource ≡ r → HasMissingSlot t slots
     by None r is_p is_r = inl (no_scope t.scope.principal slots.principal is_p)
     by (Some p) None is_p is_r = inr (no_scope t.scope.resource slots.resource is_r)
     by (Some p) (Some r) is_p is_r = let there = rw (is_p, is_r) at none in cc
@@ -86,6 +86,6 @@ linked-missing set template id slots t (Some p) there is = tt
 pub link-id : (t : TemplateTree) (id : List ℕ) (slots : Slots) (p : PolicyTree) → link_of t id slots ≡ Some p → p.id ≡ id
 link-id t id slots p is = by (scope_linked t.scope slots) refl
   where
-    by : (s : Option Scope) → scope_linked t.scope slots ≡ s → p.id ≡ id
+    by : (s : Option (Scope Uid Uid)) → scope_linked t.scope slots ≡ s → p.id ≡ id
     by None none = let there = rw none at is in cc
     by (Some s) some = let there = rw some at is in cc

@@ -26,7 +26,7 @@ abbrev pub compared : BinaryOperator → Variable → Expression → Expression
 compared op x e = binary op (variable x) e
 
 -- What a scope requires of the principal or the resource (Cedar language reference, policy scope).
-abbrev pub entity_scope_of : Variable → EntityScope → Expression
+abbrev pub entity_scope_of : Variable → EntityScope Uid → Expression
 entity_scope_of x entity.Any = literal (boolean true)
 entity_scope_of x (entity.Equal u) = compared operator.Equal x (entity_literal u)
 entity_scope_of x (entity.In u) = compared operator.In x (entity_literal u)
@@ -34,7 +34,7 @@ entity_scope_of x (entity.Is ty) = unary (Is ty) (variable x)
 entity_scope_of x (entity.IsIn ty u) = and (unary (Is ty) (variable x)) (compared operator.In x (entity_literal u))
 
 -- What a scope requires of the action (Cedar language reference, policy scope).
-abbrev pub action_scope_of : ActionScope → Expression
+abbrev pub action_scope_of : ActionScope Uid → Expression
 action_scope_of action.Any = literal (boolean true)
 action_scope_of (action.Equal u) = compared operator.Equal Action (entity_literal u)
 action_scope_of (action.In u) = compared operator.In Action (entity_literal u)

@@ -1,15 +1,12 @@
 -- Linking a template: its slots replaced by uids (Cedar language reference, policy templates; cedar-spec, Lean:
 -- Template.link?).
-use Rattle.std.specs.Prelude.{◌≡◌, ◌⊎◌, ℕ, Bool, true, false, List, Option, Some, None, option_map, option_and_then, IsSome, IsNone, IsTrue, Contains}
+use Rattle.std.specs.Prelude.{◌≡◌, ◌⊎◌, ℕ, Bool, true, false, List, Option, Some, option_map, option_and_then, IsSome, IsNone, IsTrue, Contains}
 use Rattle.cedar_value.specs.declared.uid.Uid.{Uid}
 use Rattle.cedar_ast.specs.declared.scope.EntityScope.{EntityScope}
 use Rattle.cedar_ast.specs.declared.scope.EntityScope.TheVariants as entity
 use Rattle.cedar_ast.specs.declared.scope.Scope.{Scope}
-use Rattle.cedar_ast.specs.declared.template_scope.EntityReference.{EntityReference}
-use Rattle.cedar_ast.specs.declared.template_scope.EntityReference.TheVariants.{Entity, Slot}
-use Rattle.cedar_ast.specs.declared.template_scope.TemplateEntityScope.{TemplateEntityScope}
-use Rattle.cedar_ast.specs.declared.template_scope.TemplateEntityScope.TheVariants as template
-use Rattle.cedar_ast.specs.declared.template_scope.TemplateScope.{TemplateScope}
+use Rattle.cedar_ast.specs.declared.entity_reference.EntityReference.{EntityReference}
+use Rattle.cedar_ast.specs.declared.entity_reference.EntityReference.TheVariants.{Entity, Slot}
 use Rattle.cedar_ast.specs.declared.slots.Slots.{Slots}
 use Rattle.cedar_ast.specs.declared.statement.Statement.TheVariants as statement
 use Rattle.cedar_ast.specs.PolicyTree.{PolicyTree, TemplateTree}
@@ -23,16 +20,16 @@ entity_of Slot given = given
 
 -- What a template's scope requires of the principal or the resource once its slot is replaced by what is given, if it has none
 -- or something is given (Cedar language reference, policy templates; cedar-spec, Lean: ScopeTemplate.link?).
-abbrev pub entity_scope_linked : TemplateEntityScope → Option Uid → Option EntityScope
-entity_scope_linked template.Any given = Some entity.Any
-entity_scope_linked (template.Equal r) given = option_map entity.Equal (entity_of r given)
-entity_scope_linked (template.In r) given = option_map entity.In (entity_of r given)
-entity_scope_linked (template.Is ty) given = Some (entity.Is ty)
-entity_scope_linked (template.IsIn ty r) given = option_map (entity.IsIn ty) (entity_of r given)
+abbrev pub entity_scope_linked : EntityScope EntityReference → Option Uid → Option (EntityScope Uid)
+entity_scope_linked entity.Any given = Some entity.Any
+entity_scope_linked (entity.Equal r) given = option_map entity.Equal (entity_of r given)
+entity_scope_linked (entity.In r) given = option_map entity.In (entity_of r given)
+entity_scope_linked (entity.Is ty) given = Some (entity.Is ty)
+entity_scope_linked (entity.IsIn ty r) given = option_map (entity.IsIn ty) (entity_of r given)
 
 -- A template's scope with both its slots replaced, if a uid is given for each slot that it has (Cedar language reference,
 -- policy templates; cedar-spec, Lean: PrincipalScopeTemplate.link?, ResourceScopeTemplate.link?).
-abbrev pub scope_linked : TemplateScope → Slots → Option Scope
+abbrev pub scope_linked : Scope EntityReference Uid → Slots → Option (Scope Uid Uid)
 scope_linked t slots =
     option_and_then (λ p. option_map (λ r. record { principal = p; action = t.action; resource = r })
     (entity_scope_linked t.resource slots.resource))
@@ -51,18 +48,18 @@ pub record IsTemplate (set : PolicySetTree) (id : List ℕ) (t : TemplateTree) :
   pub id_is : t.id ≡ id
 
 -- Whether a template's scope has a slot for the principal or the resource (Cedar language reference, policy templates).
-abbrev pub has_slot : TemplateEntityScope → Bool
-has_slot (template.Equal Slot) = true
-has_slot (template.In Slot) = true
-has_slot (template.IsIn ty Slot) = true
+abbrev pub has_slot : EntityScope EntityReference → Bool
+has_slot (entity.Equal Slot) = true
+has_slot (entity.In Slot) = true
+has_slot (entity.IsIn ty Slot) = true
 has_slot _ = false
 
 -- Nothing is given for the slot that a scope has (Cedar language reference, policy templates).
-abbrev pub IsMissing : TemplateEntityScope → Option Uid → Type 0
+abbrev pub IsMissing : EntityScope EntityReference → Option Uid → Type 0
 IsMissing scope given = IsTrue (has_slot scope) × IsNone given
 
 -- A uid is given for a slot that a scope does not have (Cedar language reference, policy templates).
-abbrev pub IsExtra : TemplateEntityScope → Option Uid → Type 0
+abbrev pub IsExtra : EntityScope EntityReference → Option Uid → Type 0
 IsExtra scope given = (has_slot scope ≡ false) × IsSome given
 
 -- Nothing is given for a slot of the template (Cedar language reference, policy templates).

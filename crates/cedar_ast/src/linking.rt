@@ -1,13 +1,13 @@
 //! Policies that are made from templates.
 ghost use Rattle.std.specs.Prelude.{◌≡◌, ◌↔◌, IfOk, IsTrue};
-ghost use Rattle.cedar_ast.specs.Linking.{entity_of, entity_scope_linked, scope_linked, link_of, HasExtraSlot};
+ghost use Rattle.cedar_ast.specs.Linking.{entity_of, entity_scope_linked, has_slot, scope_linked, link_of, HasExtraSlot};
 
 use crate::annotation::Annotation;
 use crate::condition::Condition;
+use crate::entity_reference::EntityReference;
 use crate::policy::{Policy, Template};
 use crate::scope::{EntityScope, Scope};
 use crate::slots::Slots;
-use crate::template_scope::{EntityReference, TemplateEntityScope, TemplateScope};
 use cedar_value::{Text, Uid};
 use std::alloc::{AllocError, Global};
 
@@ -16,8 +16,15 @@ pub(crate) fn has_extra_slot(template: &Template, slots: &Slots) -> bool
     ensures { IsTrue result ↔ HasExtraSlot template.now slots.now }
 {
     let scope = template.scope();
-    let principal = slots.principal.is_some() && !scope.principal.has_slot();
-    principal || (slots.resource.is_some() && !scope.resource.has_slot())
+    let principal = slots.principal.is_some() && !has_slot(&scope.principal);
+    principal || (slots.resource.is_some() && !has_slot(&scope.resource))
+}
+
+// Whether the scope has a slot.
+fn has_slot(scope: &EntityScope<EntityReference>) -> bool
+    ensures { result ≡ has_slot scope.now }
+{
+    matches!(scope.entity(), Some(EntityReference::Slot))
 }
 
 /// The link of a template, or none where nothing is given for one of its slots.
@@ -65,9 +72,9 @@ fn copy_conditions(alloc: Global, conditions: &[Condition]) -> Result<Vec<Condit
 // The scope with its slots replaced, or none where nothing is given for one.
 fn linked_scope(
     alloc: Global,
-    scope: &TemplateScope,
+    scope: &Scope<EntityReference>,
     slots: &Slots,
-) -> Result<Option<Scope>, AllocError>
+) -> Result<Option<Scope<Uid>>, AllocError>
     ensures { IfOk result (λ linked. linked ≡ scope_linked scope.now slots.now) }
 {
     let Some(principal) = linked_entity_scope(alloc, &scope.principal, &slots.principal)? else {
@@ -87,21 +94,19 @@ fn linked_scope(
 // The scope of the principal or the resource once its slot is replaced. None where the slot is given no uid.
 fn linked_entity_scope(
     alloc: Global,
-    scope: &TemplateEntityScope,
+    scope: &EntityScope<EntityReference>,
     given: &Option<Uid>,
-) -> Result<Option<EntityScope>, AllocError>
+) -> Result<Option<EntityScope<Uid>>, AllocError>
     ensures { IfOk result (λ linked. linked ≡ entity_scope_linked scope.now given.now) }
 {
     match scope {
-        TemplateEntityScope::Any => Ok(Some(EntityScope::Any)),
-        TemplateEntityScope::Equal(entity) => {
+        EntityScope::Any => Ok(Some(EntityScope::Any)),
+        EntityScope::Equal(entity) => {
             Ok(linked_entity(alloc, entity, given)?.map(EntityScope::Equal))
         }
-        TemplateEntityScope::In(entity) => {
-            Ok(linked_entity(alloc, entity, given)?.map(EntityScope::In))
-        }
-        TemplateEntityScope::Is(ty) => Ok(Some(EntityScope::Is(ty.try_clone(alloc)?))),
-        TemplateEntityScope::IsIn(ty, entity) => {
+        EntityScope::In(entity) => { Ok(linked_entity(alloc, entity, given)?.map(EntityScope::In)) }
+        EntityScope::Is(ty) => Ok(Some(EntityScope::Is(ty.try_clone(alloc)?))),
+        EntityScope::IsIn(ty, entity) => {
             let Some(entity) = linked_entity(alloc, entity, given)? else {
                 return Ok(None);
             };

@@ -6,8 +6,8 @@ ghost use Rattle.cedar_ast_expressions.specs.Expression.{and, unary, variable};
 use crate::annotation::Annotation;
 use crate::condition::{Condition, ConditionKind};
 use crate::effect::Effect;
+use crate::entity_reference::EntityReference;
 use crate::scope::{ActionScope, EntityScope, Scope};
-use crate::template_scope::TemplateScope;
 use cedar_ast_expressions::{BinaryOperator, Expr, UnaryOperator, Variable};
 use cedar_value::{Name, Text, Uid, Value};
 use std::alloc::{AllocError, Global};
@@ -26,11 +26,11 @@ pub struct PolicyOver<S> {
 }
 
 /// A policy, which contracts see as a `PolicyTree` (Cedar language reference, policies).
-pub type Policy = PolicyOver<Scope>;
+pub type Policy = PolicyOver<Scope<Uid>>;
 
 /// A policy whose scope has slots in place of entities, which contracts see as a `TemplateTree` (Cedar language reference,
 /// policy templates).
-pub type Template = PolicyOver<TemplateScope>;
+pub type Template = PolicyOver<Scope<EntityReference>>;
 
 impl<S> Model for PolicyOver<S> {
     ghost use Rattle.std.specs.Coded.{codes};
@@ -110,7 +110,7 @@ impl<S> PolicyOver<S> {
     }
 }
 
-impl PolicyOver<Scope> {
+impl PolicyOver<Scope<Uid>> {
     /// The expression that is true where the policy is satisfied: the scope's conditions on principal, action and resource, and
     /// then the policy's conditions in order (Cedar language reference, policy scope and conditions).
     pub fn condition(&self, alloc: Global) -> Result<Expr, AllocError>
@@ -122,7 +122,7 @@ impl PolicyOver<Scope> {
     }
 }
 
-impl fmt::Debug for PolicyOver<Scope> {
+impl fmt::Debug for PolicyOver<Scope<Uid>> {
     fn fmt<W: fmt::Write>(&self, f: &mut fmt::Formatter<W>) -> fmt::Result {
         let id = self.id.as_str();
         write!(f, "Policy({id:?})")
@@ -130,7 +130,11 @@ impl fmt::Debug for PolicyOver<Scope> {
 }
 
 // The scope's conditions on the action and the resource, and then the policy's conditions.
-fn from_action(alloc: Global, scope: &Scope, conditions: &[Condition]) -> Result<Expr, AllocError>
+fn from_action(
+    alloc: Global,
+    scope: &Scope<Uid>,
+    conditions: &[Condition],
+) -> Result<Expr, AllocError>
     ensures { IfOk result (λ e. e ≡ and (action_scope_of scope.now.action)
         (and (entity_scope_of Variable.Resource scope.now.resource) (conditions_of conditions.now))) }
 {
@@ -142,7 +146,7 @@ fn from_action(alloc: Global, scope: &Scope, conditions: &[Condition]) -> Result
 // The scope's condition on the resource, and then the policy's conditions.
 fn from_resource(
     alloc: Global,
-    scope: &EntityScope,
+    scope: &EntityScope<Uid>,
     conditions: &[Condition],
 ) -> Result<Expr, AllocError>
     ensures { IfOk result (λ e. e ≡ and (entity_scope_of Variable.Resource scope.now) (conditions_of conditions.now)) }
@@ -181,7 +185,7 @@ fn of_type(alloc: Global, name: Variable, ty: &Name) -> Result<Expr, AllocError>
 }
 
 // The scope's condition on the principal or the resource.
-fn entity_scope(alloc: Global, name: Variable, scope: &EntityScope) -> Result<Expr, AllocError>
+fn entity_scope(alloc: Global, name: Variable, scope: &EntityScope<Uid>) -> Result<Expr, AllocError>
     ensures { IfOk result (λ e. e ≡ entity_scope_of name scope.now) }
 {
     match scope {
@@ -198,7 +202,7 @@ fn entity_scope(alloc: Global, name: Variable, scope: &EntityScope) -> Result<Ex
 }
 
 // The scope's condition on the action.
-fn action_scope(alloc: Global, scope: &ActionScope) -> Result<Expr, AllocError>
+fn action_scope(alloc: Global, scope: &ActionScope<Uid>) -> Result<Expr, AllocError>
     ensures { IfOk result (λ e. e ≡ action_scope_of scope.now) }
 {
     let action = Variable::Action;

@@ -26,15 +26,16 @@ use Rattle.cedar_schema_spec.specs.WellFormed.{AreTypesApart}
 use Rattle.cedar_schema_spec.specs.Conformance.{Conforms, FitsIn}
 use Rattle.cedar_check_spec.specs.Candidates.{Meets, IsCandidate}
 use Rattle.cedar_check_law.proofs.Candidates.{says, entity_tested, action_tested, whole}
-use Rattle.cedar_auth_candidates.specs.Reached.{uid_in, Reaches, IsReached}
+use Rattle.cedar_auth_candidates.specs.Reached.{Reaches, IsReached}
+use Rattle.cedar_ast.specs.Scope.{entity_in}
 use Rattle.base_reach.proofs.Listed.{either_true}
 
 -- what a scope that names no uid asks
-asks_nothing : (w : World) (e : Uid) (scope : EntityScope) → uid_in scope ≡ None → Reaches w e scope
+asks_nothing : (w : World) (e : Uid) (scope : EntityScope Uid) → entity_in scope ≡ None → Reaches w e scope
 asks_nothing w e scope none u some = absurd (cc (sym none ∙ some))
 
 -- what a scope that names a uid asks
-asks_one : (w : World) (e u : Uid) (scope : EntityScope) → uid_in scope ≡ Some u → (e ≡ u) ⊎ Below w e u → Reaches w e scope
+asks_one : (w : World) (e u : Uid) (scope : EntityScope Uid) → entity_in scope ≡ Some u → (e ≡ u) ⊎ Below w e u → Reaches w e scope
 asks_one w e u scope names h v some =
     let both : Some u ≡ Some v = sym names ∙ some in
     let same : u ≡ v = cc both in
@@ -55,7 +56,7 @@ module _ (q : Request) (w : World) where
       absurd (cc is)
 
   -- a scope that is true is reached
-  true_is_reached : (x : Variable) (e : Uid) (scope : EntityScope) → variable_of x q ≡ uid e → eval (entity_scope_of x scope) q w ≡ says true → Reaches w e scope
+  true_is_reached : (x : Variable) (e : Uid) (scope : EntityScope Uid) → variable_of x q ≡ uid e → eval (entity_scope_of x scope) q w ≡ says true → Reaches w e scope
   true_is_reached x e entity.Any is t = asks_nothing w e entity.Any refl
   true_is_reached x e (entity.Equal u) is t =
       let gives : says (same_uid e u) ≡ says true = sym (ap (λ d. binary_of w two.Equal d (uid u)) is) ∙ t in

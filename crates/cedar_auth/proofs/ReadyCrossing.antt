@@ -16,6 +16,7 @@ use Rattle.cedar_value.proofs.text.Text.TheSendSync as text
 use Rattle.cedar_value.proofs.uid.Uid.TheSendSync as uid
 use Rattle.cedar_value.proofs.shared_text.SharedText.TheSendSync as shared
 use Rattle.cedar_value.proofs.value.Value.TheLaws.TheKnot as value
+use Rattle.cedar_value.specs.contracts.uid.Uid as Uid
 use Rattle.cedar_value.specs.contracts.value.Value as Value
 use Rattle.cedar_value.specs.contracts.value_record.Record as Record
 use Rattle.cedar_value.specs.contracts.value_set.ValueSet as ValueSet
@@ -32,12 +33,15 @@ use Rattle.cedar_ast_expressions.proofs.operator.BinaryOperator.TheSendSync as b
 use Rattle.cedar_ast_expressions.proofs.variable.Variable.TheSendSync as variable
 use Rattle.cedar_ast_expressions.proofs.keys.Keys.TheSendSync as keys
 use Rattle.cedar_ast.proofs.annotation.Annotation.TheSendSync as annotation
+use Rattle.cedar_ast.proofs.entity_reference.EntityReference.TheSendSync as reference
+use Rattle.cedar_ast.proofs.scope.ActionScope.TheSendSync as action_scope
+use Rattle.cedar_ast.proofs.scope.EntityScope.TheSendSync as entity_scope
 use Rattle.cedar_ast.proofs.scope.Scope.TheSendSync as scope
-use Rattle.cedar_ast.proofs.template_scope.TemplateScope.TheSendSync as template
+use Rattle.cedar_ast.proofs.uids.Uids.TheSendSync as uids
 use Rattle.cedar_ast.specs.contracts.policy_set.PolicySet as PolicySet
 use Rattle.cedar_ast.specs.contracts.policy.PolicyOver as Over
 use Rattle.cedar_ast.specs.contracts.scope.Scope as Scope
-use Rattle.cedar_ast.specs.contracts.template_scope.TemplateScope as TemplateScope
+use Rattle.cedar_ast.specs.contracts.entity_reference.EntityReference as Reference
 use Rattle.cedar_schema.specs.contracts.schema.Schema as Schema
 use Rattle.cedar_store.proofs.ChangesCrossing.{map-send, map-sync}
 use Rattle.cedar_store.specs.contracts.base.Base as Base
@@ -85,17 +89,24 @@ module _ (S : RattleType) where
   policy-sync : IsSync S → IsSync (Over.the_row S)
   policy-sync s = let e = expr-sync in search (annotation.the_sync, names, sendable, crosses) depth 40
 
+module _ (E : RattleType) where
+  scope-send : IsSend E → IsSend (Scope.the_row E Uid.the_row)
+  scope-send e = search (scope.the_send, entity_scope.the_send, action_scope.the_send, uids.the_send, names, sendable, crosses) depth 40
+
+  scope-sync : IsSync E → IsSync (Scope.the_row E Uid.the_row)
+  scope-sync e = search (scope.the_sync, entity_scope.the_sync, action_scope.the_sync, uids.the_sync, names, sendable, crosses) depth 40
+
 set-send : IsSend PolicySet.the_row
 set-send =
-    let p = policy-send Scope.the_row scope.the_send in
-    let t = policy-send TemplateScope.the_row template.the_send in
+    let p = policy-send _ (scope-send Uid.the_row (search (names, sendable) depth 20)) in
+    let t = policy-send _ (scope-send Reference.the_row (search (reference.the_send, names, sendable) depth 20)) in
     let h : IsSend (default.the_row fold.the_row) = search sendable depth 20 in
     search (map.the_send, maps, frees, send, sendable) depth 20
 
 set-sync : IsSync PolicySet.the_row
 set-sync =
-    let p = policy-sync Scope.the_row scope.the_sync in
-    let t = policy-sync TemplateScope.the_row template.the_sync in
+    let p = policy-sync _ (scope-sync Uid.the_row (search (names, sendable) depth 20)) in
+    let t = policy-sync _ (scope-sync Reference.the_row (search (reference.the_sync, names, sendable) depth 20)) in
     let h : IsSync (default.the_row fold.the_row) = search sendable depth 20 in
     search (map.the_sync, maps, sync, sendable) depth 20
 

@@ -10,7 +10,7 @@ use cedar_ast_expressions::EvaluationError;
 use cedar_auth_candidates::ScopeMatcher;
 use cedar_conjunctions::{Conjunction, Sources};
 use cedar_store::Store;
-use cedar_value::{Hierarchy, Request};
+use cedar_value::{Hierarchy, Request, Uid};
 use std::marker::Model;
 
 /// A request over a hierarchy, with what policies look up for it: each is looked up once for all of them. Contracts see a `SourcesView`.
@@ -76,7 +76,7 @@ impl<'r, H: Hierarchy> Evaluator<'r, H> {
 
     /// Whether the request meets the scope (Cedar language reference, policy scope). If it does, each of the scope's three sides is
     /// true. If not, the whole condition is false, whatever follows the scope.
-    pub(crate) fn is_met(&mut self, scope: &Scope) -> bool
+    pub(crate) fn is_met(&mut self, scope: &Scope<Uid>) -> bool
         ensures met { result ≡ true → AreTrue (sides_of scope.now) self.old.request self.old.world }
         ensures unmet { result ≡ false → IsUnmet scope.now self.old.request self.old.world }
         ensures same { self.new ≡ self.old }

@@ -11,7 +11,7 @@ use Rattle.cedar_value.specs.declared.uid.Uid.{Uid}
 use Rattle.cedar_ast.specs.PolicyTree.{PolicyTree}
 use Rattle.cedar_auth_candidates.specs.Index.{IsIndexOf, IsKept, positions_under}
 use Rattle.cedar_auth_candidates.specs.Private.Kept.{AreEntered, Holds, IsEntered, IsKeptAt, KeepsAll, KeepsTables, Lists, entries_of, list_at, tree_of}
-use Rattle.cedar_auth_candidates.specs.Reached.{uid_in}
+use Rattle.cedar_ast.specs.Scope.{entity_in}
 use Rattle.cedar_auth_candidates.specs.declared.tables.Tables.{Tables}
 use Rattle.cedar_auth_candidates.proofs.Gathering.{less_or_same}
 
@@ -53,7 +53,7 @@ still_kept old new None None k keeps m = keeps.unnamed k m
 pub entered_more : (ps : List PolicyTree) (old new : Tables) (i : ℕ) (p : PolicyTree) → slice_get ps i ≡ Some p → KeepsTables old new → IsEntered new p.scope i
     → AreEntered ps old i → AreEntered ps new (i + 1)
 entered_more ps old new i p at keeps entered before k x low is = ⊎_elim
-    (λ (h : k < i). still_kept old new (uid_in x.scope.principal) (uid_in x.scope.resource) k keeps (before k x h is))
+    (λ (h : k < i). still_kept old new (entity_in x.scope.principal) (entity_in x.scope.resource) k keeps (before k x h is))
     (λ (e : k ≡ i).
     let both : Some p ≡ Some x = sym at ∙ ap (λ (j : ℕ). slice_get ps j) (sym e) ∙ is in
     let same : p ≡ x = cc both in
@@ -85,4 +85,4 @@ tree_kept tables None (Some u) k m = subst (λ (ks : List ℕ). Contains ks k) (
 tree_kept tables None None k m = m
 
 pub index_of : (ps : List PolicyTree) (tables : Tables) → AreEntered ps tables (length ps) → IsIndexOf ps (tree_of tables)
-index_of ps tables all k p is = tree_kept tables (uid_in p.scope.principal) (uid_in p.scope.resource) k (all k p (within ps k p is) is)
+index_of ps tables all k p is = tree_kept tables (entity_in p.scope.principal) (entity_in p.scope.resource) k (all k p (within ps k p is) is)

@@ -38,7 +38,7 @@ module _ (q : Request) (w : World) where
   in_met : (x : Variable) (v u : Uid) → variable_of x q ≡ uid v → eval (entity_scope_of x (entity.In u)) q w ≡ says (is_within w v u)
   in_met x v u is = ap (λ d. binary_of w two.In d (uid u)) is
 
-  pub entity_met : (x : Variable) (v : Uid) (sc : EntityScope) → variable_of x q ≡ uid v → eval (entity_scope_of x sc) q w ≡ says (is_entity_met w v sc)
+  pub entity_met : (x : Variable) (v : Uid) (sc : EntityScope Uid) → variable_of x q ≡ uid v → eval (entity_scope_of x sc) q w ≡ says (is_entity_met w v sc)
   entity_met x v entity.Any is = refl
   entity_met x v (entity.Equal u) is = ap (λ d. binary_of w two.Equal d (uid u)) is
   entity_met x v (entity.In u) is = in_met x v u is
@@ -74,7 +74,7 @@ module _ (q : Request) (w : World) where
       chosen (list_all is_uid ms) (says (list_any (is_in w v) ms)) _ (all_test ms every)
       ∙ ap says (ap (list_any (is_in w v)) is ∙ any-set_from (is_in w v) xs ∙ any_uids v us)
 
-  pub action_met : (sc : ActionScope) → eval (action_scope_of sc) q w ≡ says (is_action_met w q.action sc)
+  pub action_met : (sc : ActionScope Uid) → eval (action_scope_of sc) q w ≡ says (is_action_met w q.action sc)
   action_met action.Any = refl
   action_met (action.Equal u) = refl
   action_met (action.In u) = refl

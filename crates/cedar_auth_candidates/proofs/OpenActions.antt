@@ -21,14 +21,14 @@ use Rattle.base_reach.proofs.Listed.{any_at, any_found, nowhere}
 use Rattle.cedar_auth_candidates.proofs.Sifts.{in_sifted, of_alike, sifted_within}
 
 -- what leaves the action open is met by each
-open_meets : (s : SchemaTree) (u : Uid) (a : ActionScope) → LeavesOpen a → Meets s u a
+open_meets : (s : SchemaTree) (u : Uid) (a : ActionScope Uid) → LeavesOpen a → Meets s u a
 open_meets s u action.Any h = tt
 open_meets s u (action.Equal v) h = absurd h
 open_meets s u (action.In v) h = absurd h
 open_meets s u (action.InSet vs) h = absurd h
 
 -- what does not ask for some action leaves it open
-open_else : (a : ActionScope) → ((¬ LeavesOpen a) → ⊥) → LeavesOpen a
+open_else : (a : ActionScope Uid) → ((¬ LeavesOpen a) → ⊥) → LeavesOpen a
 open_else action.Any asks = tt
 open_else (action.Equal v) asks = absurd (asks (λ h. h))
 open_else (action.In v) asks = absurd (asks (λ h. h))

@@ -8,7 +8,8 @@ use Rattle.cedar_value.specs.World.{World}
 use Rattle.cedar_value.specs.declared.request.Request.{Request}
 use Rattle.cedar_value.specs.declared.uid.Uid.{Uid}
 use Rattle.cedar_ast.specs.PolicyTree.{PolicyTree}
-use Rattle.cedar_auth_candidates.specs.Reached.{uid_in, IsReached}
+use Rattle.cedar_auth_candidates.specs.Reached.{IsReached}
+use Rattle.cedar_ast.specs.Scope.{entity_in}
 
 -- An index of policies: the positions of policies under the uids that scopes name, of principals and of resources, and a row with
 -- a bit for the position of each policy whose scope names neither (own).
@@ -31,7 +32,7 @@ IsKept index None None k = has_bit index.unnamed k ≡ true
 -- Each of the policies is kept according to what its scope names (own).
 abbrev pub IsIndexOf : List PolicyTree → IndexTree → Type 0
 IsIndexOf ps index =
-    (k : ℕ) (p : PolicyTree) → slice_get ps k ≡ Some p → IsKept index (uid_in p.scope.principal) (uid_in p.scope.resource) k
+    (k : ℕ) (p : PolicyTree) → slice_get ps k ≡ Some p → IsKept index (entity_in p.scope.principal) (entity_in p.scope.resource) k
 
 -- Some of the policies: all their positions, those of them at which a scope names no uid, and whether some are kept under a uid of
 -- principals, and under one of resources (own).

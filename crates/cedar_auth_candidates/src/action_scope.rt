@@ -22,7 +22,10 @@ fn is_within_one<H: Hierarchy>(uids: &[Uid], action: &mut RequestEntity<'_, H>) 
 }
 
 /// Whether the action is what the scope requires (Cedar language reference, policy scope).
-pub(crate) fn is_met<H: Hierarchy>(scope: &ActionScope, action: &mut RequestEntity<'_, H>) -> bool
+pub(crate) fn is_met<H: Hierarchy>(
+    scope: &ActionScope<Uid>,
+    action: &mut RequestEntity<'_, H>,
+) -> bool
     ensures met { result ≡ is_action_met action.old.world action.old.uid scope.now }
     ensures same { action.new ≡ action.old }
 {
@@ -35,7 +38,7 @@ pub(crate) fn is_met<H: Hierarchy>(scope: &ActionScope, action: &mut RequestEnti
 }
 
 /// How many instructions the code of the condition on the action has.
-pub(crate) fn size_of(scope: &ActionScope) -> usize
+pub(crate) fn size_of(scope: &ActionScope<Uid>) -> usize
     requires { size (action_scope_of scope.now) ≤ most_instructions }
     ensures { result ≡ size (action_scope_of scope.now) }
 {

@@ -7,10 +7,13 @@ ghost use Rattle.cedar_auth_candidates.specs.Private.Met.{is_entity_met};
 
 use crate::request_entity::RequestEntity;
 use cedar_ast::EntityScope;
-use cedar_value::Hierarchy;
+use cedar_value::{Hierarchy, Uid};
 
 /// Whether the entity is what the scope requires (Cedar language reference, policy scope).
-pub(crate) fn is_met<H: Hierarchy>(scope: &EntityScope, entity: &mut RequestEntity<'_, H>) -> bool
+pub(crate) fn is_met<H: Hierarchy>(
+    scope: &EntityScope<Uid>,
+    entity: &mut RequestEntity<'_, H>,
+) -> bool
     ensures met { result ≡ is_entity_met entity.old.world entity.old.uid scope.now }
     ensures same { entity.new ≡ entity.old }
 {
@@ -24,7 +27,7 @@ pub(crate) fn is_met<H: Hierarchy>(scope: &EntityScope, entity: &mut RequestEnti
 }
 
 /// How many instructions the code of the condition on the entity has.
-pub(crate) fn size_of(scope: &EntityScope) -> usize
+pub(crate) fn size_of(scope: &EntityScope<Uid>) -> usize
     ensures { (x : Variable) → result ≡ size (entity_scope_of x scope.now) }
 {
     match scope {

@@ -8,7 +8,7 @@ use crate::request_entity::RequestEntity;
 use crate::{action_scope, entity_scope};
 use cedar_ast::Scope;
 use cedar_store::Store;
-use cedar_value::{Hierarchy, Request};
+use cedar_value::{Hierarchy, Request, Uid};
 use std::marker::Model;
 
 /// A request over a hierarchy, for which the scopes of many policies are tested. Contracts see a `ScopeMatcherView`.
@@ -69,7 +69,7 @@ impl<'r, H: Hierarchy> ScopeMatcher<'r, H> {
 
     // Whether the request meets each of the scope's three sides. Policies are found mostly by their principal, and all that are found may
     // meet the action. So the resource is tested first, and the action last.
-    fn meets(&mut self, scope: &Scope) -> bool
+    fn meets(&mut self, scope: &Scope<Uid>) -> bool
         ensures met { result ≡ is_scope_met self.old.world self.old.request scope.now }
         ensures same { self.new ≡ self.old }
     {
@@ -80,7 +80,7 @@ impl<'r, H: Hierarchy> ScopeMatcher<'r, H> {
 
     /// Whether the request meets the scope (Cedar language reference, policy scope). If it does, each of the scope's three sides is
     /// true. If not, the whole condition is false, whatever follows the scope. A scope has no errors. Takes no memory.
-    pub fn is_met(&mut self, scope: &Scope) -> bool
+    pub fn is_met(&mut self, scope: &Scope<Uid>) -> bool
         ensures met { result ≡ true → AreTrue (sides_of scope.now) self.old.request self.old.world }
         ensures unmet { result ≡ false → IsUnmet scope.now self.old.request self.old.world }
         ensures same { self.new ≡ self.old }

@@ -1,7 +1,6 @@
 //! The tables that an index keeps.
-ghost use Rattle.std.specs.Prelude.{◌≡◌, ◌<◌, length, IfOk, OnOk, option_copied};
+ghost use Rattle.std.specs.Prelude.{◌<◌, length, IfOk, OnOk};
 ghost use Rattle.cedar_auth_candidates.specs.Private.Kept.{AreEntered, IsEntered, IsPolicyAt, KeepsTables};
-ghost use Rattle.cedar_auth_candidates.specs.Reached.{uid_in};
 
 use crate::uid_lists::{UidLists, insert};
 use base_bits::insert_bit;
@@ -19,16 +18,6 @@ pub(crate) struct Tables {
     pub(crate) principals: UidLists,
     pub(crate) resources: UidLists,
     pub(crate) unnamed: Vec<u64>,
-}
-
-// The uid that the scope of a principal or a resource names.
-fn uid_in(scope: &EntityScope) -> Option<&Uid>
-    ensures { option_copied result ≡ uid_in scope.now }
-{
-    match scope {
-        EntityScope::Equal(uid) | EntityScope::In(uid) | EntityScope::IsIn(_, uid) => Some(uid),
-        EntityScope::Any | EntityScope::Is(_) => None,
-    }
 }
 
 // The policy at a position of the set.
@@ -53,8 +42,8 @@ fn hashing_of(policies: &PolicySet) -> UidHashing {
     UidHashing::by_digest(digest)
 }
 
-fn feed(digest: &mut DefaultHasher, scope: &EntityScope) {
-    if let Some(uid) = uid_in(scope) {
+fn feed(digest: &mut DefaultHasher, scope: &EntityScope<Uid>) {
+    if let Some(uid) = scope.entity() {
         uid.hash(digest);
     }
 }
@@ -78,13 +67,18 @@ impl Tables {
     }
 
     // Keeps the position of a policy under what its scope names.
-    fn enter(&mut self, alloc: Global, scope: &Scope, position: usize) -> Result<(), AllocError>
+    fn enter(
+        &mut self,
+        alloc: Global,
+        scope: &Scope<Uid>,
+        position: usize,
+    ) -> Result<(), AllocError>
         ensures kept { OnOk result (KeepsTables self.old self.new) }
         ensures entered { OnOk result (IsEntered self.new scope.now position) }
     {
-        if let Some(uid) = uid_in(&scope.principal) {
+        if let Some(uid) = scope.principal.entity() {
             insert(alloc, &mut self.principals, uid, position)?;
-        } else if let Some(uid) = uid_in(&scope.resource) {
+        } else if let Some(uid) = scope.resource.entity() {
             insert(alloc, &mut self.resources, uid, position)?;
         } else {
             insert_bit(&mut self.unnamed, position)?;

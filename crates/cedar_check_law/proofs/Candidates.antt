@@ -92,7 +92,7 @@ module _ (s : SchemaTree) (env : Environment) (q : Request) (w : World) (apart :
     meets = λ e. sym k ∙ (bytes_eq-Decides v.ty m).0 e;
   }
 
-  pub entity_tested : (x : Variable) (v : Uid) (n : List ℕ) (sc : EntityScope) → variable_of x q ≡ uid v → v.ty ≡ n → Tested (entity_scope_of x sc) (MayMeet s n sc)
+  pub entity_tested : (x : Variable) (v : Uid) (n : List ℕ) (sc : EntityScope Uid) → variable_of x q ≡ uid v → v.ty ≡ n → Tested (entity_scope_of x sc) (MayMeet s n sc)
   entity_tested x v n entity.Any is k = record { truth = true; gives = refl; meets = λ e. tt }
   entity_tested x v n (entity.Equal u) is k = record {
     truth = same_uid v u;
@@ -118,7 +118,7 @@ module _ (s : SchemaTree) (env : Environment) (q : Request) (w : World) (apart :
   is_in_one : (us : List Uid) → list_any (is_or_below s w apart conforms q.action) us ≡ true → IsInOne s q.action us
   is_in_one us e = (any_decides (is_or_below s w apart conforms q.action) (λ v. (q.action ≡ v) ⊎ ActionDescends s q.action v) us (λ v. is_or_below-Decides s w apart conforms q.action v declared)).0 e
 
-  pub action_tested : (sc : ActionScope) → Tested (action_scope_of sc) (Meets s q.action sc)
+  pub action_tested : (sc : ActionScope Uid) → Tested (action_scope_of sc) (Meets s q.action sc)
   action_tested action.Any = record { truth = true; gives = refl; meets = λ e. tt }
   action_tested (action.Equal u) = record { truth = same_uid q.action u; gives = refl; meets = λ e. (same_uid-Decides q.action u).0 e }
   action_tested (action.In u) = record { truth = is_or_below s w apart conforms q.action u; gives = refl; meets = λ e. (is_or_below-Decides s w apart conforms q.action u declared).0 e }

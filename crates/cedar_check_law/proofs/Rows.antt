@@ -60,7 +60,7 @@ schema = record {
 
 -- ---- policies
 
-abbrev policy : EntityScope → ActionScope → Expression → PolicyTree
+abbrev policy : EntityScope Uid → ActionScope Uid → Expression → PolicyTree
 policy p a e = record {
   id = codes "policy0";
   annotations = [];

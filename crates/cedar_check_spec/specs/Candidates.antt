@@ -20,7 +20,7 @@ use Rattle.cedar_schema_spec.specs.Conformance.{Conforms, FitsIn}
 use Rattle.cedar_check_spec.specs.Typing.{IsInOne, IsOrDescends}
 
 -- An entity of the type may be what the scope of a principal or a resource requires (Cedar language reference, policy scope).
-abbrev pub MayMeet : SchemaTree → List ℕ → EntityScope → Type 0
+abbrev pub MayMeet : SchemaTree → List ℕ → EntityScope Uid → Type 0
 MayMeet s n entity.Any = Unit {0}
 MayMeet s n (entity.Equal u) = n ≡ u.ty
 MayMeet s n (entity.In u) = IsOrDescends s n u.ty
@@ -28,7 +28,7 @@ MayMeet s n (entity.Is m) = n ≡ m
 MayMeet s n (entity.IsIn m u) = (n ≡ m) × IsOrDescends s n u.ty
 
 -- The action is what its scope requires, according to the schema's links (Cedar language reference, policy scope).
-abbrev pub Meets : SchemaTree → Uid → ActionScope → Type 0
+abbrev pub Meets : SchemaTree → Uid → ActionScope Uid → Type 0
 Meets s a action.Any = Unit {0}
 Meets s a (action.Equal u) = a ≡ u
 Meets s a (action.In u) = (a ≡ u) ⊎ ActionDescends s a u

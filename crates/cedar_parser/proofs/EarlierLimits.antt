@@ -13,12 +13,10 @@ use Rattle.cedar_parser_tree.specs.declared.written_statement.Reference.{Referen
 use Rattle.cedar_parser_tree.specs.declared.written_statement.Reference.TheVariants as reference
 use Rattle.cedar_parser_tree.specs.declared.written_statement.WrittenAnnotation.{WrittenAnnotation}
 use Rattle.cedar_parser_tree.specs.declared.written_statement.WrittenCondition.{WrittenCondition}
-use Rattle.cedar_parser_tree.specs.declared.written_statement.WrittenEntityScope.{WrittenEntityScope}
-use Rattle.cedar_parser_tree.specs.declared.written_statement.WrittenEntityScope.TheVariants as written
-use Rattle.cedar_parser_tree.specs.declared.written_statement.WrittenActionScope.{WrittenActionScope}
-use Rattle.cedar_parser_tree.specs.declared.written_statement.WrittenActionScope.TheVariants as written_action
+use Rattle.cedar_ast.specs.declared.scope.EntityScope.TheVariants as written
+use Rattle.cedar_ast.specs.declared.scope.ActionScope.TheVariants as written_action
 use Rattle.cedar_parser_tree.specs.Written.{Written, truth, number, negative, text, entity, variable, slot, group, not, negated, relation, has, like, is, is_in, chain, choice, set, record_of, call, Links, no_links, operand, attribute, method, Members, no_members, member, Fields, no_fields, field}
-use Rattle.cedar_parser_tree.specs.StatementTree.{StatementTree}
+use Rattle.cedar_parser_tree.specs.StatementTree.{StatementTree, WrittenEntityScope, WrittenActionScope}
 use Rattle.cedar_parser_statements.proofs.EarlierPaths.{AskForNoPath}
 use Rattle.cedar_parser_limits.specs.declared.functions.Method.{Method}
 use Rattle.cedar_parser_limits.specs.declared.side_condition.SideCondition.{SideCondition}

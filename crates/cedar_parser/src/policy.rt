@@ -1,16 +1,17 @@
 //! From a statement as it is written to a policy or a template.
 ghost use Rattle.std.specs.Prelude.{◌≡◌, ◌++◌, ◌∷◌, [], false, IfOk, OnOk, map, option_map};
+ghost use Rattle.std.specs.Option.{ForSome};
+ghost use Rattle.cedar_ast.specs.Scope.{entity_in};
 ghost use Rattle.cedar_parser_limits.specs.declared.side_condition.SideCondition.TheVariants.{Strings, Numbers, Keys, Names, Counts, Slots};
 ghost use Rattle.cedar_parser_tokens.specs.Content.{text_of};
 ghost use Rattle.cedar_parser_tokens.specs.Names.{to_uid};
-ghost use Rattle.cedar_parser_limits.specs.StatementMeaning.{to_entity, to_reference, to_entity_scope, to_template_entity_scope, to_action_scope, to_scope, to_template_scope, is_slot, asks_slot, has_slot, to_annotation, to_condition, to_statement, id_in, id_at};
+ghost use Rattle.cedar_parser_limits.specs.StatementMeaning.{to_entity, to_reference, to_action_scope, scope_over, to_scope, to_template_scope, is_slot, asks_slot, has_slot, to_annotation, to_condition, to_statement, id_in, id_at};
 ghost use Rattle.cedar_parser_limits.specs.StatementLimits.{KeepConditions};
 ghost use Rattle.cedar_parser.specs.Private.Kept.{Every};
 
 use crate::expression::to_expression;
 use cedar_ast::{
-    ActionScope, Annotation, Condition, EntityReference, EntityScope, Policy, Scope, Statement,
-    Template, TemplateEntityScope, TemplateScope, Uids,
+    ActionScope, Annotation, Condition, EntityReference, Policy, Scope, Statement, Template, Uids,
 };
 use cedar_parser_tokens::WrittenUid;
 use cedar_parser_tree::{
@@ -58,72 +59,44 @@ fn has_slot(scope: &WrittenScope) -> bool
 fn asks_slot(scope: &WrittenEntityScope) -> bool
     ensures { result ≡ asks_slot scope.now }
 {
-    match scope {
-        WrittenEntityScope::Any => false,
-        WrittenEntityScope::Equal(reference) => is_slot(reference),
-        WrittenEntityScope::In(reference) => is_slot(reference),
-        WrittenEntityScope::Is(_) => false,
-        WrittenEntityScope::IsIn(_, reference) => is_slot(reference),
-    }
+    matches!(scope.entity(), Some(Reference::Slot(_, _)))
 }
 
-fn is_slot(reference: &Reference) -> bool
-    ensures { result ≡ is_slot reference.now }
-{
-    match reference {
-        Reference::Entity(_) => false,
-        Reference::Slot(_, _) => true,
-    }
-}
-
-fn to_scope(alloc: Global, scope: WrittenScope) -> Result<Scope, AllocError>
+// The scope of a policy.
+fn to_scope(alloc: Global, scope: WrittenScope) -> Result<Scope<Uid>, AllocError>
     requires { has_slot scope ≡ false }
     ensures { IfOk result (λ s. s ≡ to_scope scope) }
 {
-    Ok(Scope {
-        principal: to_entity_scope(alloc, scope.principal),
-        action: to_action_scope(alloc, scope.action)?,
-        resource: to_entity_scope(alloc, scope.resource),
-    })
+    scope_over(alloc, scope, |reference| to_entity(alloc, reference))
 }
 
-fn to_template_scope(alloc: Global, scope: WrittenScope) -> Result<TemplateScope, AllocError>
+// The scope of a template.
+fn to_template_scope(
+    alloc: Global,
+    scope: WrittenScope,
+) -> Result<Scope<EntityReference>, AllocError>
     ensures { IfOk result (λ s. s ≡ to_template_scope scope) }
 {
-    Ok(TemplateScope {
-        principal: to_template_entity_scope(alloc, scope.principal),
-        action: to_action_scope(alloc, scope.action)?,
-        resource: to_template_entity_scope(alloc, scope.resource),
+    scope_over(alloc, scope, |reference| to_reference(alloc, reference))
+}
+
+// The scope, with what `make` makes of the references to the principal and the resource.
+fn scope_over<E, M: Fn(Reference) -> E>(
+    alloc: Global,
+    scope: WrittenScope,
+    make: M,
+) -> Result<Scope<E>, AllocError>
+    requires principal { ForSome (entity_in scope.principal) (M.pre make) }
+    requires resource { ForSome (entity_in scope.resource) (M.pre make) }
+    ensures { (f : Reference → E) → ((r : Reference) (made : E) → M.post make r made → made ≡ f r)
+        → IfOk result (λ s. s ≡ scope_over f scope) }
+{
+    let action = to_action_scope(alloc, scope.action)?;
+    Ok(Scope {
+        principal: scope.principal.map(&make),
+        action,
+        resource: scope.resource.map(&make),
     })
-}
-
-fn to_entity_scope(alloc: Global, scope: WrittenEntityScope) -> EntityScope
-    requires { asks_slot scope ≡ false }
-    ensures { result ≡ to_entity_scope scope }
-{
-    match scope {
-        WrittenEntityScope::Any => EntityScope::Any,
-        WrittenEntityScope::Equal(reference) => EntityScope::Equal(to_entity(alloc, reference)),
-        WrittenEntityScope::In(reference) => EntityScope::In(to_entity(alloc, reference)),
-        WrittenEntityScope::Is(ty) => EntityScope::Is(ty),
-        WrittenEntityScope::IsIn(ty, reference) => {
-            EntityScope::IsIn(ty, to_entity(alloc, reference))
-        }
-    }
-}
-
-fn to_template_entity_scope(alloc: Global, scope: WrittenEntityScope) -> TemplateEntityScope
-    ensures { result ≡ to_template_entity_scope scope }
-{
-    match scope {
-        WrittenEntityScope::Any => TemplateEntityScope::Any,
-        WrittenEntityScope::Equal(place) => TemplateEntityScope::Equal(to_reference(alloc, place)),
-        WrittenEntityScope::In(place) => TemplateEntityScope::In(to_reference(alloc, place)),
-        WrittenEntityScope::Is(ty) => TemplateEntityScope::Is(ty),
-        WrittenEntityScope::IsIn(ty, place) => {
-            TemplateEntityScope::IsIn(ty, to_reference(alloc, place))
-        }
-    }
 }
 
 // The entity that is referred to.
@@ -146,14 +119,14 @@ fn to_reference(alloc: Global, reference: Reference) -> EntityReference
     }
 }
 
-fn to_action_scope(alloc: Global, scope: WrittenActionScope) -> Result<ActionScope, AllocError>
+fn to_action_scope(alloc: Global, scope: WrittenActionScope) -> Result<ActionScope<Uid>, AllocError>
     ensures { IfOk result (λ s. s ≡ to_action_scope scope) }
 {
     match scope {
-        WrittenActionScope::Any => Ok(ActionScope::Any),
-        WrittenActionScope::Equal(uid) => Ok(ActionScope::Equal(uid.into_uid(alloc))),
-        WrittenActionScope::In(uid) => Ok(ActionScope::In(uid.into_uid(alloc))),
-        WrittenActionScope::InSet(uids) => {
+        ActionScope::Any => Ok(ActionScope::Any),
+        ActionScope::Equal(uid) => Ok(ActionScope::Equal(uid.into_uid(alloc))),
+        ActionScope::In(uid) => Ok(ActionScope::In(uid.into_uid(alloc))),
+        ActionScope::InSet(uids) => {
             let uids = to_uids(alloc, uids.into_vec())?;
             Ok(ActionScope::InSet(Uids::new(uids)))
         }

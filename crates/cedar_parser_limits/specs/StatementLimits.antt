@@ -15,11 +15,9 @@ use Rattle.cedar_parser_tree.specs.declared.written_statement.Reference.{Referen
 use Rattle.cedar_parser_tree.specs.declared.written_statement.Reference.TheVariants as reference
 use Rattle.cedar_parser_tree.specs.declared.written_statement.WrittenAnnotation.{WrittenAnnotation}
 use Rattle.cedar_parser_tree.specs.declared.written_statement.WrittenCondition.{WrittenCondition}
-use Rattle.cedar_parser_tree.specs.declared.written_statement.WrittenEntityScope.{WrittenEntityScope}
-use Rattle.cedar_parser_tree.specs.declared.written_statement.WrittenEntityScope.TheVariants as written
-use Rattle.cedar_parser_tree.specs.declared.written_statement.WrittenActionScope.{WrittenActionScope}
-use Rattle.cedar_parser_tree.specs.declared.written_statement.WrittenActionScope.TheVariants as written_action
-use Rattle.cedar_parser_tree.specs.StatementTree.{StatementTree}
+use Rattle.cedar_ast.specs.declared.scope.EntityScope.TheVariants as written
+use Rattle.cedar_ast.specs.declared.scope.ActionScope.TheVariants as written_action
+use Rattle.cedar_parser_tree.specs.StatementTree.{StatementTree, WrittenEntityScope, WrittenActionScope}
 use Rattle.cedar_parser_limits.specs.StatementMeaning.{to_policy}
 use Rattle.cedar_parser_limits.specs.Limits.{Stands, Keeps, size_of, max_height, max_nodes}
 

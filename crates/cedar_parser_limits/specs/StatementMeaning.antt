@@ -9,11 +9,9 @@ use Rattle.cedar_ast.specs.declared.scope.EntityScope.TheVariants as entity_scop
 use Rattle.cedar_ast.specs.declared.scope.ActionScope.{ActionScope}
 use Rattle.cedar_ast.specs.declared.scope.ActionScope.TheVariants as action_scope
 use Rattle.cedar_ast.specs.declared.scope.Scope.{Scope}
-use Rattle.cedar_ast.specs.declared.template_scope.EntityReference.{EntityReference}
-use Rattle.cedar_ast.specs.declared.template_scope.EntityReference.TheVariants as entity_reference
-use Rattle.cedar_ast.specs.declared.template_scope.TemplateEntityScope.{TemplateEntityScope}
-use Rattle.cedar_ast.specs.declared.template_scope.TemplateEntityScope.TheVariants as template_scope
-use Rattle.cedar_ast.specs.declared.template_scope.TemplateScope.{TemplateScope}
+use Rattle.cedar_ast.specs.Scope.{scope_map}
+use Rattle.cedar_ast.specs.declared.entity_reference.EntityReference.{EntityReference}
+use Rattle.cedar_ast.specs.declared.entity_reference.EntityReference.TheVariants as entity_reference
 use Rattle.cedar_ast.specs.declared.statement.Statement.{Statement}
 use Rattle.cedar_ast.specs.declared.statement.Statement.TheVariants as statement
 use Rattle.cedar_ast.specs.PolicyTree.{PolicyTree}
@@ -26,12 +24,7 @@ use Rattle.cedar_parser_tree.specs.declared.written_statement.Reference.{Referen
 use Rattle.cedar_parser_tree.specs.declared.written_statement.Reference.TheVariants as reference
 use Rattle.cedar_parser_tree.specs.declared.written_statement.WrittenAnnotation.{WrittenAnnotation}
 use Rattle.cedar_parser_tree.specs.declared.written_statement.WrittenCondition.{WrittenCondition}
-use Rattle.cedar_parser_tree.specs.declared.written_statement.WrittenEntityScope.{WrittenEntityScope}
-use Rattle.cedar_parser_tree.specs.declared.written_statement.WrittenEntityScope.TheVariants as written
-use Rattle.cedar_parser_tree.specs.declared.written_statement.WrittenActionScope.{WrittenActionScope}
-use Rattle.cedar_parser_tree.specs.declared.written_statement.WrittenActionScope.TheVariants as written_action
-use Rattle.cedar_parser_tree.specs.declared.written_statement.WrittenScope.{WrittenScope}
-use Rattle.cedar_parser_tree.specs.StatementTree.{StatementTree}
+use Rattle.cedar_parser_tree.specs.StatementTree.{StatementTree, WrittenScope, WrittenEntityScope, WrittenActionScope}
 
 -- ---- scopes
 
@@ -46,36 +39,24 @@ abbrev pub to_reference : Reference → EntityReference
 to_reference (reference.Entity u) = entity_reference.Entity (to_uid u)
 to_reference (reference.Slot at x) = entity_reference.Slot
 
--- The scope of a policy's principal or resource (Cedar language reference, policies).
-abbrev pub to_entity_scope : WrittenEntityScope → EntityScope
-to_entity_scope written.Any = entity_scope.Any
-to_entity_scope (written.Equal q) = entity_scope.Equal (to_entity q)
-to_entity_scope (written.In q) = entity_scope.In (to_entity q)
-to_entity_scope (written.Is ty) = entity_scope.Is ty
-to_entity_scope (written.IsIn ty q) = entity_scope.IsIn ty (to_entity q)
-
--- The scope of a template's principal or resource (Cedar language reference, policy templates).
-abbrev pub to_template_entity_scope : WrittenEntityScope → TemplateEntityScope
-to_template_entity_scope written.Any = template_scope.Any
-to_template_entity_scope (written.Equal q) = template_scope.Equal (to_reference q)
-to_template_entity_scope (written.In q) = template_scope.In (to_reference q)
-to_template_entity_scope (written.Is ty) = template_scope.Is ty
-to_template_entity_scope (written.IsIn ty q) = template_scope.IsIn ty (to_reference q)
-
 -- The scope of the action of a policy or a template (Cedar language reference, policies).
-abbrev pub to_action_scope : WrittenActionScope → ActionScope
-to_action_scope written_action.Any = action_scope.Any
-to_action_scope (written_action.Equal u) = action_scope.Equal (to_uid u)
-to_action_scope (written_action.In u) = action_scope.In (to_uid u)
-to_action_scope (written_action.InSet us) = action_scope.InSet (map to_uid us)
+abbrev pub to_action_scope : WrittenActionScope → ActionScope Uid
+to_action_scope action_scope.Any = action_scope.Any
+to_action_scope (action_scope.Equal u) = action_scope.Equal (to_uid u)
+to_action_scope (action_scope.In u) = action_scope.In (to_uid u)
+to_action_scope (action_scope.InSet us) = action_scope.InSet (map to_uid us)
+
+-- A scope, with what a function makes of each reference to the principal and the resource (this project).
+abbrev pub scope_over : {E : Type 0} → (Reference → E) → WrittenScope → Scope E Uid
+scope_over f s = record { principal = scope_map f s.principal; action = to_action_scope s.action; resource = scope_map f s.resource }
 
 -- The scope of a policy (Cedar language reference, policies).
-abbrev pub to_scope : WrittenScope → Scope
-to_scope s = record { principal = to_entity_scope s.principal; action = to_action_scope s.action; resource = to_entity_scope s.resource }
+abbrev pub to_scope : WrittenScope → Scope Uid Uid
+to_scope = scope_over to_entity
 
 -- The scope of a template (Cedar language reference, policy templates).
-abbrev pub to_template_scope : WrittenScope → TemplateScope
-to_template_scope s = record { principal = to_template_entity_scope s.principal; action = to_action_scope s.action; resource = to_template_entity_scope s.resource }
+abbrev pub to_template_scope : WrittenScope → Scope EntityReference Uid
+to_template_scope = scope_over to_reference
 
 -- Whether a reference is a slot (Cedar language reference, policy templates).
 abbrev pub is_slot : Reference → Bool
@@ -84,9 +65,9 @@ is_slot (reference.Slot at x) = true
 
 -- Whether the scope of the principal or the resource has a slot (Cedar language reference, policy templates).
 abbrev pub asks_slot : WrittenEntityScope → Bool
-asks_slot (written.Equal q) = is_slot q
-asks_slot (written.In q) = is_slot q
-asks_slot (written.IsIn ty q) = is_slot q
+asks_slot (entity_scope.Equal q) = is_slot q
+asks_slot (entity_scope.In q) = is_slot q
+asks_slot (entity_scope.IsIn ty q) = is_slot q
 asks_slot _ = false
 
 -- Whether the scope of a statement has a slot (Cedar language reference, policy templates).

@@ -1,6 +1,7 @@
 //! The size of the condition that a statement writes.
 ghost use Rattle.std.specs.Prelude.{◌≡◌, map};
 ghost use Rattle.cedar_ast.specs.Condition.{entity_scope_of, action_scope_of, asked_by, conditions_of, entity_literal};
+ghost use Rattle.cedar_ast.specs.Scope.{scope_map};
 ghost use Rattle.cedar_ast_expressions.specs.Expression.{expressions_of};
 ghost use Rattle.cedar_ast_expressions.specs.declared.variable.Variable.{Variable};
 ghost use Rattle.cedar_parser_limits.specs.Private.Capped.{capped};
@@ -8,11 +9,11 @@ ghost use Rattle.cedar_parser_limits.specs.Limits.{leaf, size_of, size_of_all};
 ghost use Rattle.cedar_parser_limits.specs.Meaning.{to_expression};
 ghost use Rattle.cedar_parser_tokens.specs.Names.{to_uid};
 ghost use Rattle.cedar_parser_limits.specs.StatementLimits.{condition_size};
-ghost use Rattle.cedar_parser_limits.specs.StatementMeaning.{to_entity_scope, to_action_scope, to_condition};
+ghost use Rattle.cedar_parser_limits.specs.StatementMeaning.{to_entity, to_action_scope, to_condition};
 
 use crate::expression_size::expression_size;
 use crate::size::{Size, leaf, nothing};
-use cedar_ast::ConditionKind;
+use cedar_ast::{ActionScope, ConditionKind, EntityScope};
 use cedar_parser_tokens::WrittenUid;
 use cedar_parser_tree::{
     WrittenActionScope, WrittenCondition, WrittenEntityScope, WrittenStatement,
@@ -32,14 +33,14 @@ pub fn condition_size(statement: &WrittenStatement) -> Size
 
 // The size of the condition on the principal or the resource.
 fn entity_scope_size(scope: &WrittenEntityScope) -> Size
-    ensures { (x : Variable) → result ≡ capped (size_of (entity_scope_of x (to_entity_scope scope.now))) }
+    ensures { (x : Variable) → result ≡ capped (size_of (entity_scope_of x (scope_map to_entity scope.now))) }
 {
     match scope {
-        WrittenEntityScope::Any => leaf(),
-        WrittenEntityScope::Equal(_) => leaf().above_both(leaf()),
-        WrittenEntityScope::In(_) => leaf().above_both(leaf()),
-        WrittenEntityScope::Is(_) => leaf().above(),
-        WrittenEntityScope::IsIn(_, _) => leaf().above().above_both(leaf().above_both(leaf())),
+        EntityScope::Any => leaf(),
+        EntityScope::Equal(_) => leaf().above_both(leaf()),
+        EntityScope::In(_) => leaf().above_both(leaf()),
+        EntityScope::Is(_) => leaf().above(),
+        EntityScope::IsIn(_, _) => leaf().above().above_both(leaf().above_both(leaf())),
     }
 }
 
@@ -47,10 +48,10 @@ fn action_scope_size(scope: &WrittenActionScope) -> Size
     ensures { result ≡ capped (size_of (action_scope_of (to_action_scope scope.now))) }
 {
     match scope {
-        WrittenActionScope::Any => leaf(),
-        WrittenActionScope::Equal(_) => leaf().above_both(leaf()),
-        WrittenActionScope::In(_) => leaf().above_both(leaf()),
-        WrittenActionScope::InSet(uids) => leaf().above_both(uids_size(uids.as_slice()).above()),
+        ActionScope::Any => leaf(),
+        ActionScope::Equal(_) => leaf().above_both(leaf()),
+        ActionScope::In(_) => leaf().above_both(leaf()),
+        ActionScope::InSet(uids) => leaf().above_both(uids_size(uids.as_slice()).above()),
     }
 }
 

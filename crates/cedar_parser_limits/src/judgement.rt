@@ -11,6 +11,7 @@ use crate::expression_judgement::{judge_content, judge_expression};
 use crate::side_condition::SideCondition;
 use crate::size::Size;
 use crate::sought::Sought;
+use cedar_ast::{ActionScope, EntityScope};
 use cedar_ast_expressions::{Variable, first_repeated};
 use cedar_parser_tokens::{ParseFault, WrittenUid};
 use cedar_parser_tree::{
@@ -146,11 +147,11 @@ fn judge_entity_scope(
     ensures { Judges sought (λ c. KeepsEntityScope c variable scope.now) result }
 {
     match scope {
-        WrittenEntityScope::Any => Ok(()),
-        WrittenEntityScope::Equal(reference) => judge_reference(sought, variable, reference),
-        WrittenEntityScope::In(reference) => judge_reference(sought, variable, reference),
-        WrittenEntityScope::Is(_) => Ok(()),
-        WrittenEntityScope::IsIn(_, reference) => judge_reference(sought, variable, reference),
+        EntityScope::Any => Ok(()),
+        EntityScope::Equal(reference) => judge_reference(sought, variable, reference),
+        EntityScope::In(reference) => judge_reference(sought, variable, reference),
+        EntityScope::Is(_) => Ok(()),
+        EntityScope::IsIn(_, reference) => judge_reference(sought, variable, reference),
     }
 }
 
@@ -172,10 +173,10 @@ fn judge_action_scope(sought: Sought, scope: &WrittenActionScope) -> Result<(), 
     ensures { Judges sought (λ c. KeepsActionScope c scope.now) result }
 {
     match scope {
-        WrittenActionScope::Any => Ok(()),
-        WrittenActionScope::Equal(uid) => judge_content(sought, &uid.id),
-        WrittenActionScope::In(uid) => judge_content(sought, &uid.id),
-        WrittenActionScope::InSet(uids) => judge_uids(sought, uids.as_slice()),
+        ActionScope::Any => Ok(()),
+        ActionScope::Equal(uid) => judge_content(sought, &uid.id),
+        ActionScope::In(uid) => judge_content(sought, &uid.id),
+        ActionScope::InSet(uids) => judge_uids(sought, uids.as_slice()),
     }
 }
 

@@ -1,6 +1,7 @@
 //! The tokens of the parts of a scope.
 use crate::stretch::{Marked, Stretch};
 use crate::token_list::TokenList;
+use cedar_ast::{ActionScope, EntityScope};
 use cedar_parser_tokens::WrittenUid;
 use cedar_parser_tree::{WrittenActionScope, WrittenEntityScope};
 use cedar_text::TokenKind;
@@ -46,11 +47,11 @@ pub fn marked_in_entity_scope(
     path: &[usize],
 ) -> Option<Marked> {
     match scope {
-        WrittenEntityScope::Any => marked_any(written, path),
-        WrittenEntityScope::Equal(_) => marked_comparison(written, path),
-        WrittenEntityScope::In(_) => marked_comparison(written, path),
-        WrittenEntityScope::Is(_) => marked_is(written, path),
-        WrittenEntityScope::IsIn(_, _) => marked_is_in(tokens, written, path),
+        EntityScope::Any => marked_any(written, path),
+        EntityScope::Equal(_) => marked_comparison(written, path),
+        EntityScope::In(_) => marked_comparison(written, path),
+        EntityScope::Is(_) => marked_is(written, path),
+        EntityScope::IsIn(_, _) => marked_is_in(tokens, written, path),
     }
 }
 
@@ -62,10 +63,10 @@ pub fn marked_in_action_scope(
     path: &[usize],
 ) -> Option<Marked> {
     match scope {
-        WrittenActionScope::Any => marked_any(written, path),
-        WrittenActionScope::Equal(_) => marked_comparison(written, path),
-        WrittenActionScope::In(_) => marked_comparison(written, path),
-        WrittenActionScope::InSet(uids) => marked_in_list(tokens, uids.as_slice(), written, path),
+        ActionScope::Any => marked_any(written, path),
+        ActionScope::Equal(_) => marked_comparison(written, path),
+        ActionScope::In(_) => marked_comparison(written, path),
+        ActionScope::InSet(uids) => marked_in_list(tokens, uids.as_slice(), written, path),
     }
 }
 

@@ -6,7 +6,6 @@ use Rattle.cedar_parser_tokens.specs.Names as n
 use Rattle.cedar_parser_tokens.specs.Names.{Rule}
 use Rattle.cedar_parser_tree.specs.declared.sign.ChainSign.{ChainSign}
 use Rattle.cedar_parser_tree.specs.declared.written.Link.{Link}
-use Rattle.cedar_parser_tree.specs.declared.written_statement.WrittenCondition.{WrittenCondition}
 use Rattle.cedar_parser_tree.specs.Written.{Written}
 use Rattle.cedar_parser_tree.specs.StatementTree.{StatementTree}
 use Rattle.cedar_parser_expressions.specs.Grammar as g

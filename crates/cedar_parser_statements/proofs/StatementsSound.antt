@@ -11,10 +11,7 @@ use Rattle.cedar_parser_tree.specs.Written.{Written}
 use Rattle.cedar_parser_tokens.specs.declared.content.WrittenUid.{WrittenUid}
 use Rattle.cedar_parser_tree.specs.declared.written_statement.WrittenAnnotation.{WrittenAnnotation}
 use Rattle.cedar_parser_tree.specs.declared.written_statement.WrittenCondition.{WrittenCondition}
-use Rattle.cedar_parser_tree.specs.declared.written_statement.WrittenEntityScope.{WrittenEntityScope}
-use Rattle.cedar_parser_tree.specs.declared.written_statement.WrittenActionScope.{WrittenActionScope}
-use Rattle.cedar_parser_tree.specs.declared.written_statement.WrittenScope.{WrittenScope}
-use Rattle.cedar_parser_tree.specs.StatementTree.{StatementTree}
+use Rattle.cedar_parser_tree.specs.StatementTree.{StatementTree, WrittenScope, WrittenEntityScope, WrittenActionScope}
 use Rattle.cedar_parser_expressions.specs.Grammar as h
 use Rattle.cedar_parser_tokens.specs.Names.{Takes, Text, Path, Entity}
 use Rattle.cedar_parser_expressions.specs.Grammar.{Series, Arguments, slot_of, Nested}

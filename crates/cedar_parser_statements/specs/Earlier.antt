@@ -15,9 +15,8 @@ use Rattle.cedar_parser_tree.specs.Written.{Written}
 use Rattle.cedar_parser_tree.specs.declared.sign.RelationSign.{RelationSign}
 use Rattle.cedar_parser_tree.specs.declared.written_statement.WrittenAnnotation.{WrittenAnnotation}
 use Rattle.cedar_parser_tree.specs.declared.written_statement.WrittenCondition.{WrittenCondition}
-use Rattle.cedar_parser_tree.specs.declared.written_statement.WrittenScope.{WrittenScope}
 use Rattle.cedar_parser_expressions.specs.Grammar.{Opens, Chain, or_sign, and_sign, relation_sign_of, Add}
-use Rattle.cedar_parser_tree.specs.StatementTree.{StatementTree}
+use Rattle.cedar_parser_tree.specs.StatementTree.{StatementTree, WrittenScope}
 use Rattle.cedar_parser_statements.specs.Statements.{Annotations, Scopes, effect_of, condition_kind_of}
 
 -- A relation as it was: after `has` comes one key (Cedar language reference, grammar: Relation).

@@ -13,12 +13,9 @@ use Rattle.cedar_parser_tree.specs.declared.written_statement.Reference.{Referen
 use Rattle.cedar_parser_tree.specs.declared.written_statement.Reference.TheVariants as reference
 use Rattle.cedar_parser_tree.specs.declared.written_statement.WrittenAnnotation.{WrittenAnnotation}
 use Rattle.cedar_parser_tree.specs.declared.written_statement.WrittenCondition.{WrittenCondition}
-use Rattle.cedar_parser_tree.specs.declared.written_statement.WrittenEntityScope.{WrittenEntityScope}
-use Rattle.cedar_parser_tree.specs.declared.written_statement.WrittenEntityScope.TheVariants as entity_scope
-use Rattle.cedar_parser_tree.specs.declared.written_statement.WrittenActionScope.{WrittenActionScope}
-use Rattle.cedar_parser_tree.specs.declared.written_statement.WrittenActionScope.TheVariants as action_scope
-use Rattle.cedar_parser_tree.specs.declared.written_statement.WrittenScope.{WrittenScope}
-use Rattle.cedar_parser_tree.specs.StatementTree.{StatementTree}
+use Rattle.cedar_ast.specs.declared.scope.EntityScope.TheVariants as entity_scope
+use Rattle.cedar_ast.specs.declared.scope.ActionScope.TheVariants as action_scope
+use Rattle.cedar_parser_tree.specs.StatementTree.{StatementTree, WrittenScope, WrittenEntityScope, WrittenActionScope}
 use Rattle.cedar_parser_statements.specs.Statements.{effect_of, condition_kind_of}
 use Rattle.cedar_parser_tokens.specs.Marks.{start_of}
 unfoldable pub use Rattle.cedar_parser_tokens.specs.Reading.{any_word}

@@ -20,6 +20,6 @@ mod statement;
 pub use cedar_parser_tree::{
     AttributePath, ChainSign, Field, Link, Reference, RelationSign, Series, Written,
     WrittenActionScope, WrittenAnnotation, WrittenCondition, WrittenEntityScope, WrittenKind,
-    WrittenScope, WrittenStatement, WrittenUids,
+    WrittenScope, WrittenStatement,
 };
 pub use statement::parse_statement;

@@ -5,11 +5,10 @@ ghost use Rattle.cedar_parser_expressions.specs.Reading as reading;
 ghost use Rattle.cedar_parser_statements.specs.StatementReading as spec;
 ghost use Rattle.cedar_parser_tokens.specs.Contract.{Reads, ReadsItems};
 
+use cedar_ast::{ActionScope, EntityScope, Scope, Uids};
 use cedar_parser_expressions::slot_of;
 use cedar_parser_tokens::{Cursor, ParseFault, WrittenUid, parse_entity, parse_path};
-use cedar_parser_tree::{
-    Reference, WrittenActionScope, WrittenEntityScope, WrittenScope, WrittenUids,
-};
+use cedar_parser_tree::{Reference, WrittenActionScope, WrittenEntityScope, WrittenScope};
 use cedar_text::TokenKind;
 use std::alloc::Global;
 
@@ -58,7 +57,7 @@ fn parse_scope_from_resource(
     ensures { Reads (spec.behind_action principal action tokens.old) result tokens.new }
 {
     match parse_resource(alloc, tokens) {
-        Ok(resource) => Ok(WrittenScope {
+        Ok(resource) => Ok(Scope {
             principal,
             action,
             resource,
@@ -110,18 +109,18 @@ fn parse_entity_scope(
     if tokens.sees(TokenKind::Equal) {
         tokens.skip();
         let reference = parse_reference(alloc, tokens)?;
-        return Ok(WrittenEntityScope::Equal(reference));
+        return Ok(EntityScope::Equal(reference));
     }
     if tokens.sees(TokenKind::In) {
         tokens.skip();
         let reference = parse_reference(alloc, tokens)?;
-        return Ok(WrittenEntityScope::In(reference));
+        return Ok(EntityScope::In(reference));
     }
     if tokens.sees(TokenKind::Is) {
         tokens.skip();
         return parse_is(alloc, tokens);
     }
-    Ok(WrittenEntityScope::Any)
+    Ok(EntityScope::Any)
 }
 
 // Parses what follows `is`.
@@ -134,9 +133,9 @@ fn parse_is(alloc: Global, tokens: &mut Cursor<'_>) -> Result<WrittenEntityScope
     if tokens.sees(TokenKind::In) {
         tokens.skip();
         let reference = parse_reference(alloc, tokens)?;
-        return Ok(WrittenEntityScope::IsIn(ty, reference));
+        return Ok(EntityScope::IsIn(ty, reference));
     }
-    Ok(WrittenEntityScope::Is(ty))
+    Ok(EntityScope::Is(ty))
 }
 
 // Parses an entity or a slot.
@@ -170,13 +169,13 @@ fn parse_action(alloc: Global, tokens: &mut Cursor<'_>) -> Result<WrittenActionS
     if tokens.sees(TokenKind::Equal) {
         tokens.skip();
         let uid = parse_entity(alloc, tokens)?;
-        return Ok(WrittenActionScope::Equal(uid));
+        return Ok(ActionScope::Equal(uid));
     }
     if tokens.sees(TokenKind::In) {
         tokens.skip();
         return parse_action_in(alloc, tokens);
     }
-    Ok(WrittenActionScope::Any)
+    Ok(ActionScope::Any)
 }
 
 // Parses what follows `in`: an entity, or several in square brackets.
@@ -187,10 +186,10 @@ fn parse_action_in(alloc: Global, tokens: &mut Cursor<'_>) -> Result<WrittenActi
     if tokens.sees(TokenKind::LeftBracket) {
         tokens.skip();
         let list = parse_entity_list(alloc, tokens)?;
-        return Ok(WrittenActionScope::InSet(WrittenUids::new(list)));
+        return Ok(ActionScope::InSet(Uids::new(list)));
     }
     let uid = parse_entity(alloc, tokens)?;
-    Ok(WrittenActionScope::In(uid))
+    Ok(ActionScope::In(uid))
 }
 
 // Parses entities with commas between them, and the bracket that closes them.

@@ -24,5 +24,5 @@ pub use sign::{ChainSign, RelationSign};
 pub use written::{Field, Link, Span, Written, WrittenKind};
 pub use written_statement::{
     Reference, WrittenActionScope, WrittenAnnotation, WrittenCondition, WrittenEntityScope,
-    WrittenScope, WrittenStatement, WrittenUids,
+    WrittenScope, WrittenStatement,
 };

@@ -1,11 +1,9 @@
 //! Statements as they are written.
-ghost use Rattle.std.specs.Prelude.{◌≡◌};
 
 use crate::written::Written;
-use cedar_ast::{ConditionKind, Effect};
+use cedar_ast::{ActionScope, ConditionKind, Effect, EntityScope, Scope};
 use cedar_ast_expressions::Variable;
 use cedar_parser_tokens::{Content, Word, WrittenUid};
-use cedar_value::Name;
 use std::marker::Model;
 
 /// An annotation as it is written (Cedar language reference, annotations).
@@ -38,81 +36,13 @@ pub enum Reference {
 }
 
 /// What a scope requires of the principal or the resource, as it is written.
-#[derive(Drop)]
-pub enum WrittenEntityScope {
-    /// Nothing.
-    Any,
-    /// `==`
-    Equal(Reference),
-    /// `in`
-    In(Reference),
-    /// `is`
-    Is(Name),
-    /// `is .. in`
-    IsIn(Name, Reference),
-}
-
-/// Entities with commas between them, which contracts see as the list of them.
-#[derive(Drop)]
-pub struct WrittenUids {
-    uids: Vec<WrittenUid>,
-}
-
-impl Model for WrittenUids {
-    ghost use Rattle.std.specs.Prelude.{List};
-    ghost use Rattle.cedar_parser_tokens.specs.declared.content.WrittenUid.{WrittenUid};
-
-    ghost Value = { List WrittenUid };
-
-    ghost view = { λ u. u.uids.items };
-}
-
-impl WrittenUids {
-    /// These entities. Takes no memory.
-    pub fn new(uids: Vec<WrittenUid>) -> WrittenUids
-        ensures { result ≡ uids.items }
-    {
-        WrittenUids { uids }
-    }
-
-    /// The entities in order. Takes no memory.
-    pub fn into_vec(self) -> Vec<WrittenUid>
-        ensures { result.items ≡ self }
-    {
-        self.uids
-    }
-
-    /// The entities in order, lent.
-    pub fn as_slice(&self) -> &[WrittenUid]
-        ensures { result.now ≡ self.now }
-    {
-        &self.uids
-    }
-}
+pub type WrittenEntityScope = EntityScope<Reference>;
 
 /// What a scope requires of the action, as it is written.
-#[derive(Drop)]
-pub enum WrittenActionScope {
-    /// Nothing.
-    Any,
-    /// `==`
-    Equal(WrittenUid),
-    /// `in`
-    In(WrittenUid),
-    /// `in` and the entities in square brackets
-    InSet(WrittenUids),
-}
+pub type WrittenActionScope = ActionScope<WrittenUid>;
 
 /// A scope as it is written.
-#[derive(Drop)]
-pub struct WrittenScope {
-    /// What the principal has to be.
-    pub principal: WrittenEntityScope,
-    /// What the action has to be.
-    pub action: WrittenActionScope,
-    /// What the resource has to be.
-    pub resource: WrittenEntityScope,
-}
+pub type WrittenScope = Scope<Reference, WrittenUid>;
 
 /// A statement as it is written, which contracts see as a `StatementTree`.
 #[derive(Drop)]

@@ -10,7 +10,7 @@ use Rattle.cedar_ast.specs.declared.scope.Scope.{Scope}
 use Rattle.cedar_ast.specs.PolicyTree.{PolicyTree}
 use Rattle.cedar_store.specs.declared.uid_hashing.UidHashing.{UidHashing}
 use Rattle.cedar_auth_candidates.specs.Index.{IndexTree}
-use Rattle.cedar_auth_candidates.specs.Reached.{uid_in}
+use Rattle.cedar_ast.specs.Scope.{entity_in}
 use Rattle.cedar_auth_candidates.specs.declared.tables.Tables.{Tables}
 
 -- the second list has all that the first has
@@ -68,8 +68,8 @@ IsKeptAt tables None (Some u) k = Contains (list_at tables.resources u) k
 IsKeptAt tables None None k = has_bit tables.unnamed.items k ≡ true
 
 -- the position of a policy is kept according to what its scope names
-abbrev pub IsEntered : Tables → Scope → ℕ → Type 0
-IsEntered tables scope k = IsKeptAt tables (uid_in scope.principal) (uid_in scope.resource) k
+abbrev pub IsEntered : Tables → Scope Uid Uid → ℕ → Type 0
+IsEntered tables scope k = IsKeptAt tables (entity_in scope.principal) (entity_in scope.resource) k
 
 -- the policy is at the position
 abbrev pub IsPolicyAt : List PolicyTree → ℕ → PolicyTree → Type 0

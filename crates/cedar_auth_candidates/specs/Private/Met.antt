@@ -22,7 +22,7 @@ abbrev pub is_within_one_of : World → Uid → List Uid → Bool
 is_within_one_of w v us = list_any (is_within w v) us
 
 -- the entity is what the scope requires
-abbrev pub is_entity_met : World → Uid → EntityScope → Bool
+abbrev pub is_entity_met : World → Uid → EntityScope Uid → Bool
 is_entity_met w v entity.Any = true
 is_entity_met w v (entity.Equal u) = same_uid v u
 is_entity_met w v (entity.In u) = is_within w v u
@@ -30,14 +30,14 @@ is_entity_met w v (entity.Is ty) = bytes_eq v.ty ty
 is_entity_met w v (entity.IsIn ty u) = bytes_eq v.ty ty && is_within w v u
 
 -- the action is what the scope requires
-abbrev pub is_action_met : World → Uid → ActionScope → Bool
+abbrev pub is_action_met : World → Uid → ActionScope Uid → Bool
 is_action_met w v action.Any = true
 is_action_met w v (action.Equal u) = same_uid v u
 is_action_met w v (action.In u) = is_within w v u
 is_action_met w v (action.InSet us) = is_within_one_of w v us
 
 -- the request meets each of the three sides
-abbrev pub is_scope_met : World → Request → Scope → Bool
+abbrev pub is_scope_met : World → Request → Scope Uid Uid → Bool
 is_scope_met w q s = is_entity_met w q.resource s.resource && (is_entity_met w q.principal s.principal && is_action_met w q.action s.action)
 
 -- what is kept for an entity of a request is that entity in that world

@@ -19,7 +19,7 @@ use Rattle.cedar_auth_candidates.specs.declared.question.Question.{Question}
 use Rattle.cedar_auth_candidates.specs.declared.question.Question.TheVariants.{AnyAction, SomeAction, Action, Principal, Resource}
 
 -- the scope leaves the action open
-abbrev pub LeavesOpen : ActionScope → Type 0
+abbrev pub LeavesOpen : ActionScope Uid → Type 0
 LeavesOpen action.Any = Unit {0}
 LeavesOpen (action.Equal u) = ⊥
 LeavesOpen (action.In u) = ⊥

@@ -1,26 +1,29 @@
 //! The scopes of templates as texts.
 use crate::{add_after, uid_text};
-use cedar_ast::{ActionScope, EntityReference, TemplateEntityScope};
+use cedar_ast::{ActionScope, EntityReference, EntityScope};
 use cedar_value::Uid;
 use std::alloc::{AllocError, Global};
 
 /// What a scope requires of the principal or of the resource: `any`, or an operator with an entity or `slot`.
-pub fn entity_scope_text(alloc: Global, scope: &TemplateEntityScope) -> Result<String, AllocError> {
+pub fn entity_scope_text(
+    alloc: Global,
+    scope: &EntityScope<EntityReference>,
+) -> Result<String, AllocError> {
     match scope {
-        TemplateEntityScope::Any => String::from_str(alloc, "any"),
-        TemplateEntityScope::Equal(reference) => {
+        EntityScope::Any => String::from_str(alloc, "any"),
+        EntityScope::Equal(reference) => {
             let reference = reference_text(alloc, reference)?;
             format!(in alloc; "== {reference}")
         }
-        TemplateEntityScope::In(reference) => {
+        EntityScope::In(reference) => {
             let reference = reference_text(alloc, reference)?;
             format!(in alloc; "in {reference}")
         }
-        TemplateEntityScope::Is(ty) => {
+        EntityScope::Is(ty) => {
             let ty = ty.as_str();
             format!(in alloc; "is {ty}")
         }
-        TemplateEntityScope::IsIn(ty, reference) => {
+        EntityScope::IsIn(ty, reference) => {
             let ty = ty.as_str();
             let reference = reference_text(alloc, reference)?;
             format!(in alloc; "is {ty} in {reference}")
@@ -36,7 +39,7 @@ fn reference_text(alloc: Global, reference: &EntityReference) -> Result<String, 
 }
 
 /// What a scope requires of the action: `any`, or an operator with an action or with actions in brackets.
-pub fn action_scope_text(alloc: Global, scope: &ActionScope) -> Result<String, AllocError> {
+pub fn action_scope_text(alloc: Global, scope: &ActionScope<Uid>) -> Result<String, AllocError> {
     match scope {
         ActionScope::Any => String::from_str(alloc, "any"),
         ActionScope::Equal(uid) => {

@@ -3,7 +3,6 @@ use crate::CaseFault;
 use crate::language::value_json::uid_of;
 use cedar_ast::{
     ActionScope, Effect, EntityReference, EntityScope, Policy, Scope, Statement, Template,
-    TemplateEntityScope, TemplateScope,
 };
 use cedar_value::Text;
 use std::alloc::Global;
@@ -24,10 +23,10 @@ pub fn policy(alloc: Global, id: &str, effect: Effect) -> Result<Statement, Case
 /// `permit(principal == ?principal, action, resource);` with this id.
 pub fn template(alloc: Global, id: &str) -> Result<Statement, CaseFault> {
     let id = Text::read(alloc, id)?;
-    let scope = TemplateScope {
-        principal: TemplateEntityScope::Equal(EntityReference::Slot),
+    let scope = Scope {
+        principal: EntityScope::Equal(EntityReference::Slot),
         action: ActionScope::Any,
-        resource: TemplateEntityScope::Any,
+        resource: EntityScope::Any,
     };
     let effect = Effect::Permit;
     let template = Template::new(id, Vec::new(alloc), effect, scope, Vec::new(alloc));
@@ -39,10 +38,10 @@ pub fn slotless(alloc: Global, id: &str) -> Result<Statement, CaseFault> {
     let id = Text::read(alloc, id)?;
     let ann = uid_of(alloc, "slotless", "User::\"ann\"")?;
     let folder = uid_of(alloc, "slotless", "Folder::\"f\"")?;
-    let scope = TemplateScope {
-        principal: TemplateEntityScope::Equal(EntityReference::Entity(ann)),
+    let scope = Scope {
+        principal: EntityScope::Equal(EntityReference::Entity(ann)),
         action: ActionScope::Any,
-        resource: TemplateEntityScope::In(EntityReference::Entity(folder)),
+        resource: EntityScope::In(EntityReference::Entity(folder)),
     };
     let effect = Effect::Permit;
     let template = Template::new(id, Vec::new(alloc), effect, scope, Vec::new(alloc));

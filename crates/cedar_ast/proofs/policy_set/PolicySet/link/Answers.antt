@@ -1,5 +1,4 @@
 use Rattle.std.proofs.lemmas.Result.{err_from_is_err_and}
-use Rattle.cedar_ast.specs.Linking.{IsLinkIn}
 use Rattle.cedar_ast.proofs.LinkLemmas.{link-id}
 use Rattle.cedar_ast.proofs.policy_set.PolicySet.link.Goals as goal
 

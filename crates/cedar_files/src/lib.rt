@@ -16,6 +16,7 @@
 mod ending;
 mod file_names;
 mod files;
+mod json_lines;
 mod linking;
 mod preparing;
 mod reading;

@@ -1,7 +1,5 @@
 //! The text of a report: a line for each fault and each warning, in the order of the policies, and a line of totals.
 ghost use Rattle.std.specs.Prelude.{◌≡◌, ◌++◌, [], ◌∷◌, cond, drop, length, map, vec_len, IfOk, OnOk};
-ghost use Rattle.json.specs.Print.{print};
-ghost use Rattle.base_lines.specs.Lines.{line_feed};
 ghost use Rattle.cedar_schema_spec.specs.SchemaTree.{SchemaTree};
 ghost use Rattle.cedar_check_spec.specs.declared.settings.Settings.{Settings};
 ghost use Rattle.cedar_check.specs.FaultView.{fault_view};
@@ -11,12 +9,12 @@ ghost use Rattle.cedar_files.specs.ReportText.{IsReportText, Reports, fault_line
 ghost use Rattle.cedar_files.specs.Private.Telling.{AppendsLines, begins_with, faults_after, faults_of_first};
 ghost use Rattle.cedar_files.specs.Private.Tokens.{data_tokens};
 
+use crate::json_lines::JsonLines;
 use cedar_ast::PolicySet;
 use cedar_check::{Fault, Report};
 use cedar_value::{Text, Uid};
 use json::Writer;
 use std::alloc::{AllocError, Global};
-use std::mem;
 
 /// 650: no request can satisfy the policy.
 const IMPOSSIBLE: u64 = 650;
@@ -84,71 +82,48 @@ fn write_totals(writer: &mut Writer, faults: usize, warnings: usize) -> Result<(
     Ok(())
 }
 
-// A writer that appends to what the text holds. The text is empty until the line is ended.
-fn begin_line(alloc: Global, text: &mut Vec<u8>) -> Writer
-    ensures before { result.before ≡ text.old.items }
-    ensures tokens { result.tokens ≡ [] }
+// Appends the line of a fault.
+fn append_fault(fault: &Fault, lines: &mut JsonLines) -> Result<(), AllocError>
+    ensures { OnOk result (AppendsLines (fault_line (fault_view fault.now) ∷ []) lines.old lines.new) }
 {
-    Writer::new(mem::replace(text, Vec::new(alloc)))
-}
-
-// Gives back to the text what was written, and appends LF.
-fn end_line(writer: Writer, text: &mut Vec<u8>) -> Result<(), AllocError>
-    ensures { OnOk result (text.new.items ≡ writer.before ++ print writer.tokens ++ line_feed ∷ []) }
-{
-    *text = writer.into_inner();
-    text.push(b'\n')?;
-    Ok(())
-}
-
-// Appends the line of a fault. Where memory runs out the text is lost.
-fn append_fault(alloc: Global, fault: &Fault, text: &mut Vec<u8>) -> Result<(), AllocError>
-    ensures { OnOk result (AppendsLines (fault_line (fault_view fault.now) ∷ []) text.old.items text.new.items) }
-{
-    let mut writer = begin_line(alloc, text);
+    let mut writer = lines.begin();
     write_fault(&mut writer, fault)?;
-    end_line(writer, text)
+    lines.end(writer)
 }
 
-// Appends the line of a warning. Where memory runs out the text is lost.
-fn append_warning(alloc: Global, policy: &Text, text: &mut Vec<u8>) -> Result<(), AllocError>
-    ensures { OnOk result (AppendsLines (warning_line policy.now ∷ []) text.old.items text.new.items) }
+// Appends the line of a warning.
+fn append_warning(policy: &Text, lines: &mut JsonLines) -> Result<(), AllocError>
+    ensures { OnOk result (AppendsLines (warning_line policy.now ∷ []) lines.old lines.new) }
 {
-    let mut writer = begin_line(alloc, text);
+    let mut writer = lines.begin();
     write_warning(&mut writer, policy)?;
-    end_line(writer, text)
+    lines.end(writer)
 }
 
-// Appends the line of the totals. Where memory runs out the text is lost.
-fn append_totals(
-    alloc: Global,
-    faults: usize,
-    warnings: usize,
-    text: &mut Vec<u8>,
-) -> Result<(), AllocError>
-    ensures { OnOk result (AppendsLines (totals_line faults warnings ∷ []) text.old.items text.new.items) }
+// Appends the line of the totals.
+fn append_totals(faults: usize, warnings: usize, lines: &mut JsonLines) -> Result<(), AllocError>
+    ensures { OnOk result (AppendsLines (totals_line faults warnings ∷ []) lines.old lines.new) }
 {
-    let mut writer = begin_line(alloc, text);
+    let mut writer = lines.begin();
     write_totals(&mut writer, faults, warnings)?;
-    end_line(writer, text)
+    lines.end(writer)
 }
 
 // Appends the lines of the first faults, as many as are this policy's, and returns the others.
 fn tell_faults<'r>(
-    alloc: Global,
     policy: &Text,
     faults: &'r [Fault],
-    text: &mut Vec<u8>,
+    lines: &mut JsonLines,
 ) -> Result<&'r [Fault], AllocError>
     ensures others { IfOk result (λ rest. map fault_view rest.now ≡ faults_after policy.now (map fault_view faults.now)) }
-    ensures told { OnOk result (AppendsLines (map fault_line (faults_of_first policy.now (map fault_view faults.now))) text.old.items text.new.items) }
+    ensures told { OnOk result (AppendsLines (map fault_line (faults_of_first policy.now (map fault_view faults.now))) lines.old lines.new) }
 {
     let mut rest = faults;
     while let Some((fault, others)) = rest.split_first() {
         if fault.policy != *policy {
             return Ok(rest);
         }
-        append_fault(alloc, fault, text)?;
+        append_fault(fault, lines)?;
         rest = others;
     }
     Ok(rest)
@@ -156,13 +131,12 @@ fn tell_faults<'r>(
 
 // Appends the first warning where it is this policy's, and returns the others.
 fn tell_warning<'r>(
-    alloc: Global,
     policy: &Text,
     warnings: &'r [Text],
-    text: &mut Vec<u8>,
+    lines: &mut JsonLines,
 ) -> Result<&'r [Text], AllocError>
     ensures others { IfOk result (λ rest. rest.now ≡ cond (begins_with policy.now warnings.now) (drop 1 warnings.now) warnings.now) }
-    ensures told { OnOk result (AppendsLines (cond (begins_with policy.now warnings.now) (warning_line policy.now ∷ []) []) text.old.items text.new.items) }
+    ensures told { OnOk result (AppendsLines (cond (begins_with policy.now warnings.now) (warning_line policy.now ∷ []) []) lines.old lines.new) }
 {
     let Some((first, others)) = warnings.split_first() else {
         return Ok(warnings);
@@ -170,7 +144,7 @@ fn tell_warning<'r>(
     if *first != *policy {
         return Ok(warnings);
     }
-    append_warning(alloc, policy, text)?;
+    append_warning(policy, lines)?;
     Ok(others)
 }
 
@@ -188,7 +162,7 @@ pub fn report_text(
     ensures { IfOk result (λ text. (settings : Settings) (s : SchemaTree) → Reports settings s policies.now.policies report.now
         → IsReportText settings s policies.now.policies text.items) }
 {
-    let mut text = Vec::new(alloc);
+    let mut lines = JsonLines::new(alloc);
     let mut faults = report.faults.as_slice();
     let mut warnings = report.warnings.as_slice();
     for position in 0..policies.count() {
@@ -196,9 +170,9 @@ pub fn report_text(
             unreachable!()
         };
         let id = policy.id();
-        faults = tell_faults(alloc, id, faults, &mut text)?;
-        warnings = tell_warning(alloc, id, warnings, &mut text)?;
+        faults = tell_faults(id, faults, &mut lines)?;
+        warnings = tell_warning(id, warnings, &mut lines)?;
     }
-    append_totals(alloc, report.faults.len(), report.warnings.len(), &mut text)?;
-    Ok(text)
+    append_totals(report.faults.len(), report.warnings.len(), &mut lines)?;
+    Ok(lines.into_text())
 }

@@ -1,4 +1,4 @@
-use Rattle.std.proofs.Common.{refl, ◌∙◌}
+use Rattle.std.proofs.Common.{refl}
 use Rattle.cedar_check.specs.FaultView.{fault_view}
 use Rattle.cedar_check_operators.specs.Numbers.{number_of}
 use Rattle.cedar_files.specs.ReportJson.{fault_data}
@@ -8,6 +8,5 @@ use Rattle.cedar_files.proofs.report.append_fault.Goals as goal
 
 pub returns : goal.returns
 returns c =
-    line-behind c.end_line.result (fault_line (fault_view c.args.fault.now)) (fault_data (fault_view c.args.fault.now) (number_of c.args.fault.now.reason)) _ _ _ _ _ (c.args.fault.now.reason, refl)
-    (c.in_ok-write_fault.ensures.before ∙ c.begin_line-writer.ensures.before)
-    c.begin_line-writer.ensures.tokens c.in_ok-write_fault.ensures.tokens c.end_line.ensures
+    line-behind c.end.result (fault_line (fault_view c.args.fault.now)) (fault_data (fault_view c.args.fault.now) (number_of c.args.fault.now.reason)) _ _ _ _ _ (c.args.fault.now.reason, refl)
+    c.begin-writer.ensures.text c.begin-writer.ensures.tokens c.in_ok-write_fault.ensures.tokens c.end.ensures

@@ -1,4 +1,4 @@
-use Rattle.std.proofs.Common.{refl, ◌∙◌}
+use Rattle.std.proofs.Common.{refl}
 use Rattle.cedar_files.specs.ReportJson.{totals_data}
 use Rattle.cedar_files.specs.ReportText.{totals_line}
 use Rattle.cedar_files.proofs.Telling.{line-behind}
@@ -6,6 +6,5 @@ use Rattle.cedar_files.proofs.report.append_totals.Goals as goal
 
 pub returns : goal.returns
 returns c =
-    line-behind c.end_line.result (totals_line c.args.faults c.args.warnings) (totals_data c.args.faults c.args.warnings) _ _ _ _ _ refl
-    (c.in_ok-write_totals.ensures.before ∙ c.begin_line-writer.ensures.before)
-    c.begin_line-writer.ensures.tokens c.in_ok-write_totals.ensures.tokens c.end_line.ensures
+    line-behind c.end.result (totals_line c.args.faults c.args.warnings) (totals_data c.args.faults c.args.warnings) _ _ _ _ _ refl
+    c.begin-writer.ensures.text c.begin-writer.ensures.tokens c.in_ok-write_totals.ensures.tokens c.end.ensures

@@ -12,7 +12,7 @@ loop-position-init c = record {
   told = λ settings s r. record {
     faults = ap (map fault_view) c.as_slice-faults.ensures.value ∙ faults_are settings s r.faults;
     warnings = c.as_slice-warnings.ensures.value ∙ warnings_are settings s r.warnings;
-    told = c.new-text.ensures.items;
+    told = c.new-lines.ensures;
   };
 }
 
@@ -28,7 +28,7 @@ loop-position-preserved c =
     record {
       apart = apart_next ps i c.in-Some.policy.now at c.loop-position.invariant.apart;
       told = λ settings s r.
-          told-step settings s ps i c.in-Some.policy.now _ _ _ _ _ c.tell_faults.new.text.items _ c.id-id.result.now c.id-id.result.now
+          told-step settings s ps i c.in-Some.policy.now _ _ _ _ _ c.tell_faults.new.lines _ c.id-id.result.now c.id-id.result.now
           at c.id-id.ensures c.id-id.ensures c.loop-position.invariant.apart (c.loop-position.invariant.told settings s r)
           c.in_ok-faults.ensures.told c.in_ok-warnings.ensures.told c.in_ok-faults.ensures.others c.in_ok-warnings.ensures.others;
     }
@@ -38,4 +38,4 @@ returns c = λ settings s r.
     told-all settings s c.args.policies.now.policies c.loop-position.position _ _ _ _ _ _
     (omega (arith, c.count-position-end.ensures.policies, c.loop-position-test.false)) (c.loop-position.invariant.told settings s r)
     (omega (arith, c.len.ensures, c.args.report.now.faults.ok.0, length-map c.args.report.now.faults.items fault_view, ap length (faults_are settings s r.faults)))
-    (omega (arith, c.len-2.ensures, c.args.report.now.warnings.ok.0, ap length (warnings_are settings s r.warnings))) c.in_ok-append_totals.ensures
+    (omega (arith, c.len-2.ensures, c.args.report.now.warnings.ok.0, ap length (warnings_are settings s r.warnings))) (rw (← c.into_text.ensures) at c.in_ok-append_totals.ensures)

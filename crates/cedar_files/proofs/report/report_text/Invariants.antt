@@ -9,5 +9,5 @@ use Rattle.cedar_files.proofs.report.report_text.Given as goal
 abbrev pub invariant-loop-position : goal.invariant-loop-position
 invariant-loop-position l = record {
   apart : AreApart (drop l.position l.policies.policies);
-  told : (settings : Settings) (s : SchemaTree) → Reports settings s l.policies.policies l.report → IsToldTo settings s l.policies.policies l.position (map fault_view l.faults) l.warnings l.text.items;
+  told : (settings : Settings) (s : SchemaTree) → Reports settings s l.policies.policies l.report → IsToldTo settings s l.policies.policies l.position (map fault_view l.faults) l.warnings l.lines;
 }

@@ -20,8 +20,8 @@ loop-fault-preserved c =
     record {
       others = after-one policy fault _ _ at c.if-ne.ensures ∙ c.loop-fault.invariant.others;
       told =
-          telling-next (fault_line fault) _ all _ c.loop-fault.text.items _
-          (subst (λ (left : List ReportLine). IsTellingOn left all c.args.text.now.items c.loop-fault.text.items) (one-first policy fault _ _ at c.if-ne.ensures) c.loop-fault.invariant.told)
+          telling-next (fault_line fault) _ all _ c.loop-fault.lines _
+          (subst (λ (left : List ReportLine). IsTellingOn left all c.args.lines.now c.loop-fault.lines) (one-first policy fault _ _ at c.if-ne.ensures) c.loop-fault.invariant.told)
           c.in_ok-append_fault.ensures;
     }
 

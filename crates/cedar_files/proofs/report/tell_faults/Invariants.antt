@@ -8,7 +8,7 @@ use Rattle.cedar_files.proofs.report.tell_faults.Given as goal
 abbrev pub invariant-loop-fault : goal.invariant-loop-fault
 invariant-loop-fault l = record {
   others : faults_after l.policy (map fault_view l.rest) ≡ faults_after l.policy (map fault_view l.faults);
-  told : IsTellingOn (map fault_line (faults_of_first l.policy (map fault_view l.rest))) (map fault_line (faults_of_first l.policy (map fault_view l.faults))) l.fn.text.items l.text.items;
+  told : IsTellingOn (map fault_line (faults_of_first l.policy (map fault_view l.rest))) (map fault_line (faults_of_first l.policy (map fault_view l.faults))) l.fn.lines l.lines;
 }
 
 abbrev pub decreases-loop-fault : goal.decreases-loop-fault

@@ -4,11 +4,9 @@ use test_cases_parts::{Case, CaseFault, Outcome};
 
 mod answer;
 mod authorize;
-mod candidates;
 mod faults;
 mod service;
 mod validate;
-mod words;
 
 /// What the case's call gives.
 pub fn outcome(alloc: Global, case: &Case) -> Result<Outcome, CaseFault> {
@@ -16,11 +14,9 @@ pub fn outcome(alloc: Global, case: &Case) -> Result<Outcome, CaseFault> {
     let outcome = match kind {
         "answer" => answer::outcome(alloc, case)?,
         "authorize" => authorize::outcome(alloc, case)?,
-        "candidates" => candidates::outcome(alloc, case)?,
         "faults" => faults::outcome(alloc, case)?,
         "service" => service::outcome(alloc, case)?,
         "validate" => validate::outcome(alloc, case)?,
-        "words" => words::outcome(alloc, case)?,
         _ => match test_cases_parts::part_outcome(alloc, kind, case)? {
             Some(outcome) => outcome,
             None => return Err(CaseFault::UnknownKind),

@@ -6,7 +6,6 @@
 //! of `kinds` says what one kind takes and gives; the kinds of the engine's parts are in `test_cases_parts`.
 #![tactic(auto)]
 
-mod difference;
 mod kinds;
 mod program_files;
 mod ready_files;

@@ -1,7 +1,8 @@
 //! The cases of a file.
-use crate::difference::{Ending, run_line};
-use std::alloc::Global;
+use crate::kinds::outcome;
+use std::alloc::{AllocError, Global};
 use std::io;
+use test_cases_parts::{Case, CaseFault, Ending, compared, unread};
 
 /// How many cases passed, and how many failed.
 #[derive(Clone, Copy, Default)]
@@ -34,4 +35,19 @@ impl Count {
         }
         Ok(())
     }
+}
+
+// How the case of a line ended.
+fn run_line(alloc: Global, line: &[u8]) -> Result<Ending, AllocError> {
+    match ended(alloc, line) {
+        Ok(ending) => Ok(ending),
+        Err(fault) => unread(alloc, &fault),
+    }
+}
+
+// The same, where the case can be run.
+fn ended(alloc: Global, line: &[u8]) -> Result<Ending, CaseFault> {
+    let case = Case::read(alloc, line)?;
+    let given = outcome(alloc, &case)?;
+    compared(alloc, &case, given)
 }

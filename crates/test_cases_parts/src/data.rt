@@ -2,12 +2,11 @@
 //!
 //! A module of `kinds` says what each kind takes and gives.
 mod kinds;
-mod named_schemas;
+pub mod named_schemas;
 mod report_text;
 mod request_text;
-mod schema_input;
+pub mod schema_input;
 mod store_input;
-mod type_input;
-mod type_text;
+pub mod type_input;
 
 pub use kinds::outcome;

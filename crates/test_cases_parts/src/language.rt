@@ -1,13 +1,12 @@
 //! Kinds of cases for policy texts, values, decimals, patterns and sets of policies.
 //!
 //! A module of `kinds` says what each kind takes and gives.
-mod condition;
-mod head_text;
+pub mod condition;
+pub mod head_text;
 mod kinds;
-mod policy_lines;
-mod scope_text;
+pub mod policy_lines;
 mod statements_by_hand;
-mod tree_text;
-mod value_json;
+pub mod tree_text;
+pub mod value_json;
 
 pub use kinds::outcome;

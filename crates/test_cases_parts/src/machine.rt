@@ -1,17 +1,15 @@
 //! Kinds of cases for code, for runs of the machine, for scopes and for stores.
 //!
 //! A module of `kinds` says what each kind takes and gives.
-mod code_text;
 mod entity_list;
-mod expression_code;
+pub mod expression_code;
 mod expression_value;
 mod given_text;
 mod kinds;
-mod request_input;
-mod run_text;
+pub mod request_input;
+pub mod run_text;
 mod staff;
 mod staff_run;
-mod step_lines;
 mod store_asks;
 mod store_refusal;
 mod store_worlds;

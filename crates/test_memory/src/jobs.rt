@@ -34,6 +34,21 @@ fn publish(service: &mut Service, ready: Ready) -> Result<u64, Fail> {
     }
 }
 
+/// Bob joins the team.
+const CHANGES: &[u8] =
+    br#"{"upsert":[{"uid":{"type":"User","id":"bob"},"attrs":{},"parents":[{"type":"Team","id":"t"}]}]}"#;
+
+fn change(service: &mut Service) -> Result<u64, Fail> {
+    match service.change(CHANGES) {
+        Ok(number) => Ok(number),
+        Err(fault) => {
+            let number = fault.number();
+            drop(fault);
+            again(number, service.change(CHANGES))
+        }
+    }
+}
+
 fn open(service: &mut Service) -> Result<JobId, Fail> {
     match service.open(DELETE) {
         Ok(job) => Ok(job),
@@ -104,12 +119,15 @@ fn assert_taken(
     }
 }
 
-// A job by the forbidding policies, and beside it one by the permitting policies, which are published in between.
+// A job by the forbidding policies, and beside it one by the permitting policies, which are published in between, and over entities
+// that are changed then.
 fn check_jobs(rt: &impl Abort, alloc: Global, service: &mut Service) -> Result<(), Fail> {
     let forbidden = open(service)?;
     let permitting = ready(alloc, PERMITTING, b"[]")?;
     let number = publish(service, permitting)?;
     assert_eq!(rt; number, 1);
+    let number = change(service)?;
+    assert_eq!(rt; number, 2);
     let permitted = open(service)?;
     finish(rt, service, permitted)?;
     finish(rt, service, forbidden)?;

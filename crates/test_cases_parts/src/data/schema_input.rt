@@ -21,11 +21,6 @@ pub fn schema_of(alloc: Global, case: &Case) -> Result<Schema, CaseFault> {
     read(alloc, &bytes)
 }
 
-/// The schema that the word at a key names.
-pub fn schema_named_at(alloc: Global, case: &Case, key: &'static str) -> Result<Schema, CaseFault> {
-    read(alloc, named_text(case, key)?.as_bytes())
-}
-
 fn named_text(case: &Case, key: &'static str) -> Result<&'static str, CaseFault> {
     match named_schema(case.word(key)?) {
         Some(text) => Ok(text),
@@ -38,11 +33,6 @@ fn read(alloc: Global, bytes: &[u8]) -> Result<Schema, CaseFault> {
         Ok(schema) => Ok(schema),
         Err(fault) => Err(CaseFault::Refused(fault.number())),
     }
-}
-
-/// The name of a type at a key.
-pub fn name_at(alloc: Global, case: &Case, key: &'static str) -> Result<Name, CaseFault> {
-    Ok(name_of(alloc, case.word(key)?)?)
 }
 
 /// The name of a text.

@@ -18,15 +18,6 @@ pub fn value_of(alloc: Global, key: &'static str, json: &Json) -> Result<Value, 
     }
 }
 
-/// The values of a list.
-pub fn values_of(alloc: Global, key: &'static str, list: &[Json]) -> Result<Vec<Value>, CaseFault> {
-    let mut values = Vec::new(alloc);
-    for json in list {
-        values.push(value_of(alloc, key, json)?)?;
-    }
-    Ok(values)
-}
-
 fn flat_values(alloc: Global, key: &'static str, list: &[Json]) -> Result<Vec<Value>, CaseFault> {
     let mut values = Vec::new(alloc);
     for json in list {

@@ -2,15 +2,11 @@
 use crate::{Case, CaseFault, Outcome};
 use std::alloc::Global;
 
-mod code;
 mod colliding;
 mod condition;
 mod expr;
-mod instructions;
-mod machine_steps;
 mod masks;
 mod policy;
-mod resting_steps;
 mod scope;
 mod set_run;
 mod store;
@@ -18,15 +14,11 @@ mod store;
 /// What the case's call gives; `None` where its kind is not one of these.
 pub fn outcome(alloc: Global, kind: &str, case: &Case) -> Result<Option<Outcome>, CaseFault> {
     let outcome = match kind {
-        "code" => code::outcome(alloc, case)?,
         "colliding" => colliding::outcome(alloc, case)?,
         "condition" => condition::outcome(alloc, case)?,
         "expr" => expr::outcome(alloc, case)?,
-        "instructions" => instructions::outcome(alloc, case)?,
-        "machine-steps" => machine_steps::outcome(alloc, case)?,
         "masks" => masks::outcome(alloc, case)?,
         "policy" => policy::outcome(alloc, case)?,
-        "resting-steps" => resting_steps::outcome(alloc, case)?,
         "scope" => scope::outcome(alloc, case)?,
         "set-run" => set_run::outcome(alloc, case)?,
         "store" => store::outcome(alloc, case)?,

@@ -22,13 +22,13 @@ fn mixed(hash: u64) -> u64 {
 fn by_hash(alloc: Global, uids: &[Uid]) -> Result<Vec<u32>, AllocError> {
     let hashing = UidHashing::by_digest(DefaultHasher::new());
     let mut hashed = Vec::new(alloc);
-    for (number, uid) in (0..MANY).zip(uids) {
+    for (number, uid) in (0..MANY).zip(uids.iter()) {
         hashed.push((mixed(mixed(hashing.hash_one(uid))), number))?;
     }
     hashed.sort_unstable();
     let mut numbers = Vec::new(alloc);
-    for (_hash, number) in &hashed {
-        numbers.push(*number)?;
+    for hashed in &hashed {
+        numbers.push(hashed.1)?;
     }
     Ok(numbers)
 }
@@ -48,7 +48,7 @@ fn changed(alloc: Global, uids: &[Uid], numbers: &[u32]) -> Result<Store, StoreF
     for number in numbers {
         let entry = entry_of(*number);
         store = store.with_changes(alloc, &[], entities(alloc, uids, &[entry])?)?;
-        if number & 1 == 1 {
+        if *number & 1 == 1 {
             odd.push(Some(*number))?;
         }
     }

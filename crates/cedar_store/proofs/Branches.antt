@@ -1,200 +1,290 @@
 -- Trees of changes that are in order.
 --     descent_is      what the way down finds is the change of the uid
 --     put_told      the change of a uid after one change more
---     IsOrdered-put, EachChange-put      what is so after one change more
---     distinct-ordered      no two changes have one uid
---     IsMap-put      a map after one change more
-use Rattle.std.proofs.Common.{◌≡◌, ℕ, ◌<◌, ◌≤◌, Bool, true, false, List, [], ◌∷◌, ◌++◌, Option, Some, None, refl, sym, ap, subst, ◌∙◌, arith, if◌then◌else◌, nat_eq, nat_lt, ◌&&◌, eq-eqb, eqb-true, ltb-true, ltb-false, le-ltb}
-use Rattle.std.proofs.lemmas.Bool.{and_parts}
+--     distinct-ascending      no two changes have one uid
+--     named_each      the entity of each change has its uid
+--     IsMap-none, IsMap-put      a map without changes, and a map after one change more
+use Rattle.std.proofs.Common.{◌≡◌, ℕ, zero, suc, ◌+◌, ◌^◌, ◌≤◌, Bool, true, false, List, [], ◌∷◌, ◌++◌, map, Option, Some, None, refl, sym, ap, subst, ◌∙◌, arith, if◌then◌else◌, append_assoc, length-append}
+use Rattle.std.proofs.lemmas.Cmp.{on_total, then_total, nat_cmp_total, tied_itself}
+use Rattle.std.specs.Bool.{one_answer}
+use Rattle.std.specs.Cmp.{IsTotalOrder}
+use Rattle.std.specs.Ordering.{nat_cmp, ordering_then, is_eq, on}
+use Rattle.std.specs.declared.cmp.Ordering.{Ordering}
+use Rattle.std.specs.declared.cmp.Ordering.TheVariants.{Less, Equal, Greater}
 use Rattle.cedar_value.specs.Datum.{same_uid}
+use Rattle.cedar_value.specs.Order.{uid_cmp}
 use Rattle.cedar_value.specs.Private.Equality.{same_uid-Decides, uid_equivalence}
+use Rattle.cedar_value.specs.Private.Laws.{uid_ties, uid_total}
 use Rattle.cedar_value.specs.declared.uid.Uid.{Uid}
-use Rattle.cedar_store.specs.Private.Branches.{Branches, no_branch, branch, changes_in, descent, is_here, put, hash_of, IsMap, IsOrdered}
-use Rattle.cedar_store.specs.declared.uid_hashing.UidHashing.{UidHashing}
+use Rattle.cedar_store.specs.Private.Branches.{Branches, no_branch, two, three, Keyed, Grown, whole, split, keyed_in, changes_in, size, depth, IsEven, by_order, EachKeyed, AreAscending, descent, two_left, two_right, three_left, three_middle, three_right, grow, rooted, put, hash_of, IsKeyed, IsMap}
 use Rattle.cedar_store.specs.Private.Changing.{ChangeTree, IsChangeOfUid, EachChange, change_of, AreChangesDistinct}
+use Rattle.cedar_store.specs.declared.uid_hashing.UidHashing.{UidHashing}
+use Rattle.cedar_store.proofs.Inserted.{keyed_cmp, each_order, ascending_left, ascending_right, inserted, EachKeyed-inserted, AreAscending-inserted, inserted-placed, told, told-placed}
 
--- ---- each change of a list
+-- ---- the changes of a tree with a change more
 
-EachChange-map : (P Q : ChangeTree → Type 0) (cs : List ChangeTree) → ((c : ChangeTree) → P c → Q c) → EachChange P cs → EachChange Q cs
-EachChange-map P Q [] f each = tt
-EachChange-map P Q (c ∷ cs) f each = (f c each.0, EachChange-map P Q cs f each.1)
+abbrev keyed_after : Grown → List Keyed
+keyed_after (whole t) = keyed_in t
+keyed_after (split l e r) = keyed_in l ++ e ∷ keyed_in r
 
-pub EachChange-join : (P : ChangeTree → Type 0) (cs ds : List ChangeTree) → EachChange P cs → EachChange P ds → EachChange P (cs ++ ds)
-EachChange-join P [] ds first rest = rest
-EachChange-join P (c ∷ cs) ds first rest = (first.0, EachChange-join P cs ds first.1 rest)
+two_left-keyed : (g : Grown) (e : Keyed) (r : Branches) → keyed_after (two_left g e r) ≡ keyed_after g ++ e ∷ keyed_in r
+two_left-keyed (whole l) e r = refl
+two_left-keyed (split a x b) e r = sym (append_assoc (keyed_in a) (x ∷ keyed_in b) (e ∷ keyed_in r))
 
-pub EachChange-split : (P : ChangeTree → Type 0) (cs ds : List ChangeTree) → EachChange P (cs ++ ds) → EachChange P cs × EachChange P ds
-EachChange-split P [] ds each = (tt, each)
-EachChange-split P (c ∷ cs) ds each = let rest = EachChange-split P cs ds each.1 in ((each.0, rest.0), rest.1)
+two_right-keyed : (l : Branches) (e : Keyed) (g : Grown) → keyed_after (two_right l e g) ≡ keyed_in l ++ e ∷ keyed_after g
+two_right-keyed l e (whole r) = refl
+two_right-keyed l e (split a x b) = refl
 
--- ---- the change of a uid
+three_left-keyed : (g : Grown) (e : Keyed) (m : Branches) (f : Keyed) (r : Branches) → keyed_after (three_left g e m f r) ≡ keyed_after g ++ e ∷ (keyed_in m ++ f ∷ keyed_in r)
+three_left-keyed (whole l) e m f r = refl
+three_left-keyed (split a x b) e m f r = refl
 
-change_skipped : (c : ChangeTree) (cs : List ChangeTree) (u : Uid) → same_uid c.uid u ≡ false → change_of (c ∷ cs) u ≡ change_of cs u
-change_skipped c cs u other = rw other refl
+three_middle-keyed : (l : Branches) (e : Keyed) (g : Grown) (f : Keyed) (r : Branches) → keyed_after (three_middle l e g f r) ≡ keyed_in l ++ e ∷ (keyed_after g ++ f ∷ keyed_in r)
+three_middle-keyed l e (whole m) f r = refl
+three_middle-keyed l e (split a x b) f r =
+    append_assoc (keyed_in l) (e ∷ keyed_in a) (x ∷ (keyed_in b ++ f ∷ keyed_in r)) ∙ ap (λ es. keyed_in l ++ e ∷ es) (sym (append_assoc (keyed_in a) (x ∷ keyed_in b) (f ∷ keyed_in r)))
 
-pub change_absent : (cs : List ChangeTree) (u : Uid) → EachChange (λ d. same_uid d.uid u ≡ false) cs → change_of cs u ≡ None
-change_absent [] u each = refl
-change_absent (c ∷ cs) u each = change_skipped c cs u each.0 ∙ change_absent cs u each.1
+three_right-keyed : (l : Branches) (e : Keyed) (m : Branches) (f : Keyed) (g : Grown) → keyed_after (three_right l e m f g) ≡ keyed_in l ++ e ∷ (keyed_in m ++ f ∷ keyed_after g)
+three_right-keyed l e m f (whole r) = refl
+three_right-keyed l e m f (split a x b) = append_assoc (keyed_in l) (e ∷ keyed_in m) (f ∷ (keyed_in a ++ x ∷ keyed_in b))
 
-pub change_before : (cs ds : List ChangeTree) (u : Uid) → change_of ds u ≡ None → change_of (cs ++ ds) u ≡ change_of cs u
-change_before [] ds u none = none
-change_before (c ∷ cs) ds u none = ap (λ o. if same_uid c.uid u then Some c else o) (change_before cs ds u none)
+-- what is so of one of three, part by part
+by_parts : {A B : Type 0} (F : A → B) (o : Ordering) (x y z : A) (u v w : B) → F x ≡ u → F y ≡ v → F z ≡ w → F (by_order o x y z) ≡ by_order o u v w
+by_parts F Less x y z u v w first second third = first
+by_parts F Equal x y z u v w first second third = second
+by_parts F Greater x y z u v w first second third = third
 
-after_case : (c : ChangeTree) (cs ds : List ChangeTree) (u : Uid) (b : Bool) → same_uid c.uid u ≡ b → change_of (c ∷ cs) u ≡ None → (change_of cs u ≡ None → change_of (cs ++ ds) u ≡ change_of ds u) → change_of (c ∷ cs ++ ds) u ≡ change_of ds u
-after_case c cs ds u true same none rest =
-    let found : Some c ≡ None = sym (ap (λ b. if b then Some c else change_of cs u) same) ∙ none in
-    absurd (cc)
-after_case c cs ds u false other none rest = change_skipped c (cs ++ ds) u other ∙ rest (sym (change_skipped c cs u other) ∙ none)
+pub grow-keyed : (d : Keyed) (t : Branches) → AreAscending (keyed_in t) → keyed_after (grow d t) ≡ inserted d (keyed_in t)
+grow-keyed d no_branch ascending = refl
+grow-keyed d (two l e r) ascending =
+    let in_left = grow-keyed d l (ascending_left (keyed_in l) (e ∷ keyed_in r) ascending) in
+    let in_right = grow-keyed d r (ascending_right (keyed_in l) (e ∷ keyed_in r) ascending).1 in
+    by_parts keyed_after (keyed_cmp d e) (two_left (grow d l) e r) (whole (two l d r)) (two_right l e (grow d r)) (inserted d (keyed_in l) ++ e ∷ keyed_in r) (keyed_in l ++ d ∷ keyed_in r) (keyed_in l ++ e ∷ inserted d (keyed_in r))
+    (two_left-keyed (grow d l) e r ∙ ap (λ es. es ++ e ∷ keyed_in r) in_left) refl (two_right-keyed l e (grow d r) ∙ ap (λ es. keyed_in l ++ e ∷ es) in_right)
+    ∙ sym (inserted-placed d e (keyed_in l) (keyed_in r) ascending)
+grow-keyed d (three l e m f r) ascending =
+    let rest = (ascending_right (keyed_in l) (e ∷ (keyed_in m ++ f ∷ keyed_in r)) ascending).1 in
+    let in_left = grow-keyed d l (ascending_left (keyed_in l) (e ∷ (keyed_in m ++ f ∷ keyed_in r)) ascending) in
+    let in_middle = grow-keyed d m (ascending_left (keyed_in m) (f ∷ keyed_in r) rest) in
+    let in_right = grow-keyed d r (ascending_right (keyed_in m) (f ∷ keyed_in r) rest).1 in
+    let beyond = by_order (keyed_cmp d f) (three_middle l e (grow d m) f r) (whole (three l e m d r)) (three_right l e m f (grow d r)) in
+    let lower : keyed_after beyond ≡ keyed_in l ++ e ∷ inserted d (keyed_in m ++ f ∷ keyed_in r) = by_parts keyed_after (keyed_cmp d f) (three_middle l e (grow d m) f r) (whole (three l e m d r)) (three_right l e m f (grow d r)) (keyed_in l ++ e ∷ (inserted d (keyed_in m) ++ f ∷ keyed_in r)) (keyed_in l ++ e ∷ (keyed_in m ++ d ∷ keyed_in r)) (keyed_in l ++ e ∷ (keyed_in m ++ f ∷ inserted d (keyed_in r)))
+    (three_middle-keyed l e (grow d m) f r ∙ ap (λ es. keyed_in l ++ e ∷ (es ++ f ∷ keyed_in r)) in_middle) refl (three_right-keyed l e m f (grow d r) ∙ ap (λ es. keyed_in l ++ e ∷ (keyed_in m ++ f ∷ es)) in_right)
+    ∙ sym (by_parts (λ es. keyed_in l ++ e ∷ es) (keyed_cmp d f) (inserted d (keyed_in m) ++ f ∷ keyed_in r) (keyed_in m ++ d ∷ keyed_in r) (keyed_in m ++ f ∷ inserted d (keyed_in r)) (keyed_in l ++ e ∷ (inserted d (keyed_in m) ++ f ∷ keyed_in r)) (keyed_in l ++ e ∷ (keyed_in m ++ d ∷ keyed_in r)) (keyed_in l ++ e ∷ (keyed_in m ++ f ∷ inserted d (keyed_in r))) refl refl refl)
+    ∙ ap (λ es. keyed_in l ++ e ∷ es) (sym (inserted-placed d f (keyed_in m) (keyed_in r) rest)) in
+    by_parts keyed_after (keyed_cmp d e) (three_left (grow d l) e m f r) (whole (three l d m f r)) beyond (inserted d (keyed_in l) ++ e ∷ (keyed_in m ++ f ∷ keyed_in r)) (keyed_in l ++ d ∷ (keyed_in m ++ f ∷ keyed_in r)) (keyed_in l ++ e ∷ inserted d (keyed_in m ++ f ∷ keyed_in r))
+    (three_left-keyed (grow d l) e m f r ∙ ap (λ es. es ++ e ∷ (keyed_in m ++ f ∷ keyed_in r)) in_left) refl lower
+    ∙ sym (inserted-placed d e (keyed_in l) (keyed_in m ++ f ∷ keyed_in r) ascending)
 
-pub change_after : (cs ds : List ChangeTree) (u : Uid) → change_of cs u ≡ None → change_of (cs ++ ds) u ≡ change_of ds u
-change_after [] ds u none = refl
-change_after (c ∷ cs) ds u none = after_case c cs ds u (same_uid c.uid u) refl none (change_after cs ds u)
+rooted-keyed : (g : Grown) → keyed_in (rooted g) ≡ keyed_after g
+rooted-keyed (whole t) = refl
+rooted-keyed (split l e r) = refl
 
--- ---- hashes tell uids apart
-
-other_hash : (h : Uid → ℕ) (u v : Uid) → (h u ≡ h v → ⊥) → same_uid u v ≡ false
-other_hash h u v apart = other_case (same_uid u v) refl
-  where
-    other_case : (b : Bool) → same_uid u v ≡ b → b ≡ false
-    other_case true same = absurd (apart (ap h ((same_uid-Decides u v).0 same)))
-    other_case false other = refl
-
-smaller_absent : (h : Uid → ℕ) (m : ℕ) (cs : List ChangeTree) (u : Uid) → m ≤ h u → EachChange (λ d. h d.uid < m) cs → change_of cs u ≡ None
-smaller_absent h m cs u above each = change_absent cs u (EachChange-map _ _ cs (λ d less. other_hash h d.uid u (λ same. omega arith)) each)
-
-larger_absent : (h : Uid → ℕ) (m : ℕ) (cs : List ChangeTree) (u : Uid) → h u < m → EachChange (λ d. m ≤ h d.uid) cs → change_of cs u ≡ None
-larger_absent h m cs u below each = change_absent cs u (EachChange-map _ _ cs (λ d more. other_hash h d.uid u (λ same. omega arith)) each)
+pub put-keyed : (d : Keyed) (t : Branches) → AreAscending (keyed_in t) → keyed_in (put d t) ≡ inserted d (keyed_in t)
+put-keyed d t ascending = rooted-keyed (grow d t) ∙ grow-keyed d t ascending
 
 -- ---- the way down
 
-and_false : (b : Bool) → (b && false) ≡ false
-and_false true = refl
-and_false false = refl
+pub descent-told : (d : Keyed) (t : Branches) → AreAscending (keyed_in t) → descent d.hash d.change.uid t ≡ told d (keyed_in t)
+descent-told d no_branch ascending = refl
+descent-told d (two l e r) ascending =
+    let in_left = descent-told d l (ascending_left (keyed_in l) (e ∷ keyed_in r) ascending) in
+    let in_right = descent-told d r (ascending_right (keyed_in l) (e ∷ keyed_in r) ascending).1 in
+    by_parts (λ o. o) (keyed_cmp d e) (descent d.hash d.change.uid l) (Some e.change) (descent d.hash d.change.uid r) (told d (keyed_in l)) (Some e.change) (told d (keyed_in r)) in_left refl in_right
+    ∙ sym (told-placed d e (keyed_in l) (keyed_in r) ascending)
+descent-told d (three l e m f r) ascending =
+    let rest = (ascending_right (keyed_in l) (e ∷ (keyed_in m ++ f ∷ keyed_in r)) ascending).1 in
+    let in_left = descent-told d l (ascending_left (keyed_in l) (e ∷ (keyed_in m ++ f ∷ keyed_in r)) ascending) in
+    let in_middle = descent-told d m (ascending_left (keyed_in m) (f ∷ keyed_in r) rest) in
+    let in_right = descent-told d r (ascending_right (keyed_in m) (f ∷ keyed_in r) rest).1 in
+    let beyond = by_order (keyed_cmp d f) (descent d.hash d.change.uid m) (Some f.change) (descent d.hash d.change.uid r) in
+    let lower : beyond ≡ told d (keyed_in m ++ f ∷ keyed_in r) = by_parts (λ o. o) (keyed_cmp d f) (descent d.hash d.change.uid m) (Some f.change) (descent d.hash d.change.uid r) (told d (keyed_in m)) (Some f.change) (told d (keyed_in r)) in_middle refl in_right ∙ sym (told-placed d f (keyed_in m) (keyed_in r) rest) in
+    by_parts (λ o. o) (keyed_cmp d e) (descent d.hash d.change.uid l) (Some e.change) beyond (told d (keyed_in l)) (Some e.change) (told d (keyed_in m ++ f ∷ keyed_in r)) in_left refl lower
+    ∙ sym (told-placed d e (keyed_in l) (keyed_in m ++ f ∷ keyed_in r) ascending)
 
-module _ (h : Uid → ℕ) (hash : ℕ) (c : ChangeTree) (left right : Branches) (u : Uid) where
-  left_case : h u < hash → hash ≡ h c.uid → EachChange (λ d. hash ≤ h d.uid) (changes_in right) → change_of (changes_in left ++ c ∷ changes_in right) u ≡ change_of (changes_in left) u
-  left_case below is above =
-      let other : same_uid c.uid u ≡ false = other_hash h c.uid u (λ same. omega arith) in
-      change_before (changes_in left) (c ∷ changes_in right) u (change_skipped c (changes_in right) u other ∙ larger_absent h hash (changes_in right) u below above)
+-- ---- uids and hashes
 
-  right_case : hash ≤ h u → EachChange (λ d. h d.uid < hash) (changes_in left) → change_of (changes_in left ++ c ∷ changes_in right) u ≡ change_of (c ∷ changes_in right) u
-  right_case above below = change_after (changes_in left) (c ∷ changes_in right) u (smaller_absent h hash (changes_in left) u above below)
+-- the order of uids in which the changes are
+abbrev place_cmp : (Uid → ℕ) → Uid → Uid → Ordering
+place_cmp h u v = ordering_then (on h nat_cmp u v) (uid_cmp u v)
 
--- at the hash of its uid, a branch is told by its uid alone
-here_is : (h : Uid → ℕ) (u v : Uid) (hash : ℕ) → hash ≡ h v → is_here (h u) u hash v ≡ same_uid v u
-here_is h u v hash is = here_case (same_uid v u) refl
+place_total : (h : Uid → ℕ) → IsTotalOrder (place_cmp h)
+place_total h = then_total (on_total h nat_cmp_total) uid_total
+
+second_equal : (o p : Ordering) → is_eq (ordering_then o p) ≡ true → is_eq p ≡ true
+second_equal Less p h = absurd (cc)
+second_equal Equal p h = h
+second_equal Greater p h = absurd (cc)
+
+place_ties : (h : Uid → ℕ) (u v : Uid) → same_uid u v ≡ is_eq (place_cmp h u v)
+place_ties h u v = one_answer _ _ (same_uid-Decides u v) (λ same. (same_uid-Decides u v).0 (uid_ties u v ∙ second_equal _ _ same), λ is. ap is_eq (ap (place_cmp h u) (sym is) ∙ tied_itself (place_total h) u))
+
+-- the uids of two changes are one exactly where their hashes and uids are
+key_ties : (h : Uid → ℕ) (d e : Keyed) → d.hash ≡ h d.change.uid → e.hash ≡ h e.change.uid → same_uid d.change.uid e.change.uid ≡ is_eq (keyed_cmp d e)
+key_ties h d e first second = place_ties h d.change.uid e.change.uid ∙ sym (ap (λ n. is_eq (ordering_then (nat_cmp n e.hash) (uid_cmp d.change.uid e.change.uid))) first ∙ ap (λ n. is_eq (ordering_then (nat_cmp (h d.change.uid) n) (uid_cmp d.change.uid e.change.uid))) second)
+
+-- ---- the change of a uid
+
+change_case : (d e : Keyed) (o : Ordering) (x : Option ChangeTree) → same_uid d.change.uid e.change.uid ≡ is_eq o → by_order o x (Some e.change) x ≡ (if same_uid e.change.uid d.change.uid then Some e.change else x)
+change_case d e o x same = rw (uid_equivalence.symm e.change.uid d.change.uid, same) (at_order o)
   where
-    here_case : (b : Bool) → same_uid v u ≡ b → (nat_eq (h u) hash && b) ≡ b
-    here_case true same = let known : h u ≡ hash = ap h (sym ((same_uid-Decides v u).0 same)) ∙ sym is in rw (eq-eqb _ _ known) refl
-    here_case false other = and_false (nat_eq (h u) hash)
+    at_order : (o : Ordering) → by_order o x (Some e.change) x ≡ (if is_eq o then Some e.change else x)
+    at_order Less = refl
+    at_order Equal = refl
+    at_order Greater = refl
 
-step_case : (b : Bool) (x y w : Option ChangeTree) → (b ≡ true → x ≡ w) → (b ≡ false → y ≡ w) → (if b then x else y) ≡ w
-step_case true x y w first second = first refl
-step_case false x y w first second = second refl
+told-change : (h : Uid → ℕ) (d : Keyed) (es : List Keyed) → d.hash ≡ h d.change.uid → EachKeyed (IsKeyed h) es → told d es ≡ change_of (map (λ e. e.change) es) d.change.uid
+told-change h d [] is each = refl
+told-change h d (e ∷ es) is each = ap (λ o. by_order (keyed_cmp d e) o (Some e.change) o) (told-change h d es is each.1) ∙ change_case d e (keyed_cmp d e) _ (key_ties h d e is each.0.hashed)
 
-pub descent_is : (h : Uid → ℕ) (t : Branches) (u : Uid) → IsOrdered h t → descent (h u) u t ≡ change_of (changes_in t) u
-descent_is h no_branch u ordered = refl
-descent_is h (branch hash c left right) u (is, below, above, apart, in_left, in_right) =
-    step_case (nat_lt (h u) hash) (descent (h u) u left) (if is_here (h u) u hash c.uid then Some c else descent (h u) u right) (change_of (changes_in left ++ c ∷ changes_in right) u)
-    (λ less. descent_is h left u in_left ∙ sym (left_case h hash c left right u (ltb-true _ _ less) is above))
-    (λ more. ap (λ b. if b then Some c else descent (h u) u right) (here_is h u c.uid hash is) ∙ ap (λ o. if same_uid c.uid u then Some c else o) (descent_is h right u in_right) ∙ sym (right_case h hash c left right u (ltb-false _ _ more) below))
+pub descent_is : (h : Uid → ℕ) (t : Branches) (u : Uid) → AreAscending (keyed_in t) → EachKeyed (IsKeyed h) (keyed_in t) → descent (h u) u t ≡ change_of (changes_in t) u
+descent_is h t u ascending each =
+    let at : Keyed = record { hash = h u; change = record { uid = u; entity = None } } in
+    descent-told at t ascending ∙ told-change h at (keyed_in t) refl each
 
--- ---- a change more
+-- the change of a uid among these and one more
+abbrev one_more : Keyed → List Keyed → Uid → Option ChangeTree
+one_more d es u = if same_uid d.change.uid u then Some d.change else change_of (map (λ e. e.change) es) u
 
-put_case : (P : Branches → Type 0) (b : Bool) (x y : Branches) → (b ≡ true → P x) → (b ≡ false → P y) → P (if b then x else y)
-put_case P true x y first second = first refl
-put_case P false x y first second = second refl
+same_skipped : (d e : Keyed) (es : List Keyed) (u : Uid) → same_uid d.change.uid e.change.uid ≡ true → change_of (map (λ e. e.change) (d ∷ es)) u ≡ one_more d (e ∷ es) u
+same_skipped d e es u same = skipped (same_uid d.change.uid u) refl
+  where
+    skipped : (b : Bool) → same_uid d.change.uid u ≡ b → (if b then Some d.change else change_of (map (λ e. e.change) es) u) ≡ (if b then Some d.change else change_of (map (λ e. e.change) (e ∷ es)) u)
+    skipped true is = refl
+    skipped false is = rw (sym (uid_equivalence.congr d.change.uid e.change.uid u same) ∙ is) refl
 
-pub EachChange-put : (P : ChangeTree → Type 0) (n : ℕ) (d : ChangeTree) (t : Branches) → P d → EachChange P (changes_in t) → EachChange P (changes_in (put n d t))
-EachChange-put P n d no_branch one each = (one, tt)
-EachChange-put P n d (branch hash c left right) one each =
-    let parts = EachChange-split P (changes_in left) (c ∷ changes_in right) each in
-    put_case (λ t. EachChange P (changes_in t)) (nat_lt n hash) (branch hash c (put n d left) right) (if is_here n d.uid hash c.uid then branch hash d left right else branch hash c left (put n d right))
-    (λ less. EachChange-join P (changes_in (put n d left)) (c ∷ changes_in right) (EachChange-put P n d left one parts.0) parts.1)
-    (λ more.
-    put_case (λ t. EachChange P (changes_in t)) (is_here n d.uid hash c.uid) (branch hash d left right) (branch hash c left (put n d right))
-    (λ same. EachChange-join P (changes_in left) (d ∷ changes_in right) parts.0 (one, parts.1.1))
-    (λ other. EachChange-join P (changes_in left) (c ∷ changes_in (put n d right)) parts.0 (parts.1.0, EachChange-put P n d right one parts.1.1)))
+other_passed : (d e : Keyed) (es : List Keyed) (u : Uid) → same_uid d.change.uid e.change.uid ≡ false → (if same_uid e.change.uid u then Some e.change else one_more d es u) ≡ one_more d (e ∷ es) u
+other_passed d e es u other = passed (same_uid d.change.uid u) (same_uid e.change.uid u) refl refl
+  where
+    passed : (a b : Bool) → same_uid d.change.uid u ≡ a → same_uid e.change.uid u ≡ b → (if b then Some e.change else if a then Some d.change else change_of (map (λ e. e.change) es) u) ≡ (if a then Some d.change else if b then Some e.change else change_of (map (λ e. e.change) es) u)
+    passed true true first second = let same : same_uid d.change.uid e.change.uid ≡ true = uid_equivalence.congr d.change.uid u e.change.uid first ∙ uid_equivalence.symm u e.change.uid ∙ second in absurd (cc)
+    passed true false first second = refl
+    passed false true first second = refl
+    passed false false first second = refl
 
-pub IsOrdered-put : (h : Uid → ℕ) (d : ChangeTree) (t : Branches) → IsOrdered h t → IsOrdered h (put (h d.uid) d t)
-IsOrdered-put h d no_branch ordered = (refl, tt, tt, tt, tt, tt)
-IsOrdered-put h d (branch hash c left right) (is, below, above, apart, in_left, in_right) =
-    put_case (IsOrdered h) (nat_lt (h d.uid) hash) (branch hash c (put (h d.uid) d left) right) (if is_here (h d.uid) d.uid hash c.uid then branch hash d left right else branch hash c left (put (h d.uid) d right))
-    (λ less. (is, EachChange-put (λ e. h e.uid < hash) (h d.uid) d left (ltb-true _ _ less) below, above, apart, IsOrdered-put h d left in_left, in_right))
-    (λ more.
-    put_case (IsOrdered h) (is_here (h d.uid) d.uid hash c.uid) (branch hash d left right) (branch hash c left (put (h d.uid) d right))
-    (λ same. (let is_uid = (same_uid-Decides c.uid d.uid).0 (sym (here_is h d.uid c.uid hash is) ∙ same) in (is ∙ ap h is_uid, below, above, subst (λ v. EachChange (λ e. same_uid e.uid v ≡ false) (changes_in right)) is_uid apart, in_left, in_right)))
-    (λ other. (is, below, EachChange-put (λ e. hash ≤ h e.uid) (h d.uid) d right (ltb-false _ _ more) above, EachChange-put (λ e. same_uid e.uid c.uid ≡ false) (h d.uid) d right (uid_equivalence.symm d.uid c.uid ∙ sym (here_is h d.uid c.uid hash is) ∙ other) apart, in_left, IsOrdered-put h d right in_right)))
+inserted-change : (h : Uid → ℕ) (d : Keyed) (es : List Keyed) (u : Uid) → d.hash ≡ h d.change.uid → EachKeyed (IsKeyed h) es → change_of (map (λ e. e.change) (inserted d es)) u ≡ one_more d es u
+inserted-change h d [] u is each = refl
+inserted-change h d (e ∷ es) u is each =
+    let ties = key_ties h d e is each.0.hashed in
+    each_order (λ fs. change_of (map (λ e. e.change) fs) u ≡ one_more d (e ∷ es) u) (keyed_cmp d e) (d ∷ e ∷ es) (d ∷ es) (e ∷ inserted d es)
+    (λ less. refl)
+    (λ same. same_skipped d e es u (ties ∙ ap is_eq same))
+    (λ more. ap (λ o. if same_uid e.change.uid u then Some e.change else o) (inserted-change h d es u is each.1) ∙ other_passed d e es u (ties ∙ ap is_eq more))
 
--- ---- the way down after a change
-
-here_hash : (n : ℕ) (u : Uid) (hash : ℕ) (v : Uid) → is_here n u hash v ≡ true → n ≡ hash
-here_hash n u hash v here = eqb-true n hash (and_parts _ _ here).0
-
-here_uid : (n : ℕ) (u : Uid) (hash : ℕ) (v : Uid) → is_here n u hash v ≡ true → same_uid v u ≡ true
-here_uid n u hash v here = (and_parts _ _ here).1
-
-here_again : (n : ℕ) (u : Uid) (hash : ℕ) → n ≡ hash → is_here n u hash u ≡ true
-here_again n u hash is = rw (eq-eqb n hash is, uid_equivalence.refl u) refl
-
-elsewhere : (m hash : ℕ) (u v : Uid) → same_uid v u ≡ false → is_here m u hash v ≡ false
-elsewhere m hash u v other = rw other (and_false (nat_eq m hash))
-
-pub same_descent : (n : ℕ) (d : ChangeTree) (t : Branches) → descent n d.uid (put n d t) ≡ Some d
-same_descent n d no_branch = let own = le-ltb n n (omega arith) in rw (own, here_again n d.uid n refl) refl
-same_descent n d (branch hash c left right) =
-    put_case (λ t. descent n d.uid t ≡ Some d) (nat_lt n hash) (branch hash c (put n d left) right) (if is_here n d.uid hash c.uid then branch hash d left right else branch hash c left (put n d right))
-    (λ less. rw less (same_descent n d left))
-    (λ more.
-    put_case (λ t. descent n d.uid t ≡ Some d) (is_here n d.uid hash c.uid) (branch hash d left right) (branch hash c left (put n d right))
-    (λ same. (let own = here_again n d.uid hash (here_hash n d.uid hash c.uid same) in rw (more, own) refl))
-    (λ other. rw (more, other) (same_descent n d right)))
-
-either_way : (b : Bool) (o : Option ChangeTree) → (if b then o else o) ≡ o
-either_way true o = refl
-either_way false o = refl
-
--- the way down to another uid
-pub other_descent : (n m : ℕ) (d : ChangeTree) (u : Uid) (t : Branches) → same_uid d.uid u ≡ false → descent m u (put n d t) ≡ descent m u t
-other_descent n m d u no_branch other = rw (elsewhere m n u d.uid other) (either_way (nat_lt m n) None)
-other_descent n m d u (branch hash c left right) other =
-    let now = descent m u (branch hash c left right) in
-    put_case (λ t. descent m u t ≡ now) (nat_lt n hash) (branch hash c (put n d left) right) (if is_here n d.uid hash c.uid then branch hash d left right else branch hash c left (put n d right))
-    (λ less. ap (λ o. if nat_lt m hash then o else if is_here m u hash c.uid then Some c else descent m u right) (other_descent n m d u left other))
-    (λ more.
-    put_case (λ t. descent m u t ≡ now) (is_here n d.uid hash c.uid) (branch hash d left right) (branch hash c left (put n d right))
-    (λ same. (let there : same_uid c.uid u ≡ false = uid_equivalence.congr c.uid d.uid u (here_uid n d.uid hash c.uid same) ∙ other in rw (elsewhere m hash u d.uid other, elsewhere m hash u c.uid there) refl))
-    (λ apart. ap (λ o. if nat_lt m hash then descent m u left else if is_here m u hash c.uid then Some c else o) (other_descent n m d u right other)))
-
-put_told_case : (h : Uid → ℕ) (d : ChangeTree) (t : Branches) (u : Uid) (b : Bool) → same_uid d.uid u ≡ b → IsOrdered h t → descent (h u) u (put (h d.uid) d t) ≡ (if b then Some d else change_of (changes_in t) u)
-put_told_case h d t u true same ordered = subst (λ v. descent (h v) v (put (h d.uid) d t) ≡ Some d) ((same_uid-Decides d.uid u).0 same) (same_descent (h d.uid) d t)
-put_told_case h d t u false other ordered = other_descent (h d.uid) (h u) d u t other ∙ descent_is h t u ordered
-
-pub put_told : (h : Uid → ℕ) (d : ChangeTree) (t : Branches) (u : Uid) → IsOrdered h t → change_of (changes_in (put (h d.uid) d t)) u ≡ (if same_uid d.uid u then Some d else change_of (changes_in t) u)
-put_told h d t u ordered = sym (descent_is h (put (h d.uid) d t) u (IsOrdered-put h d t ordered)) ∙ put_told_case h d t u (same_uid d.uid u) refl ordered
+pub put_told : (h : Uid → ℕ) (d : Keyed) (t : Branches) (u : Uid) → AreAscending (keyed_in t) → EachKeyed (IsKeyed h) (keyed_in t) → d.hash ≡ h d.change.uid → change_of (changes_in (put d t)) u ≡ (if same_uid d.change.uid u then Some d.change else change_of (changes_in t) u)
+put_told h d t u ascending each is = ap (λ es. change_of (map (λ e. e.change) es) u) (put-keyed d t ascending) ∙ inserted-change h d (keyed_in t) u is each
 
 -- ---- each uid once
 
-distinct-join : (cs ds : List ChangeTree) → AreChangesDistinct cs → AreChangesDistinct ds → EachChange (λ e. change_of ds e.uid ≡ None) cs → AreChangesDistinct (cs ++ ds)
-distinct-join [] ds first rest apart = rest
-distinct-join (c ∷ cs) ds first rest apart = (change_before cs ds c.uid apart.0 ∙ first.0, distinct-join cs ds first.1 rest apart.1)
+later_absent : (h : Uid → ℕ) (e : Keyed) (es : List Keyed) → e.hash ≡ h e.change.uid → EachKeyed (IsKeyed h) es → EachKeyed (λ f. keyed_cmp e f ≡ Less) es → change_of (map (λ e. e.change) es) e.change.uid ≡ None
+later_absent h e [] is each later = refl
+later_absent h e (f ∷ es) is each later = rw (uid_equivalence.symm f.change.uid e.change.uid ∙ key_ties h e f is each.0.hashed ∙ ap is_eq later.0) (later_absent h e es is each.1 later.1)
 
-pub distinct-ordered : (h : Uid → ℕ) (t : Branches) → IsOrdered h t → AreChangesDistinct (changes_in t)
-distinct-ordered h no_branch ordered = tt
-distinct-ordered h (branch hash c left right) (is, below, above, apart, in_left, in_right) =
-    distinct-join (changes_in left) (c ∷ changes_in right) (distinct-ordered h left in_left) (change_absent (changes_in right) c.uid apart, distinct-ordered h right in_right)
-    (EachChange-map _ _ (changes_in left) (λ e less. change_skipped c (changes_in right) e.uid (other_hash h c.uid e.uid (λ same. omega arith)) ∙ larger_absent h hash (changes_in right) e.uid less above) below)
+distinct-keyed : (h : Uid → ℕ) (es : List Keyed) → AreAscending es → EachKeyed (IsKeyed h) es → AreChangesDistinct (map (λ e. e.change) es)
+distinct-keyed h [] ascending each = tt
+distinct-keyed h (e ∷ es) ascending each = (later_absent h e es each.0.hashed each.1 ascending.0, distinct-keyed h es ascending.1 each.1)
 
-pub is_something : (cs ds : List ChangeTree) (c : ChangeTree) → cs ++ c ∷ ds ≡ [] → ⊥
-is_something [] ds c none = absurd (cc)
-is_something (b ∷ cs) ds c none = absurd (cc)
+pub distinct-ascending : (h : Uid → ℕ) (t : Branches) → AreAscending (keyed_in t) → EachKeyed (IsKeyed h) (keyed_in t) → AreChangesDistinct (changes_in t)
+distinct-ascending h t ascending each = distinct-keyed h (keyed_in t) ascending each
+
+pub named_each : (h : Uid → ℕ) (es : List Keyed) → EachKeyed (IsKeyed h) es → EachChange IsChangeOfUid (map (λ e. e.change) es)
+named_each h [] each = tt
+named_each h (e ∷ es) each = (each.0.named, named_each h es each.1)
+
+pub is_something : (es fs : List Keyed) (e : Keyed) → map (λ e. e.change) (es ++ e ∷ fs) ≡ [] → ⊥
+is_something [] fs e none = absurd (cc)
+is_something (d ∷ es) fs e none = absurd (cc)
+
+-- ---- each way down is as long as each other
+
+abbrev IsEvenAfter : ℕ → Grown → Type 0
+IsEvenAfter n (whole t) = IsEven n t
+IsEvenAfter n (split l e r) = IsEven n l × IsEven n r
+
+two_left-even : (n : ℕ) (g : Grown) (e : Keyed) (r : Branches) → IsEvenAfter n g → IsEven n r → IsEvenAfter (suc n) (two_left g e r)
+two_left-even n (whole l) e r grown right = (grown, right)
+two_left-even n (split a x b) e r grown right = (grown.0, grown.1, right)
+
+two_right-even : (n : ℕ) (l : Branches) (e : Keyed) (g : Grown) → IsEven n l → IsEvenAfter n g → IsEvenAfter (suc n) (two_right l e g)
+two_right-even n l e (whole r) left grown = (left, grown)
+two_right-even n l e (split a x b) left grown = (left, grown.0, grown.1)
+
+three_left-even : (n : ℕ) (g : Grown) (e : Keyed) (m : Branches) (f : Keyed) (r : Branches) → IsEvenAfter n g → IsEven n m → IsEven n r → IsEvenAfter (suc n) (three_left g e m f r)
+three_left-even n (whole l) e m f r grown middle right = (grown, middle, right)
+three_left-even n (split a x b) e m f r grown middle right = (grown, (middle, right))
+
+three_middle-even : (n : ℕ) (l : Branches) (e : Keyed) (g : Grown) (f : Keyed) (r : Branches) → IsEven n l → IsEvenAfter n g → IsEven n r → IsEvenAfter (suc n) (three_middle l e g f r)
+three_middle-even n l e (whole m) f r left grown right = (left, grown, right)
+three_middle-even n l e (split a x b) f r left grown right = ((left, grown.0), (grown.1, right))
+
+three_right-even : (n : ℕ) (l : Branches) (e : Keyed) (m : Branches) (f : Keyed) (g : Grown) → IsEven n l → IsEven n m → IsEvenAfter n g → IsEvenAfter (suc n) (three_right l e m f g)
+three_right-even n l e m f (whole r) left middle grown = (left, middle, grown)
+three_right-even n l e m f (split a x b) left middle grown = ((left, middle), grown)
+
+pub grow-even : (n : ℕ) (d : Keyed) (t : Branches) → IsEven n t → IsEvenAfter n (grow d t)
+grow-even n d no_branch even = (even, even)
+grow-even zero d (two l e r) even = absurd even
+grow-even (suc n) d (two l e r) (left, right) =
+    each_order (IsEvenAfter (suc n)) (keyed_cmp d e) (two_left (grow d l) e r) (whole (two l d r)) (two_right l e (grow d r))
+    (λ _. two_left-even n (grow d l) e r (grow-even n d l left) right) (λ _. (left, right)) (λ _. two_right-even n l e (grow d r) left (grow-even n d r right))
+grow-even zero d (three l e m f r) even = absurd even
+grow-even (suc n) d (three l e m f r) (left, middle, right) =
+    let beyond = by_order (keyed_cmp d f) (three_middle l e (grow d m) f r) (whole (three l e m d r)) (three_right l e m f (grow d r)) in
+    each_order (IsEvenAfter (suc n)) (keyed_cmp d e) (three_left (grow d l) e m f r) (whole (three l d m f r)) beyond
+    (λ _. three_left-even n (grow d l) e m f r (grow-even n d l left) middle right) (λ _. (left, middle, right))
+    (λ _.
+    each_order (IsEvenAfter (suc n)) (keyed_cmp d f) (three_middle l e (grow d m) f r) (whole (three l e m d r)) (three_right l e m f (grow d r))
+    (λ _. three_middle-even n l e (grow d m) f r left (grow-even n d m middle) right) (λ _. (left, middle, right)) (λ _. three_right-even n l e m f (grow d r) left middle (grow-even n d r right)))
+
+-- ---- the depth
+
+pub even_depth : (n : ℕ) (t : Branches) → IsEven n t → depth t ≡ n
+even_depth n no_branch even = sym even
+even_depth zero (two l e r) even = absurd even
+even_depth (suc n) (two l e r) (left, right) = let first = even_depth n l left in let second = even_depth n r right in omega arith
+even_depth zero (three l e m f r) even = absurd even
+even_depth (suc n) (three l e m f r) (left, middle, right) = let first = even_depth n l left in let second = even_depth n m middle in let third = even_depth n r right in omega arith
+
+rooted-even : (n : ℕ) (g : Grown) → IsEvenAfter n g → IsEven (depth (rooted g)) (rooted g)
+rooted-even n (whole t) even = subst (λ k. IsEven k t) (sym (even_depth n t even)) even
+rooted-even n (split l e r) even = subst (λ k. IsEven k (two l e r)) (sym (even_depth (suc n) (two l e r) even)) even
+
+pub even_shallow : (n : ℕ) (t : Branches) → IsEven n t → 2 ^ n ≤ size t + 1
+even_shallow n no_branch even = rw even (omega arith)
+even_shallow zero (two l e r) even = absurd even
+even_shallow (suc n) (two l e r) (left, right) =
+    let first = even_shallow n l left in
+    let second = even_shallow n r right in
+    let long = length-append (keyed_in l) (e ∷ keyed_in r) in
+    omega arith
+even_shallow zero (three l e m f r) even = absurd even
+even_shallow (suc n) (three l e m f r) (left, middle, right) =
+    let first = even_shallow n l left in
+    let second = even_shallow n m middle in
+    let third = even_shallow n r right in
+    let long = length-append (keyed_in l) (e ∷ (keyed_in m ++ f ∷ keyed_in r)) in
+    let rest = length-append (keyed_in m) (f ∷ keyed_in r) in
+    omega arith
 
 -- ---- maps
 
--- the tree that a change is put into, where the change and the hash are known under other names
-pub put_named : (h : UidHashing) (t new : Branches) (n : ℕ) (v : Uid) (e d : ChangeTree) → new ≡ put n e t → e ≡ d → n ≡ hash_of h v → v ≡ d.uid → new ≡ put (hash_of h d.uid) d t
-put_named h t new n v e d is same hashed named = is ∙ ap (λ x. put n x t) same ∙ ap (λ m. put m d t) (hashed ∙ ap (hash_of h) named)
+pub IsMap-none : (h : UidHashing) → IsMap h no_branch
+IsMap-none h = record { ascending = tt; keyed = tt; even = refl; shallow = omega arith }
 
-pub IsMap-put : (h : UidHashing) (t new : Branches) (d : ChangeTree) → new ≡ put (hash_of h d.uid) d t → IsMap h t → IsChangeOfUid d → IsMap h new
-IsMap-put h t new d is map named =
-    subst (IsMap h) (sym is) (record { ordered = IsOrdered-put (hash_of h) d t map.ordered; named = EachChange-put IsChangeOfUid (hash_of h d.uid) d t named map.named })
+-- the tree that a change is put into, where the change and its hash are known under other names
+pub put_named : (h : UidHashing) (t new : Branches) (n : ℕ) (v : Uid) (e d : ChangeTree) → new ≡ put (record { hash = n; change = e }) t → e ≡ d → n ≡ hash_of h v → v ≡ d.uid → new ≡ put (record { hash = hash_of h d.uid; change = d }) t
+put_named h t new n v e d is same hashed named = is ∙ ap (λ x. put (record { hash = n; change = x }) t) same ∙ ap (λ m. put (record { hash = m; change = d }) t) (hashed ∙ ap (hash_of h) named)
+
+put_map : (h : UidHashing) (t : Branches) (d : Keyed) → IsKeyed (hash_of h) d → IsMap h t → IsMap h (put d t)
+put_map h t d is tree =
+    let list = put-keyed d t tree.ascending in
+    let even = rooted-even (depth t) (grow d t) (grow-even (depth t) d t tree.even) in
+    record {
+      ascending = subst AreAscending (sym list) (AreAscending-inserted d (keyed_in t) tree.ascending);
+      keyed = subst (EachKeyed (IsKeyed (hash_of h))) (sym list) (EachKeyed-inserted (IsKeyed (hash_of h)) d (keyed_in t) is tree.keyed);
+      even = even;
+      shallow = even_shallow (depth (put d t)) (put d t) even;
+    }
+
+pub IsMap-put : (h : UidHashing) (t new : Branches) (d : ChangeTree) → new ≡ put (record { hash = hash_of h d.uid; change = d }) t → IsMap h t → IsChangeOfUid d → IsMap h new
+IsMap-put h t new d is tree named = subst (IsMap h) (sym is) (put_map h t (record { hash = hash_of h d.uid; change = d }) (record { hashed = refl; named = named }) tree)

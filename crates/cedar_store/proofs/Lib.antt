@@ -10,6 +10,7 @@ pub mod CutChains
 pub mod Due
 pub mod EachMore
 pub mod Gathered
+pub mod Inserted
 pub mod Linked
 pub mod Marked
 pub mod MarkedToo

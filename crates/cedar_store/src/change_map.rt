@@ -55,7 +55,7 @@ impl ChangeMap {
     {
         match &self.root {
             ForkTree::Leaf => true,
-            ForkTree::Fork(_) => false,
+            _ => false,
         }
     }
 
@@ -65,7 +65,7 @@ impl ChangeMap {
     {
         match &self.root {
             ForkTree::Leaf => None,
-            ForkTree::Fork(_) => self.root.find(hash_of(&self.hashing, uid), uid),
+            _ => self.root.find(hash_of(&self.hashing, uid), uid),
         }
     }
 

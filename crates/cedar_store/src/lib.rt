@@ -29,6 +29,7 @@ mod descendant;
 mod entity;
 mod entity_table;
 mod gathering;
+mod keyed_change;
 mod links;
 mod links_stay;
 mod marks;

@@ -1,13 +1,13 @@
 //! Uids and entities of the numbers that `choices` makes.
-use crate::choices::{Entry, UIDS};
+use crate::choices::Entry;
 use cedar_store::Entity;
 use cedar_value::{Name, Record, SharedText, Text, Uid, Value, ValueSet};
 use std::alloc::{AllocError, Global};
 
-/// The uids, each at its number.
-pub fn all_uids(alloc: Global) -> Result<Vec<Uid>, AllocError> {
+/// So many uids, each at its number.
+pub fn uids_below(alloc: Global, count: u32) -> Result<Vec<Uid>, AllocError> {
     let mut uids = Vec::new(alloc);
-    for number in 0..UIDS {
+    for number in 0..count {
         uids.push(uid(alloc, number)?)?;
     }
     Ok(uids)

@@ -1,6 +1,6 @@
 //! A store that is changed again and again, and a plain store that is built anew each time: both answer each question alike.
 use crate::choices::{Change, Choices, UIDS};
-use crate::entities::{all_uids, set_of};
+use crate::entities::{set_of, uids_below};
 use crate::versions::Version;
 use cedar_store::StoreFault;
 use cedar_value::{Uid, ValueSet};
@@ -92,7 +92,7 @@ fn step(rt: &impl Abort, alloc: Global, uids: &[Uid], run: &mut Run) -> Result<(
 #[test]
 fn random_changes_are_as_in_a_plain_store(rt: HostRuntime) -> Result<(), Fail> {
     let alloc = rt.alloc();
-    let uids = all_uids(alloc)?;
+    let uids = uids_below(alloc, UIDS)?;
     let mut run = Run::new(alloc)?;
     for _step in 0..STEPS {
         step(&rt, alloc, &uids, &mut run)?;

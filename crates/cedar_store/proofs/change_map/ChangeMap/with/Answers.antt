@@ -1,4 +1,4 @@
-use Rattle.std.proofs.Common.{subst, ap, ◌∙◌}
+use Rattle.std.proofs.Common.{refl, subst, ap, ◌∙◌}
 use Rattle.cedar_store.specs.Private.Branches.{Branches, changes_in, hash_of}
 use Rattle.cedar_store.specs.Private.Changing.{ChangeTree, IsChangeOfUid, change_of}
 use Rattle.cedar_store.specs.Private.Forks.{branches_of}
@@ -23,4 +23,4 @@ returns c u =
     let change = c.args.change in
     let named = ap (λ (d : ChangeTree). d.uid) c.change.view_is in
     let is = put_named hashing tree new c.hash_of-hash.result c.change.inside.uid c.in_ok-change.change.value change c.in_ok-root.ensures c.in_ok-change.ensures.ok c.hash_of-hash.ensures named in
-    rw (← c.self.view_is) (ap (λ (t : Branches). change_of (changes_in t) u) is ∙ put_told (hash_of hashing) change tree u c.self.invariant.ordered)
+    rw (← c.self.view_is) (ap (λ (t : Branches). change_of (changes_in t) u) is ∙ put_told (hash_of hashing) (record { hash = hash_of hashing change.uid; change = change }) tree u c.self.invariant.ascending c.self.invariant.keyed refl)

@@ -3,7 +3,7 @@ ghost use Rattle.std.specs.Prelude.{◌-◌, ◌<◌, ◌^◌};
 
 use base_lines::{Sink, Source};
 use cedar_auth::Ready;
-use cedar_cli::{Observer, Words, authorize_observed, authorize_with_entities};
+use cedar_cli::{Observer, Words, authorize, authorize_with_entities};
 use cedar_files::{End, NamedFiles};
 use cedar_files_diagnostics::{Format, impossible_policies};
 use std::mem::forget;
@@ -54,6 +54,6 @@ pub fn authorize_and_warn<S: Source, K: Sink>(
     if words.entities_in_lines {
         authorize_with_entities(alloc, files, source, sink, words.settings, &mut warner)
     } else {
-        authorize_observed(alloc, files, source, sink, words.settings, &mut warner)
+        authorize(alloc, files, source, sink, words.settings, &mut warner)
     }
 }

@@ -54,18 +54,6 @@ pub trait Observer {
     fn take(&mut self, ready: Ready);
 }
 
-/// An observer that ignores what is ready.
-#[derive(Drop)]
-struct Nobody;
-
-impl Observer for Nobody {
-    fn is_ready(&mut self, _ready: &Ready) {}
-
-    fn take(&mut self, ready: Ready) {
-        drop(ready);
-    }
-}
-
 /// Reads the schema, the policies, the links and the entities, in this order, and answers each request line of the source by an
 /// answer line to the sink. The policies are validated under these settings. It ends with:
 ///
@@ -77,41 +65,9 @@ impl Observer for Nobody {
 /// - `Device`: a file can't be read, or the source or the sink failed.
 /// - `Memory`: memory ran out.
 ///
-/// What was answered before stays written: whole lines after `Memory`, and after `Device` perhaps a part of a line too.
-pub fn authorize<F: Files, S: Source, K: Sink>(
-    alloc: Global,
-    files: &F,
-    source: &mut S,
-    sink: &mut K,
-    settings: Settings,
-) -> End
-    requires source_count { S.failed source.old < 2 ^ 64 - 1 }
-    requires sink_count { K.failed sink.old < 2 ^ 64 - 1 }
-
-    ensures done { result ≡ End.Done → (r : ReadyTree)
-        × HoldAll settings (F.holds files.now) r
-        × IfSome (S.left source.old) (λ input. Writes (K.written sink.old) (K.written sink.new) (IsAnswerText (AnswersLine r) input)) }
-    ensures faults { result ≡ End.Faults → (s : SchemaTree) × (set : PolicySetTree)
-        × Hold (F.holds files.now) s set × ¬ AreFaultsWith settings s set.policies []
-        × Writes (K.written sink.old) (K.written sink.new) (IsReportText settings s set.policies) }
-    ensures refused { result ≡ End.Refused → (role : Role) × (refusal : FileRefusal)
-        × IsFirstRefused settings (F.holds files.now) role refusal
-        × Writes (K.written sink.old) (K.written sink.new) (IsRefusalLine role refusal) }
-    ensures unread { (result ≡ End.Refused) ⊎ (result ≡ End.Faults) → source.new ≡ source.old }
-    ensures unnamed { result ≡ End.CommandLine → IfSome (F.holds files.now Role.Schema) (λ held. held ≡ None)
-        ⊎ IfSome (F.holds files.now Role.Policies) (λ held. held ≡ None) ⊎ IfSome (F.holds files.now Role.Entities) (λ held. held ≡ None) }
-    ensures untouched { result ≡ End.CommandLine → (source.new ≡ source.old) × (sink.new ≡ sink.old) }
-    ensures device { result ≡ End.Device → (F.holds files.now Role.Schema ≡ None) ⊎ (F.holds files.now Role.Policies ≡ None)
-        ⊎ (F.holds files.now Role.Links ≡ None) ⊎ (F.holds files.now Role.Entities ≡ None)
-        ⊎ (S.failed source.old < S.failed source.new) ⊎ (K.failed sink.old < K.failed sink.new) }
-    ensures stands { result ≡ End.Device → Stands settings (F.holds files.now) (S.left source.old) (K.written sink.old) (K.written sink.new) }
-    ensures stands_whole { result ≡ End.Memory → StandsWhole settings (F.holds files.now) (S.left source.old) (K.written sink.old) (K.written sink.new) }
-{
-    authorize_observed(alloc, files, source, sink, settings, &mut Nobody)
-}
-
-/// Like [`authorize`], with an observer that sees what is ready.
-pub fn authorize_observed<F: Files, S: Source, K: Sink, O: Observer>(
+/// What was answered before stays written: whole lines after `Memory`, and after `Device` perhaps a part of a line too. The observer
+/// sees what is ready.
+pub fn authorize<F: Files, S: Source, K: Sink, O: Observer>(
     alloc: Global,
     files: &F,
     source: &mut S,

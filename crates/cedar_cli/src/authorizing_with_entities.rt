@@ -46,7 +46,7 @@ fn answer_with_entities<S: Source, K: Sink>(
     }
 }
 
-/// Like [`authorize_observed`](crate::authorize_observed), but a request line may have a fifth key `entities`: a list of entities in
+/// Like [`authorize`](crate::authorize), but a request line may have a fifth key `entities`: a list of entities in
 /// the form of the entities file. For this line they replace those of the file with their uids, or come beside them. No other line
 /// sees them. It ends as [`authorize`](crate::authorize) does.
 pub fn authorize_with_entities<F: Files, S: Source, K: Sink, O: Observer>(

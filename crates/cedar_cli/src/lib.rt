@@ -5,7 +5,7 @@
 //!
 //! let words = words(alloc, &texts)?;
 //! assert_eq!(rt; words.subcommand, Subcommand::Authorize);
-//! let end = authorize(alloc, &files, &mut source, &mut sink, words.settings);
+//! let end = authorize(alloc, &files, &mut source, &mut sink, words.settings, &mut observer);
 //! assert_eq!(rt; end.status(), 0);
 //! ```
 //!
@@ -24,7 +24,7 @@ mod options;
 mod parsing;
 
 pub use asking::ask;
-pub use authorizing::{Observer, authorize, authorize_observed};
+pub use authorizing::{Observer, authorize};
 pub use authorizing_with_entities::authorize_with_entities;
 pub use command_line::{WordsFault, words};
 pub use options::{AskedRequest, Subcommand, Words};

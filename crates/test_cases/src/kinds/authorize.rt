@@ -32,7 +32,7 @@ pub fn outcome(alloc: Global, case: &Case) -> Result<Outcome, CaseFault> {
     let end = if brings_entities(case)? {
         authorize_with_entities(alloc, &files, &mut source, &mut sink, settings, &mut Nobody)
     } else {
-        authorize(alloc, &files, &mut source, &mut sink, settings)
+        authorize(alloc, &files, &mut source, &mut sink, settings, &mut Nobody)
     };
     Outcome::of_bytes(alloc, sink.bytes(), end.status())
 }

@@ -1,5 +1,5 @@
 use Rattle.std.proofs.Common.{inl, inr}
-use Rattle.cedar_cli.proofs.authorizing.authorize_observed.Goals as goal
+use Rattle.cedar_cli.proofs.authorizing.authorize.Goals as goal
 
 pub returns-in-Err-clause-stands : goal.returns-in-Err-clause-stands
 returns-in-Err-clause-stands g c = λ h.

@@ -17,7 +17,6 @@
 
 mod attributes;
 mod checking;
-mod found;
 mod joins;
 mod kinds;
 mod listing;
@@ -25,7 +24,6 @@ mod literals;
 mod looking;
 mod parts;
 mod refusal;
-mod search;
 mod smallest;
 mod spot;
 mod type_words;

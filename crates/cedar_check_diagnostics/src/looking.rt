@@ -90,8 +90,8 @@ fn may_look_into(settings: Settings, expression: &Expr) -> bool
     }
 }
 
-// Whether the checker may look at the part of this number, as far as its guard does not say.
-fn may_look_at<'a>(
+/// Whether the checker may look at the part of this number, as far as its guard does not say.
+pub(crate) fn may_look_at<'a>(
     checking: Checking<'a>,
     held: &[Capability<'a>],
     expression: &'a Expr,

@@ -29,6 +29,7 @@ mod spot;
 mod type_words;
 mod undeclared;
 mod walk;
+mod way;
 mod words;
 mod written;
 

@@ -138,6 +138,17 @@ fn untyped_of<'a>(
     }
 }
 
+/// Whether the checker looks at the part of this number and finds no type for it.
+pub(crate) fn has_untyped<'a>(
+    checking: Checking<'a>,
+    held: &[Capability<'a>],
+    expression: &'a Expr,
+    number: usize,
+) -> Result<bool, AllocError> {
+    let found = untyped_of(checking, held, expression, number)?;
+    Ok(found.is_some())
+}
+
 // The first operand, branch or entry that the checker looks at and that has no type.
 fn untyped_operand<'a>(
     checking: Checking<'a>,

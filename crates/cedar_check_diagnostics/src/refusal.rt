@@ -8,7 +8,8 @@ use crate::kinds::other_condition;
 use crate::parts::around;
 use crate::smallest::{Untyped, smallest};
 use crate::spot::Spot;
-use crate::words::{Words, words_of};
+use crate::words::{Words, add_words};
+use base_places::Draft;
 use cedar_ast_expressions::Expr;
 use cedar_check_operators::{TypeFault, Typing};
 use cedar_check_spec::Settings;
@@ -75,32 +76,56 @@ pub fn refused_part<'a>(
         Typing::Typed(x) => match x.ty.truth() {
             Some(_) => Ok(None),
             None => {
-                let words = other_condition(alloc, &x.ty)?;
-                let found = with_words(Vec::new(alloc), TypeFault::OperandKind.number(), words);
+                let mut words = Words::new(alloc);
+                other_condition(&mut words, &x.ty);
+                let found = with_words(
+                    alloc,
+                    Vec::new(alloc),
+                    TypeFault::OperandKind.number(),
+                    words,
+                )?;
                 Ok(Some(found))
             }
         },
     }
 }
 
+// What a draft has, or none where nothing was added.
+fn if_any(draft: Draft) -> Result<Option<String>, AllocError> {
+    let text = draft.done()?;
+    if text.is_empty() {
+        return Ok(None);
+    }
+    Ok(Some(text))
+}
+
 // The part of a path and a number with its words.
-fn with_words(path: Vec<usize>, number: u16, words: Words) -> RefusedPart
-    ensures { result.path.items ≡ path.items }
+fn with_words(
+    alloc: Global,
+    path: Vec<usize>,
+    number: u16,
+    words: Words,
+) -> Result<RefusedPart, AllocError>
+    ensures { IfOk result (λ r. r.path.items ≡ path.items) }
 {
     let Words {
         says,
         operands,
-        notes,
+        note,
         hint,
     } = words;
-    RefusedPart {
+    let mut notes = Vec::new(alloc);
+    if let Some(note) = if_any(note)? {
+        notes.push(note)?;
+    }
+    Ok(RefusedPart {
         path,
         number,
-        says,
+        says: says.done()?,
         operands,
         notes,
-        hint,
-    }
+        hint: if_any(hint)?,
+    })
 }
 
 // A part that has no type, with its words.
@@ -125,8 +150,9 @@ fn explained<'a>(
         above: &above,
         path: &path,
     };
-    let words = words_of(spot, fault)?;
-    Ok(with_words(path, fault.number(), words))
+    let mut words = Words::new(checking.alloc);
+    add_words(spot, &mut words, fault)?;
+    with_words(checking.alloc, path, fault.number(), words)
 }
 
 // The smallest part of a condition that has no type, where the condition has none for this reason.

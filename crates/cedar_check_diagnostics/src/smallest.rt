@@ -7,13 +7,14 @@ ghost use Rattle.cedar_check_diagnostics.specs.Paths.{IsStep, LeadsTo};
 ghost use Rattle.cedar_check_diagnostics.specs.Private.Down.{IsBelow};
 
 use crate::checking::Checking;
-use crate::looking::{UntypedPart, may_look_at, untyped_part_of};
+use crate::looking::{UntypedPart, has_untyped, may_look_at, untyped_part_of};
 use crate::walk::{Step, step_to};
+use crate::way::way_of;
 use cedar_ast_expressions::{Expr, ExprKind};
 use cedar_check_operators::{Capability, TypeFault, Typing, together};
 use std::alloc::AllocError;
 
-// How many steps are tried at once at first. Then half as many are tried, and so on, so that almost twice as many can be made.
+// How many steps of a way are tried at once at first. Then half as many are tried, and so on, so that almost twice as many can be made.
 const MOST_STEPS: usize = 1_024;
 
 /// A part of a condition that has no type.
@@ -29,15 +30,8 @@ pub(crate) struct Untyped<'a> {
     pub(crate) fault: TypeFault,
 }
 
-// Whether an expression is a chain of `&&` or `||`, so that its second part is looked at only where the first one has a type.
-fn is_chain(expression: &Expr) -> bool {
-    match expression.kind() {
-        ExprKind::And(_, _) | ExprKind::Or(_, _) => true,
-        _ => false,
-    }
-}
-
-// The part of this number, where the checker looks at it and where each part before it has a type.
+// The part of this number, where the checker looks at it and where each part before it has a type; none of a set, of which it looks at
+// a member only where those before it join.
 fn first_step<'a>(
     checking: Checking<'a>,
     held: &[Capability<'a>],
@@ -46,8 +40,13 @@ fn first_step<'a>(
 ) -> Result<Option<Step<'a>>, AllocError>
     ensures { IfOk result (λ o. IfSome o (λ x. IsStep checking.entry.settings checking.entry.schema.now checking.entry.environment.now (held_view held.now) expression.now number (held_view x.gained.items) x.part.now)) }
 {
-    if number > 0 && !is_chain(expression) {
+    if number > 0 && matches!(expression.kind(), ExprKind::Set(_)) {
         return Ok(None);
+    }
+    for earlier in 0..number {
+        if has_untyped(checking, held, expression, earlier)? {
+            return Ok(None);
+        }
     }
     if !may_look_at(checking, held, expression, number)? {
         return Ok(None);
@@ -55,12 +54,11 @@ fn first_step<'a>(
     step_to(checking, held, expression, number)
 }
 
-// The part that this many steps of one number lead to, where it has no type and each part before it has one.
-fn after_steps<'a>(
+// The part that a way leads to, where it has no type, and where the checker finds a type for each part that it looks at before it.
+fn at_end<'a>(
     checking: Checking<'a>,
     from: &Untyped<'a>,
-    number: usize,
-    count: usize,
+    way: &[usize],
 ) -> Result<Option<Untyped<'a>>, AllocError>
     ensures below { IfOk result (λ o. IfSome o (λ u. IsBelow checking.entry.settings checking.entry.schema.now checking.entry.environment.now from.now.path.items (held_view from.now.held.items) from.now.part.now u.path.items (held_view u.held.items) u.part.now)) }
     ensures untyped { IfOk result (λ o. IfSome o (λ u. IsTypingOf checking.entry.settings checking.entry.schema.now checking.entry.environment.now (held_view u.held.items) u.part.now None)) }
@@ -68,11 +66,11 @@ fn after_steps<'a>(
     let mut path = from.path.clone()?;
     let mut held = from.held.clone()?;
     let mut part = from.part;
-    'walk: for _ in 0..count {
-        let Some(next) = first_step(checking, &held, part, number)? else {
+    'walk: for number in way {
+        let Some(next) = first_step(checking, &held, part, *number)? else {
             return Ok(None);
         };
-        path.push(number)?;
+        path.push(*number)?;
         held = together(held, next.gained)?;
         part = next.part;
     }
@@ -88,23 +86,27 @@ fn after_steps<'a>(
     }
 }
 
-// From a part that has no type, down by steps of one number, as long as the part there has no type either and each part before it has
-// one. The number of the steps is found by halves, so that a long chain is typed a dozen times, and not once for each step.
-fn at_last_step<'a>(
+// From a part that has no type, down on a way as far as the part there has no type either. The number of steps is found by halves, so
+// that the part is typed a dozen times, and not once for each step.
+fn along<'a>(
     checking: Checking<'a>,
     start: Untyped<'a>,
-    number: usize,
+    way: &[usize],
 ) -> Result<Untyped<'a>, AllocError>
     requires { IsTypingOf checking.settings checking.schema.now checking.environment.now (held_view start.held.items) start.part.now None }
     ensures below { IfOk result (λ u. IsBelow checking.entry.settings checking.entry.schema.now checking.entry.environment.now start.entry.path.items (held_view start.entry.held.items) start.entry.part.now u.path.items (held_view u.held.items) u.part.now) }
     ensures untyped { IfOk result (λ u. IsTypingOf checking.entry.settings checking.entry.schema.now checking.entry.environment.now (held_view u.held.items) u.part.now None) }
 {
     let mut at = start;
+    let mut rest = way;
     let mut count = MOST_STEPS;
     'halves: while count > 0 {
-        let found = after_steps(checking, &at, number, count)?;
-        if let Some(further) = found {
-            at = further;
+        if let Some((steps, others)) = rest.split_at_checked(count) {
+            let found = at_end(checking, &at, steps)?;
+            if let Some(further) = found {
+                at = further;
+                rest = others;
+            }
         }
         count /= 2;
     }
@@ -128,7 +130,7 @@ fn stepped<'a>(from: Untyped<'a>, next: UntypedPart<'a>) -> Result<Untyped<'a>, 
 }
 
 /// From a condition that has no type for this reason, down while a part that the checker looks at has none: to the first one in the
-/// checker's order. A condition 2,000 high is typed some twenty times.
+/// checker's order. The time is at most that of a few dozen typings, however high the condition is.
 pub(crate) fn smallest<'a>(
     checking: Checking<'a>,
     condition: &'a Expr,
@@ -150,8 +152,8 @@ pub(crate) fn smallest<'a>(
         let Some(next) = found else {
             return Ok(at);
         };
-        let number = next.number;
         let below = stepped(at, next)?;
-        at = at_last_step(checking, below, number)?;
+        let way = way_of(checking.alloc, below.part)?;
+        at = along(checking, below, &way)?;
     }
 }

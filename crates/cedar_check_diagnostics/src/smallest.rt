@@ -11,7 +11,7 @@ use crate::looking::{UntypedPart, has_untyped, may_look_at, untyped_part_of};
 use crate::walk::{Step, step_to};
 use crate::way::way_of;
 use cedar_ast_expressions::{Expr, ExprKind};
-use cedar_check_operators::{Capability, TypeFault, Typing, together};
+use cedar_check_operators::{Capability, TypeFault, Typing, extended, together};
 use std::alloc::AllocError;
 
 // How many steps of a way are tried at once at first. Then half as many are tried, and so on, so that almost twice as many can be made.
@@ -63,15 +63,17 @@ fn at_end<'a>(
     ensures below { IfOk result (λ o. IfSome o (λ u. IsBelow checking.entry.settings checking.entry.schema.now checking.entry.environment.now from.now.path.items (held_view from.now.held.items) from.now.part.now u.path.items (held_view u.held.items) u.part.now)) }
     ensures untyped { IfOk result (λ o. IfSome o (λ u. IsTypingOf checking.entry.settings checking.entry.schema.now checking.entry.environment.now (held_view u.held.items) u.part.now None)) }
 {
-    let mut path = from.path.clone()?;
-    let mut held = from.held.clone()?;
+    let mut path = Vec::from_slice(checking.alloc, &from.path)?;
+    let mut held = extended(checking.alloc, &[], &from.held)?;
     let mut part = from.part;
     'walk: for number in way {
-        let Some(next) = first_step(checking, &held, part, *number)? else {
+        let found = first_step(checking, &held, part, *number)?;
+        let Some(next) = found else {
             return Ok(None);
         };
         path.push(*number)?;
-        held = together(held, next.gained)?;
+        let more = together(held, next.gained)?;
+        held = more;
         part = next.part;
     }
     let typing = checking.typing(&held, part)?;

@@ -126,7 +126,7 @@ impl<'j> Walk<'j> {
         &self,
         alloc: Global,
         place: usize,
-        found: Option<RefusedPart>,
+        found: Option<Refusal>,
     ) -> Option<Refusal> {
         let mut found = found;
         let mut place = place;

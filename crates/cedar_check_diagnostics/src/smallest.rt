@@ -156,6 +156,7 @@ pub(crate) fn smallest<'a>(
         };
         let below = stepped(at, next)?;
         let way = way_of(checking.alloc, below.part)?;
-        at = along(checking, below, &way)?;
+        let further = along(checking, below, &way)?;
+        at = further;
     }
 }

@@ -36,8 +36,9 @@ fn sizes_of<'a>(alloc: Global, expression: &'a Expr) -> Result<Vec<usize>, Alloc
             continue;
         };
         open.push(Visit {
+            part: visit.part,
+            place: visit.place,
             number: visit.number.saturating_add(1),
-            ..visit
         })?;
         open.push(Visit {
             part,
@@ -58,11 +59,13 @@ fn largest<'a>(sizes: &[usize], expression: &'a Expr, above: usize) -> Option<Vi
         let size = sizes.get(place).copied().unwrap_or(1);
         if size > most {
             most = size;
-            found = part_of(expression, number).map(|part| Visit {
-                part,
-                place,
-                number,
-            });
+            if let Some(part) = part_of(expression, number) {
+                found = Some(Visit {
+                    part,
+                    place,
+                    number,
+                });
+            }
         }
         place = place.saturating_add(size);
     }

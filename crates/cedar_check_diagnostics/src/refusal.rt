@@ -45,8 +45,8 @@ pub struct Operand {
 
 /// Why a condition has no type in an environment, or is not a Boolean there; none where it is accepted. `condition` is the whole
 /// condition of a policy, with the environment's action in place of the variable (`Expr::with_action`). The part is the first one
-/// in the order in which the checker looks at parts, and each of its own parts that the checker looks at has a type. A condition of the
-/// greatest height is typed some twenty times.
+/// in the order in which the checker looks at parts, and each of its own parts that the checker looks at has a type. It takes about
+/// the time of a dozen typings.
 ///
 /// # Errors
 ///

@@ -132,7 +132,7 @@ fn stepped<'a>(from: Untyped<'a>, next: UntypedPart<'a>) -> Result<Untyped<'a>, 
 }
 
 /// From a condition that has no type for this reason, down while a part that the checker looks at has none: to the first one in the
-/// checker's order. The time is at most that of a few dozen typings, however high the condition is.
+/// checker's order. The time is about that of a dozen typings, however high the condition is.
 pub(crate) fn smallest<'a>(
     checking: Checking<'a>,
     condition: &'a Expr,
@@ -150,13 +150,13 @@ pub(crate) fn smallest<'a>(
         fault,
     };
     'down: loop {
-        let found = untyped_part_of(checking, &at.held, at.part)?;
+        let way = way_of(checking.alloc, at.part)?;
+        let further = along(checking, at, &way)?;
+        let found = untyped_part_of(checking, &further.held, further.part)?;
         let Some(next) = found else {
-            return Ok(at);
+            return Ok(further);
         };
-        let below = stepped(at, next)?;
-        let way = way_of(checking.alloc, below.part)?;
-        let further = along(checking, below, &way)?;
-        at = further;
+        let below = stepped(further, next)?;
+        at = below;
     }
 }

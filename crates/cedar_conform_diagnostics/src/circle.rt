@@ -137,7 +137,7 @@ fn entries_at(
     let mut entries = Vec::new(alloc);
     for place in way {
         if let Some(node) = nodes.get(*place) {
-            let uid = uid_text(alloc, &node.written.uid)?;
+            let uid = uid_text(alloc, &node.written.uid).done()?;
             entries.push(CircleEntry {
                 position: node.position,
                 uid,

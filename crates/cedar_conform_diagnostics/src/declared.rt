@@ -1,5 +1,6 @@
 //! What a schema declares that is nearest to a name that it does not declare.
 use base_names::Nearest;
+use base_places::Draft;
 use cedar_schema::Schema;
 use cedar_schema_types::{Type, TypeKind};
 use cedar_value::{Name, Uid};
@@ -98,12 +99,12 @@ fn nearest_in<'w, 'n>(
 
 // The name of a last part in a namespace.
 fn name_in(alloc: Global, namespace: &str, last: &str) -> Result<String, AllocError> {
-    let mut text = String::from_str(alloc, namespace)?;
+    let mut text = Draft::new(alloc);
     if !namespace.is_empty() {
-        text.push_str("::")?;
+        text.add_all(&[namespace, "::"]);
     }
-    text.push_str(last)?;
-    Ok(text)
+    text.add(last);
+    text.done()
 }
 
 fn is_entity_type(alloc: Global, schema: &Schema, text: &str) -> Result<bool, AllocError> {

@@ -12,6 +12,7 @@ ghost use Rattle.cedar_conform_values.specs.Numbers.{number_of};
 
 use crate::data_fault::{DataFault, RefusedEntry};
 use crate::entry_words::entry_words;
+use crate::words::Words;
 use crate::written_entry::entry_name;
 use base_json::{ItemReader, JsonReader, ObjectReader, TreeFault};
 use cedar_conform_entities::entry_fault;
@@ -215,6 +216,7 @@ fn words_of(
 ) -> Result<DataFault, AllocError>
     ensures { IfOk result (λ f. f.number ≡ number) }
 {
-    let words = entry_words(alloc, schema, entry, number)?;
-    Ok(words.numbered(number))
+    let mut words = Words::new(alloc);
+    entry_words(alloc, &mut words, schema, entry, number)?;
+    words.numbered(number)
 }

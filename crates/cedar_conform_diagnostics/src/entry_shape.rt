@@ -1,9 +1,9 @@
 //! Words for an entry of another shape, 502.
-use crate::found::kind_words;
-use crate::meant::{meant_hint, meant_of};
-use crate::shown::{item_path, path_of};
+use crate::meant::meant_of;
+use crate::shown::{add_key, add_position};
 use crate::uid_words::{is_uid_object, uid_object_words};
-use crate::words::{Words, hinted_words, plain_words};
+use crate::words::Words;
+use base_places::Draft;
 use serde_json::{Map, Value as Json};
 use std::alloc::{AllocError, Global};
 
@@ -29,105 +29,100 @@ fn is_one_of(key: &str, known: &[&str]) -> bool {
 }
 
 /// The words for a key that is not known.
-pub(crate) fn unknown_key_words(
-    alloc: Global,
-    path: String,
-    key: &str,
-    known: &[&'static str],
-    says: &str,
-) -> Result<Words, AllocError> {
-    let meant = meant_of(key, known);
-    Ok(Words {
-        path,
-        says: String::from_str(alloc, says)?,
-        hint: meant_hint(alloc, meant)?,
-    })
+pub(crate) fn unknown_key_words(words: &mut Words, key: &str, known: &[&'static str], says: &str) {
+    add_key(&mut words.path, key);
+    words.says.add(says);
+    words.hint_at(meant_of(key, known));
 }
 
-// The words for the attributes or the tags of an entry, if they are refused.
-fn value_words(alloc: Global, entry: &Json, key: &str) -> Result<Option<Words>, AllocError> {
+// Whether the attributes or the tags of an entry are refused. If so, the words for them are added.
+fn value_words(words: &mut Words, entry: &Json, key: &str) -> bool {
     let Some(found) = entry.get(key) else {
-        return Ok(None);
+        return false;
     };
     match found.as_object() {
-        None => Ok(Some(kind_words(alloc, path_of(alloc, key)?, "an object", found)?)),
-        Some(members) if key == "tags" && !members.is_empty() => Ok(Some(plain_words(
-            alloc,
-            path_of(alloc, key)?,
-            "tags are not supported: an empty object is wanted",
-        )?)),
-        Some(_) => Ok(None),
-    }
-}
-
-// The words for the uid of an entry, if it is refused.
-fn uid_key_words(alloc: Global, entry: &Json) -> Result<Option<Words>, AllocError> {
-    let path = path_of(alloc, "uid")?;
-    match entry.get("uid") {
-        Some(found) => {
-            if is_uid_object(alloc, found)? {
-                return Ok(None);
-            }
-            Ok(Some(uid_object_words(alloc, path, found)?))
+        None => {
+            add_key(&mut words.path, key);
+            words.want("an object", found);
+            true
         }
-        None => Ok(Some(hinted_words(
-            alloc,
-            path,
-            "missing; each entry has a uid",
-            "write \"uid\":{\"type\":\"T\",\"id\":\"x\"}",
-        )?)),
+        Some(members) if key == "tags" && !members.is_empty() => {
+            add_key(&mut words.path, key);
+            words
+                .says
+                .add("tags are not supported: an empty object is wanted");
+            true
+        }
+        Some(_) => false,
     }
 }
 
-// The words for the parents of an entry, if they are refused.
-fn parents_words(alloc: Global, entry: &Json) -> Result<Option<Words>, AllocError> {
+// Whether the uid of an entry is refused. If so, the words for it are added.
+fn uid_key_words(alloc: Global, words: &mut Words, entry: &Json) -> Result<bool, AllocError> {
+    let Some(found) = entry.get("uid") else {
+        words.path.add("uid");
+        words.says.add("missing; each entry has a uid");
+        words
+            .hint
+            .add("write \"uid\":{\"type\":\"T\",\"id\":\"x\"}");
+        return Ok(true);
+    };
+    if is_uid_object(alloc, found)? {
+        return Ok(false);
+    }
+    words.path.add("uid");
+    uid_object_words(alloc, words, found)?;
+    Ok(true)
+}
+
+/// Adds the path of a parent.
+pub(crate) fn add_parent(path: &mut Draft, position: usize) {
+    path.add("parents");
+    add_position(path, position);
+}
+
+// Whether the parents of an entry are refused. If so, the words for the first one are added.
+fn parents_words(alloc: Global, words: &mut Words, entry: &Json) -> Result<bool, AllocError> {
     let Some(found) = entry.get("parents") else {
-        return Ok(None);
+        return Ok(false);
     };
     let Some(items) = found.as_array() else {
-        let path = path_of(alloc, "parents")?;
-        return Ok(Some(kind_words(alloc, path, "a list", found)?));
+        words.path.add("parents");
+        words.want("a list", found);
+        return Ok(true);
     };
     for (position, item) in items.iter().enumerate() {
         if !is_uid_object(alloc, item)? {
-            let path = item_path(alloc, "parents", position)?;
-            return Ok(Some(uid_object_words(alloc, path, item)?));
+            add_parent(&mut words.path, position);
+            uid_object_words(alloc, words, item)?;
+            return Ok(true);
         }
     }
-    Ok(None)
+    Ok(false)
 }
 
-// The words for the parts of an entry with known keys, if one is refused, in the order in which the reader looks at them.
-fn parts_words(alloc: Global, entry: &Json) -> Result<Option<Words>, AllocError> {
-    if let Some(words) = value_words(alloc, entry, "attrs")? {
-        return Ok(Some(words));
-    }
-    if let Some(words) = value_words(alloc, entry, "tags")? {
-        return Ok(Some(words));
-    }
-    if let Some(words) = uid_key_words(alloc, entry)? {
-        return Ok(Some(words));
-    }
-    parents_words(alloc, entry)
-}
-
-/// The words for an entry of another shape than the format allows.
-pub(crate) fn shape_words(alloc: Global, entry: &Json) -> Result<Words, AllocError> {
+/// The words for an entry of another shape than the format allows, in the order in which the reader looks at its parts.
+pub(crate) fn shape_words(
+    alloc: Global,
+    words: &mut Words,
+    entry: &Json,
+) -> Result<(), AllocError> {
     let Some(members) = entry.as_object() else {
-        return kind_words(alloc, String::new(alloc), "an object", entry);
+        words.want("an object", entry);
+        return Ok(());
     };
     if let Some(key) = unknown_key(members, &ENTRY_KEYS) {
-        let path = path_of(alloc, key)?;
-        return unknown_key_words(
-            alloc,
-            path,
-            key,
-            &ENTRY_KEYS,
-            "an entry has the keys uid, attrs, parents and tags",
-        );
+        let says = "an entry has the keys uid, attrs, parents and tags";
+        unknown_key_words(words, key, &ENTRY_KEYS, says);
+        return Ok(());
     }
-    match parts_words(alloc, entry)? {
-        Some(words) => Ok(words),
-        None => plain_words(alloc, String::new(alloc), "the entry has another shape"),
+    if value_words(words, entry, "attrs")
+        || value_words(words, entry, "tags")
+        || uid_key_words(alloc, words, entry)?
+        || parents_words(alloc, words, entry)?
+    {
+        return Ok(());
     }
+    words.says.add("the entry has another shape");
+    Ok(())
 }

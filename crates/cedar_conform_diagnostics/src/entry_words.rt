@@ -1,16 +1,18 @@
 //! Words for an entry of a list of entities.
 use crate::declared::known_types;
-use crate::entry_shape::shape_words;
+use crate::entry_shape::{add_parent, shape_words};
 use crate::owner::Owner;
-use crate::shown::{item_path, path_of, push_uid, uid_text};
+use crate::shown::add_uid;
 use crate::undeclared::{action_words, type_words};
-use crate::value_path::value_words;
-use crate::words::{Words, plain_words};
+use crate::value_path::value_words_at;
+use crate::words::Words;
 use crate::written_entry::{WrittenEntry, written_entry};
+use base_places::Draft;
 use cedar_schema::Schema;
 use cedar_value::{Name, Uid};
-use serde_json::{Map, Value as Json};
+use serde_json::Value as Json;
 use std::alloc::{AllocError, Global};
+use std::collections::BTreeSet;
 
 // How many types are listed at most.
 const MOST_TYPES: usize = 10;
@@ -18,134 +20,131 @@ const MOST_TYPES: usize = 10;
 /// The words for an entry that is refused with a number, 502 to 509.
 pub(crate) fn entry_words(
     alloc: Global,
+    words: &mut Words,
     schema: &Schema,
     entry: &Json,
     number: u16,
-) -> Result<Words, AllocError> {
+) -> Result<(), AllocError> {
     if number == 502 {
-        return shape_words(alloc, entry);
+        return shape_words(alloc, words, entry);
     }
     match written_entry(alloc, entry)? {
         Some(written) => {
-            let words = written_words(alloc, schema, entry, &written, number);
+            let added = written_words(alloc, words, schema, entry, &written, number);
             drop(written);
-            words
+            added
         }
-        None => shape_words(alloc, entry),
+        None => shape_words(alloc, words, entry),
     }
 }
 
 fn written_words(
     alloc: Global,
+    words: &mut Words,
     schema: &Schema,
     entry: &Json,
     written: &WrittenEntry,
     number: u16,
-) -> Result<Words, AllocError> {
+) -> Result<(), AllocError> {
     match number {
-        503 | 507 => types_words(alloc, schema, written),
-        508 => repetition_words(alloc, schema, entry, written),
-        _ => attributes_words(alloc, schema, entry, &written.uid),
+        503 | 507 => types_words(alloc, words, schema, written),
+        508 => {
+            repetition_words(words, schema, entry, written);
+            Ok(())
+        }
+        _ => attributes_words(alloc, words, schema, entry, &written.uid),
     }
 }
 
 // The words for the type of an entity and those of its parents.
 fn types_words(
     alloc: Global,
+    words: &mut Words,
     schema: &Schema,
     written: &WrittenEntry,
-) -> Result<Words, AllocError> {
+) -> Result<(), AllocError> {
     let own = &written.uid.ty;
     if schema.attributes(own).is_none() {
-        return type_words(alloc, schema, path_of(alloc, "uid")?, own);
+        words.path.add("uid");
+        return type_words(alloc, words, schema, own);
     }
     for (position, parent) in written.parents.iter().enumerate() {
         if schema.attributes(&parent.ty).is_none() {
-            let path = item_path(alloc, "parents", position)?;
-            return type_words(alloc, schema, path, &parent.ty);
+            add_parent(&mut words.path, position);
+            return type_words(alloc, words, schema, &parent.ty);
         }
         if !schema.type_descends(own, &parent.ty) {
-            let path = item_path(alloc, "parents", position)?;
-            return parent_words(alloc, schema, path, own, &parent.ty);
+            add_parent(&mut words.path, position);
+            return parent_words(alloc, words, schema, own, &parent.ty);
         }
     }
-    plain_words(alloc, String::new(alloc), "a type is not allowed here")
+    words.says.add("a type is not allowed here");
+    Ok(())
 }
 
-// The words for a parent of a type from which the type of an entity does not descend, 507.
+// The words for a parent of a type from which the type of an entity does not descend, 507, with the types that may be above it, where
+// some are known.
 fn parent_words(
     alloc: Global,
+    words: &mut Words,
     schema: &Schema,
-    path: String,
     own: &Name,
     parent: &Name,
-) -> Result<Words, AllocError> {
-    let mut says = String::from_str(alloc, "an entity of type `")?;
-    says.push_str(own.as_str())?;
-    says.push_str("` may not be in one of type `")?;
-    says.push_str(parent.as_str())?;
-    says.push('`')?;
-    Ok(Words {
-        path,
-        says,
-        hint: allowed_hint(alloc, schema, own)?,
-    })
-}
-
-// The hint which types may be above a type, or none where none is known.
-fn allowed_hint(alloc: Global, schema: &Schema, own: &Name) -> Result<Option<String>, AllocError> {
+) -> Result<(), AllocError> {
+    words.says.add_all(&[
+        "an entity of type `",
+        own.as_str(),
+        "` may not be in one of type `",
+        parent.as_str(),
+        "`",
+    ]);
     let mut known = known_types(alloc, schema)?;
     known.insert(own.try_clone(alloc)?)?;
-    let mut hint = String::from_str(alloc, "it may be in one of type `")?;
+    add_allowed(&mut words.hint, schema, own, &known);
+    Ok(())
+}
+
+// Adds which of these types may be above a type, at most ten.
+fn add_allowed(hint: &mut Draft, schema: &Schema, own: &Name, known: &BTreeSet<Name>) {
     let mut listed = 0usize;
     for name in known.iter() {
         if listed < MOST_TYPES && schema.type_descends(own, name) {
-            if listed > 0 {
-                hint.push_str("`, `")?;
-            }
-            hint.push_str(name.as_str())?;
+            hint.add(if listed == 0 {
+                "it may be in one of type `"
+            } else {
+                "`, `"
+            });
+            hint.add(name.as_str());
             listed = listed.saturating_add(1);
         }
     }
-    if listed == 0 {
-        return Ok(None);
+    if listed > 0 {
+        hint.add_char('`');
     }
-    hint.push('`')?;
-    Ok(Some(hint))
 }
 
 // The words for an entry of an action that differs from the schema, 508.
-fn repetition_words(
-    alloc: Global,
-    schema: &Schema,
-    entry: &Json,
-    written: &WrittenEntry,
-) -> Result<Words, AllocError> {
+fn repetition_words(words: &mut Words, schema: &Schema, entry: &Json, written: &WrittenEntry) {
     if has_attributes(entry) {
-        let path = path_of(alloc, "attrs")?;
-        return plain_words(alloc, path, "an action has no attributes");
+        words.path.add("attrs");
+        words.says.add("an action has no attributes");
+        return;
     }
     if !schema.has_action(&written.uid) {
-        return action_words(alloc, schema, path_of(alloc, "uid")?, &written.uid);
+        words.path.add("uid");
+        action_words(words, schema, &written.uid);
+        return;
     }
     for (position, parent) in written.parents.iter().enumerate() {
         if !schema.action_descends(&written.uid, parent) {
-            let path = item_path(alloc, "parents", position)?;
-            let mut says = uid_text(alloc, &written.uid)?;
-            says.push_str(" is not in ")?;
-            push_uid(&mut says, parent)?;
-            return Ok(Words {
-                path,
-                says,
-                hint: None,
-            });
+            add_parent(&mut words.path, position);
+            add_uid(&mut words.says, &written.uid);
+            words.says.add(" is not in ");
+            add_uid(&mut words.says, parent);
+            return;
         }
     }
-    plain_words(
-        alloc,
-        String::new(alloc),
-        "the action differs from the schema",
-    )
+    words.says.add("the action differs from the schema");
 }
 
 // Whether an entry has attributes.
@@ -162,20 +161,20 @@ fn has_attributes(entry: &Json) -> bool {
 // The words for the attributes of an entity, 504, 505, 506 and 509.
 fn attributes_words(
     alloc: Global,
+    words: &mut Words,
     schema: &Schema,
     entry: &Json,
     uid: &Uid,
-) -> Result<Words, AllocError> {
-    let path = path_of(alloc, "attrs")?;
+) -> Result<(), AllocError> {
+    words.path.add("attrs");
     let Some(shape) = schema.attributes(&uid.ty) else {
-        return type_words(alloc, schema, path, &uid.ty);
+        return type_words(alloc, words, schema, &uid.ty);
     };
-    let owner = Owner::Type(&uid.ty);
-    match entry.get("attrs") {
-        Some(found) => value_words(alloc, path, owner, found, shape),
-        None => {
-            let empty = Json::Object(Map::new(alloc));
-            value_words(alloc, path, owner, &empty, shape)
-        }
-    }
+    value_words_at(
+        alloc,
+        words,
+        Owner::Type(&uid.ty),
+        entry.get("attrs"),
+        shape,
+    )
 }

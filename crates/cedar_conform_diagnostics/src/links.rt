@@ -6,10 +6,10 @@ ghost use Rattle.cedar_conform_values.specs.declared.conform_fault.ConformFault.
 
 use crate::data_fault::RefusedLink;
 use crate::entry_shape::{unknown_key, unknown_key_words};
-use crate::found::kind_words;
-use crate::shown::{path_of, push_key};
+use crate::meant::meant_of;
+use crate::shown::add_key;
 use crate::uid_words::{is_uid, uid_words};
-use crate::words::{Words, hinted_words};
+use crate::words::Words;
 use base_json::read_json;
 use cedar_conform::read_links;
 use cedar_conform_values::ConformFault;
@@ -70,100 +70,89 @@ fn first_of(alloc: Global, json: &Json) -> Result<Option<RefusedLink>, AllocErro
         return Ok(None);
     };
     for (position, item) in items.iter().enumerate() {
-        if let Some(words) = link_words(alloc, item)? {
-            let fault = words.numbered(SHAPE);
+        let mut words = Words::new(alloc);
+        if link_words(alloc, &mut words, item)? {
+            let fault = words.numbered(SHAPE)?;
             return Ok(Some(RefusedLink { position, fault }));
         }
     }
     Ok(None)
 }
 
-// The words for an item that is not a link, or none where it is one.
-fn link_words(alloc: Global, link: &Json) -> Result<Option<Words>, AllocError> {
+// Whether an item is not a link. If so, the words for it are added.
+fn link_words(alloc: Global, words: &mut Words, link: &Json) -> Result<bool, AllocError> {
     let Some(members) = link.as_object() else {
-        let words = kind_words(alloc, String::new(alloc), "an object", link)?;
-        return Ok(Some(words));
+        words.want("an object", link);
+        return Ok(true);
     };
     if let Some(key) = unknown_key(members, &LINK_KEYS) {
-        return Ok(Some(unknown_words(alloc, key)?));
+        unknown_words(words, key);
+        return Ok(true);
     }
-    if let Some(words) = text_words(alloc, link, "template_id")? {
-        return Ok(Some(words));
+    if text_words(words, link, "template_id") || text_words(words, link, "link_id") {
+        return Ok(true);
     }
-    if let Some(words) = text_words(alloc, link, "link_id")? {
-        return Ok(Some(words));
-    }
-    args_words(alloc, link)
+    args_words(alloc, words, link)
 }
 
 // The words for a key that a link does not have. Cedar's own keys have other names.
-fn unknown_words(alloc: Global, key: &str) -> Result<Words, AllocError> {
-    let path = path_of(alloc, key)?;
-    match key {
-        "newId" => hinted_words(alloc, path, KEYS_SAY, "is `link_id` meant?"),
-        "values" => hinted_words(alloc, path, KEYS_SAY, "is `args` meant?"),
-        _ => unknown_key_words(alloc, path, key, &LINK_KEYS, KEYS_SAY),
-    }
-}
-
-// The words for an id that is missing or not a string, or none.
-fn text_words(alloc: Global, link: &Json, key: &str) -> Result<Option<Words>, AllocError> {
-    match link.get(key) {
-        Some(Json::String(_)) => Ok(None),
-        Some(found) => {
-            let path = path_of(alloc, key)?;
-            Ok(Some(kind_words(alloc, path, "a string", found)?))
-        }
-        None => Ok(Some(missing_words(alloc, key)?)),
-    }
-}
-
-fn missing_words(alloc: Global, key: &str) -> Result<Words, AllocError> {
-    let mut says = String::from_str(alloc, "missing; ")?;
-    says.push_str(KEYS_SAY)?;
-    Ok(Words {
-        path: path_of(alloc, key)?,
-        says,
-        hint: None,
-    })
-}
-
-// The words for the uids of a link, or none where they are right.
-fn args_words(alloc: Global, link: &Json) -> Result<Option<Words>, AllocError> {
-    let Some(args) = link.get("args") else {
-        return Ok(Some(missing_words(alloc, "args")?));
+fn unknown_words(words: &mut Words, key: &str) {
+    let meant = match key {
+        "newId" => "link_id",
+        "values" => "args",
+        _ => key,
     };
-    let Some(members) = args.as_object() else {
-        let path = path_of(alloc, "args")?;
-        return Ok(Some(kind_words(alloc, path, "an object", args)?));
+    add_key(&mut words.path, key);
+    words.says.add(KEYS_SAY);
+    words.hint_at(meant_of(meant, &LINK_KEYS));
+}
+
+// Whether an id is missing or not a string. If so, the words for it are added.
+fn text_words(words: &mut Words, link: &Json, key: &str) -> bool {
+    let found = link.get(key);
+    if let Some(Json::String(_)) = found {
+        return false;
+    }
+    add_key(&mut words.path, key);
+    match found {
+        Some(found) => words.want("a string", found),
+        None => words.says.add_all(&["missing; ", KEYS_SAY]),
+    }
+    true
+}
+
+// Whether the uids of a link are not right. If so, the words for them are added.
+fn args_words(alloc: Global, words: &mut Words, link: &Json) -> Result<bool, AllocError> {
+    let found = link.get("args");
+    let Some(members) = found.and_then(Json::as_object) else {
+        words.path.add("args");
+        match found {
+            Some(found) => words.want("an object", found),
+            None => words.says.add_all(&["missing; ", KEYS_SAY]),
+        }
+        return Ok(true);
     };
     if let Some(key) = unknown_key(members, &SLOTS) {
-        let path = slot_path(alloc, key)?;
-        let words = unknown_key_words(
-            alloc,
-            path,
-            key,
-            &SLOTS,
-            "the slots are ?principal and ?resource",
-        )?;
-        return Ok(Some(words));
+        words.path.add("args");
+        unknown_key_words(words, key, &SLOTS, "the slots are ?principal and ?resource");
+        return Ok(true);
     }
-    slots_words(alloc, members)
+    slots_words(alloc, words, members)
 }
 
-fn slot_path(alloc: Global, slot: &str) -> Result<String, AllocError> {
-    let mut path = path_of(alloc, "args")?;
-    push_key(&mut path, slot)?;
-    Ok(path)
-}
-
-// The words for the first slot whose value is not a uid, or none.
-fn slots_words(alloc: Global, members: &Map<String, Json>) -> Result<Option<Words>, AllocError> {
+// Whether a slot has a value that is not a uid. If so, the words for the first one are added.
+fn slots_words(
+    alloc: Global,
+    words: &mut Words,
+    members: &Map<String, Json>,
+) -> Result<bool, AllocError> {
     for (slot, value) in members.iter() {
         if !is_uid(alloc, value)? {
-            let path = slot_path(alloc, slot.as_str())?;
-            return Ok(Some(uid_words(alloc, path, value)?));
+            words.path.add("args");
+            add_key(&mut words.path, slot.as_str());
+            uid_words(alloc, words, value)?;
+            return Ok(true);
         }
     }
-    Ok(None)
+    Ok(false)
 }

@@ -1,7 +1,6 @@
 //! Words that are meant by others.
 use base_names::Nearest;
 use cedar_schema_types::Attribute;
-use std::alloc::{AllocError, Global};
 
 /// The word of a list that is meant, or none.
 pub(crate) fn meant_of(written: &str, words: &[&'static str]) -> Option<&'static str> {
@@ -27,17 +26,4 @@ fn nearest_among<'w, 'a>(
         nearest = nearest.compare(attribute.name.as_str(), attribute.name.as_str());
     }
     nearest
-}
-
-/// The hint that something else is meant.
-pub(crate) fn meant_hint(alloc: Global, meant: Option<&str>) -> Result<Option<String>, AllocError> {
-    match meant {
-        Some(word) => {
-            let mut hint = String::from_str(alloc, "is `")?;
-            hint.push_str(word)?;
-            hint.push_str("` meant?")?;
-            Ok(Some(hint))
-        }
-        None => Ok(None),
-    }
 }

@@ -1,8 +1,8 @@
 //! Whose attributes a record has.
-use crate::shown::{push_name, push_uid};
+use crate::shown::{add_name, add_uid};
+use base_places::Draft;
 use cedar_schema_types::Attribute;
 use cedar_value::{Name, Uid};
-use std::alloc::{AllocError, Global};
 
 // How many names are listed at most.
 const MOST_NAMES: usize = 20;
@@ -19,89 +19,65 @@ pub(crate) enum Owner<'o> {
 }
 
 impl Owner<'_> {
-    // Appends who wants attributes.
-    fn push_wanting(self, out: &mut String) -> Result<(), AllocError> {
+    // Adds who wants attributes.
+    fn add_wanting(self, out: &mut Draft) {
         match self {
-            Owner::Type(name) => {
-                out.push('`')?;
-                out.push_str(name.as_str())?;
-                out.push('`')
-            }
+            Owner::Type(name) => out.add_all(&["`", name.as_str(), "`"]),
             Owner::Action(uid) => {
-                out.push_str("the action ")?;
-                push_uid(out, uid)
+                out.add("the action ");
+                add_uid(out, uid);
             }
-            Owner::Inner => out.push_str("the record"),
+            Owner::Inner => out.add("the record"),
         }
     }
 
-    // Appends what has attributes.
-    fn push_having(self, out: &mut String) -> Result<(), AllocError> {
+    // Adds what has attributes.
+    fn add_having(self, out: &mut Draft) {
         match self {
             Owner::Action(uid) => {
-                out.push_str("the context of ")?;
-                push_uid(out, uid)
+                out.add("the context of ");
+                add_uid(out, uid);
             }
-            _ => self.push_wanting(out),
+            _ => self.add_wanting(out),
         }
     }
 
-    /// What is said of a required attribute that is missing: which attributes are wanted.
-    pub(crate) fn missing_says(
-        self,
-        alloc: Global,
-        attributes: &[Attribute],
-    ) -> Result<String, AllocError> {
-        let mut says = String::from_str(alloc, "missing; ")?;
-        self.push_wanting(&mut says)?;
-        says.push_str(" wants ")?;
-        push_names(&mut says, attributes, "", Some(true))?;
-        push_names(&mut says, attributes, ", and perhaps ", Some(false))?;
-        Ok(says)
+    /// Says of a required attribute that is missing which attributes are wanted.
+    pub(crate) fn say_missing(self, says: &mut Draft, attributes: &[Attribute]) {
+        says.add("missing; ");
+        self.add_wanting(says);
+        says.add(" wants ");
+        add_names(says, attributes, "", Some(true));
+        add_names(says, attributes, ", and perhaps ", Some(false));
     }
 
-    /// What is said of an attribute that is not declared: which attributes are.
-    pub(crate) fn undeclared_says(
-        self,
-        alloc: Global,
-        attributes: &[Attribute],
-    ) -> Result<String, AllocError> {
-        let mut says = String::new(alloc);
-        self.push_having(&mut says)?;
+    /// Says of an attribute that is not declared which attributes are.
+    pub(crate) fn say_undeclared(self, says: &mut Draft, attributes: &[Attribute]) {
+        self.add_having(says);
         if attributes.is_empty() {
-            says.push_str(" has no attributes")?;
+            says.add(" has no attributes");
         } else {
-            says.push_str(" has ")?;
-            push_names(&mut says, attributes, "", None)?;
+            says.add(" has ");
+            add_names(says, attributes, "", None);
         }
-        Ok(says)
     }
 }
 
-// Appends the names of attributes, at most twenty: all of them, or those that are required or are not. What comes before the
+// Adds the names of attributes, at most twenty: all of them, or those that are required or are not. What comes before the
 // names is left out where there are none.
-fn push_names(
-    out: &mut String,
-    attributes: &[Attribute],
-    before: &str,
-    required: Option<bool>,
-) -> Result<(), AllocError> {
+fn add_names(out: &mut Draft, attributes: &[Attribute], before: &str, required: Option<bool>) {
     let mut listed = 0usize;
     for attribute in attributes {
         if is_listed(attribute, required) {
-            if listed == 0 {
-                out.push_str(before)?;
-                push_name(out, attribute.name.as_str())?;
-            } else if listed < MOST_NAMES {
-                out.push_str(", ")?;
-                push_name(out, attribute.name.as_str())?;
-            } else if listed == MOST_NAMES {
-                out.push_str(", ..")?;
+            if listed == MOST_NAMES {
+                out.add(", ..");
+                return;
             }
+            out.add(if listed == 0 { before } else { ", " });
+            add_name(out, attribute.name.as_str());
             listed = listed.saturating_add(1);
         }
     }
-    Ok(())
 }
 
 fn is_listed(attribute: &Attribute, required: Option<bool>) -> bool {

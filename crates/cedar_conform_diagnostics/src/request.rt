@@ -48,17 +48,24 @@ fn explained(
 {
     let number = fault.number();
     drop(fault);
-    let words = words_of(alloc, schema, line, number)?;
-    Ok(words.numbered(number))
+    let mut words = Words::new(alloc);
+    add_words(alloc, &mut words, schema, line, number)?;
+    words.numbered(number)
 }
 
-fn words_of(alloc: Global, schema: &Schema, line: &[u8], number: u16) -> Result<Words, AllocError> {
+fn add_words(
+    alloc: Global,
+    words: &mut Words,
+    schema: &Schema,
+    line: &[u8],
+    number: u16,
+) -> Result<(), AllocError> {
     match read_json(alloc, line)? {
         Some(json) => {
-            let words = request_words(alloc, schema, &json, number);
+            let added = request_words(alloc, words, schema, &json, number);
             drop(json);
-            words
+            added
         }
-        None => line_words(alloc, line),
+        None => line_words(alloc, words, line),
     }
 }

@@ -1,8 +1,7 @@
 //! Words for a JSON that writes no uid.
-use crate::found::{kind_says, kind_words};
-use crate::shown::{push_beginning, push_key, push_quoted};
-use crate::wanted::uid_object_hint;
-use crate::words::{Words, plain_words};
+use crate::shown::{add_beginning, add_inner, add_key};
+use crate::wanted::hint_uid_object;
+use crate::words::Words;
 use cedar_conform_values::{size_of, uid_of_object, written_uid};
 use cedar_value::Name;
 use serde_json::{Map, Value as Json};
@@ -56,127 +55,102 @@ fn further_key(members: &Map<String, Json>) -> Option<&str> {
     None
 }
 
-// The words for a key of a uid whose value is not a string or is missing. None where it is a string.
-fn text_words(
-    alloc: Global,
-    path: &str,
-    json: &Json,
-    key: &str,
-) -> Result<Option<Words>, AllocError> {
-    let mut part = String::from_str(alloc, path)?;
-    push_key(&mut part, key)?;
-    match json.get(key) {
-        Some(Json::String(_)) => Ok(None),
-        Some(found) => Ok(Some(kind_words(alloc, part, "a string", found)?)),
-        None => Ok(Some(plain_words(alloc, part, "missing; a uid has the keys type and id")?)),
+// Whether the value at a key of a uid is not a string, or missing. If so, the words for it are added.
+fn text_words(words: &mut Words, json: &Json, key: &str) -> bool {
+    let found = json.get(key);
+    if let Some(Json::String(_)) = found {
+        return false;
     }
+    add_key(&mut words.path, key);
+    match found {
+        Some(found) => words.want("a string", found),
+        None => words.says.add_all(&["missing; ", UID_KEYS]),
+    }
+    true
 }
 
-// The words for a type that is not a name.
-fn type_words(alloc: Global, start: String, json: &Json) -> Result<Words, AllocError> {
-    let text = json.get("type").and_then(Json::as_str).unwrap_or("");
-    let mut path = start;
-    push_key(&mut path, "type")?;
-    let mut says = String::from_str(alloc, "a type is identifiers with `::` between them, and ")?;
-    push_beginning(&mut says, text)?;
-    says.push_str(" is not")?;
-    Ok(Words {
-        path,
-        says,
-        hint: None,
-    })
-}
-
-// The words for an object that is not a uid.
-fn members_words(
-    alloc: Global,
-    start: String,
-    json: &Json,
-    members: &Map<String, Json>,
-) -> Result<Words, AllocError> {
+// The words for an object that is not a uid: its first part that is refused is its type, if no other is.
+fn members_words(words: &mut Words, json: &Json, members: &Map<String, Json>) {
     if let Some(key) = further_key(members) {
-        let mut path = start;
-        push_key(&mut path, key)?;
-        return plain_words(alloc, path, UID_KEYS);
+        add_key(&mut words.path, key);
+        words.says.add(UID_KEYS);
+        return;
     }
-    if let Some(words) = text_words(alloc, start.as_str(), json, "type")? {
-        return Ok(words);
+    if text_words(words, json, "type") || text_words(words, json, "id") {
+        return;
     }
-    if let Some(words) = text_words(alloc, start.as_str(), json, "id")? {
-        return Ok(words);
-    }
-    type_words(alloc, start, json)
+    let text = json.get("type").and_then(Json::as_str).unwrap_or("");
+    add_key(&mut words.path, "type");
+    words
+        .says
+        .add("a type is identifiers with `::` between them, and ");
+    add_beginning(&mut words.says, text);
+    words.says.add(" is not");
 }
 
 /// The words for a JSON that is not a uid as an object, from its path on.
 pub(crate) fn uid_object_words(
     alloc: Global,
-    start: String,
+    words: &mut Words,
     json: &Json,
-) -> Result<Words, AllocError> {
-    let mut path = start;
+) -> Result<(), AllocError> {
     let inner = match json.get("__entity") {
         Some(inner) if size_of(json) == 1 => {
-            push_key(&mut path, "__entity")?;
+            add_key(&mut words.path, "__entity");
             inner
         }
         _ => json,
     };
     match inner.as_object() {
-        Some(members) => members_words(alloc, path, inner, members),
-        None => Ok(Words {
-            path,
-            says: kind_says(alloc, "an object", inner)?,
-            hint: Some(uid_object_hint(alloc, "T", inner)?),
-        }),
+        Some(members) => {
+            members_words(words, inner, members);
+            Ok(())
+        }
+        None => {
+            words.want("an object", inner);
+            hint_uid_object(alloc, &mut words.hint, "T", inner)
+        }
     }
 }
 
-// The string that writes a uid whose id lacks its quotes, if the text is a type and an id without quotes.
-fn with_quotes(alloc: Global, text: &str) -> Result<Option<String>, AllocError> {
+// The type and the id of a string that would be a uid if its id were in quotes.
+fn without_quotes(alloc: Global, text: &str) -> Result<Option<(&str, &str)>, AllocError> {
     let Some((ty, id)) = text.rsplit_once("::") else {
         return Ok(None);
     };
     if id.as_bytes().contains(&b'"') || !is_name(alloc, ty)? {
         return Ok(None);
     }
-    let mut uid = String::from_str(alloc, ty)?;
-    uid.push_str("::\"")?;
-    uid.push_str(id)?;
-    uid.push('"')?;
-    Ok(Some(uid))
+    Ok(Some((ty, id)))
 }
 
-// The hint for a string that is not a uid.
-fn uid_text_hint(alloc: Global, text: &str) -> Result<String, AllocError> {
-    match with_quotes(alloc, text)? {
-        Some(uid) => {
-            let mut hint = String::from_str(alloc, "the id of a uid is in quotes: write ")?;
-            push_quoted(&mut hint, uid.as_str())?;
-            Ok(hint)
+// The words for a string that is not a uid.
+fn string_words(alloc: Global, words: &mut Words, text: &str) -> Result<(), AllocError> {
+    words.says.add("a uid is wanted, and ");
+    add_beginning(&mut words.says, text);
+    words.says.add(" is not one");
+    match without_quotes(alloc, text)? {
+        Some((ty, id)) => {
+            words.hint.add("the id of a uid is in quotes: write \"");
+            add_inner(&mut words.hint, ty);
+            words.hint.add("::\\\"");
+            add_inner(&mut words.hint, id);
+            words.hint.add("\\\"\"");
         }
-        None => String::from_str(alloc, UID_HINT),
+        None => words.hint.add(UID_HINT),
     }
+    Ok(())
 }
 
 /// The words for a JSON that is not a uid, neither as a string nor as an object, from its path on.
-pub(crate) fn uid_words(alloc: Global, path: String, json: &Json) -> Result<Words, AllocError> {
+pub(crate) fn uid_words(alloc: Global, words: &mut Words, json: &Json) -> Result<(), AllocError> {
     match json {
-        Json::String(text) => {
-            let mut says = String::from_str(alloc, "a uid is wanted, and ")?;
-            push_beginning(&mut says, text.as_str())?;
-            says.push_str(" is not one")?;
-            Ok(Words {
-                path,
-                says,
-                hint: Some(uid_text_hint(alloc, text.as_str())?),
-            })
+        Json::String(text) => string_words(alloc, words, text.as_str()),
+        Json::Object(_) => uid_object_words(alloc, words, json),
+        _ => {
+            words.want("a uid", json);
+            words.hint.add(UID_HINT);
+            Ok(())
         }
-        Json::Object(_) => uid_object_words(alloc, path, json),
-        _ => Ok(Words {
-            path,
-            says: kind_says(alloc, "a uid", json)?,
-            hint: Some(String::from_str(alloc, UID_HINT)?),
-        }),
     }
 }

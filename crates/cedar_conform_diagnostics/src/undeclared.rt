@@ -1,7 +1,6 @@
 //! Words for entity types and actions that a schema does not declare.
 use crate::declared::{meant_action, meant_type};
-use crate::meant::meant_hint;
-use crate::shown::{push_uid, uid_text};
+use crate::shown::add_uid;
 use crate::words::Words;
 use cedar_schema::Schema;
 use cedar_value::{Name, Uid};
@@ -10,37 +9,27 @@ use std::alloc::{AllocError, Global};
 /// The words for an entity type that is not declared, 503.
 pub(crate) fn type_words(
     alloc: Global,
+    words: &mut Words,
     schema: &Schema,
-    path: String,
     name: &Name,
-) -> Result<Words, AllocError> {
-    let mut says = String::from_str(alloc, "the entity type `")?;
-    says.push_str(name.as_str())?;
-    says.push_str("` is not declared")?;
-    let hint = match meant_type(alloc, schema, name.as_str())? {
-        Some(meant) => meant_hint(alloc, Some(meant.as_str()))?,
-        None => None,
-    };
-    Ok(Words { path, says, hint })
+) -> Result<(), AllocError> {
+    let wanted = name.as_str();
+    words
+        .says
+        .add_all(&["the entity type `", wanted, "` is not declared"]);
+    if let Some(meant) = meant_type(alloc, schema, wanted)? {
+        words.hint_at(Some(meant.as_str()));
+    }
+    Ok(())
 }
 
 /// The words for an action that is not declared, 508 and 510.
-pub(crate) fn action_words(
-    alloc: Global,
-    schema: &Schema,
-    path: String,
-    uid: &Uid,
-) -> Result<Words, AllocError> {
-    let mut says = uid_text(alloc, uid)?;
-    says.push_str(" is not declared")?;
-    let hint = match meant_action(schema, uid) {
-        Some(meant) => {
-            let mut hint = String::from_str(alloc, "is ")?;
-            push_uid(&mut hint, meant)?;
-            hint.push_str(" meant?")?;
-            Some(hint)
-        }
-        None => None,
-    };
-    Ok(Words { path, says, hint })
+pub(crate) fn action_words(words: &mut Words, schema: &Schema, uid: &Uid) {
+    add_uid(&mut words.says, uid);
+    words.says.add(" is not declared");
+    if let Some(meant) = meant_action(schema, uid) {
+        words.hint.add("is ");
+        add_uid(&mut words.hint, meant);
+        words.hint.add(" meant?");
+    }
 }

@@ -1,60 +1,62 @@
 //! Words for what a type wants, and what is there instead.
-use crate::found::push_found;
-use crate::shown::{push_beginning, push_quoted};
+use crate::found::add_found;
+use crate::shown::{add_beginning, add_quoted};
+use crate::words::Words;
+use base_places::Draft;
 use cedar_conform_values::{size_of, text_at, uid_of_object, written_uid};
 use cedar_schema_types::{Type, TypeKind};
 use cedar_value::Name;
 use serde_json::Value as Json;
 use std::alloc::{AllocError, Global};
-use std::fmt::Write;
 
-// Appends `of type` and the name of an entity type.
-fn push_of_type(out: &mut String, name: &Name) -> Result<(), AllocError> {
-    out.push_str(" of type `")?;
-    out.push_str(name.as_str())?;
-    out.push('`')
+// Adds `of type` and the name of an entity type.
+fn add_of_type(out: &mut Draft, name: &Name) {
+    out.add_all(&[" of type `", name.as_str(), "`"]);
 }
 
-// Appends what the members of a set are.
-fn push_members(out: &mut String, member: &Type) -> Result<(), AllocError> {
+// Adds what the members of a set are.
+fn add_members(out: &mut Draft, member: &Type) {
     match member.kind() {
-        TypeKind::Boolean(_) => out.push_str("Booleans"),
-        TypeKind::Long => out.push_str("Longs"),
-        TypeKind::String => out.push_str("Strings"),
-        TypeKind::Decimal => out.push_str("decimals"),
-        TypeKind::Record(_) => out.push_str("records"),
-        TypeKind::Set(_) => out.push_str("sets"),
+        TypeKind::Boolean(_) => out.add("Booleans"),
+        TypeKind::Long => out.add("Longs"),
+        TypeKind::String => out.add("Strings"),
+        TypeKind::Decimal => out.add("decimals"),
+        TypeKind::Record(_) => out.add("records"),
+        TypeKind::Set(_) => out.add("sets"),
         TypeKind::Entity(name) => {
-            out.push_str("entities")?;
-            push_of_type(out, name)
+            out.add("entities");
+            add_of_type(out, name);
         }
     }
 }
 
-/// Appends what a type wants, for example `a Long` or `a set of Strings`.
-pub(crate) fn push_wanted(out: &mut String, ty: &Type) -> Result<(), AllocError> {
+// Adds what a type wants, for example `a Long` or `a set of Strings`.
+fn add_wanted(out: &mut Draft, ty: &Type) {
     match ty.kind() {
-        TypeKind::Boolean(_) => out.push_str("a Boolean"),
-        TypeKind::Long => out.push_str("a Long"),
-        TypeKind::String => out.push_str("a String"),
-        TypeKind::Decimal => out.push_str("a decimal"),
-        TypeKind::Record(_) => out.push_str("a record"),
+        TypeKind::Boolean(_) => out.add("a Boolean"),
+        TypeKind::Long => out.add("a Long"),
+        TypeKind::String => out.add("a String"),
+        TypeKind::Decimal => out.add("a decimal"),
+        TypeKind::Record(_) => out.add("a record"),
         TypeKind::Set(member) => {
-            out.push_str("a set of ")?;
-            push_members(out, member)
+            out.add("a set of ");
+            add_members(out, member);
         }
         TypeKind::Entity(name) => {
-            out.push_str("an entity")?;
-            push_of_type(out, name)
+            out.add("an entity");
+            add_of_type(out, name);
         }
     }
 }
 
-// Appends what a JSON is instead of a Long.
-fn push_no_long(out: &mut String, json: &Json) -> Result<(), AllocError> {
+// Adds what a JSON is instead of a Long.
+fn add_no_long(out: &mut Draft, json: &Json) {
     match json {
-        Json::Number(number) => write!(out, "{number} is not an integer of 64 bits"),
-        _ => push_found(out, json),
+        Json::Number(number) => {
+            out.add_display(number);
+            out.add(" is not an integer of 64 bits");
+        }
+        _ => add_found(out, json),
     }
 }
 
@@ -73,58 +75,68 @@ fn decimal_text(json: &Json) -> Option<&str> {
     }
 }
 
-// Appends what a JSON is instead of a decimal.
-fn push_no_decimal(out: &mut String, json: &Json) -> Result<(), AllocError> {
+// Adds what a JSON is instead of a decimal.
+fn add_no_decimal(out: &mut Draft, json: &Json) {
     match decimal_text(json) {
         Some(text) => {
-            push_beginning(out, text)?;
-            out.push_str(" is not one")
+            add_beginning(out, text);
+            out.add(" is not one");
         }
-        None => push_found(out, json),
+        None => add_found(out, json),
     }
 }
 
-// Appends what a JSON is instead of an entity of the wanted type.
-fn push_no_entity(alloc: Global, out: &mut String, json: &Json) -> Result<(), AllocError> {
+// Adds what a JSON is instead of an entity of the wanted type.
+fn add_no_entity(alloc: Global, out: &mut Draft, json: &Json) -> Result<(), AllocError> {
     match uid_of_object(alloc, json)? {
         Some(uid) => {
-            out.push_str("here is one")?;
-            push_of_type(out, &uid.ty)
+            out.add("here is one");
+            add_of_type(out, &uid.ty);
         }
-        None => push_found(out, json),
+        None => add_found(out, json),
     }
+    Ok(())
 }
 
-/// What is said of a JSON that is refused as a value of a type: what is wanted, and what is there.
-pub(crate) fn value_says(alloc: Global, ty: &Type, json: &Json) -> Result<String, AllocError> {
-    let mut says = String::new(alloc);
-    push_wanted(&mut says, ty)?;
-    says.push_str(" is wanted, and ")?;
+/// Says of a JSON that is refused as a value of a type what is wanted, and what is there.
+pub(crate) fn say_value(
+    alloc: Global,
+    says: &mut Draft,
+    ty: &Type,
+    json: &Json,
+) -> Result<(), AllocError> {
+    add_wanted(says, ty);
+    says.add(" is wanted, and ");
     match ty.kind() {
-        TypeKind::Long => push_no_long(&mut says, json)?,
-        TypeKind::Decimal => push_no_decimal(&mut says, json)?,
-        TypeKind::Entity(_) => push_no_entity(alloc, &mut says, json)?,
-        _ => push_found(&mut says, json)?,
+        TypeKind::Entity(_) => return add_no_entity(alloc, says, json),
+        TypeKind::Long => add_no_long(says, json),
+        TypeKind::Decimal => add_no_decimal(says, json),
+        _ => add_found(says, json),
     }
-    Ok(says)
+    Ok(())
 }
 
-/// The hint how a uid is written as an object: that of a string that writes one, or one of this type.
-pub(crate) fn uid_object_hint(alloc: Global, ty: &str, json: &Json) -> Result<String, AllocError> {
-    let mut hint = String::from_str(alloc, "write {\"type\":")?;
+// Adds a uid as an object.
+fn add_object(hint: &mut Draft, ty: &str, id: &str) {
+    hint.add("write {\"type\":");
+    add_quoted(hint, ty);
+    hint.add(",\"id\":");
+    add_quoted(hint, id);
+    hint.add_char('}');
+}
+
+/// Hints how a uid is written as an object: that of a string that writes one, or one of this type.
+pub(crate) fn hint_uid_object(
+    alloc: Global,
+    hint: &mut Draft,
+    ty: &str,
+    json: &Json,
+) -> Result<(), AllocError> {
     match written_uid(alloc, json)? {
-        Some(uid) => {
-            push_quoted(&mut hint, uid.ty.as_str())?;
-            hint.push_str(",\"id\":")?;
-            push_quoted(&mut hint, uid.id.as_str())?;
-        }
-        None => {
-            push_quoted(&mut hint, ty)?;
-            hint.push_str(",\"id\":\"x\"")?;
-        }
+        Some(uid) => add_object(hint, uid.ty.as_str(), uid.id.as_str()),
+        None => add_object(hint, ty, "x"),
     }
-    hint.push('}')?;
-    Ok(hint)
+    Ok(())
 }
 
 // The hint for a string where a Long or a Boolean is wanted, if it writes one.
@@ -155,17 +167,19 @@ fn fixed_hint(ty: &Type, json: &Json) -> Option<&'static str> {
     }
 }
 
-/// What to do about a JSON that is refused as a value of a type, where one thing is likely.
-pub(crate) fn value_hint(
+/// The words for a JSON that is refused as a value of a type, with what to do about it where one thing is likely.
+pub(crate) fn add_value_words(
     alloc: Global,
+    words: &mut Words,
     ty: &Type,
     json: &Json,
-) -> Result<Option<String>, AllocError> {
+) -> Result<(), AllocError> {
+    say_value(alloc, &mut words.says, ty, json)?;
     if let (TypeKind::Entity(name), Json::String(_)) = (ty.kind(), json) {
-        return Ok(Some(uid_object_hint(alloc, name.as_str(), json)?));
+        return hint_uid_object(alloc, &mut words.hint, name.as_str(), json);
     }
-    match fixed_hint(ty, json) {
-        Some(hint) => Ok(Some(String::from_str(alloc, hint)?)),
-        None => Ok(None),
+    if let Some(hint) = fixed_hint(ty, json) {
+        words.hint.add(hint);
     }
+    Ok(())
 }

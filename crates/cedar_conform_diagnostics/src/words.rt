@@ -1,53 +1,56 @@
 //! What is said of a refused part.
-ghost use Rattle.std.specs.Prelude.{◌≡◌};
+ghost use Rattle.std.specs.Prelude.{◌≡◌, IfOk};
 
 use crate::data_fault::DataFault;
+use crate::found::add_found;
+use base_places::Draft;
+use serde_json::Value as Json;
 use std::alloc::{AllocError, Global};
 
 /// What is said of a refused part, without its number.
 #[derive(Drop)]
 pub(crate) struct Words {
     /// Where the part is.
-    pub(crate) path: String,
+    pub(crate) path: Draft,
     /// What is wrong.
-    pub(crate) says: String,
-    /// What to do, where one thing is likely.
-    pub(crate) hint: Option<String>,
+    pub(crate) says: Draft,
+    /// What to do. Empty where no one thing is likely.
+    pub(crate) hint: Draft,
 }
 
 impl Words {
-    /// The fault of this number with these words.
-    pub(crate) fn numbered(self, number: u16) -> DataFault
-        ensures { result.number ≡ number }
-    {
-        DataFault {
-            number,
-            path: self.path,
-            says: self.says,
-            hint: self.hint,
+    /// No words yet, for the whole.
+    pub(crate) fn new(alloc: Global) -> Words {
+        Words {
+            path: Draft::new(alloc),
+            says: Draft::new(alloc),
+            hint: Draft::new(alloc),
         }
     }
-}
 
-/// Words without a hint.
-pub(crate) fn plain_words(alloc: Global, path: String, says: &str) -> Result<Words, AllocError> {
-    Ok(Words {
-        path,
-        says: String::from_str(alloc, says)?,
-        hint: None,
-    })
-}
+    /// Says that another kind of JSON is wanted.
+    pub(crate) fn want(&mut self, wanted: &str, json: &Json) {
+        self.says.add_all(&[wanted, " is wanted, and "]);
+        add_found(&mut self.says, json);
+    }
 
-/// Words with a hint.
-pub(crate) fn hinted_words(
-    alloc: Global,
-    path: String,
-    says: &str,
-    hint: &str,
-) -> Result<Words, AllocError> {
-    Ok(Words {
-        path,
-        says: String::from_str(alloc, says)?,
-        hint: Some(String::from_str(alloc, hint)?),
-    })
+    /// Hints that another word is meant, if one is.
+    pub(crate) fn hint_at(&mut self, meant: Option<&str>) {
+        if let Some(word) = meant {
+            self.hint.add_all(&["is `", word, "` meant?"]);
+        }
+    }
+
+    /// The fault of this number with these words.
+    pub(crate) fn numbered(self, number: u16) -> Result<DataFault, AllocError>
+        ensures { IfOk result (λ found. found.number ≡ number) }
+    {
+        let hint = self.hint.done()?;
+        Ok(DataFault {
+            number,
+            path: self.path.done()?,
+            says: self.says.done()?,
+            hint: if hint.is_empty() { None } else { Some(hint) },
+        })
+    }
 }

@@ -28,7 +28,7 @@ pub(crate) fn entry_name(alloc: Global, entry: &Json) -> Result<Option<String>, 
         Some(uid) => {
             let text = uid_text(alloc, &uid);
             drop(uid);
-            Ok(Some(text?))
+            Ok(Some(text.done()?))
         }
         None => Ok(None),
     }

@@ -1,10 +1,11 @@
 //! Actions that are in themselves.
-use crate::circle_words::{MOST_SHOWN, circle_text};
+use crate::circle_words::{MOST_SHOWN, say_circle};
 use crate::circles::circle_in;
 use crate::declared::Declared;
-use crate::part::{RefusedPart, at, part_with};
+use crate::part::{Refusal, at, part_with};
 use crate::step::Step;
 use crate::text::{joined, shown};
+use base_places::Draft;
 use cedar_schema_json::{Entry, entries_of, present, qualified, text_at};
 use serde_json::{Map, Value};
 use std::alloc::{AllocError, Global};
@@ -13,7 +14,7 @@ use std::alloc::{AllocError, Global};
 pub(crate) fn refused_action_circle(
     alloc: Global,
     root: &Map<String, Value>,
-) -> Result<Option<RefusedPart>, AllocError> {
+) -> Result<Option<Refusal>, AllocError> {
     let entries = entries_of(alloc, root, "actions")?;
     let links = links_of(alloc, root, &entries)?;
     match circle_in(alloc, &links)? {
@@ -82,7 +83,7 @@ fn told_circle(
     entries: &[Entry<'_>],
     links: &[Vec<usize>],
     circle: &[usize],
-) -> Result<Option<RefusedPart>, AllocError> {
+) -> Result<Option<Refusal>, AllocError> {
     let Some((place, others)) = circle.split_first() else {
         return Ok(None);
     };
@@ -90,15 +91,16 @@ fn told_circle(
         return Ok(None);
     };
     let names = names_in(alloc, entries, circle)?;
-    let says = circle_text(alloc, &names, circle.len(), "is in")?;
+    let mut says = Draft::new(alloc);
+    say_circle(&mut says, &names, circle.len(), "is in");
     let next = others.first().copied().unwrap_or(*place);
     let index = index_of(links, *place, next);
-    let part = Some(part_with(alloc, says, None));
-    let part = at(alloc, Step::Item(index), part)?;
-    let part = at(alloc, Step::Key("memberOf"), part)?;
-    let part = at(alloc, Step::Key(first.key), part)?;
-    let part = at(alloc, Step::Key("actions"), part)?;
-    at(alloc, Step::Namespace(first.namespace), part)
+    let part = Some(part_with(alloc, says, Draft::new(alloc)));
+    let part = at(alloc, Step::Item(index), part);
+    let part = at(alloc, Step::Key("memberOf"), part);
+    let part = at(alloc, Step::Key(first.key), part);
+    let part = at(alloc, Step::Key("actions"), part);
+    Ok(at(alloc, Step::Namespace(first.namespace), part))
 }
 
 // Which of the links of a place is the first one that leads to another.
@@ -133,5 +135,5 @@ fn names_in(
 
 fn uid_text(alloc: Global, namespace: &str, key: &str) -> Result<String, AllocError> {
     let ty = qualified(alloc, namespace, "Action")?;
-    joined(alloc, &[ty.as_str(), "::\"", shown(key), "\""])
+    joined(alloc, &[ty.as_str(), "::\"", shown(key), "\""]).done()
 }

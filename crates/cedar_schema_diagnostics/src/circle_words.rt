@@ -1,56 +1,42 @@
 //! Circles in words.
-use crate::text::{push_all, shown};
-use std::alloc::{AllocError, Global};
-use std::fmt::Write;
+use crate::text::shown;
+use base_places::Draft;
 
 /// How many names of a circle are shown at most.
 pub(crate) const MOST_SHOWN: usize = 6;
 
-/// A circle in words, for example "`a` is in `b`, which is in `a`". The names are those of its first places, `count` is how many places
-/// it has, and `verb` joins two of them.
-pub(crate) fn circle_text(
-    alloc: Global,
-    names: &[String],
-    count: usize,
-    verb: &str,
-) -> Result<String, AllocError> {
-    let mut text = String::new(alloc);
+/// Says that there is a circle, for example "`a` is in `b`, which is in `a`". The names are those of its first places, `count` is how
+/// many places it has, and `verb` joins two of them.
+pub(crate) fn say_circle(says: &mut Draft, names: &[String], count: usize, verb: &str) {
     for (index, name) in names.iter().enumerate() {
         if index > 0 {
-            push_verb(&mut text, index, verb)?;
+            add_verb(says, index, verb);
         }
-        push_all(&mut text, &["`", shown(name.as_str()), "`"])?;
+        says.add_all(&["`", shown(name.as_str()), "`"]);
     }
     if let Some(first) = names.first() {
         let left = count.saturating_sub(names.len());
-        push_end(&mut text, first.as_str(), names.len(), left, verb)?;
-    }
-    Ok(text)
-}
-
-fn push_verb(text: &mut String, index: usize, verb: &str) -> Result<(), AllocError> {
-    if index == 1 {
-        push_all(text, &[" ", shown(verb), " "])
-    } else {
-        push_all(text, &[", which ", shown(verb), " "])
+        add_end(says, first.as_str(), names.len(), left, verb);
     }
 }
 
-// Appends how the circle comes back to its first name, after so many names that are shown and so many that are not.
-fn push_end(
-    text: &mut String,
-    first: &str,
-    count: usize,
-    left: usize,
-    verb: &str,
-) -> Result<(), AllocError> {
+fn add_verb(says: &mut Draft, index: usize, verb: &str) {
+    says.add(if index == 1 { " " } else { ", which " });
+    says.add_all(&[verb, " "]);
+}
+
+// Adds how the circle comes back to its first name, after so many names that are shown and so many that are not.
+fn add_end(says: &mut Draft, first: &str, count: usize, left: usize, verb: &str) {
     if left > 0 {
-        write!(text, ", and so on: after {left} more comes ")?;
-        return push_all(text, &["`", shown(first), "` again"]);
+        says.add(", and so on: after ");
+        says.add_display(left);
+        says.add_all(&[" more comes `", shown(first), "` again"]);
+        return;
     }
-    push_verb(text, count, verb)?;
+    add_verb(says, count, verb);
     if count == 1 {
-        return text.push_str("itself");
+        says.add("itself");
+    } else {
+        says.add_all(&["`", shown(first), "`"]);
     }
-    push_all(text, &["`", shown(first), "`"])
 }

@@ -1,9 +1,10 @@
 //! Common types that lead back to themselves.
-use crate::circle_words::{MOST_SHOWN, circle_text};
+use crate::circle_words::{MOST_SHOWN, say_circle};
 use crate::circles::circle_in;
 use crate::forms::Forms;
-use crate::part::{RefusedPart, at, part_with};
+use crate::part::{Refusal, at, part_with};
 use crate::step::Step;
+use base_places::Draft;
 use cedar_schema_json::{Entry, entries_of, qualified};
 use serde_json::{Map, Value};
 use std::alloc::{AllocError, Global};
@@ -12,7 +13,7 @@ use std::alloc::{AllocError, Global};
 pub(crate) fn refused_common_circle(
     alloc: Global,
     root: &Map<String, Value>,
-) -> Result<Option<RefusedPart>, AllocError> {
+) -> Result<Option<Refusal>, AllocError> {
     let Some(links) = links_of(alloc, root)? else {
         return Ok(None);
     };
@@ -39,16 +40,17 @@ fn told_circle(
     alloc: Global,
     entries: &[Entry<'_>],
     circle: &[usize],
-) -> Result<Option<RefusedPart>, AllocError> {
+) -> Result<Option<Refusal>, AllocError> {
     let Some(first) = first_of(entries, circle) else {
         return Ok(None);
     };
     let names = names_in(alloc, entries, circle)?;
-    let says = circle_text(alloc, &names, circle.len(), "leads to")?;
-    let part = Some(part_with(alloc, says, None));
-    let part = at(alloc, Step::Key(first.key), part)?;
-    let part = at(alloc, Step::Key("commonTypes"), part)?;
-    at(alloc, Step::Namespace(first.namespace), part)
+    let mut says = Draft::new(alloc);
+    say_circle(&mut says, &names, circle.len(), "leads to");
+    let part = Some(part_with(alloc, says, Draft::new(alloc)));
+    let part = at(alloc, Step::Key(first.key), part);
+    let part = at(alloc, Step::Key("commonTypes"), part);
+    Ok(at(alloc, Step::Namespace(first.namespace), part))
 }
 
 fn first_of<'e>(entries: &[Entry<'e>], circle: &[usize]) -> Option<Entry<'e>> {

@@ -1,13 +1,13 @@
 //! Common types.
 use crate::built_in::is_built_in;
 use crate::naming::refused_identifier;
-use crate::part::{RefusedPart, part_of};
+use crate::part::{Refusal, part_of};
 use crate::records::refused_size;
 use crate::setting::Setting;
 use crate::text::shown;
 use crate::types::refused_in_type;
 use serde_json::Value;
-use std::alloc::{AllocError, Global};
+use std::alloc::Global;
 
 /// Why an entry of `commonTypes` is refused, or none.
 pub(crate) fn refused_common_type(
@@ -15,28 +15,24 @@ pub(crate) fn refused_common_type(
     setting: Setting<'_>,
     key: &str,
     body: &Value,
-) -> Result<Option<RefusedPart>, AllocError> {
-    let found = refused_common_key(alloc, setting.number, key)?;
+) -> Option<Refusal> {
+    let found = refused_common_key(alloc, setting.number, key);
     if found.is_some() {
-        return Ok(found);
+        return found;
     }
-    let found = refused_in_type(alloc, setting, body)?;
+    let found = refused_in_type(alloc, setting, body);
     if found.is_some() {
-        return Ok(found);
+        return found;
     }
     match setting.forms {
         Some(forms) if setting.number == 309 => {
             refused_size(alloc, forms, setting.namespace, body)
         }
-        _ => Ok(None),
+        _ => None,
     }
 }
 
-fn refused_common_key(
-    alloc: Global,
-    number: u16,
-    key: &str,
-) -> Result<Option<RefusedPart>, AllocError> {
+fn refused_common_key(alloc: Global, number: u16, key: &str) -> Option<Refusal> {
     if number == 306 && is_built_in(key) {
         return part_of(
             alloc,

@@ -2,7 +2,7 @@
 use crate::keys::refused_keys;
 use crate::kinds::kind_of;
 use crate::naming::refused_identifier;
-use crate::part::{RefusedPart, at, part_of};
+use crate::part::{Refusal, at, part_of};
 use crate::records::refused_record;
 use crate::setting::Setting;
 use crate::step::Step;
@@ -10,7 +10,7 @@ use crate::text::{is_plain, shown};
 use crate::type_names::refused_entity_name;
 use cedar_schema_json::Part;
 use serde_json::Value;
-use std::alloc::{AllocError, Global};
+use std::alloc::Global;
 
 /// Why an entry of `entityTypes` is refused, or none.
 pub(crate) fn refused_entity_type(
@@ -18,19 +18,19 @@ pub(crate) fn refused_entity_type(
     setting: Setting<'_>,
     key: &str,
     body: &Value,
-) -> Result<Option<RefusedPart>, AllocError> {
-    let found = refused_entity_key(alloc, setting.number, key)?;
+) -> Option<Refusal> {
+    let found = refused_entity_key(alloc, setting.number, key);
     if found.is_some() {
-        return Ok(found);
+        return found;
     }
     if setting.number == 302 {
-        let found = refused_keys(alloc, Part::EntityType, body)?;
+        let found = refused_keys(alloc, Part::EntityType, body);
         if found.is_some() {
-            return Ok(found);
+            return found;
         }
     }
     if let Some(list) = body.get("memberOfTypes") {
-        let found = refused_names(alloc, setting, list)?;
+        let found = refused_names(alloc, setting, list);
         if found.is_some() {
             return at(alloc, Step::Key("memberOfTypes"), found);
         }
@@ -38,11 +38,7 @@ pub(crate) fn refused_entity_type(
     refused_record(alloc, setting, body, "shape", "a shape")
 }
 
-fn refused_entity_key(
-    alloc: Global,
-    number: u16,
-    key: &str,
-) -> Result<Option<RefusedPart>, AllocError> {
+fn refused_entity_key(alloc: Global, number: u16, key: &str) -> Option<Refusal> {
     if key == "Action" && number == 306 {
         return part_of(
             alloc,
@@ -54,30 +50,22 @@ fn refused_entity_key(
 }
 
 /// Why a list of entity types is refused, or none.
-pub(crate) fn refused_names(
-    alloc: Global,
-    setting: Setting<'_>,
-    list: &Value,
-) -> Result<Option<RefusedPart>, AllocError> {
+pub(crate) fn refused_names(alloc: Global, setting: Setting<'_>, list: &Value) -> Option<Refusal> {
     let Some(items) = list.as_array() else {
         return refused_list(alloc, setting.number, list);
     };
     for (index, item) in items.iter().enumerate() {
-        let found = refused_item(alloc, setting, item)?;
+        let found = refused_item(alloc, setting, item);
         if found.is_some() {
             return at(alloc, Step::Item(index), found);
         }
     }
-    Ok(None)
+    None
 }
 
-fn refused_list(
-    alloc: Global,
-    number: u16,
-    list: &Value,
-) -> Result<Option<RefusedPart>, AllocError> {
+fn refused_list(alloc: Global, number: u16, list: &Value) -> Option<Refusal> {
     if number != 302 {
-        return Ok(None);
+        return None;
     }
     let says = [
         "a list of entity types is wanted, and this is ",
@@ -89,11 +77,7 @@ fn refused_list(
     }
 }
 
-fn refused_item(
-    alloc: Global,
-    setting: Setting<'_>,
-    item: &Value,
-) -> Result<Option<RefusedPart>, AllocError> {
+fn refused_item(alloc: Global, setting: Setting<'_>, item: &Value) -> Option<Refusal> {
     match item.as_str() {
         Some(name) => refused_entity_name(alloc, setting, name, false),
         None if setting.number == 302 => {
@@ -103,6 +87,6 @@ fn refused_item(
             ];
             part_of(alloc, &says, &[])
         }
-        None => Ok(None),
+        None => None,
     }
 }

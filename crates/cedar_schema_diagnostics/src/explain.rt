@@ -7,7 +7,7 @@ use crate::common_circle::refused_common_circle;
 use crate::declared::Declared;
 use crate::forms::Forms;
 use crate::kinds::kind_of;
-use crate::part::{RefusedPart, part_of};
+use crate::part::{Refusal, RefusedPart, part_of};
 use crate::sections::refused_entries;
 use crate::spaces::refused_spaces;
 use base_json::read_json;
@@ -32,10 +32,13 @@ pub fn refused_part(
     };
     let found = refused_in(alloc, &json, number);
     drop(json);
-    found
+    match found? {
+        Some(refusal) => Ok(Some(refusal.done()?)),
+        None => Ok(None),
+    }
 }
 
-fn refused_in(alloc: Global, json: &Value, number: u16) -> Result<Option<RefusedPart>, AllocError> {
+fn refused_in(alloc: Global, json: &Value, number: u16) -> Result<Option<Refusal>, AllocError> {
     match json.as_object() {
         Some(root) => refused_in_root(alloc, root, number),
         None if number == 302 => {
@@ -43,7 +46,7 @@ fn refused_in(alloc: Global, json: &Value, number: u16) -> Result<Option<Refused
                 "a schema is an object of namespaces, and this is ",
                 kind_of(json),
             ];
-            part_of(alloc, &says, &[])
+            Ok(part_of(alloc, &says, &[]))
         }
         None => Ok(None),
     }
@@ -53,7 +56,7 @@ fn refused_in_root(
     alloc: Global,
     root: &Map<String, Value>,
     number: u16,
-) -> Result<Option<RefusedPart>, AllocError> {
+) -> Result<Option<Refusal>, AllocError> {
     match number {
         304 => refused_common_circle(alloc, root),
         305 => refused_action_circle(alloc, root),
@@ -66,8 +69,8 @@ fn refused_written(
     alloc: Global,
     root: &Map<String, Value>,
     number: u16,
-) -> Result<Option<RefusedPart>, AllocError> {
-    let found = refused_spaces(alloc, number, root)?;
+) -> Result<Option<Refusal>, AllocError> {
+    let found = refused_spaces(alloc, number, root);
     if found.is_some() {
         return Ok(found);
     }
@@ -83,12 +86,12 @@ fn refused_declared(
     root: &Map<String, Value>,
     number: u16,
     declared: &Declared,
-) -> Result<Option<RefusedPart>, AllocError> {
+) -> Result<Option<Refusal>, AllocError> {
     if number != 302 && number != 309 {
-        return refused_entries(alloc, number, root, declared, None);
+        return Ok(refused_entries(alloc, number, root, declared, None));
     }
     let forms = Forms::read(alloc, root)?;
     let found = refused_entries(alloc, number, root, declared, forms.as_ref());
     drop(forms);
-    found
+    Ok(found)
 }

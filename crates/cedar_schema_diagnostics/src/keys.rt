@@ -1,13 +1,14 @@
 //! The keys that parts may have.
 use crate::kinds::kind_of;
 use crate::left_out::left_out_key;
-use crate::part::{RefusedPart, at, part_of, part_saying};
+use crate::part::{Refusal, at, part_of, part_with};
 use crate::step::Step;
-use crate::text::{is_plain, push_all, shown};
+use crate::text::{is_plain, joined, shown};
 use base_names::Nearest;
+use base_places::Draft;
 use cedar_schema_json::Part;
 use serde_json::Value;
-use std::alloc::{AllocError, Global};
+use std::alloc::Global;
 
 static NAMESPACE_KEYS: [&str; 3] = ["entityTypes", "actions", "commonTypes"];
 
@@ -44,11 +45,7 @@ fn name_of(part: Part) -> &'static str {
 }
 
 /// Why a JSON is not an object of the keys of a part (302), or none.
-pub(crate) fn refused_keys(
-    alloc: Global,
-    part: Part,
-    json: &Value,
-) -> Result<Option<RefusedPart>, AllocError> {
+pub(crate) fn refused_keys(alloc: Global, part: Part, json: &Value) -> Option<Refusal> {
     let Some(members) = json.as_object() else {
         return refused_kind(alloc, part, json);
     };
@@ -57,7 +54,7 @@ pub(crate) fn refused_keys(
             return refused_key(alloc, part, key.as_str());
         }
     }
-    Ok(None)
+    None
 }
 
 /// Whether a key is among these.
@@ -71,11 +68,7 @@ pub(crate) fn has_key(keys: &[&str], key: &str) -> bool {
 }
 
 // A part that is not an object.
-fn refused_kind(
-    alloc: Global,
-    part: Part,
-    json: &Value,
-) -> Result<Option<RefusedPart>, AllocError> {
+fn refused_kind(alloc: Global, part: Part, json: &Value) -> Option<Refusal> {
     let says = [name_of(part), " is an object, and this is ", kind_of(json)];
     match json.as_str() {
         Some(id) if part == Part::Member && is_plain(id) => {
@@ -86,30 +79,23 @@ fn refused_kind(
 }
 
 // A key that a part may not have.
-fn refused_key(alloc: Global, part: Part, key: &str) -> Result<Option<RefusedPart>, AllocError> {
+fn refused_key(alloc: Global, part: Part, key: &str) -> Option<Refusal> {
     let found = match left_out_key(part, key) {
-        Some((says, hint)) => part_saying(alloc, says, hint)?,
-        None => { unknown_key(alloc, name_of(part), key, keys_of(part))? }
+        Some((says, hint)) => part_of(alloc, &[says], &[hint]),
+        None => Some(unknown_key(alloc, name_of(part), key, keys_of(part))),
     };
     at(alloc, Step::Key(key), found)
 }
 
 /// What is said of a key that is not among these, with the key that is likely meant, or with all of them. `what` is what has the keys,
 /// in words.
-pub(crate) fn unknown_key(
-    alloc: Global,
-    what: &str,
-    key: &str,
-    keys: &[&'static str],
-) -> Result<Option<RefusedPart>, AllocError> {
-    let says = [shown(what), " has no key `", shown(key), "`"];
-    match nearest_key(key, keys) {
-        Some(meant) => part_of(alloc, &says, &["is `", shown(meant), "` meant?"]),
-        None => {
-            let list = list_of(alloc, keys)?;
-            part_of(alloc, &says, &["its keys: ", list.as_str()])
-        }
-    }
+pub(crate) fn unknown_key(alloc: Global, what: &str, key: &str, keys: &[&'static str]) -> Refusal {
+    let says = joined(alloc, &[shown(what), " has no key `", shown(key), "`"]);
+    let hint = match nearest_key(key, keys) {
+        Some(meant) => joined(alloc, &["is `", shown(meant), "` meant?"]),
+        None => list_of(alloc, keys),
+    };
+    part_with(alloc, says, hint)
 }
 
 // The key that is likely meant: the nearest one, or else one of which the other is the beginning.
@@ -138,32 +124,28 @@ fn is_beginning(begin: &str, key: &str) -> bool {
     begin.len() >= LEAST && key.starts_with(begin)
 }
 
-fn list_of(alloc: Global, keys: &[&str]) -> Result<String, AllocError> {
-    let mut list = String::new(alloc);
+fn list_of(alloc: Global, keys: &[&str]) -> Draft {
+    let mut list = Draft::new(alloc);
+    list.add("its keys: ");
     for (index, key) in keys.iter().enumerate() {
         if index > 0 {
-            list.push_str(", ")?;
+            list.add(", ");
         }
-        push_all(&mut list, &["`", shown(*key), "`"])?;
+        list.add_all(&["`", shown(*key), "`"]);
     }
-    Ok(list)
+    list
 }
 
 /// What is wrong at a key that has to hold a string (302), or none. `what` is what the key belongs to, in words.
-pub(crate) fn refused_text(
-    alloc: Global,
-    json: &Value,
-    key: &str,
-    what: &str,
-) -> Result<Option<RefusedPart>, AllocError> {
+pub(crate) fn refused_text(alloc: Global, json: &Value, key: &str, what: &str) -> Option<Refusal> {
     match json.get(key) {
-        Some(Value::String(_)) => Ok(None),
+        Some(Value::String(_)) => None,
         Some(other) => {
             let found = part_of(
                 alloc,
                 &["a string is wanted, and this is ", kind_of(other)],
                 &[],
-            )?;
+            );
             at(alloc, Step::Key(key), found)
         }
         None => part_of(
@@ -175,16 +157,12 @@ pub(crate) fn refused_text(
 }
 
 /// What is said of the value at a key that is not an object (302).
-pub(crate) fn refused_object(
-    alloc: Global,
-    key: &str,
-    json: &Value,
-) -> Result<Option<RefusedPart>, AllocError> {
-    let found = other_kind(alloc, key, kind_of(json))?;
-    at(alloc, Step::Key(key), found)
-}
-
-fn other_kind(alloc: Global, key: &str, kind: &str) -> Result<Option<RefusedPart>, AllocError> {
-    let says = ["`", shown(key), "` is an object, and this is ", shown(kind)];
-    part_of(alloc, &says, &[])
+pub(crate) fn refused_object(alloc: Global, key: &str, json: &Value) -> Option<Refusal> {
+    let says = [
+        "`",
+        shown(key),
+        "` is an object, and this is ",
+        kind_of(json),
+    ];
+    at(alloc, Step::Key(key), part_of(alloc, &says, &[]))
 }

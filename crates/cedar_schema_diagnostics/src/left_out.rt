@@ -1,7 +1,7 @@
 //! What Cedar has and this engine does not, in words.
-use crate::part::{RefusedPart, part_of};
+use crate::part::{Refusal, part_of};
 use cedar_schema_json::Part;
-use std::alloc::{AllocError, Global};
+use std::alloc::Global;
 
 /// What is said of annotations.
 pub(crate) const ANNOTATIONS: &str = "annotations are not read here";
@@ -46,7 +46,7 @@ pub(crate) fn left_out_extension(name: &str) -> Option<&'static str> {
 }
 
 /// What is said of the type that Cedar's own translator writes for every name.
-pub(crate) fn entity_or_common(alloc: Global) -> Result<Option<RefusedPart>, AllocError> {
+pub(crate) fn entity_or_common(alloc: Global) -> Option<Refusal> {
     part_of(
         alloc,
         &["`EntityOrCommon` is what Cedar's translator writes; here it is not read"],

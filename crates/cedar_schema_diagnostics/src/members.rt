@@ -2,12 +2,13 @@
 use crate::keys::{refused_keys, refused_text};
 use crate::kinds::kind_of;
 use crate::naming::refused_name;
-use crate::part::{RefusedPart, at, part_of, part_with};
+use crate::part::{Refusal, at, part_of, part_with, remembered};
 use crate::setting::Setting;
 use crate::step::Step;
-use crate::text::{is_plain, joined, push_all, shown};
-use crate::undeclared::{push_namespace, push_namespaces};
+use crate::text::{is_plain, shown};
+use crate::undeclared::{say_namespace, say_namespaces};
 use base_names::Nearest;
+use base_places::Draft;
 use cedar_schema_json::{Part, has_colon, qualified, text_at};
 use cedar_value::Uid;
 use serde_json::Value;
@@ -19,26 +20,22 @@ pub(crate) fn refused_members(
     alloc: Global,
     setting: Setting<'_>,
     list: &Value,
-) -> Result<Option<RefusedPart>, AllocError> {
+) -> Option<Refusal> {
     let Some(members) = list.as_array() else {
         return refused_list(alloc, setting.number, list);
     };
     for (index, member) in members.iter().enumerate() {
-        let found = refused_member(alloc, setting, member)?;
+        let found = refused_member(alloc, setting, member);
         if found.is_some() {
             return at(alloc, Step::Item(index), found);
         }
     }
-    Ok(None)
+    None
 }
 
-fn refused_list(
-    alloc: Global,
-    number: u16,
-    list: &Value,
-) -> Result<Option<RefusedPart>, AllocError> {
+fn refused_list(alloc: Global, number: u16, list: &Value) -> Option<Refusal> {
     if number != 302 {
-        return Ok(None);
+        return None;
     }
     let says = ["a list of actions is wanted, and this is ", kind_of(list)];
     match list.as_str() {
@@ -51,38 +48,36 @@ fn refused_list(
     }
 }
 
-fn refused_member(
-    alloc: Global,
-    setting: Setting<'_>,
-    member: &Value,
-) -> Result<Option<RefusedPart>, AllocError> {
+fn refused_member(alloc: Global, setting: Setting<'_>, member: &Value) -> Option<Refusal> {
     if setting.number == 302 {
-        let found = refused_shape(alloc, member)?;
+        let found = refused_shape(alloc, member);
         if found.is_some() {
-            return Ok(found);
+            return found;
         }
     }
     let ty = text_at(member, "type");
     if let Some(ty) = ty {
-        let found = refused_name(alloc, setting.number, ty)?;
+        let found = refused_name(alloc, setting.number, ty);
         if found.is_some() {
             return at(alloc, Step::Key("type"), found);
         }
     }
     match text_at(member, "id") {
-        Some(id) if setting.number == 303 => undeclared_action(alloc, setting, ty, id),
-        _ => Ok(None),
+        Some(id) if setting.number == 303 => {
+            remembered(alloc, undeclared_action(alloc, setting, ty, id))
+        }
+        _ => None,
     }
 }
 
-fn refused_shape(alloc: Global, member: &Value) -> Result<Option<RefusedPart>, AllocError> {
-    let found = refused_keys(alloc, Part::Member, member)?;
+fn refused_shape(alloc: Global, member: &Value) -> Option<Refusal> {
+    let found = refused_keys(alloc, Part::Member, member);
     if found.is_some() {
-        return Ok(found);
+        return found;
     }
-    let found = refused_text(alloc, member, "id", "a member of `memberOf`")?;
+    let found = refused_text(alloc, member, "id", "a member of `memberOf`");
     if found.is_some() || member.get("type").is_none() {
-        return Ok(found);
+        return found;
     }
     refused_text(alloc, member, "type", "a member of `memberOf`")
 }
@@ -93,74 +88,49 @@ fn undeclared_action(
     setting: Setting<'_>,
     ty: Option<&str>,
     id: &str,
-) -> Result<Option<RefusedPart>, AllocError> {
+) -> Result<Option<Refusal>, AllocError> {
     let place = setting.declared.action(alloc, setting.namespace, ty, id)?;
     if place.is_some() {
         return Ok(None);
     }
-    let says = says_of(alloc, setting.namespace, ty, id)?;
-    let hint = hint_of(alloc, setting, ty, id)?;
+    let own = qualified(alloc, setting.namespace, "Action")?;
+    let mut says = Draft::new(alloc);
+    say_undeclared(&mut says, setting.namespace, ty, id);
+    let mut hint = Draft::new(alloc);
+    hint_action(
+        &mut hint,
+        setting,
+        ty.unwrap_or(own.as_str()),
+        own.as_str(),
+        id,
+    );
     Ok(Some(part_with(alloc, says, hint)))
 }
 
-fn says_of(
-    alloc: Global,
-    namespace: &str,
-    ty: Option<&str>,
-    id: &str,
-) -> Result<String, AllocError> {
-    let mut says = String::new(alloc);
-    match ty {
-        None => {
-            push_all(&mut says, &["there is no action `", shown(id), "`"])?;
-            push_namespace(&mut says, namespace)?;
-        }
-        Some(ty) => {
-            let uid = ["there is no action `", shown(ty), "::\"", shown(id), "\"`"];
-            push_all(&mut says, &uid)?;
-            if !has_colon(ty) {
-                push_namespaces(&mut says, namespace)?;
-            }
-        }
+fn say_undeclared(says: &mut Draft, namespace: &str, ty: Option<&str>, id: &str) {
+    let Some(ty) = ty else {
+        says.add_all(&["there is no action `", shown(id), "`"]);
+        say_namespace(says, namespace);
+        return;
+    };
+    says.add_all(&["there is no action `", shown(ty), "::\"", shown(id), "\"`"]);
+    if !has_colon(ty) {
+        say_namespaces(says, namespace);
     }
-    Ok(says)
 }
 
-// The action that is likely meant: one with the same id, or else the one of the namespace with the nearest id.
-fn hint_of(
-    alloc: Global,
-    setting: Setting<'_>,
-    ty: Option<&str>,
-    id: &str,
-) -> Result<Option<String>, AllocError> {
-    for (uid, _) in setting.declared.actions.iter() {
-        if uid.id.as_str() == id && is_plain(id) {
-            let hint = [
-                "write {\"id\":\"",
-                shown(id),
-                "\",\"type\":\"",
-                uid.ty.as_str(),
-                "\"}",
-            ];
-            return Ok(Some(joined(alloc, &hint)?));
-        }
-    }
-    let own = qualified(alloc, setting.namespace, "Action")?;
-    near_action(alloc, setting, ty.unwrap_or(own.as_str()), own.as_str(), id)
-}
-
-// The action with the nearest id whose type is one of two.
-fn near_action(
-    alloc: Global,
-    setting: Setting<'_>,
-    ty: &str,
-    own: &str,
-    id: &str,
-) -> Result<Option<String>, AllocError> {
+// Hints at the action that is likely meant: one with the same id, or else the one with the nearest id whose type is one of two.
+fn hint_action(hint: &mut Draft, setting: Setting<'_>, ty: &str, own: &str, id: &str) {
     let actions = &setting.declared.actions;
-    match nearest_action(Nearest::new(id), actions, ty, own).name() {
-        Some(meant) => Ok(Some(joined(alloc, &["is `", meant, "` meant?"])?)),
-        None => Ok(None),
+    for (uid, _) in actions.iter() {
+        if uid.id.as_str() == id && is_plain(id) {
+            let name = uid.ty.as_str();
+            hint.add_all(&["write {\"id\":\"", id, "\",\"type\":\"", name, "\"}"]);
+            return;
+        }
+    }
+    if let Some(meant) = nearest_action(Nearest::new(id), actions, ty, own).name() {
+        hint.add_all(&["is `", meant, "` meant?"]);
     }
 }
 

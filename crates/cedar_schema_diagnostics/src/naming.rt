@@ -1,6 +1,6 @@
 //! Names that are not names, and reserved ones.
 use crate::built_in::meant_built_in;
-use crate::part::{RefusedPart, part_of};
+use crate::part::{Refusal, part_of, remembered};
 use crate::text::shown;
 use cedar_schema_json::{SchemaFault, has_colon, read_name};
 use std::alloc::{AllocError, Global};
@@ -10,30 +10,26 @@ const RULE: &str =
     "write identifiers with `::` between them: letters, digits and `_`, no digit first, no reserved word such as `in`";
 
 /// Why a text is not a name (302), or is a reserved one (306), if that is what the number says; or none.
-pub(crate) fn refused_name(
-    alloc: Global,
-    number: u16,
-    text: &str,
-) -> Result<Option<RefusedPart>, AllocError> {
+pub(crate) fn refused_name(alloc: Global, number: u16, text: &str) -> Option<Refusal> {
     if number != 302 && number != 306 {
-        return Ok(None);
+        return None;
     }
     match read_name(alloc, text) {
         Ok(name) => {
             drop(name);
-            Ok(None)
+            None
         }
-        Err(SchemaFault::OutOfMemory) => Err(AllocError),
+        Err(SchemaFault::OutOfMemory) => remembered(alloc, Err(AllocError)),
         Err(SchemaFault::ReservedName) if number == 306 => reserved_name(alloc, text),
         Err(SchemaFault::Shape) if number == 302 => {
             part_of(alloc, &["`", shown(text), "` is not a name"], &[RULE])
         }
-        Err(_) => Ok(None),
+        Err(_) => None,
     }
 }
 
 // A name with the word `__cedar`. In Cedar it may begin the name of a built-in type.
-fn reserved_name(alloc: Global, text: &str) -> Result<Option<RefusedPart>, AllocError> {
+fn reserved_name(alloc: Global, text: &str) -> Option<Refusal> {
     let says = ["`", shown(text), "` has the reserved word `__cedar`"];
     let meant = match text.strip_prefix("__cedar::") {
         Some(rest) => meant_built_in(rest),
@@ -50,14 +46,10 @@ fn reserved_name(alloc: Global, text: &str) -> Result<Option<RefusedPart>, Alloc
 }
 
 /// Why a key is not an identifier (302), or is reserved (306), if that is what the number says; or none.
-pub(crate) fn refused_identifier(
-    alloc: Global,
-    number: u16,
-    key: &str,
-) -> Result<Option<RefusedPart>, AllocError> {
-    let found = refused_name(alloc, number, key)?;
+pub(crate) fn refused_identifier(alloc: Global, number: u16, key: &str) -> Option<Refusal> {
+    let found = refused_name(alloc, number, key);
     if found.is_some() || number != 302 || !has_colon(key) {
-        return Ok(found);
+        return found;
     }
     let says = [
         "the key `",

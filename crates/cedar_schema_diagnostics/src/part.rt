@@ -1,6 +1,7 @@
 //! The part of a schema that is refused.
-use crate::step::{Step, push_step};
+use crate::step::{Step, add_step};
 use crate::text::joined;
+use base_places::Draft;
 use std::alloc::{AllocError, Global};
 
 /// The part of a schema's JSON for which it is refused.
@@ -17,68 +18,75 @@ pub struct RefusedPart {
     pub hint: Option<String>,
 }
 
-impl RefusedPart {
-    // Puts a step before the path.
-    fn prepend(&mut self, alloc: Global, step: Step<'_>) -> Result<(), AllocError> {
-        let mut path = String::new(alloc);
-        push_step(&mut path, step)?;
-        path.push_str(self.path.as_str())?;
-        self.path = path;
-        Ok(())
+/// What is said of a refused part. It remembers if memory was refused while the part was looked for.
+#[derive(Drop)]
+pub(crate) struct Refusal {
+    path: Draft,
+    says: Draft,
+    hint: Draft,
+}
+
+impl Refusal {
+    // The same, seen from the JSON from which a step leads.
+    fn seen_from(self, alloc: Global, step: Step<'_>) -> Refusal {
+        let mut path = Draft::new(alloc);
+        add_step(&mut path, step);
+        path.add_made(self.path.done());
+        Refusal {
+            path,
+            says: self.says,
+            hint: self.hint,
+        }
+    }
+
+    /// The part. Without any words there is no hint.
+    ///
+    /// # Errors
+    ///
+    /// Fails only when out of memory, now or while the part was looked for.
+    pub(crate) fn done(self) -> Result<RefusedPart, AllocError> {
+        let hint = self.hint.done()?;
+        Ok(RefusedPart {
+            path: self.path.done()?,
+            says: self.says.done()?,
+            hint: if hint.is_empty() { None } else { Some(hint) },
+        })
     }
 }
 
 /// What is refused at a step, seen from the JSON from which the step leads.
-pub(crate) fn at(
-    alloc: Global,
-    step: Step<'_>,
-    found: Option<RefusedPart>,
-) -> Result<Option<RefusedPart>, AllocError> {
+pub(crate) fn at(alloc: Global, step: Step<'_>, found: Option<Refusal>) -> Option<Refusal> {
     match found {
-        Some(part) => {
-            let mut part = part;
-            part.prepend(alloc, step)?;
-            Ok(Some(part))
-        }
-        None => Ok(None),
+        Some(refusal) => Some(refusal.seen_from(alloc, step)),
+        None => None,
     }
 }
 
 /// A part with the empty path.
-pub(crate) fn part_with(alloc: Global, says: String, hint: Option<String>) -> RefusedPart {
-    RefusedPart {
-        path: String::new(alloc),
+pub(crate) fn part_with(alloc: Global, says: Draft, hint: Draft) -> Refusal {
+    Refusal {
+        path: Draft::new(alloc),
         says,
         hint,
     }
 }
 
-/// A part with the empty path, of which these texts say what is wrong and what may be written.
-pub(crate) fn part_saying(
-    alloc: Global,
-    says: &str,
-    hint: &str,
-) -> Result<Option<RefusedPart>, AllocError> {
-    let says = String::from_str(alloc, says)?;
-    let hint = String::from_str(alloc, hint)?;
-    Ok(Some(part_with(alloc, says, Some(hint))))
-}
-
 /// A part with the empty path, of which these pieces say what is wrong. Without pieces there is no hint.
-pub(crate) fn part_of(
-    alloc: Global,
-    says: &[&str],
-    hint: &[&str],
-) -> Result<Option<RefusedPart>, AllocError> {
-    let says = joined(alloc, says)?;
-    let hint = hint_of(alloc, hint)?;
-    Ok(Some(part_with(alloc, says, hint)))
+pub(crate) fn part_of(alloc: Global, says: &[&str], hint: &[&str]) -> Option<Refusal> {
+    Some(part_with(alloc, joined(alloc, says), joined(alloc, hint)))
 }
 
-fn hint_of(alloc: Global, pieces: &[&str]) -> Result<Option<String>, AllocError> {
-    if pieces.is_empty() {
-        return Ok(None);
+/// What was found, or a part that remembers that memory was refused.
+pub(crate) fn remembered(
+    alloc: Global,
+    found: Result<Option<Refusal>, AllocError>,
+) -> Option<Refusal> {
+    match found {
+        Ok(found) => found,
+        Err(AllocError) => {
+            let mut says = Draft::new(alloc);
+            says.add_made(Err(AllocError));
+            Some(part_with(alloc, says, Draft::new(alloc)))
+        }
     }
-    let hint = joined(alloc, pieces)?;
-    Ok(Some(hint))
 }

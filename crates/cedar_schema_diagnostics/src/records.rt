@@ -1,9 +1,9 @@
 //! Shapes and contexts: types that are records.
 use crate::forms::Forms;
-use crate::part::{RefusedPart, at, part_of, part_with};
+use crate::part::{Refusal, at, part_of, remembered};
 use crate::setting::Setting;
 use crate::step::Step;
-use crate::text::{joined, shown};
+use crate::text::shown;
 use crate::types::refused_in_type;
 use cedar_schema_json::text_at;
 use serde_json::Value;
@@ -17,11 +17,11 @@ pub(crate) fn refused_record(
     json: &Value,
     key: &str,
     what: &str,
-) -> Result<Option<RefusedPart>, AllocError> {
+) -> Option<Refusal> {
     let Some(record) = json.get(key) else {
-        return Ok(None);
+        return None;
     };
-    let found = refused_whole(alloc, setting, record, what)?;
+    let found = refused_whole(alloc, setting, record, what);
     at(alloc, Step::Key(key), found)
 }
 
@@ -30,15 +30,15 @@ fn refused_whole(
     setting: Setting<'_>,
     record: &Value,
     what: &str,
-) -> Result<Option<RefusedPart>, AllocError> {
-    let found = refused_in_type(alloc, setting, record)?;
+) -> Option<Refusal> {
+    let found = refused_in_type(alloc, setting, record);
     if found.is_some() {
-        return Ok(found);
+        return found;
     }
     match (setting.forms, setting.number) {
         (Some(forms), 302) => refused_other(alloc, forms, setting.namespace, record, what),
         (Some(forms), 309) => refused_size(alloc, forms, setting.namespace, record),
-        _ => Ok(None),
+        _ => None,
     }
 }
 
@@ -49,21 +49,24 @@ fn refused_other(
     namespace: &str,
     json: &Value,
     what: &str,
-) -> Result<Option<RefusedPart>, AllocError> {
-    if !forms.is_other(alloc, namespace, json)? {
-        return Ok(None);
+) -> Option<Refusal> {
+    match forms.is_other(alloc, namespace, json) {
+        Ok(false) => None,
+        Ok(true) => {
+            let name = text_at(json, "type").unwrap_or("");
+            part_of(
+                alloc,
+                &[
+                    what,
+                    " has to be a record, and `",
+                    shown(name),
+                    "` is not one",
+                ],
+                &["write {\"type\":\"Record\",\"attributes\":{..}}"],
+            )
+        }
+        Err(AllocError) => remembered(alloc, Err(AllocError)),
     }
-    let name = text_at(json, "type").unwrap_or("");
-    part_of(
-        alloc,
-        &[
-            shown(what),
-            " has to be a record, and `",
-            shown(name),
-            "` is not one",
-        ],
-        &["write {\"type\":\"Record\",\"attributes\":{..}}"],
-    )
 }
 
 /// Why a type is too large (309), or none.
@@ -72,12 +75,10 @@ pub(crate) fn refused_size(
     forms: &Forms,
     namespace: &str,
     json: &Value,
-) -> Result<Option<RefusedPart>, AllocError> {
-    match forms.excess(alloc, namespace, json)? {
-        Some(excess) => {
-            let says = joined(alloc, &["with its common types expanded, ", shown(excess)])?;
-            Ok(Some(part_with(alloc, says, None)))
-        }
-        None => Ok(None),
+) -> Option<Refusal> {
+    match forms.excess(alloc, namespace, json) {
+        Ok(None) => None,
+        Ok(Some(excess)) => part_of(alloc, &["with its common types expanded, ", excess], &[]),
+        Err(AllocError) => remembered(alloc, Err(AllocError)),
     }
 }

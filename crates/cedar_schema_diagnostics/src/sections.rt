@@ -4,11 +4,11 @@ use crate::common_types::refused_common_type;
 use crate::declared::Declared;
 use crate::entity_types::refused_entity_type;
 use crate::forms::Forms;
-use crate::part::{RefusedPart, at};
+use crate::part::{Refusal, at};
 use crate::setting::Setting;
 use crate::step::Step;
 use serde_json::{Map, Value};
-use std::alloc::{AllocError, Global};
+use std::alloc::Global;
 
 // A section of a namespace.
 #[derive(Clone, Copy)]
@@ -35,7 +35,7 @@ pub(crate) fn refused_entries(
     root: &Map<String, Value>,
     declared: &Declared,
     forms: Option<&Forms>,
-) -> Result<Option<RefusedPart>, AllocError> {
+) -> Option<Refusal> {
     let setting = Setting {
         number,
         namespace: "",
@@ -43,12 +43,12 @@ pub(crate) fn refused_entries(
         forms,
     };
     for section in [Section::CommonTypes, Section::EntityTypes, Section::Actions] {
-        let found = refused_section(alloc, setting, root, section)?;
+        let found = refused_section(alloc, setting, root, section);
         if found.is_some() {
-            return Ok(found);
+            return found;
         }
     }
-    Ok(None)
+    None
 }
 
 // The first entry of the sections of this name that is refused, or none.
@@ -57,14 +57,14 @@ fn refused_section(
     setting: Setting<'_>,
     root: &Map<String, Value>,
     section: Section,
-) -> Result<Option<RefusedPart>, AllocError> {
+) -> Option<Refusal> {
     for (namespace, space) in root.iter() {
-        let found = refused_in_space(alloc, setting, namespace.as_str(), space, section)?;
+        let found = refused_in_space(alloc, setting, namespace.as_str(), space, section);
         if found.is_some() {
             return at(alloc, Step::Namespace(namespace.as_str()), found);
         }
     }
-    Ok(None)
+    None
 }
 
 fn refused_in_space(
@@ -73,9 +73,9 @@ fn refused_in_space(
     namespace: &str,
     space: &Value,
     section: Section,
-) -> Result<Option<RefusedPart>, AllocError> {
+) -> Option<Refusal> {
     let Some(members) = space.get(section.key()).and_then(Value::as_object) else {
-        return Ok(None);
+        return None;
     };
     let own = Setting {
         number: setting.number,
@@ -84,13 +84,13 @@ fn refused_in_space(
         forms: setting.forms,
     };
     for (key, body) in members.iter() {
-        let found = refused_entry(alloc, own, section, key.as_str(), body)?;
+        let found = refused_entry(alloc, own, section, key.as_str(), body);
         if found.is_some() {
-            let found = at(alloc, Step::Key(key.as_str()), found)?;
+            let found = at(alloc, Step::Key(key.as_str()), found);
             return at(alloc, Step::Key(section.key()), found);
         }
     }
-    Ok(None)
+    None
 }
 
 fn refused_entry(
@@ -99,7 +99,7 @@ fn refused_entry(
     section: Section,
     key: &str,
     body: &Value,
-) -> Result<Option<RefusedPart>, AllocError> {
+) -> Option<Refusal> {
     match section {
         Section::CommonTypes => refused_common_type(alloc, setting, key, body),
         Section::EntityTypes => refused_entity_type(alloc, setting, key, body),

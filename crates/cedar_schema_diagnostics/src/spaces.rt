@@ -1,12 +1,12 @@
 //! Namespaces, without the entries of their sections.
 use crate::keys::{has_key, refused_keys, refused_object};
 use crate::naming::refused_name;
-use crate::part::{RefusedPart, at, part_of};
+use crate::part::{Refusal, at, part_of};
 use crate::step::Step;
 use crate::text::shown;
 use cedar_schema_json::Part;
 use serde_json::{Map, Value};
-use std::alloc::{AllocError, Global};
+use std::alloc::Global;
 
 const SECTIONS: [&str; 3] = ["entityTypes", "actions", "commonTypes"];
 
@@ -15,43 +15,38 @@ pub(crate) fn refused_spaces(
     alloc: Global,
     number: u16,
     root: &Map<String, Value>,
-) -> Result<Option<RefusedPart>, AllocError> {
+) -> Option<Refusal> {
     for (namespace, space) in root.iter() {
-        let found = refused_space(alloc, number, namespace.as_str(), space)?;
+        let found = refused_space(alloc, number, namespace.as_str(), space);
         if found.is_some() {
             return at(alloc, Step::Namespace(namespace.as_str()), found);
         }
     }
-    Ok(None)
+    None
 }
 
-fn refused_space(
-    alloc: Global,
-    number: u16,
-    namespace: &str,
-    space: &Value,
-) -> Result<Option<RefusedPart>, AllocError> {
+fn refused_space(alloc: Global, number: u16, namespace: &str, space: &Value) -> Option<Refusal> {
     if !namespace.is_empty() {
-        let found = refused_name(alloc, number, namespace)?;
+        let found = refused_name(alloc, number, namespace);
         if found.is_some() {
-            return Ok(found);
+            return found;
         }
     }
     if number != 302 {
-        return Ok(None);
+        return None;
     }
-    let found = refused_keys(alloc, Part::Namespace, space)?;
+    let found = refused_keys(alloc, Part::Namespace, space);
     if found.is_none() {
         return refused_sections(alloc, space);
     }
     if has_key(&SECTIONS, namespace) {
         return outside_namespaces(alloc, namespace);
     }
-    Ok(found)
+    found
 }
 
 // A section that is not in a namespace.
-fn outside_namespaces(alloc: Global, key: &str) -> Result<Option<RefusedPart>, AllocError> {
+fn outside_namespaces(alloc: Global, key: &str) -> Option<Refusal> {
     part_of(
         alloc,
         &["`", shown(key), "` is here the name of a namespace"],
@@ -59,7 +54,7 @@ fn outside_namespaces(alloc: Global, key: &str) -> Result<Option<RefusedPart>, A
     )
 }
 
-fn refused_sections(alloc: Global, space: &Value) -> Result<Option<RefusedPart>, AllocError> {
+fn refused_sections(alloc: Global, space: &Value) -> Option<Refusal> {
     for key in SECTIONS {
         if let Some(section) = space.get(key)
             && !section.is_object()
@@ -67,5 +62,5 @@ fn refused_sections(alloc: Global, space: &Value) -> Result<Option<RefusedPart>,
             return refused_object(alloc, key, section);
         }
     }
-    Ok(None)
+    None
 }

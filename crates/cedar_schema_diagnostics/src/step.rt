@@ -1,7 +1,6 @@
 //! Steps from a JSON to a part of it.
 use crate::text::shown;
-use std::alloc::AllocError;
-use std::fmt::Write;
+use base_places::Draft;
 
 /// A step from a JSON to a part of it.
 #[derive(Clone, Copy)]
@@ -14,31 +13,36 @@ pub(crate) enum Step<'j> {
     Item(usize),
 }
 
-/// Appends a step as a path writes it: `Shop`, `.actions`, `."view all"` or `[0]`.
-pub(crate) fn push_step(path: &mut String, step: Step<'_>) -> Result<(), AllocError> {
+/// Adds a step as a path writes it: `Shop`, `.actions`, `."view all"` or `[0]`.
+pub(crate) fn add_step(path: &mut Draft, step: Step<'_>) {
     match step {
-        Step::Namespace(name) => push_key(path, shown(name)),
+        Step::Namespace(name) => add_key(path, shown(name)),
         Step::Key(key) => {
-            path.push('.')?;
-            push_key(path, shown(key))
+            path.add_char('.');
+            add_key(path, shown(key));
         }
-        Step::Item(index) => write!(path, "[{index}]"),
+        Step::Item(index) => {
+            path.add_char('[');
+            path.add_display(index);
+            path.add_char(']');
+        }
     }
 }
 
-// Appends a key: an identifier as it is, another text in quotes.
-fn push_key(path: &mut String, key: &str) -> Result<(), AllocError> {
+// Adds a key: an identifier as it is, another text in quotes.
+fn add_key(path: &mut Draft, key: &str) {
     if is_identifier(key.as_bytes()) {
-        return path.push_str(key);
+        path.add(key);
+        return;
     }
-    path.push('"')?;
+    path.add_char('"');
     for character in key.chars() {
         if character == '"' || character == '\\' {
-            path.push('\\')?;
+            path.add_char('\\');
         }
-        path.push(character)?;
+        path.add_char(character);
     }
-    path.push('"')
+    path.add_char('"');
 }
 
 fn is_identifier(key: &[u8]) -> bool {

@@ -1,5 +1,6 @@
 //! Texts that are put together of pieces.
-use std::alloc::{AllocError, Global};
+use base_places::Draft;
+use std::alloc::Global;
 
 /// How many bytes of a name are shown at most.
 const MOST: usize = 80;
@@ -24,17 +25,9 @@ fn is_plain_byte(byte: u8) -> bool {
     byte >= b' ' && byte != b'"' && byte != b'\\'
 }
 
-/// Appends the pieces, one after another.
-pub(crate) fn push_all(text: &mut String, pieces: &[&str]) -> Result<(), AllocError> {
-    for piece in pieces {
-        text.push_str(*piece)?;
-    }
-    Ok(())
-}
-
 /// The pieces, one after another.
-pub(crate) fn joined(alloc: Global, pieces: &[&str]) -> Result<String, AllocError> {
-    let mut text = String::new(alloc);
-    push_all(&mut text, pieces)?;
-    Ok(text)
+pub(crate) fn joined(alloc: Global, pieces: &[&str]) -> Draft {
+    let mut text = Draft::new(alloc);
+    text.add_all(pieces);
+    text
 }

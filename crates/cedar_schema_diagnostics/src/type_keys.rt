@@ -2,7 +2,7 @@
 use crate::built_in::{is_built_in, meant_built_in};
 use crate::keys::{has_key, unknown_key};
 use crate::left_out::{ANNOTATIONS, WITHOUT_ANNOTATIONS, entity_or_common};
-use crate::part::{RefusedPart, at, part_of, part_saying};
+use crate::part::{Refusal, at, part_of, remembered};
 use crate::step::Step;
 use crate::text::{joined, shown};
 use serde_json::{Map, Value};
@@ -61,32 +61,27 @@ pub(crate) fn refused_type_keys(
     members: &Map<String, Value>,
     text: &str,
     is_attribute: bool,
-) -> Result<Option<RefusedPart>, AllocError> {
+) -> Option<Refusal> {
     for (key, _) in members.iter() {
         if !has_key(keys_of(text, is_attribute), key.as_str()) {
             return refused_type_key(alloc, text, key.as_str(), is_attribute);
         }
     }
-    Ok(None)
+    None
 }
 
-fn refused_type_key(
-    alloc: Global,
-    text: &str,
-    key: &str,
-    is_attribute: bool,
-) -> Result<Option<RefusedPart>, AllocError> {
+fn refused_type_key(alloc: Global, text: &str, key: &str, is_attribute: bool) -> Option<Refusal> {
     if text == "EntityOrCommon" && key == "name" {
         return entity_or_common(alloc);
     }
     let found = match key {
-        "annotations" => part_saying(alloc, ANNOTATIONS, WITHOUT_ANNOTATIONS)?,
+        "annotations" => part_of(alloc, &[ANNOTATIONS], &[WITHOUT_ANNOTATIONS]),
         "required" => part_of(
             alloc,
             &["only an attribute of a record has `required`"],
             &["remove `required`"],
-        )?,
-        _ => other_key(alloc, text, key, is_attribute)?,
+        ),
+        _ => remembered(alloc, other_key(alloc, text, key, is_attribute)),
     };
     at(alloc, Step::Key(key), found)
 }
@@ -96,16 +91,17 @@ fn other_key(
     text: &str,
     key: &str,
     is_attribute: bool,
-) -> Result<Option<RefusedPart>, AllocError> {
-    let what = joined(alloc, &["the type `", shown(text), "`"])?;
-    match meant_with_key(text, key) {
-        Some(meant) => part_of(
-            alloc,
-            &[what.as_str(), " has no key `", shown(key), "`"],
-            &["is the type `", shown(meant), "` meant?"],
-        ),
-        None => unknown_key(alloc, what.as_str(), key, keys_of(text, is_attribute)),
-    }
+) -> Result<Option<Refusal>, AllocError> {
+    let what = joined(alloc, &["the type `", shown(text), "`"]).done()?;
+    let Some(meant) = meant_with_key(text, key) else {
+        let keys = keys_of(text, is_attribute);
+        return Ok(Some(unknown_key(alloc, what.as_str(), key, keys)));
+    };
+    Ok(part_of(
+        alloc,
+        &[what.as_str(), " has no key `", shown(key), "`"],
+        &["is the type `", shown(meant), "` meant?"],
+    ))
 }
 
 // The built-in type that is likely meant by another name, if it has the key.

@@ -3,12 +3,13 @@ use crate::built_in::{is_built_in, meant_built_in};
 use crate::declared::is_declared;
 use crate::left_out::{entity_or_common, left_out_extension};
 use crate::naming::refused_name;
-use crate::part::{RefusedPart, at, part_of, part_with};
+use crate::part::{Refusal, at, part_of, part_with, remembered};
 use crate::setting::Setting;
 use crate::step::Step;
-use crate::text::{joined, push_all, shown};
-use crate::undeclared::{last_word, meant_hint, meant_name, push_nowhere};
+use crate::text::shown;
+use crate::undeclared::{as_written, last_word, meant_name, say_nowhere};
 use base_names::apart;
+use base_places::Draft;
 use std::alloc::{AllocError, Global};
 
 /// Why the name of an entity type is refused (302, 303, 306), or none. `is_type` says whether it is in a type, and not in a list.
@@ -17,76 +18,67 @@ pub(crate) fn refused_entity_name(
     setting: Setting<'_>,
     text: &str,
     is_type: bool,
-) -> Result<Option<RefusedPart>, AllocError> {
-    let found = refused_name(alloc, setting.number, text)?;
+) -> Option<Refusal> {
+    let found = refused_name(alloc, setting.number, text);
     if found.is_some() || setting.number != 303 {
-        return Ok(found);
+        return found;
     }
-    if is_declared(alloc, &setting.declared.entities, setting.namespace, text)? {
-        return Ok(None);
-    }
-    let mut says = String::new(alloc);
-    push_nowhere(&mut says, "entity type", text, setting.namespace)?;
-    let hint = entity_hint(alloc, setting, text, is_type)?;
-    Ok(Some(part_with(alloc, says, hint)))
+    remembered(alloc, undeclared_entity(alloc, setting, text, is_type))
 }
 
-fn entity_hint(
+fn undeclared_entity(
     alloc: Global,
     setting: Setting<'_>,
     text: &str,
     is_type: bool,
-) -> Result<Option<String>, AllocError> {
+) -> Result<Option<Refusal>, AllocError> {
+    if is_declared(alloc, &setting.declared.entities, setting.namespace, text)? {
+        return Ok(None);
+    }
+    let is_common = is_declared(alloc, &setting.declared.commons, setting.namespace, text)?;
+    let mut says = Draft::new(alloc);
+    say_nowhere(&mut says, "entity type", text, setting.namespace);
+    let mut hint = Draft::new(alloc);
+    hint_entity(&mut hint, setting, text, is_type, is_common);
+    Ok(Some(part_with(alloc, says, hint)))
+}
+
+// Hints what is meant by the name of an entity type that is not declared.
+fn hint_entity(hint: &mut Draft, setting: Setting<'_>, text: &str, is_type: bool, is_common: bool) {
+    let name = shown(text);
     if is_built_in(text) && is_type {
-        return written_as(alloc, text, "a built-in type");
-    }
-    if is_declared(alloc, &setting.declared.commons, setting.namespace, text)? {
-        if is_type {
-            return written_as(alloc, text, "a common type");
-        }
-        let hint = joined(
-            alloc,
-            &[
-                "`",
-                shown(text),
-                "` is a common type, and an entity type is wanted",
-            ],
-        )?;
-        return Ok(Some(hint));
-    }
-    if last_word(text) == "Action" {
-        let hint = joined(
-            alloc,
-            &[
-                "`",
-                shown(text),
-                "` is the type of actions, and not an entity type",
-            ],
-        )?;
-        return Ok(Some(hint));
-    }
-    match meant_name(alloc, &setting.declared.entities, setting.namespace, text)? {
-        Some(name) => {
-            let hint = meant_hint(alloc, "is `", &name, setting.namespace, "` meant?")?;
-            Ok(Some(hint))
-        }
-        None => Ok(None),
+        hint_written(hint, name, "a built-in type");
+    } else if is_common && is_type {
+        hint_written(hint, name, "a common type");
+    } else if is_common {
+        hint.add_all(&[
+            "`",
+            name,
+            "` is a common type, and an entity type is wanted",
+        ]);
+    } else if last_word(text) == "Action" {
+        hint.add_all(&[
+            "`",
+            name,
+            "` is the type of actions, and not an entity type",
+        ]);
+    } else if let Some(meant) = meant_name(&setting.declared.entities, setting.namespace, text) {
+        let meant = as_written(meant.as_str(), setting.namespace);
+        hint.add_all(&["is `", meant, "` meant?"]);
     }
 }
 
-// How to write a type that is not an entity type.
-fn written_as(alloc: Global, text: &str, what: &str) -> Result<Option<String>, AllocError> {
-    let name = shown(text);
-    let hint = [
+// Hints how to write a type that is not an entity type.
+fn hint_written(hint: &mut Draft, name: &str, what: &str) {
+    hint.add_all(&[
         "`",
-        shown(name),
+        name,
         "` is ",
-        shown(what),
+        what,
         ": write {\"type\":\"",
-        shown(name),
+        name,
         "\"}",
-    ];
-    Ok(Some(joined(alloc, &hint)?))
+    ]);
 }
 
 /// Why the name at the key `type` is refused where it is not that of a built-in type (302, 303, 306), or none.
@@ -94,124 +86,100 @@ pub(crate) fn refused_type_name(
     alloc: Global,
     setting: Setting<'_>,
     text: &str,
-) -> Result<Option<RefusedPart>, AllocError> {
-    let found = refused_name(alloc, setting.number, text)?;
+) -> Option<Refusal> {
+    let found = refused_name(alloc, setting.number, text);
     if found.is_some() {
         return at(alloc, Step::Key("type"), found);
     }
-    if setting.number != 303
-        || is_declared(alloc, &setting.declared.commons, setting.namespace, text)?
-    {
-        return Ok(None);
+    if setting.number != 303 {
+        return None;
     }
-    if text == "EntityOrCommon" {
-        return entity_or_common(alloc);
-    }
-    let found = undeclared_type(alloc, setting, text)?;
-    at(alloc, Step::Key("type"), found)
+    remembered(alloc, undeclared_type(alloc, setting, text))
 }
 
 fn undeclared_type(
     alloc: Global,
     setting: Setting<'_>,
     text: &str,
-) -> Result<Option<RefusedPart>, AllocError> {
+) -> Result<Option<Refusal>, AllocError> {
+    if is_declared(alloc, &setting.declared.commons, setting.namespace, text)? {
+        return Ok(None);
+    }
+    if text == "EntityOrCommon" {
+        return Ok(entity_or_common(alloc));
+    }
     if left_out_extension(text).is_some() {
-        return undeclared_extension(alloc, text);
+        return Ok(at(alloc, Step::Key("type"), undeclared_extension(alloc, text)));
     }
-    let mut says = String::new(alloc);
-    push_all(
-        &mut says,
-        &["`", shown(text), "` is not a built-in type, and "],
-    )?;
-    push_nowhere(&mut says, "common type", text, setting.namespace)?;
-    let hint = type_hint(alloc, setting, text)?;
-    Ok(Some(part_with(alloc, says, hint)))
+    let is_entity = is_declared(alloc, &setting.declared.entities, setting.namespace, text)?;
+    let mut says = Draft::new(alloc);
+    says.add_all(&["`", shown(text), "` is not a built-in type, and "]);
+    say_nowhere(&mut says, "common type", text, setting.namespace);
+    let mut hint = Draft::new(alloc);
+    hint_type(&mut hint, setting, text, is_entity);
+    let part = Some(part_with(alloc, says, hint));
+    Ok(at(alloc, Step::Key("type"), part))
 }
 
-fn type_hint(
-    alloc: Global,
-    setting: Setting<'_>,
-    text: &str,
-) -> Result<Option<String>, AllocError> {
+// Hints what is meant by the name of a type that is not declared.
+fn hint_type(hint: &mut Draft, setting: Setting<'_>, text: &str, is_entity: bool) {
     if text == "decimal" {
-        let hint = joined(
-            alloc,
-            &["write {\"type\":\"Extension\",\"name\":\"decimal\"}"],
-        )?;
-        return Ok(Some(hint));
-    }
-    if is_declared(alloc, &setting.declared.entities, setting.namespace, text)? {
+        hint.add("write {\"type\":\"Extension\",\"name\":\"decimal\"}");
+    } else if is_entity {
         let name = shown(text);
-        let hint = [
+        hint.add_all(&[
             "`",
-            shown(name),
+            name,
             "` is an entity type: write {\"type\":\"Entity\",\"name\":\"",
-            shown(name),
+            name,
             "\"}",
-        ];
-        return Ok(Some(joined(alloc, &hint)?));
+        ]);
+    } else if let Some(meant) = meant_built_in(text) {
+        hint.add_all(&["is `", meant, "` meant?"]);
+    } else {
+        hint_meant(hint, setting, text);
     }
-    if let Some(meant) = meant_built_in(text) {
-        return Ok(Some(joined(alloc, &["is `", shown(meant), "` meant?"])?));
-    }
-    meant_type(alloc, setting, text)
 }
 
-// The common type, or else the entity type, that is likely meant.
-fn meant_type(
-    alloc: Global,
-    setting: Setting<'_>,
-    text: &str,
-) -> Result<Option<String>, AllocError> {
-    if let Some(name) = meant_name(alloc, &setting.declared.commons, setting.namespace, text)? {
-        let hint = meant_hint(alloc, "is `", &name, setting.namespace, "` meant?")?;
-        return Ok(Some(hint));
-    }
-    match meant_name(alloc, &setting.declared.entities, setting.namespace, text)? {
-        Some(name) => {
-            let before = "is {\"type\":\"Entity\",\"name\":\"";
-            let hint = meant_hint(alloc, before, &name, setting.namespace, "\"} meant?")?;
-            Ok(Some(hint))
-        }
-        None => Ok(None),
+// Hints at the common type, or else the entity type, that is likely meant.
+fn hint_meant(hint: &mut Draft, setting: Setting<'_>, text: &str) {
+    let space = setting.namespace;
+    if let Some(name) = meant_name(&setting.declared.commons, space, text) {
+        hint.add_all(&["is `", as_written(name.as_str(), space), "` meant?"]);
+    } else if let Some(name) = meant_name(&setting.declared.entities, space, text) {
+        let name = as_written(name.as_str(), space);
+        hint.add_all(&["is {\"type\":\"Entity\",\"name\":\"", name, "\"} meant?"]);
     }
 }
 
 /// Why the name of an extension type is refused (302, 303, 306), or none.
-pub(crate) fn refused_extension_name(
-    alloc: Global,
-    number: u16,
-    text: &str,
-) -> Result<Option<RefusedPart>, AllocError> {
+pub(crate) fn refused_extension_name(alloc: Global, number: u16, text: &str) -> Option<Refusal> {
     if text == "decimal" {
-        return Ok(None);
+        return None;
     }
-    let found = refused_name(alloc, number, text)?;
+    let found = refused_name(alloc, number, text);
     if found.is_some() || number != 303 {
-        return Ok(found);
+        return found;
     }
     undeclared_extension(alloc, text)
 }
 
-fn undeclared_extension(alloc: Global, text: &str) -> Result<Option<RefusedPart>, AllocError> {
+fn undeclared_extension(alloc: Global, text: &str) -> Option<Refusal> {
+    let says = [
+        "the extension type `",
+        shown(text),
+        "` is not in this engine",
+    ];
     if let Some(hint) = left_out_extension(text) {
-        let says = [
-            "the extension type `",
-            shown(text),
-            "` is not in this engine",
-        ];
-        let says = joined(alloc, &says)?;
-        let hint = String::from_str(alloc, hint)?;
-        return Ok(Some(part_with(alloc, says, Some(hint))));
+        return part_of(alloc, &says, &[hint]);
     }
     let says = [
         "there is no extension type `",
         shown(text),
         "`: `decimal` is the only one",
     ];
-    if apart(text, "decimal").is_some() {
-        return part_of(alloc, &says, &["is `decimal` meant?"]);
+    match apart(text, "decimal") {
+        Some(_) => part_of(alloc, &says, &["is `decimal` meant?"]),
+        None => part_of(alloc, &says, &[]),
     }
-    part_of(alloc, &says, &[])
 }

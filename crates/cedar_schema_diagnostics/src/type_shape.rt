@@ -2,27 +2,23 @@
 use crate::built_in::meant_built_in;
 use crate::keys::{refused_object, refused_text};
 use crate::kinds::kind_of;
-use crate::part::{RefusedPart, at, part_of};
+use crate::part::{Refusal, at, part_of};
 use crate::step::Step;
 use crate::text::{is_plain, shown};
 use crate::type_keys::refused_type_keys;
 use serde_json::{Map, Value};
-use std::alloc::{AllocError, Global};
+use std::alloc::Global;
 
 /// Why the JSON of a type, or of an attribute, has another shape than the format allows (302), or none. The types in it are not looked
 /// at.
-pub(crate) fn refused_shape(
-    alloc: Global,
-    json: &Value,
-    is_attribute: bool,
-) -> Result<Option<RefusedPart>, AllocError> {
+pub(crate) fn refused_shape(alloc: Global, json: &Value, is_attribute: bool) -> Option<Refusal> {
     let Some(members) = json.as_object() else {
         return refused_kind(alloc, json);
     };
     if is_attribute {
-        let found = refused_truth(alloc, json, "required", "true or false")?;
+        let found = refused_truth(alloc, json, "required", "true or false");
         if found.is_some() {
-            return Ok(found);
+            return found;
         }
     }
     match json.get("type") {
@@ -34,7 +30,7 @@ pub(crate) fn refused_shape(
                 alloc,
                 &["a string is wanted, and this is ", kind_of(other)],
                 &[],
-            )?;
+            );
             at(alloc, Step::Key("type"), found)
         }
         None => without_type(alloc, json),
@@ -42,7 +38,7 @@ pub(crate) fn refused_shape(
 }
 
 // A type that is not an object.
-fn refused_kind(alloc: Global, json: &Value) -> Result<Option<RefusedPart>, AllocError> {
+fn refused_kind(alloc: Global, json: &Value) -> Option<Refusal> {
     let says = ["a type is an object, and this is ", kind_of(json)];
     match json.as_str() {
         Some(text) if is_plain(text) => {
@@ -53,7 +49,7 @@ fn refused_kind(alloc: Global, json: &Value) -> Result<Option<RefusedPart>, Allo
     }
 }
 
-fn without_type(alloc: Global, json: &Value) -> Result<Option<RefusedPart>, AllocError> {
+fn without_type(alloc: Global, json: &Value) -> Option<Refusal> {
     let says = ["a type needs the key `type`"];
     if json.get("attributes").is_some() {
         return part_of(
@@ -74,10 +70,10 @@ fn refused_members(
     members: &Map<String, Value>,
     text: &str,
     is_attribute: bool,
-) -> Result<Option<RefusedPart>, AllocError> {
-    let found = refused_type_keys(alloc, members, text, is_attribute)?;
+) -> Option<Refusal> {
+    let found = refused_type_keys(alloc, members, text, is_attribute);
     if found.is_some() {
-        return Ok(found);
+        return found;
     }
     match text {
         "Set" if json.get("element").is_none() => part_of(
@@ -90,41 +86,31 @@ fn refused_members(
         "Record" => refused_record(alloc, json),
         "Entity" => refused_text(alloc, json, "name", "the type `Entity`"),
         "Extension" => refused_text(alloc, json, "name", "the type `Extension`"),
-        _ => Ok(None),
+        _ => None,
     }
 }
 
-fn refused_record(alloc: Global, json: &Value) -> Result<Option<RefusedPart>, AllocError> {
-    let found = refused_truth(alloc, json, "additionalAttributes", "false")?;
+fn refused_record(alloc: Global, json: &Value) -> Option<Refusal> {
+    let found = refused_truth(alloc, json, "additionalAttributes", "false");
     if found.is_some() {
-        return Ok(found);
+        return found;
     }
     match json.get("attributes") {
         Some(attributes) if !attributes.is_object() => {
             refused_object(alloc, "attributes", attributes)
         }
-        _ => Ok(None),
+        _ => None,
     }
 }
 
 // Why the value at a key is not a Boolean, or none. `wanted` is what it may be, in words.
-fn refused_truth(
-    alloc: Global,
-    json: &Value,
-    key: &str,
-    wanted: &str,
-) -> Result<Option<RefusedPart>, AllocError> {
+fn refused_truth(alloc: Global, json: &Value, key: &str, wanted: &str) -> Option<Refusal> {
     match json.get(key) {
-        None => Ok(None),
-        Some(Value::Bool(_)) => Ok(None),
+        None => None,
+        Some(Value::Bool(_)) => None,
         Some(other) => {
-            let found = other_kind(alloc, wanted, kind_of(other))?;
-            at(alloc, Step::Key(key), found)
+            let says = [shown(wanted), " is wanted, and this is ", kind_of(other)];
+            at(alloc, Step::Key(key), part_of(alloc, &says, &[]))
         }
     }
-}
-
-fn other_kind(alloc: Global, wanted: &str, kind: &str) -> Result<Option<RefusedPart>, AllocError> {
-    let says = [shown(wanted), " is wanted, and this is ", shown(kind)];
-    part_of(alloc, &says, &[])
 }

@@ -1,5 +1,5 @@
 //! Types, with all the types in them.
-use crate::part::{RefusedPart, at, part_of};
+use crate::part::{Refusal, at, part_of, remembered};
 use crate::setting::Setting;
 use crate::step::Step;
 use crate::type_names::{refused_entity_name, refused_extension_name, refused_type_name};
@@ -38,16 +38,24 @@ pub(crate) fn refused_in_type(
     alloc: Global,
     setting: Setting<'_>,
     json: &Value,
-) -> Result<Option<RefusedPart>, AllocError> {
+) -> Option<Refusal> {
+    remembered(alloc, first_refused(alloc, setting, json))
+}
+
+fn first_refused(
+    alloc: Global,
+    setting: Setting<'_>,
+    json: &Value,
+) -> Result<Option<Refusal>, AllocError> {
     let mut walk = Walk::new(alloc);
     walk.add(json, START, false)?;
     for _ in 0..u64::MAX {
         let Some(next) = walk.pending.pop() else {
             return Ok(None);
         };
-        let found = refused_type(alloc, setting, next.json, next.is_attribute)?;
+        let found = refused_type(alloc, setting, next.json, next.is_attribute);
         if found.is_some() {
-            return walk.seen_from_start(alloc, next.above, found);
+            return Ok(walk.seen_from_start(alloc, next.above, found));
         }
         walk.add_parts(next.json, next.above)?;
     }
@@ -118,18 +126,18 @@ impl<'j> Walk<'j> {
         &self,
         alloc: Global,
         place: usize,
-        found: Option<RefusedPart>,
-    ) -> Result<Option<RefusedPart>, AllocError> {
+        found: Option<Refusal>,
+    ) -> Option<Refusal> {
         let mut found = found;
         let mut place = place;
         for _ in 0..self.trail.len() {
             let Some(footprint) = self.trail.get(place) else {
-                return Ok(found);
+                return found;
             };
-            found = at(alloc, footprint.step, found)?;
+            found = at(alloc, footprint.step, found);
             place = footprint.above;
         }
-        Ok(found)
+        found
     }
 }
 
@@ -139,31 +147,31 @@ fn refused_type(
     setting: Setting<'_>,
     json: &Value,
     is_attribute: bool,
-) -> Result<Option<RefusedPart>, AllocError> {
+) -> Option<Refusal> {
     if setting.number == 302 {
-        let found = refused_shape(alloc, json, is_attribute)?;
+        let found = refused_shape(alloc, json, is_attribute);
         if found.is_some() {
-            return Ok(found);
+            return found;
         }
     }
     let Some(text) = text_at(json, "type") else {
-        return Ok(None);
+        return None;
     };
     match text {
-        "Boolean" | "Long" | "String" | "Set" => Ok(None),
+        "Boolean" | "Long" | "String" | "Set" => None,
         "Record" => refused_open(alloc, setting.number, json),
         "Entity" => {
             let Some(name) = text_at(json, "name") else {
-                return Ok(None);
+                return None;
             };
-            let found = refused_entity_name(alloc, setting, name, true)?;
+            let found = refused_entity_name(alloc, setting, name, true);
             at(alloc, Step::Key("name"), found)
         }
         "Extension" => {
             let Some(name) = text_at(json, "name") else {
-                return Ok(None);
+                return None;
             };
-            let found = refused_extension_name(alloc, setting.number, name)?;
+            let found = refused_extension_name(alloc, setting.number, name);
             at(alloc, Step::Key("name"), found)
         }
         _ => refused_type_name(alloc, setting, text),
@@ -171,20 +179,16 @@ fn refused_type(
 }
 
 // A record that is open (307), or none.
-fn refused_open(
-    alloc: Global,
-    number: u16,
-    json: &Value,
-) -> Result<Option<RefusedPart>, AllocError> {
+fn refused_open(alloc: Global, number: u16, json: &Value) -> Option<Refusal> {
     match json.get("additionalAttributes") {
         Some(Value::Bool(true)) if number == 307 => {
             let found = part_of(
                 alloc,
                 &["`additionalAttributes` is true"],
                 &["remove it, and declare each attribute in `attributes`"],
-            )?;
+            );
             at(alloc, Step::Key("additionalAttributes"), found)
         }
-        _ => Ok(None),
+        _ => None,
     }
 }

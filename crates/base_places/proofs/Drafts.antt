@@ -1,6 +1,6 @@
 -- What a draft holds after several pieces.
 use Rattle.std.proofs.Common.{◌≡◌, ◌<◌, ℕ, ◌+◌, List, [], ◌∷◌, ◌++◌, map, take, length, Option, Some, None, Bor, slice_index_or, refl, sym, ap, ◌∙◌}
-use Rattle.std.specs.Prelude.{option_map}
+use Rattle.std.specs.Prelude.{IfSome, option_map}
 use Rattle.std.specs.List.{concat}
 use Rattle.std.proofs.lemmas.List.{take_more, append-nil, append_assoc, map-append}
 use Rattle.std.proofs.lemmas.List.Folds.{concat-append}
@@ -27,3 +27,7 @@ texts_more texts i text low =
     let at = slice_index_or texts i text in
     ap (λ ts. concat (map (λ t. t.now) ts)) (take_more texts i text low) ∙ ap concat (map-append (λ t. t.now) (take i texts) (at ∷ []))
     ∙ concat-append (map (λ t. t.now) (take i texts)) (at.now ∷ []) ∙ ap (λ bytes. concat (map (λ t. t.now) (take i texts)) ++ bytes) (append-nil at.now)
+
+pub if_some : {A : Type 0} {P : Type 0} (o : Option A) → P → IfSome o (λ _. P)
+if_some None p = tt
+if_some (Some x) p = p

@@ -1,5 +1,5 @@
 //! A text that is written piece by piece.
-ghost use Rattle.std.specs.Prelude.{◌≡◌, ◌++◌, [], Some, None, IfSome, IfOk, OnErr, map, string_bytes};
+ghost use Rattle.std.specs.Prelude.{◌≡◌, ◌↔◌, ◌++◌, [], Some, None, IfSome, IfOk, IsNone, IsTrue, OnErr, map, string_bytes};
 ghost use Rattle.std.specs.List.{concat};
 ghost use Rattle.std.specs.Char.{encode_utf8};
 ghost use Rattle.std.specs.Str.{chars};
@@ -103,6 +103,13 @@ impl Draft {
         }
     }
 
+    /// Remembers that memory was refused elsewhere.
+    pub fn refuse(&mut self)
+        ensures { self.new ≡ None }
+    {
+        self.refused = true;
+    }
+
     /// Adds a text that was made elsewhere, or remembers that it could not be made.
     pub fn add_made(&mut self, made: Result<String, AllocError>)
         ensures made { IfOk made (λ text. Adds self.old (string_bytes text) self.new) }
@@ -110,8 +117,15 @@ impl Draft {
     {
         match made {
             Ok(text) => self.add(text.as_str()),
-            Err(AllocError) => self.refused = true,
+            Err(AllocError) => self.refuse(),
         }
+    }
+
+    /// Whether memory was refused, so that `done` will fail.
+    pub fn is_refused(&self) -> bool
+        ensures { IsTrue result ↔ IsNone self.now }
+    {
+        self.refused
     }
 
     /// What was added so far, and maybe not all of it once memory was refused.

@@ -1,4 +1,4 @@
-//! Places in texts: lines and columns, and lines of a text that are safe to show on a terminal.
+//! Places in texts, what is safe to show on a terminal, and texts, lists and JSON that are made piece by piece.
 //!
 //! ```rust
 //! use base_places::{Draft, Place, line_before, push_shown};
@@ -20,11 +20,15 @@
 #![tactic(auto)]
 
 mod draft;
+mod draft_list;
+mod json_draft;
 mod line;
 mod place;
 mod shown;
 
 pub use draft::Draft;
+pub use draft_list::DraftList;
+pub use json_draft::JsonDraft;
 pub use line::{line_before, line_from};
 pub use place::Place;
 pub use shown::push_shown;

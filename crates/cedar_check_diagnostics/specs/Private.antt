@@ -1,3 +1,2 @@
 -- What only proofs and private contracts use.
-pub mod Down
 pub mod Truths

@@ -17,6 +17,7 @@
 
 mod attributes;
 mod checking;
+mod found;
 mod joins;
 mod kinds;
 mod listing;
@@ -24,12 +25,12 @@ mod literals;
 mod looking;
 mod parts;
 mod refusal;
+mod search;
 mod smallest;
 mod spot;
 mod type_words;
 mod undeclared;
 mod walk;
-mod way;
 mod words;
 mod written;
 

@@ -90,8 +90,8 @@ fn may_look_into(settings: Settings, expression: &Expr) -> bool
     }
 }
 
-/// Whether the checker may look at the part of this number, as far as its guard does not say.
-pub(crate) fn may_look_at<'a>(
+// Whether the checker may look at the part of this number, as far as its guard does not say.
+fn may_look_at<'a>(
     checking: Checking<'a>,
     held: &[Capability<'a>],
     expression: &'a Expr,
@@ -136,17 +136,6 @@ fn untyped_of<'a>(
             fault,
         })),
     }
-}
-
-/// Whether the checker looks at the part of this number and finds no type for it.
-pub(crate) fn has_untyped<'a>(
-    checking: Checking<'a>,
-    held: &[Capability<'a>],
-    expression: &'a Expr,
-    number: usize,
-) -> Result<bool, AllocError> {
-    let found = untyped_of(checking, held, expression, number)?;
-    Ok(found.is_some())
 }
 
 // The first operand, branch or entry that the checker looks at and that has no type.

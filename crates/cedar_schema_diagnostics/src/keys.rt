@@ -162,7 +162,7 @@ pub(crate) fn refused_object(alloc: Global, key: &str, json: &Value) -> Option<R
         "`",
         shown(key),
         "` is an object, and this is ",
-        kind_of(json),
+        shown(kind_of(json)),
     ];
     at(alloc, Step::Key(key), part_of(alloc, &says, &[]))
 }

@@ -109,7 +109,8 @@ fn refused_truth(alloc: Global, json: &Value, key: &str, wanted: &str) -> Option
         None => None,
         Some(Value::Bool(_)) => None,
         Some(other) => {
-            let says = [shown(wanted), " is wanted, and this is ", kind_of(other)];
+            let kind = shown(kind_of(other));
+            let says = [shown(wanted), " is wanted, and this is ", kind];
             at(alloc, Step::Key(key), part_of(alloc, &says, &[]))
         }
     }

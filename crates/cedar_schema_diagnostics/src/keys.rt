@@ -158,11 +158,10 @@ pub(crate) fn refused_text(alloc: Global, json: &Value, key: &str, what: &str) -
 
 /// What is said of the value at a key that is not an object (302).
 pub(crate) fn refused_object(alloc: Global, key: &str, json: &Value) -> Option<Refusal> {
-    let says = [
-        "`",
-        shown(key),
-        "` is an object, and this is ",
-        shown(kind_of(json)),
-    ];
-    at(alloc, Step::Key(key), part_of(alloc, &says, &[]))
+    at(alloc, Step::Key(key), other_kind(alloc, key, kind_of(json)))
+}
+
+fn other_kind(alloc: Global, key: &str, kind: &str) -> Option<Refusal> {
+    let says = ["`", shown(key), "` is an object, and this is ", shown(kind)];
+    part_of(alloc, &says, &[])
 }

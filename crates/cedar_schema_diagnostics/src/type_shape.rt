@@ -109,9 +109,13 @@ fn refused_truth(alloc: Global, json: &Value, key: &str, wanted: &str) -> Option
         None => None,
         Some(Value::Bool(_)) => None,
         Some(other) => {
-            let kind = shown(kind_of(other));
-            let says = [shown(wanted), " is wanted, and this is ", kind];
-            at(alloc, Step::Key(key), part_of(alloc, &says, &[]))
+            let found = other_than(alloc, wanted, kind_of(other));
+            at(alloc, Step::Key(key), found)
         }
     }
+}
+
+fn other_than(alloc: Global, wanted: &str, kind: &str) -> Option<Refusal> {
+    let says = [shown(wanted), " is wanted, and this is ", shown(kind)];
+    part_of(alloc, &says, &[])
 }

@@ -8,7 +8,6 @@ import (
 	"errors"
 	"fmt"
 	"io"
-	"runtime"
 	"strconv"
 	"sync"
 	"sync/atomic"
@@ -106,9 +105,6 @@ func (s *store) publish(source string, change func(*bobbinjade.Files) error) (*v
 		return nil, err
 	}
 	s.swap(old, newVersion(number, source, engine, &files, digestsOf(&files)), nil)
-	if old != nil {
-		collect()
-	}
 	return s.current.Load(), nil
 }
 
@@ -128,7 +124,6 @@ func (s *store) publishEntities(source string, entities []byte) (*version, error
 	files := old.files
 	files.Entities = entities
 	s.swap(old, old.next(source, engine, &files, digestOf(entities)), nil)
-	collect()
 	return s.current.Load(), nil
 }
 
@@ -176,13 +171,6 @@ func (s *store) swap(old, next *version, changed changedEntities) {
 	if old != nil {
 		_ = old.engine.Close()
 	}
-}
-
-// collect has the collector of Go free the handles of old versions that are left in pools. It does not see how large the engine is to which
-// they lead. A pool drops what it has at the second collection.
-func collect() {
-	runtime.GC()
-	runtime.GC()
 }
 
 // A question is a call of an engine that appends the answer to request lines to a text.

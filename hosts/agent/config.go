@@ -23,6 +23,7 @@ type config struct {
 	extAuthz    string
 	decisionLog string
 	hasEntities bool // whether requests may bring entities
+	isPublic    bool // whether /v1/validate is on the listener for requests, too
 	reloadEvery time.Duration
 	drain       time.Duration
 	shutdown    time.Duration
@@ -80,6 +81,7 @@ func flagsOf(settings *config) *flag.FlagSet {
 	flags.StringVar(&settings.admin, "admin", "", "the `ADDRESS` for calls that publish; without it there are none")
 	flags.StringVar(&settings.extAuthz, "ext-authz", "", "the mapping `FILE` for Envoy's ext_authz; without it the path is off")
 	flags.BoolVar(&settings.hasEntities, "entities-in-requests", false, "a request may bring entities, which hold for it alone")
+	flags.BoolVar(&settings.isPublic, "public-validate", false, "serve /v1/validate on --listen, too, for policies according to the current schema")
 	flags.StringVar(&settings.decisionLog, "decision-log", "", "append each request and its answer to this `FILE`; without it none is logged")
 	flags.DurationVar(&settings.reloadEvery, "reload", time.Second, "look for changed files so often; 0 is only at SIGHUP")
 	flags.DurationVar(&settings.drain, "drain", 0, "at the end answer for so long with /readyz at 503, before listening ends")

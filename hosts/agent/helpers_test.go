@@ -322,3 +322,16 @@ func visited(t *testing.T, help string) func(*flag.Flag) {
 		}
 	}
 }
+
+// residentBytes gives the memory of this process that is resident. The test is skipped where the system does not say it.
+func residentBytes(t *testing.T) int64 {
+	text, err := os.ReadFile("/proc/self/statm")
+	if err != nil {
+		t.Skip(err)
+	}
+	var all, resident int64
+	if _, err := fmt.Sscan(string(text), &all, &resident); err != nil {
+		t.Fatal(err)
+	}
+	return resident * int64(os.Getpagesize())
+}

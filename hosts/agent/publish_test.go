@@ -178,7 +178,7 @@ func TestValidating(t *testing.T) {
 	it := serveExample(t, "notes")
 	folder, _ := copied(t, "notes")
 	validate := func(body string, words bool) reply {
-		request := it.request("POST", "http://"+it.address+"/v1/validate", "text/plain", strings.NewReader(body))
+		request := it.request("POST", "http://"+it.admin+"/v1/validate", "text/plain", strings.NewReader(body))
 		if words {
 			request.Header.Set("Accept", "text/plain")
 		}
@@ -207,7 +207,7 @@ func TestValidating(t *testing.T) {
 
 func TestNoValidations(t *testing.T) {
 	it := serveExample(t, "notes", "--max-validations", "0")
-	if got := it.call("POST", "/v1/validate", "", permitAll); got.status != 404 {
+	if got := it.call("POST", "/v1/validate", "", permitAll, it.admin); got.status != 404 {
 		t.Error(got)
 	}
 }
@@ -216,12 +216,12 @@ func TestValidatingSeveralFiles(t *testing.T) {
 	it := serveExample(t, "repositories")
 	for body, status := range map[string]int{`{}`: 200, `{"links":[]}`: 200, `{"x":1}`: 400,
 		`{"policies":"permit(principal, action, resource);","links":[]}`: 200, `{"policies":"permit(principal, action, resource);"}`: 422} {
-		if got := it.call("POST", "/v1/validate", "application/json", body); got.status != status {
+		if got := it.call("POST", "/v1/validate", "application/json", body, it.admin); got.status != status {
 			t.Error(body, got)
 		}
 	}
 	// Without the template the links of the example are refused: docs/REFUSALS.md, 210.
-	got := it.call("POST", "/v1/validate", "application/json", `{"policies":"permit(principal, action, resource);"}`)
+	got := it.call("POST", "/v1/validate", "application/json", `{"policies":"permit(principal, action, resource);"}`, it.admin)
 	if why := decoded[failure](t, got.body); why.File != "links" || why.Refused != 210 {
 		t.Error(got)
 	}

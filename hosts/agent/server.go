@@ -52,8 +52,8 @@ func listenAll(it *agent, settings *config) (*servers, error) {
 // add adds a server.
 func (s *servers) add(name string, listener net.Listener, handler http.Handler, most, idle time.Duration) {
 	server := &http.Server{
-		Handler: handler, ReadHeaderTimeout: headerTime, ReadTimeout: most, WriteTimeout: most, IdleTimeout: idle,
-		MaxHeaderBytes: headerSize, ErrorLog: log.New(s.agent.log, "", 0),
+		Handler: handler, ReadHeaderTimeout: headerTime, ReadTimeout: most, WriteTimeout: most + lateTime, IdleTimeout: idle,
+		MaxHeaderBytes: headerSize, ErrorLog: log.New(s.agent.log, "", 0), ConnContext: withConnection,
 	}
 	s.running = append(s.running, running{name, server, listener})
 }
@@ -140,12 +140,8 @@ func (a *agent) servePublic(w http.ResponseWriter, r *http.Request) {
 			return
 		}
 		a.authorize(w, r)
-	case path == "/v1/validate" && a.limits.validations > 0:
-		if r.Method != http.MethodPost {
-			a.failMethod(w, http.MethodPost)
-			return
-		}
-		a.validate(w, r)
+	case path == validatePath && a.isPublic && a.limits.validations > 0:
+		a.serveValidate(w, r, false)
 	case a.mapping != nil && (path == extAuthzPath || strings.HasPrefix(path, extAuthzPath+"/")):
 		a.extAuthz(w, r)
 	default:
@@ -153,11 +149,25 @@ func (a *agent) servePublic(w http.ResponseWriter, r *http.Request) {
 	}
 }
 
+// The path of the call that validates.
+const validatePath = "/v1/validate"
+
+// serveValidate answers a call that validates.
+func (a *agent) serveValidate(w http.ResponseWriter, r *http.Request, isAdmin bool) {
+	if r.Method != http.MethodPost {
+		a.failMethod(w, http.MethodPost)
+		return
+	}
+	a.validate(w, r, isAdmin)
+}
+
 // serveAdmin answers a call of the listener for calls that publish.
 func (a *agent) serveAdmin(w http.ResponseWriter, r *http.Request) {
 	file, isOne := publishedPaths[r.URL.Path]
 	isPatch := r.Method == http.MethodPatch && file == bobbinjade.Entities
 	switch {
+	case r.URL.Path == validatePath && a.limits.validations > 0:
+		a.serveValidate(w, r, true)
 	case !isOne:
 		a.serveState(w, r)
 	case r.Method != http.MethodPut && !isPatch:

@@ -4,10 +4,8 @@ package main
 // entities.
 
 import (
-	"encoding/json"
 	"errors"
 	"net/http"
-	"strings"
 	"time"
 
 	"bobbinjade"
@@ -20,17 +18,6 @@ const severalFiles bobbinjade.File = 0
 var publishedPaths = map[string]bobbinjade.File{
 	"/v1/schema": bobbinjade.Schema, "/v1/policies": bobbinjade.Policies, "/v1/links": bobbinjade.Links,
 	"/v1/entities": bobbinjade.Entities, "/v1/files": severalFiles,
-}
-
-// errObject says that several files at once have another form.
-var errObject = errors.New("the body is an object with some of the keys schema, policies (a string), links and entities")
-
-// sentFiles are several files at once. Those that are left out stay.
-type sentFiles struct {
-	Schema   json.RawMessage `json:"schema"`
-	Policies *string         `json:"policies"`
-	Links    json.RawMessage `json:"links"`
-	Entities json.RawMessage `json:"entities"`
 }
 
 // publish publishes a version with the file that the body is. The answer describes the version, or says why nothing has changed.
@@ -74,7 +61,7 @@ func (s *store) put(file bobbinjade.File, body []byte) (*version, error) {
 // answerPublish describes the version that was published, or says why nothing has changed.
 func (a *agent) answerPublish(w http.ResponseWriter, r *http.Request, v *version, err error, began time.Time) {
 	if errors.Is(err, errObject) {
-		a.fail(w, http.StatusBadRequest, "object", errObject.Error())
+		a.fail(w, http.StatusBadRequest, "object", err.Error())
 		return
 	}
 	if err != nil {
@@ -86,29 +73,6 @@ func (a *agent) answerPublish(w http.ResponseWriter, r *http.Request, v *version
 	a.published(v, time.Since(began))
 	versionHeader(w, v)
 	writeJSON(w, http.StatusOK, describe(v))
-}
-
-// replaceSeveral replaces the files that an object has.
-func replaceSeveral(files *bobbinjade.Files, body []byte) error {
-	var sent *sentFiles
-	decoder := json.NewDecoder(strings.NewReader(string(body)))
-	decoder.DisallowUnknownFields()
-	if decoder.Decode(&sent) != nil || sent == nil || decoder.More() {
-		return errObject
-	}
-	if sent.Schema != nil {
-		files.Schema = sent.Schema
-	}
-	if sent.Policies != nil {
-		files.Policies = []byte(*sent.Policies)
-	}
-	if sent.Links != nil {
-		files.Links = sent.Links
-	}
-	if sent.Entities != nil {
-		files.Entities = sent.Entities
-	}
-	return nil
 }
 
 // failure is why files were not published.

@@ -226,3 +226,27 @@ func TestValidatingSeveralFiles(t *testing.T) {
 		t.Error(got)
 	}
 }
+
+// An object of several files is read as it is sent, or refused: nothing of it is replaced, left out or guessed.
+func TestSeveralFilesAreExact(t *testing.T) {
+	it := serveExample(t, "notes", "--public-validate")
+	for _, body := range []string{
+		"{\"policies\":\"@id(\\\"\xff\\\") permit(principal, action, resource);\"}",
+		`{"policies":"@id(\"\ud800\") permit(principal, action, resource);"}`, `{"policies":"@id(\"\udc00\ud800\") permit(principal, action, resource);"}`,
+		`{"policies":"@id(\"\ud800x\") permit(principal, action, resource);"}`,
+		`{"policies":""}}`, `{"policies":""}]`, `{"policies":""}x`, `{"policies":""}{}`, `{"policies":""},`, `{"POLICIES":""}`, `{"Policies":""}`,
+		`{"policies":null}`, `{"policies":1}`, `{"policies":"","policies":""}`, `{"policies":"","other":""}`, `[]`, `null`, ``, `{`, `{"policies"`, `{"policies":""`,
+		`{"policies":"",}`, `{policies:""}`} {
+		for _, got := range []reply{it.put("/v1/files", body), it.call("POST", "/v1/validate", "application/json", body)} {
+			if got.status != 400 || !strings.HasPrefix(got.body, `{"error":"the body is not an object with some of`) {
+				t.Error(body, got)
+			}
+		}
+	}
+	for _, body := range []string{`{}`, " {\n} \n", `{"policies":"// \\ud800\n@id(\"\ud83d\ude00\ufffd\") permit(principal, action, resource);"}`,
+		"{\"policies\":\"@id(\\\"\uFFFD\\\") permit(principal, action, resource);\"}"} {
+		if got := it.put("/v1/files", body); got.status != 200 {
+			t.Error(body, got)
+		}
+	}
+}

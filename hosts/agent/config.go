@@ -24,6 +24,7 @@ type config struct {
 	decisionLog string
 	hasEntities bool // whether requests may bring entities
 	isPublic    bool // whether /v1/validate is on the listener for requests, too
+	doesReplace bool // whether a file that has changed replaces what calls have published
 	reloadEvery time.Duration
 	drain       time.Duration
 	shutdown    time.Duration
@@ -84,6 +85,7 @@ func flagsOf(settings *config) *flag.FlagSet {
 	flags.BoolVar(&settings.isPublic, "public-validate", false, "serve /v1/validate on --listen, too, for policies according to the current schema")
 	flags.StringVar(&settings.decisionLog, "decision-log", "", "append each request and its answer to this `FILE`; without it none is logged")
 	flags.DurationVar(&settings.reloadEvery, "reload", time.Second, "look for changed files so often; 0 is only at SIGHUP")
+	flags.BoolVar(&settings.doesReplace, "reload-replaces", false, "a file that has changed replaces what calls have published in its place")
 	flags.DurationVar(&settings.drain, "drain", 0, "at the end answer for so long with /readyz at 503, before listening ends")
 	flags.DurationVar(&settings.shutdown, "shutdown", 10*time.Second, "wait so long for running requests at the end")
 	settings.limits.declare(flags)
@@ -142,7 +144,8 @@ Example:
       http://127.0.0.1:8180/v1/authorize
 
 Signals:
-  SIGHUP   read all files anew, and open the decision log anew
+  SIGHUP   read the files now, and publish those that have changed
+  SIGUSR1  open the decision log anew, which the agent also does when it was renamed
   SIGTERM  end when the running requests are answered, as SIGINT does; a second one ends --drain, or else cuts requests off
 
 Statuses:

@@ -72,7 +72,7 @@ func (a *agent) answerPublish(w http.ResponseWriter, r *http.Request, v *version
 	}
 	a.published(v, time.Since(began))
 	versionHeader(w, v)
-	writeJSON(w, http.StatusOK, describe(v))
+	writeJSON(w, http.StatusOK, a.describe(v))
 }
 
 // failure is why files were not published.

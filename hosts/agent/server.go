@@ -126,6 +126,7 @@ func (a *agent) writeLogs(stopped <-chan struct{}) {
 		case <-decisions.C:
 			a.decisions.flush()
 		case <-counted.C:
+			a.decisions.reopenIfMoved()
 			a.log.flush()
 		}
 	}
@@ -166,19 +167,26 @@ func (a *agent) serveAdmin(w http.ResponseWriter, r *http.Request) {
 	file, isOne := publishedPaths[r.URL.Path]
 	isPatch := r.Method == http.MethodPatch && file == bobbinjade.Entities
 	switch {
+	case r.URL.Path == "/v1/reload":
+		a.reload(w, r)
 	case r.URL.Path == validatePath && a.limits.validations > 0:
 		a.serveValidate(w, r, true)
 	case !isOne:
 		a.serveState(w, r)
 	case r.Method != http.MethodPut && !isPatch:
 		a.failMethod(w, methodsOf(file))
-	case len(r.Header["Origin"]) > 0:
-		a.fail(w, http.StatusForbidden, "browser", "a page in a browser cannot publish")
+	case isOfBrowser(r):
+		a.failBrowser(w)
 	case isPatch:
 		a.patch(w, r)
 	default:
 		a.publish(w, r, file)
 	}
+}
+
+// isOfBrowser says whether a page in a browser makes a call.
+func isOfBrowser(r *http.Request) bool {
+	return len(r.Header["Origin"]) > 0
 }
 
 // methodsOf gives the methods of the path of a file.

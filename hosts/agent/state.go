@@ -53,24 +53,25 @@ type currentVersion struct {
 	Source     string            `json:"source"`
 	Published  time.Time         `json:"published"`
 	Engine     string            `json:"engine"`
+	Held       []string          `json:"held,omitempty"` // the files of which calls have published others
 }
 
 // describe describes a version.
-func describe(v *version) currentVersion {
+func (a *agent) describe(v *version) currentVersion {
 	engine, _ := bobbinjade.Version()
 	digests := map[string]string{}
 	for file, digest := range v.digests {
 		digests[file.String()] = digest
 	}
 	return currentVersion{Version: v.number, Digest: v.digest, Digests: digests, AnyDecimal: v.files.AnyDecimal, Source: v.source,
-		Published: v.published, Engine: engine}
+		Published: v.published, Engine: engine, Held: a.reloader.held(v)}
 }
 
 // writeVersion says which version is current.
 func (a *agent) writeVersion(w http.ResponseWriter) {
 	v := a.store.current.Load()
 	versionHeader(w, v)
-	writeJSON(w, http.StatusOK, describe(v))
+	writeJSON(w, http.StatusOK, a.describe(v))
 }
 
 // writeJSON writes a value as a line.

@@ -27,7 +27,7 @@ type version struct {
 	files     bobbinjade.Files
 	digests   map[bobbinjade.File]string // "sha256:" and hexadecimal digits; none of links that are not there
 	digest    string                     // of all files and settings
-	source    string                     // what published it: start, reload, hangup, put or patch
+	source    string                     // what published it: start, reload, hangup, call (of /v1/reload), put or patch
 	published time.Time
 	header    []string // the number, as the header Cedar-Version has it
 }

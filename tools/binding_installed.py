@@ -5,6 +5,7 @@ import os
 import re
 import shutil
 import sys
+import sysconfig
 
 from scripts import script
 
@@ -76,6 +77,17 @@ def maker(run):
     return next((it for it in pythons if run.done([it, '-c', CAN_MAKE_A_WHEEL]).returncode == 0), None)
 
 
+def test_platform(run, makes, sources, found):
+    """Checks that a wheel with the library is for machines of this kind, and that one without it is for all."""
+    platform = re.sub('[-.]', '_', sysconfig.get_platform())
+    run.judge('the platform of the wheel', [it.endswith('-py3-none-%s.whl' % platform) for it in found] == [True], repr(found))
+    plain, wheels = [os.path.join(run.room, it) for it in ('python_without', 'wheels_without')]
+    shutil.copytree(sources, plain, ignore=shutil.ignore_patterns('libcedar.so', 'build', '*.egg-info'))
+    made = run.done([*makes, '-w', wheels, plain])
+    names = [os.path.basename(it) for it in glob.glob(os.path.join(wheels, '*.whl'))]
+    run.judge('a wheel without the library', [it.endswith('-py3-none-any.whl') for it in names] == [True], repr(names) + words_of(made))
+
+
 def test_wheel(run):
     """Makes a wheel of the binding for Python with the library in it, installs it in a folder, and runs the example over it."""
     python = maker(run)
@@ -89,6 +101,7 @@ def test_wheel(run):
     made = run.done([*pip, 'wheel', '--no-deps', '--no-index', '--no-build-isolation', '-w', wheels, sources])
     found = glob.glob(os.path.join(wheels, 'bobbinjade-*.whl'))
     run.judge('the wheel', made.returncode == 0 and len(found) == 1, words_of(made))
+    test_platform(run, [*pip, 'wheel', '--no-deps', '--no-index', '--no-build-isolation'], sources, found)
     if len(found) == 1:
         put = run.done([*pip, 'install', '--no-deps', '--no-index', '--target', site, *found])
         run.judge('the wheel, installed', put.returncode == 0, words_of(put))

@@ -3,6 +3,7 @@ load it, and that a wheel of the binding for Python is installed and has it."""
 import glob
 import os
 import re
+import shlex
 import shutil
 import sys
 import sysconfig
@@ -38,6 +39,26 @@ def layout(run):
     return folder
 
 
+def spaced(run):
+    """The folder of an installed library whose path has a space; None where it cannot be made."""
+    folder = os.path.join(run.room, 'a prefix')
+    ended = run.done([os.path.join(TOP, 'tools', 'library'), '--of', os.path.join(run.folder, 'libcedar.a'), folder])
+    run.judge('tools/library --of libcedar.a', ended.returncode == 0, words_of(ended))
+    return folder if ended.returncode == 0 else None
+
+
+def test_commands(run):
+    """Runs the commands of bindings/c/README.md as they are written, but for the folder that they make and the library that is tested."""
+    with open(os.path.join(BINDINGS, 'c', 'README.md'), encoding='utf-8') as file:
+        blocks = re.findall(r'\n\n((?:    [^\n]*\n)+)', file.read())
+    folder, archive = os.path.join(run.room, 'of_commands'), os.path.join(run.folder, 'libcedar.a')
+    run.judge('bindings/c/README.md: the commands', len(blocks) == 3 and all('/tmp/cedar' in it for it in blocks))
+    for number, block in enumerate(blocks):
+        ended = run.done(['bash', '-c', 'set -e\n' + block.replace('/tmp/cedar', folder).replace('release/libcedar_c.a', archive)], folder=TOP)
+        said = ended.stdout.count(b'{"decision":"allow"')
+        run.judge('bindings/c/README.md: commands %d' % number, ended.returncode == 0 and (number == 0) == (said == 0), words_of(ended))
+
+
 def test_names(run, *programs):
     """Checks by which name programs load the library: what the library says, and what programs over it do."""
     if not shutil.which('readelf'):
@@ -55,9 +76,11 @@ def test_installed(run):
     if not shutil.which('pkg-config'):
         run.skip('the installed library', '`pkg-config` is not installed')
         return
-    folder, programs = layout(run), []
-    said = run.done(['pkg-config', '--define-variable=prefix=' + folder, '--cflags', '--libs', 'cedar'],
-                    PKG_CONFIG_PATH=os.path.join(folder, 'lib', 'pkgconfig'))
+    test_commands(run)
+    folder, programs = spaced(run), []
+    if not folder:
+        return
+    said = run.done(['pkg-config', '--cflags', '--libs', 'cedar'], PKG_CONFIG_PATH=os.path.join(folder, 'lib', 'pkgconfig'))
     run.judge('pkg-config', said.returncode == 0, words_of(said))
     for compiler, standard, source in EXAMPLES if said.returncode == 0 else ():
         if not shutil.which(compiler):
@@ -65,8 +88,8 @@ def test_installed(run):
             continue
         path = os.path.join(run.room, 'installed_' + source.replace('.', '_'))
         source_path = os.path.join(BINDINGS, 'c', source)
-        made = run.done([compiler, standard, source_path, *said.stdout.decode().split(), '-lpthread', '-o', path])
-        run.shown('the installed library with ' + source, [path], made, LD_LIBRARY_PATH=os.path.join(folder, 'lib'))
+        made = run.done([compiler, standard, source_path, *shlex.split(said.stdout.decode()), '-o', path])
+        run.shown('the installed library with ' + source, [path], made)
         programs += [path] * (made.returncode == 0)
     test_names(run, *programs)
 

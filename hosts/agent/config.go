@@ -20,6 +20,7 @@ type config struct {
 	anyDecimal  bool
 	listen      string
 	admin       string
+	isInsecure  bool // whether whoever reaches a port may publish
 	extAuthz    string
 	decisionLog string
 	hasEntities bool // whether requests may bring entities
@@ -80,6 +81,7 @@ func flagsOf(settings *config) *flag.FlagSet {
 	flags.BoolVar(&settings.anyDecimal, "any-decimal", false, "accept decimal(..) of any string, which may then fail at a request")
 	flags.StringVar(&settings.listen, "listen", "127.0.0.1:8180", "the `ADDRESS` for requests: HOST:PORT, or unix:PATH")
 	flags.StringVar(&settings.admin, "admin", "", "the `ADDRESS` for calls that publish; without it there are none")
+	flags.BoolVar(&settings.isInsecure, "admin-insecure", false, "let whoever reaches the HOST:PORT of --admin publish")
 	flags.StringVar(&settings.extAuthz, "ext-authz", "", "the mapping `FILE` for Envoy's ext_authz; without it the path is off")
 	flags.BoolVar(&settings.hasEntities, "entities-in-requests", false, "a request may bring entities, which hold for it alone")
 	flags.BoolVar(&settings.isPublic, "public-validate", false, "serve /v1/validate on --listen, too, for policies according to the current schema")
@@ -111,6 +113,9 @@ func (c *config) check() error {
 		if err := checkAddress(address); err != nil {
 			return fmt.Errorf("%s: %w", name, err)
 		}
+	}
+	if c.admin != "" && !strings.HasPrefix(c.admin, unixPrefix) && !c.isInsecure {
+		return fmt.Errorf("--admin: whoever reaches %s could publish: use unix:PATH, or say --admin-insecure", c.admin)
 	}
 	if c.admin == c.listen {
 		return errors.New("--admin and --listen are one address: calls that publish need a listener of their own")

@@ -105,7 +105,7 @@ type served struct {
 func serveExample(t testing.TB, name string, words ...string) *served {
 	t.Helper()
 	folder, files := copied(t, name)
-	flags := append(append(files, "--listen", "127.0.0.1:0", "--admin", "127.0.0.1:0", "--reload", "20ms"), words...)
+	flags := append(append(files, "--listen", "127.0.0.1:0", "--admin", "127.0.0.1:0", "--admin-insecure", "--reload", "20ms"), words...)
 	settings, err := parseConfig(withoutTwins(flags))
 	if err != nil {
 		t.Fatal(err)

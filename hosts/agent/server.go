@@ -140,6 +140,9 @@ func (a *agent) servePublic(w http.ResponseWriter, r *http.Request) {
 			a.failMethod(w, http.MethodPost)
 			return
 		}
+		if a.isEncoded(w, r) {
+			return
+		}
 		a.authorize(w, r)
 	case path == validatePath && a.isPublic && a.limits.validations > 0:
 		a.serveValidate(w, r, false)
@@ -159,7 +162,21 @@ func (a *agent) serveValidate(w http.ResponseWriter, r *http.Request, isAdmin bo
 		a.failMethod(w, http.MethodPost)
 		return
 	}
+	if a.isEncoded(w, r) {
+		return
+	}
 	a.validate(w, r, isAdmin)
+}
+
+// isEncoded says whether a body has a Content-Encoding, which is then answered: no call decodes one.
+func (a *agent) isEncoded(w http.ResponseWriter, r *http.Request) bool {
+	for _, encoding := range r.Header["Content-Encoding"] {
+		if encoding != "" && !strings.EqualFold(encoding, "identity") {
+			a.fail(w, http.StatusUnsupportedMediaType, "encoding", "a body has no Content-Encoding here")
+			return true
+		}
+	}
+	return false
 }
 
 // serveAdmin answers a call of the listener for calls that publish.
@@ -167,6 +184,8 @@ func (a *agent) serveAdmin(w http.ResponseWriter, r *http.Request) {
 	file, isOne := publishedPaths[r.URL.Path]
 	isPatch := r.Method == http.MethodPatch && file == bobbinjade.Entities
 	switch {
+	case r.URL.Path == "/v1/entities" && (r.Method == http.MethodGet || r.Method == http.MethodHead):
+		a.writeEntities(w)
 	case r.URL.Path == "/v1/reload":
 		a.reload(w, r)
 	case r.URL.Path == validatePath && a.limits.validations > 0:
@@ -177,6 +196,7 @@ func (a *agent) serveAdmin(w http.ResponseWriter, r *http.Request) {
 		a.failMethod(w, methodsOf(file))
 	case isOfBrowser(r):
 		a.failBrowser(w)
+	case a.isEncoded(w, r):
 	case isPatch:
 		a.patch(w, r)
 	default:
@@ -192,7 +212,7 @@ func isOfBrowser(r *http.Request) bool {
 // methodsOf gives the methods of the path of a file.
 func methodsOf(file bobbinjade.File) string {
 	if file == bobbinjade.Entities {
-		return "PATCH, PUT"
+		return "GET, HEAD, PATCH, PUT"
 	}
 	return http.MethodPut
 }

@@ -6,6 +6,7 @@ import (
 	"bufio"
 	"encoding/json"
 	"net/http"
+	"strconv"
 	"time"
 
 	"bobbinjade"
@@ -72,6 +73,22 @@ func (a *agent) writeVersion(w http.ResponseWriter) {
 	v := a.store.current.Load()
 	versionHeader(w, v)
 	writeJSON(w, http.StatusOK, a.describe(v))
+}
+
+// writeEntities writes the entities after all changes. Their digest is the tag that If-Match takes.
+func (a *agent) writeEntities(w http.ResponseWriter) {
+	text, v, err := a.store.entities()
+	if err != nil {
+		a.failEngine(w, err)
+		return
+	}
+	versionHeader(w, v)
+	header := w.Header()
+	header["Content-Type"] = jsonType
+	header["Content-Length"] = []string{strconv.Itoa(len(text))}
+	header.Set("ETag", `"`+v.digests[bobbinjade.Entities]+`"`)
+	w.WriteHeader(http.StatusOK)
+	_, _ = w.Write(text)
 }
 
 // writeJSON writes a value as a line.

@@ -109,10 +109,13 @@ func (s *store) publish(source string, change func(*bobbinjade.Files) error) (*v
 }
 
 // publishEntities makes a version with other entities. The other files are not read again. With an error the current version stays.
-func (s *store) publishEntities(source string, entities []byte) (*version, error) {
+func (s *store) publishEntities(source string, entities []byte, tags []string) (*version, error) {
 	s.lock.Lock()
 	defer s.lock.Unlock()
 	old := s.current.Load()
+	if err := old.matches(bobbinjade.Entities, tags); err != nil {
+		return nil, err
+	}
 	engine, err := old.engine.WithChanges([]byte("{}"))
 	if err != nil {
 		return nil, err
@@ -127,12 +130,24 @@ func (s *store) publishEntities(source string, entities []byte) (*version, error
 	return s.current.Load(), nil
 }
 
+// entities gives the entities after all changes, as a file, and the version of which they are.
+func (s *store) entities() ([]byte, *version, error) {
+	s.lock.Lock()
+	defer s.lock.Unlock()
+	v := s.current.Load()
+	text, err := s.changed.over(v.files.Entities)
+	return text, v, err
+}
+
 // change makes a version with changed entities. What the changes do not name is not read again. With an error the current version stays. The
 // digest of the entities is that of the last one and the changes: the same changes of the same file give the same digest.
-func (s *store) change(source string, changes []byte) (*version, error) {
+func (s *store) change(source string, changes []byte, tags []string) (*version, error) {
 	s.lock.Lock()
 	defer s.lock.Unlock()
 	old := s.current.Load()
+	if err := old.matches(bobbinjade.Entities, tags); err != nil {
+		return nil, err
+	}
 	engine, err := old.engine.WithChanges(changes)
 	if err != nil {
 		return nil, err

@@ -106,6 +106,8 @@ func (s *servers) stop(ends <-chan struct{}) bool {
 			isClean = false
 			_ = it.server.Close()
 		}
+		// A server that has not begun to serve does not know its listener, whose socket would stay.
+		_ = it.listener.Close()
 	}
 	if !isClean {
 		s.agent.log.event("warning", "cut_off")

@@ -1,4 +1,4 @@
-/* Publishes the files of a folder, and answers requests. example FOLDER, for example examples/notes */
+/* Publishes the files of a folder, and answers requests. example FOLDER [LINKS], for example examples/notes. LINKS is a file of links. */
 #include "cedar.h"
 
 #include <stdio.h>
@@ -7,13 +7,12 @@
 
 static cedar_bytes bytes(const char *text) { return (cedar_bytes){text, strlen(text)}; }
 
-/* Reads a file of the folder. A file that is not there has no bytes. */
-static cedar_bytes content(const char *folder, const char *name) {
-    char path[4096];
-    snprintf(path, sizeof path, "%s/%s", folder, name);
+/* Reads a file. One that cannot be read ends the example: no bytes in its place would be other policies. */
+static cedar_bytes whole(const char *path) {
     FILE *file = fopen(path, "rb");
     if (!file) {
-        return (cedar_bytes){NULL, 0};
+        perror(path);
+        exit(1);
     }
     fseek(file, 0, SEEK_END);
     size_t length = (size_t)ftell(file);
@@ -24,6 +23,23 @@ static cedar_bytes content(const char *folder, const char *name) {
     }
     fclose(file);
     return (cedar_bytes){at, length};
+}
+
+/* Reads a file of the folder. */
+static cedar_bytes content(const char *folder, const char *name) {
+    char path[4096];
+    snprintf(path, sizeof path, "%s/%s", folder, name);
+    return whole(path);
+}
+
+/* Reads the links, where there is a file of them. One of no bytes is refused, since the library takes it for no file. */
+static cedar_bytes links_of(const char *path) {
+    cedar_bytes links = path ? whole(path) : (cedar_bytes){NULL, 0};
+    if (path && links.length == 0) {
+        fprintf(stderr, "%s: a file of links has a list\n", path);
+        exit(1);
+    }
+    return links;
 }
 
 /* Prints why the files are refused. The buffer grows until the words fit. */
@@ -41,11 +57,11 @@ static void print_why(const cedar_files *files) {
 }
 
 int main(int count, char **words) {
-    if (count != 2) {
+    if (count != 2 && count != 3) {
         return 4;
     }
     cedar_files files = {sizeof files, content(words[1], "schema.json"), content(words[1], "policies.cedar"),
-                         content(words[1], "links.json"), content(words[1], "entities.json"), 0, 0};
+                         links_of(count == 3 ? words[2] : NULL), content(words[1], "entities.json"), 0, 0};
     cedar_engine engine;
     if (cedar_new(&engine) != CEDAR_OK) {
         return 1;

@@ -1,19 +1,36 @@
-// Publishes the files of a folder, and answers requests. example FOLDER, for example examples/notes
+// Publishes the files of a folder, and answers requests. example FOLDER [LINKS], for example examples/notes. LINKS is a file of links.
 #include "cedar.hpp"
 
+#include <cstdlib>
 #include <fstream>
 #include <iostream>
 #include <iterator>
 
+// Reads a file. One that cannot be read ends the example: an empty text in its place would be other policies.
 static std::string content(const std::string &path) {
     std::ifstream file(path, std::ios::binary);
-    return {std::istreambuf_iterator<char>(file), {}};
+    std::string text{std::istreambuf_iterator<char>(file), {}};
+    if (!file.is_open() || file.bad()) {
+        std::cerr << path << ": it cannot be read\n";
+        std::exit(1);
+    }
+    return text;
+}
+
+// Reads the links. A file of no bytes is refused, since the library takes it for no file.
+static std::string links_of(const std::string &path) {
+    std::string links = content(path);
+    if (links.empty()) {
+        std::cerr << path << ": a file of links has a list\n";
+        std::exit(1);
+    }
+    return links;
 }
 
 int main(int count, char **words) {
-    const std::string folder = count == 2 ? words[1] : "examples/notes";
+    const std::string folder = count > 1 ? words[1] : "examples/notes";
     const std::string schema = content(folder + "/schema.json"), policies = content(folder + "/policies.cedar");
-    const std::string links = content(folder + "/links.json"), entities = content(folder + "/entities.json");
+    const std::string links = count > 2 ? links_of(words[2]) : "", entities = content(folder + "/entities.json");
     try {
         cedar::Engine engine({schema, policies, links, entities});
 

@@ -82,7 +82,7 @@ type version struct {
 	lock    sync.Mutex // of main
 	main    *handle
 	schema  []byte
-	pool    sync.Pool
+	places  places
 	retired atomic.Bool
 }
 
@@ -327,15 +327,17 @@ func (e *Engine) take(ctx context.Context) (*version, *handle, error) {
 	}
 }
 
-// take gives a handle of the version, or nil where the version is retired. Only where the pool is empty does it lock, to share a handle.
+// take gives a handle of the version, or nil where the version is retired. Only where no place has one does it lock, to share a handle.
 func (v *version) take() (*handle, error) {
-	if h, isOne := v.pool.Get().(*handle); isOne {
+	home := home()
+	if h := v.places.take(home); h != nil {
 		return h, nil
 	}
 	h, err := newHandle()
 	if err != nil {
 		return nil, err
 	}
+	h.home = home
 	v.lock.Lock()
 	main := v.main
 	if main != nil {
@@ -349,15 +351,15 @@ func (v *version) take() (*handle, error) {
 	return h, nil
 }
 
-// give puts a handle back, or frees it where the version is retired.
+// give puts a handle back, or frees it where the version is retired or each place has one.
 func (v *version) give(h *handle) {
-	if v.retired.Load() {
+	if v.retired.Load() || !v.places.put(h) {
 		h.free()
 		return
 	}
-	v.pool.Put(h)
+	// Who retires the version may have looked into the place before the handle was there.
 	if v.retired.Load() {
-		v.drain()
+		v.places.drain()
 	}
 }
 
@@ -369,16 +371,5 @@ func (v *version) retire() {
 	v.main = nil
 	v.lock.Unlock()
 	main.free()
-	v.drain()
-}
-
-// drain frees the handles of the pool.
-func (v *version) drain() {
-	for {
-		h, isOne := v.pool.Get().(*handle)
-		if !isOne {
-			return
-		}
-		h.free()
-	}
+	v.places.drain()
 }

@@ -93,6 +93,7 @@ const (
 // A handle of the library, with what the calls of requests write to. One call at a time uses it.
 type handle struct {
 	slot *C.slot
+	home uint32 // the place to which it goes back first
 }
 
 // newHandle makes a handle that leads nowhere. It is freed by free, or when nothing refers to it.

@@ -1,4 +1,5 @@
-"""Publishes the files of a folder, and answers requests: python3 example.py FOLDER, for example examples/notes."""
+"""Publishes the files of a folder, and answers requests: python3 example.py FOLDER [LINKS], for example examples/notes. LINKS is a file of
+links."""
 import json
 import os
 import sys
@@ -7,15 +8,24 @@ import bobbinjade
 
 
 def content(name):
-    path = os.path.join(sys.argv[1] if len(sys.argv) > 1 else 'examples/notes', name)
-    if not os.path.exists(path):
-        return None
-    with open(path, 'rb') as file:
+    """A file of the folder. One that is not there ends the example: an empty text in its place would be other policies."""
+    with open(os.path.join(sys.argv[1] if len(sys.argv) > 1 else 'examples/notes', name), 'rb') as file:
         return file.read()
 
 
+def links():
+    """The links, or None where the command line names no file. A file of no bytes is refused, since the library takes it for no file."""
+    if len(sys.argv) < 3:
+        return None
+    with open(sys.argv[2], 'rb') as file:
+        text = file.read()
+    if not text:
+        sys.exit('%s: a file of links has a list' % sys.argv[2])
+    return text
+
+
 def main():
-    files = [content(name) for name in ('schema.json', 'policies.cedar', 'entities.json', 'links.json')]
+    files = [content(name) for name in ('schema.json', 'policies.cedar', 'entities.json')] + [links()]
     engine = bobbinjade.Engine(*files)
 
     # Any number of threads may ask, also while another publishes.

@@ -16,11 +16,29 @@ fn main() {
         Ok(output) if output.status.success() => String::from_utf8_lossy(&output.stdout).into_owned(),
         _ => panic!("libcedar is not found: BOBBINJADE_LIB names its folder, or pkg-config knows cedar"),
     };
-    for word in words.split_whitespace() {
+    for word in split(&words) {
         if let Some(folder) = word.strip_prefix("-L") {
             println!("cargo:rustc-link-search=native={folder}");
         } else if let Some(name) = word.strip_prefix("-l") {
             println!("cargo:rustc-link-lib={name}");
         }
     }
+}
+
+/// The words that pkg-config writes: a space with a backslash before it is part of a word.
+fn split(line: &str) -> Vec<String> {
+    let (mut words, mut is_open, mut letters) = (vec![], false, line.chars());
+    while let Some(letter) = letters.next() {
+        if letter.is_whitespace() {
+            is_open = false;
+            continue;
+        }
+        if !is_open {
+            words.push(String::new());
+            is_open = true;
+        }
+        let letter = if letter == '\\' { letters.next().unwrap_or(letter) } else { letter };
+        words.last_mut().expect("a word is open").push(letter);
+    }
+    words
 }

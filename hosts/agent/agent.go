@@ -19,6 +19,7 @@ type agent struct {
 	one, lines question // how one request is answered, and request lines
 	limits     limits
 	validating chan struct{} // a place for each validation that runs
+	isPublic   bool          // whether all may validate
 	public     *connections
 	isStopping atomic.Bool
 }
@@ -26,6 +27,7 @@ type agent struct {
 // newAgent reads the files, and publishes them as the first version.
 func newAgent(settings *config, log *logger) (*agent, error) {
 	it := &agent{metrics: newMetrics(), log: log, limits: settings.limits, validating: make(chan struct{}, settings.limits.validations)}
+	it.isPublic = settings.isPublic
 	it.one, it.lines = oneRequest, requestLines
 	if settings.hasEntities {
 		it.one, it.lines = oneWithEntities, linesWithEntities

@@ -92,8 +92,9 @@ func TestOtherFilesKeepChanges(t *testing.T) {
 			t.Error(entry)
 		}
 	}
-	it.hangups <- struct{}{}
-	eventually(t, "the files are read anew", func() bool { return it.ask(beach).body == friend })
+	if got := it.reload("?force=true"); got.status != 200 || it.ask(beach).body != friend {
+		t.Error(got)
+	}
 	if got := it.patch(`{"upsert":[` + annAlone + `]}`); got.status != 200 {
 		t.Error(got)
 	}

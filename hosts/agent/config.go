@@ -20,9 +20,12 @@ type config struct {
 	anyDecimal  bool
 	listen      string
 	admin       string
+	isInsecure  bool // whether whoever reaches a port may publish
 	extAuthz    string
 	decisionLog string
 	hasEntities bool // whether requests may bring entities
+	isPublic    bool // whether /v1/validate is on the listener for requests, too
+	doesReplace bool // whether a file that has changed replaces what calls have published
 	reloadEvery time.Duration
 	drain       time.Duration
 	shutdown    time.Duration
@@ -78,10 +81,13 @@ func flagsOf(settings *config) *flag.FlagSet {
 	flags.BoolVar(&settings.anyDecimal, "any-decimal", false, "accept decimal(..) of any string, which may then fail at a request")
 	flags.StringVar(&settings.listen, "listen", "127.0.0.1:8180", "the `ADDRESS` for requests: HOST:PORT, or unix:PATH")
 	flags.StringVar(&settings.admin, "admin", "", "the `ADDRESS` for calls that publish; without it there are none")
+	flags.BoolVar(&settings.isInsecure, "admin-insecure", false, "let whoever reaches the HOST:PORT of --admin publish")
 	flags.StringVar(&settings.extAuthz, "ext-authz", "", "the mapping `FILE` for Envoy's ext_authz; without it the path is off")
 	flags.BoolVar(&settings.hasEntities, "entities-in-requests", false, "a request may bring entities, which hold for it alone")
+	flags.BoolVar(&settings.isPublic, "public-validate", false, "serve /v1/validate on --listen, too, for policies according to the current schema")
 	flags.StringVar(&settings.decisionLog, "decision-log", "", "append each request and its answer to this `FILE`; without it none is logged")
 	flags.DurationVar(&settings.reloadEvery, "reload", time.Second, "look for changed files so often; 0 is only at SIGHUP")
+	flags.BoolVar(&settings.doesReplace, "reload-replaces", false, "a file that has changed replaces what calls have published in its place")
 	flags.DurationVar(&settings.drain, "drain", 0, "at the end answer for so long with /readyz at 503, before listening ends")
 	flags.DurationVar(&settings.shutdown, "shutdown", 10*time.Second, "wait so long for running requests at the end")
 	settings.limits.declare(flags)
@@ -107,6 +113,9 @@ func (c *config) check() error {
 		if err := checkAddress(address); err != nil {
 			return fmt.Errorf("%s: %w", name, err)
 		}
+	}
+	if c.admin != "" && !strings.HasPrefix(c.admin, unixPrefix) && !c.isInsecure {
+		return fmt.Errorf("--admin: whoever reaches %s could publish: use unix:PATH, or say --admin-insecure", c.admin)
 	}
 	if c.admin == c.listen {
 		return errors.New("--admin and --listen are one address: calls that publish need a listener of their own")
@@ -140,7 +149,8 @@ Example:
       http://127.0.0.1:8180/v1/authorize
 
 Signals:
-  SIGHUP   read all files anew, and open the decision log anew
+  SIGHUP   read the files now, and publish those that have changed
+  SIGUSR1  open the decision log anew, which the agent also does when it was renamed
   SIGTERM  end when the running requests are answered, as SIGINT does; a second one ends --drain, or else cuts requests off
 
 Statuses:

@@ -4,7 +4,9 @@ package main
 // clients that open connections and do nothing, or next to nothing, keep nobody out.
 
 import (
+	"context"
 	"net"
+	"net/http"
 	"sync"
 	"sync/atomic"
 	"time"
@@ -126,4 +128,25 @@ func (c *connection) Close() error {
 	delete(c.of.open, c)
 	c.of.lock.Unlock()
 	return c.Conn.Close()
+}
+
+// connectionKey is the key of the connection of a request in its context.
+type connectionKey struct{}
+
+func withConnection(parent context.Context, connection net.Conn) context.Context {
+	return context.WithValue(parent, connectionKey{}, connection)
+}
+
+// setReadDeadline has reading of the body of a request fail after a time; a zero time is none. The server sets it anew for the next request.
+func setReadDeadline(r *http.Request, at time.Time) {
+	if connection, isOne := r.Context().Value(connectionKey{}).(net.Conn); isOne {
+		_ = connection.SetReadDeadline(at)
+	}
+}
+
+// setWriteDeadline has writing of the answer to a request fail after a time. The server sets it anew for the next request.
+func setWriteDeadline(r *http.Request, at time.Time) {
+	if connection, isOne := r.Context().Value(connectionKey{}).(net.Conn); isOne {
+		_ = connection.SetWriteDeadline(at)
+	}
 }

@@ -87,6 +87,23 @@ func (d *decisionLog) reopen() {
 	d.buffer.Reset(file)
 }
 
+// reopenIfMoved opens the file anew where its path no longer leads to it, since another program has renamed or removed it.
+func (d *decisionLog) reopenIfMoved() {
+	if d == nil {
+		return
+	}
+	d.lock.Lock()
+	file := d.file
+	d.lock.Unlock()
+	open, err := file.Stat()
+	if err != nil {
+		return
+	}
+	if found, err := os.Stat(file.Name()); err != nil || !os.SameFile(found, open) {
+		d.reopen()
+	}
+}
+
 // openToAppend opens a file of a log, which the user of the process alone may read.
 func openToAppend(path string) (*os.File, error) {
 	return os.OpenFile(path, os.O_APPEND|os.O_CREATE|os.O_WRONLY, 0o600)

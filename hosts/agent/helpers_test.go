@@ -105,7 +105,7 @@ type served struct {
 func serveExample(t testing.TB, name string, words ...string) *served {
 	t.Helper()
 	folder, files := copied(t, name)
-	flags := append(append(files, "--listen", "127.0.0.1:0", "--admin", "127.0.0.1:0", "--reload", "20ms"), words...)
+	flags := append(append(files, "--listen", "127.0.0.1:0", "--admin", "127.0.0.1:0", "--admin-insecure", "--reload", "20ms"), words...)
 	settings, err := parseConfig(withoutTwins(flags))
 	if err != nil {
 		t.Fatal(err)
@@ -321,4 +321,17 @@ func visited(t *testing.T, help string) func(*flag.Flag) {
 			t.Error(it.Name)
 		}
 	}
+}
+
+// residentBytes gives the memory of this process that is resident. The test is skipped where the system does not say it.
+func residentBytes(t *testing.T) int64 {
+	text, err := os.ReadFile("/proc/self/statm")
+	if err != nil {
+		t.Skip(err)
+	}
+	var all, resident int64
+	if _, err := fmt.Sscan(string(text), &all, &resident); err != nil {
+		t.Fatal(err)
+	}
+	return resident * int64(os.Getpagesize())
 }

@@ -129,7 +129,7 @@ func TestLimitsOfSizes(t *testing.T) {
 		t.Error(got)
 	}
 	long := strings.Repeat("//", 51)
-	if got := it.call("POST", "/v1/validate", "", long); got.status != 413 {
+	if got := it.call("POST", "/v1/validate", "", long, it.admin); got.status != 413 {
 		t.Error(got)
 	}
 	if got := it.put("/v1/policies", strings.Repeat(long, 3)); got.status != 413 {
@@ -404,13 +404,34 @@ func TestValidationsWait(t *testing.T) {
 	it := serveExample(t, "notes", "--max-time", "3s")
 	it.validating <- struct{}{}
 	waiting := make(chan reply)
-	go func() { waiting <- it.call("POST", "/v1/validate", "", permitAll) }()
+	go func() { waiting <- it.call("POST", "/v1/validate", "", permitAll, it.admin) }()
 	it.others(10)
 	if got := <-waiting; got.status != 503 || got.header.Get("Retry-After") == "" {
 		t.Error(got)
 	}
 	<-it.validating
-	if got := it.call("POST", "/v1/validate", "", permitAll); got.status != 200 {
+	if got := it.call("POST", "/v1/validate", "", permitAll, it.admin); got.status != 200 {
 		t.Error(got)
+	}
+}
+
+// A body that does not arrive in time is answered, and not cut off.
+func TestSlowBodiesAreAnswered(t *testing.T) {
+	it := serveExample(t, "notes", "--max-time", "400ms")
+	answers := make(chan string)
+	for at := 0; at < 16; at++ {
+		connection := it.dial()
+		go func() {
+			_, _ = connection.Write([]byte("POST /v1/authorize HTTP/1.1\r\nHost: agent\r\nContent-Length: 100\r\n\r\n{"))
+			_ = connection.SetReadDeadline(time.Now().Add(10 * time.Second))
+			room := make([]byte, 64)
+			count, _ := connection.Read(room)
+			answers <- string(room[:count])
+		}()
+	}
+	for at := 0; at < 16; at++ {
+		if got := <-answers; !strings.HasPrefix(got, "HTTP/1.1 408 ") {
+			t.Errorf("%q", got)
+		}
 	}
 }

@@ -19,6 +19,10 @@ const (
 	headerTime = 5 * time.Second
 	// A connection without progress for so long may be closed for a new one, where all are taken.
 	stalledAfter = time.Second
+	// A client sends what is to be validated, and reads the report, in so much time each.
+	validationTime = 10 * time.Second
+	// An answer that says that the body did not arrive in time is written in so much time.
+	lateTime = 5 * time.Second
 	// The connections of the listener for calls that publish.
 	adminConnections = 64
 )
@@ -26,8 +30,10 @@ const (
 // limits are sizes in bytes, times and numbers.
 type limits struct {
 	body, line, policies, files int64
+	report                      int64
 	connections, validations    int
 	time, idle, adminTime       time.Duration
+	turn                        time.Duration // of a validation
 }
 
 // declare declares the flags of limits.
@@ -35,9 +41,11 @@ func (l *limits) declare(flags *flag.FlagSet) {
 	flags.Int64Var(&l.line, "max-line", 256<<10, "a request has at most so many `BYTES`")
 	flags.Int64Var(&l.body, "max-body", 64<<20, "the request lines of one body have together at most so many `BYTES`")
 	flags.Int64Var(&l.policies, "max-policies", 1<<20, "what /v1/validate is sent has at most so many `BYTES`")
+	flags.Int64Var(&l.report, "max-report", 16<<20, "what /v1/validate could answer has at most so many `BYTES`")
 	flags.Int64Var(&l.files, "max-files", 1<<30, "what is published over --admin has at most so many `BYTES`")
 	flags.IntVar(&l.connections, "max-connections", 4096, "the `NUMBER` of open connections")
 	flags.IntVar(&l.validations, "max-validations", 1, "the `NUMBER` of calls of /v1/validate that run at once; others wait; 0 is none")
+	l.turn = validationTime
 	flags.DurationVar(&l.time, "max-time", 30*time.Second, "a request and its answer take at most so long")
 	flags.DurationVar(&l.idle, "max-idle", 2*time.Minute, "a connection is idle for at most so long")
 	flags.DurationVar(&l.adminTime, "max-publish-time", 10*time.Minute, "a call of --admin takes at most so long")
@@ -45,7 +53,7 @@ func (l *limits) declare(flags *flag.FlagSet) {
 
 // check finds limits that nothing could meet.
 func (l *limits) check() error {
-	if l.body < 1 || l.line < 1 || l.policies < 1 || l.files < 1 || l.connections < 1 || l.validations < 0 {
+	if l.body < 1 || l.line < 1 || l.policies < 1 || l.report < 1 || l.files < 1 || l.connections < 1 || l.validations < 0 {
 		return errors.New("each --max- is at least 1, and --max-validations at least 0")
 	}
 	if l.time <= 0 || l.idle <= 0 || l.adminTime <= 0 {

@@ -76,9 +76,7 @@ func (l *logger) repeat(it repeat, count uint64) {
 func (l *logger) flush() {
 	l.lock.Lock()
 	counted := l.repeated
-	if len(counted) > 0 {
-		l.repeated = map[repeat]uint64{}
-	}
+	l.repeated = map[repeat]uint64{}
 	l.lock.Unlock()
 	keys := make([]repeat, 0, len(counted))
 	for it := range counted {

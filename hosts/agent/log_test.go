@@ -5,6 +5,8 @@ import (
 	"fmt"
 	"io"
 	"strings"
+	"sync"
+	"sync/atomic"
 	"testing"
 	"time"
 )
@@ -67,5 +69,41 @@ func TestWhatIsCountedInTheLog(t *testing.T) {
 	log.flush()
 	if got := strings.Count(to.String(), "\n"); got != len(lines) {
 		t.Error("counted twice: ", got)
+	}
+}
+
+// What is counted while the log is written is written once.
+func TestCountingWhileTheLogIsWritten(t *testing.T) {
+	buffer := &lockedBuffer{}
+	log := newLogger(buffer)
+	const threads, each = 4, 20000
+	var counting, writing sync.WaitGroup
+	var isOver atomic.Bool
+	for at := 0; at < threads; at++ {
+		counting.Add(1)
+		go func() {
+			defer counting.Done()
+			for turn := 0; turn < each; turn++ {
+				log.repeat(repeat{event: "refused", name: "502"}, 1)
+			}
+		}()
+	}
+	writing.Add(1)
+	go func() {
+		defer writing.Done()
+		for !isOver.Load() {
+			log.flush()
+		}
+	}()
+	counting.Wait()
+	isOver.Store(true)
+	writing.Wait()
+	log.flush()
+	sum := 0
+	for _, line := range strings.Split(strings.TrimSuffix(buffer.String(), "\n"), "\n") {
+		sum += decoded[struct{ Count int }](t, line).Count
+	}
+	if sum != threads*each {
+		t.Error(sum)
 	}
 }

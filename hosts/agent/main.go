@@ -97,10 +97,10 @@ func serveUntilSignal(settings *config, errorOutput io.Writer) int {
 		return statusFailed
 	}
 	signals := make(chan os.Signal, 4)
-	signal.Notify(signals, syscall.SIGTERM, syscall.SIGINT, syscall.SIGHUP)
+	signal.Notify(signals, syscall.SIGTERM, syscall.SIGINT, syscall.SIGHUP, syscall.SIGUSR1)
 	defer signal.Stop(signals)
 	hangups, ends := make(chan struct{}, 1), make(chan struct{}, 2)
-	go sortSignals(signals, hangups, ends)
+	go sortSignals(signals, it.decisions, hangups, ends)
 	isClean := servers.serve(hangups, ends)
 	it.close()
 	if !isClean {
@@ -109,9 +109,13 @@ func serveUntilSignal(settings *config, errorOutput io.Writer) int {
 	return statusDone
 }
 
-// sortSignals passes SIGHUP on to reload, and the others to end.
-func sortSignals(signals <-chan os.Signal, hangups, ends chan<- struct{}) {
+// sortSignals opens the decision log anew at SIGUSR1, passes SIGHUP on to reload, and the others to end.
+func sortSignals(signals <-chan os.Signal, decisions *decisionLog, hangups, ends chan<- struct{}) {
 	for it := range signals {
+		if it == syscall.SIGUSR1 {
+			decisions.reopen()
+			continue
+		}
 		to := ends
 		if it == syscall.SIGHUP {
 			to = hangups

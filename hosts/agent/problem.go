@@ -65,6 +65,11 @@ func (a *agent) failMethod(w http.ResponseWriter, allow string) {
 	a.fail(w, http.StatusMethodNotAllowed, "method", "this path takes "+allow)
 }
 
+// failBrowser answers a page in a browser that would publish.
+func (a *agent) failBrowser(w http.ResponseWriter) {
+	a.fail(w, http.StatusForbidden, "browser", "a page in a browser cannot publish")
+}
+
 // isOfLibrary says whether an error is of a call of the library.
 func isOfLibrary(err error) bool {
 	var wrong *bobbinjade.LibraryError

@@ -340,7 +340,8 @@ func TestCommandLines(t *testing.T) {
 		{with("--listen", "8180"), "--listen: an address is HOST:PORT or unix:PATH"},
 		{with("--listen", "unix:"), "--listen: an address is HOST:PORT or unix:PATH"},
 		{with("--admin", "8181"), "--admin: an address is HOST:PORT or unix:PATH"},
-		{with("--admin", "127.0.0.1:8180"), "--admin and --listen are one address"},
+		{with("--admin", "127.0.0.1:8180", "--admin-insecure"), "--admin and --listen are one address"},
+		{with("--admin", "127.0.0.1:8181"), "--admin: whoever reaches 127.0.0.1:8181 could publish: use unix:PATH, or say --admin-insecure"},
 		{with("--ext-authz", files[1]), "--ext-authz: "},
 		{with("--ext-authz", "/none"), "--ext-authz: open /none"},
 	} {

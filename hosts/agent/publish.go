@@ -4,7 +4,6 @@ package main
 // entities.
 
 import (
-	"encoding/json"
 	"errors"
 	"net/http"
 	"strings"
@@ -22,17 +21,6 @@ var publishedPaths = map[string]bobbinjade.File{
 	"/v1/entities": bobbinjade.Entities, "/v1/files": severalFiles,
 }
 
-// errObject says that several files at once have another form.
-var errObject = errors.New("the body is an object with some of the keys schema, policies (a string), links and entities")
-
-// sentFiles are several files at once. Those that are left out stay.
-type sentFiles struct {
-	Schema   json.RawMessage `json:"schema"`
-	Policies *string         `json:"policies"`
-	Links    json.RawMessage `json:"links"`
-	Entities json.RawMessage `json:"entities"`
-}
-
 // publish publishes a version with the file that the body is. The answer describes the version, or says why nothing has changed.
 func (a *agent) publish(w http.ResponseWriter, r *http.Request, file bobbinjade.File) {
 	began := time.Now()
@@ -41,7 +29,7 @@ func (a *agent) publish(w http.ResponseWriter, r *http.Request, file bobbinjade.
 		a.failBody(w, err, a.limits.files)
 		return
 	}
-	v, err := a.store.put(file, body)
+	v, err := a.store.put(file, body, r.Header["If-Match"])
 	a.answerPublish(w, r, v, err, began)
 }
 
@@ -53,16 +41,19 @@ func (a *agent) patch(w http.ResponseWriter, r *http.Request) {
 		a.failBody(w, err, a.limits.files)
 		return
 	}
-	v, err := a.store.change("patch", body)
+	v, err := a.store.change("patch", body, r.Header["If-Match"])
 	a.answerPublish(w, r, v, err, began)
 }
 
-// put publishes a version with a file, or with several.
-func (s *store) put(file bobbinjade.File, body []byte) (*version, error) {
+// put publishes a version with a file, or with several, where the tags of If-Match are those of what is current.
+func (s *store) put(file bobbinjade.File, body []byte, tags []string) (*version, error) {
 	if file == bobbinjade.Entities {
-		return s.publishEntities("put", body)
+		return s.publishEntities("put", body, tags)
 	}
 	return s.publish("put", func(files *bobbinjade.Files) error {
+		if err := s.current.Load().matches(file, tags); err != nil {
+			return err
+		}
 		if file == severalFiles {
 			return replaceSeveral(files, body)
 		}
@@ -71,10 +62,34 @@ func (s *store) put(file bobbinjade.File, body []byte) (*version, error) {
 	})
 }
 
+// errMatch says that If-Match names something else than what is current.
+var errMatch = errors.New("If-Match does not name what is current")
+
+// matches finds out whether the tags of If-Match name what is current of a file, or of several the version. No tags are as `*`.
+func (v *version) matches(file bobbinjade.File, tags []string) error {
+	digest := v.digests[file]
+	if file == severalFiles {
+		digest = v.digest
+	}
+	isMatch := len(tags) == 0
+	for _, tag := range strings.Split(strings.Join(tags, ","), ",") {
+		tag = strings.TrimSpace(tag)
+		isMatch = isMatch || tag == "*" || tag == `"`+digest+`"`
+	}
+	if isMatch {
+		return nil
+	}
+	return errMatch
+}
+
 // answerPublish describes the version that was published, or says why nothing has changed.
 func (a *agent) answerPublish(w http.ResponseWriter, r *http.Request, v *version, err error, began time.Time) {
 	if errors.Is(err, errObject) {
-		a.fail(w, http.StatusBadRequest, "object", errObject.Error())
+		a.fail(w, http.StatusBadRequest, "object", err.Error())
+		return
+	}
+	if errors.Is(err, errMatch) {
+		a.fail(w, http.StatusPreconditionFailed, "match", errMatch.Error())
 		return
 	}
 	if err != nil {
@@ -85,30 +100,7 @@ func (a *agent) answerPublish(w http.ResponseWriter, r *http.Request, v *version
 	}
 	a.published(v, time.Since(began))
 	versionHeader(w, v)
-	writeJSON(w, http.StatusOK, describe(v))
-}
-
-// replaceSeveral replaces the files that an object has.
-func replaceSeveral(files *bobbinjade.Files, body []byte) error {
-	var sent *sentFiles
-	decoder := json.NewDecoder(strings.NewReader(string(body)))
-	decoder.DisallowUnknownFields()
-	if decoder.Decode(&sent) != nil || sent == nil || decoder.More() {
-		return errObject
-	}
-	if sent.Schema != nil {
-		files.Schema = sent.Schema
-	}
-	if sent.Policies != nil {
-		files.Policies = []byte(*sent.Policies)
-	}
-	if sent.Links != nil {
-		files.Links = sent.Links
-	}
-	if sent.Entities != nil {
-		files.Entities = sent.Entities
-	}
-	return nil
+	writeJSON(w, http.StatusOK, a.describe(v))
 }
 
 // failure is why files were not published.

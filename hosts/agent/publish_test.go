@@ -153,7 +153,7 @@ func TestOnlyTheListenerForItPublishes(t *testing.T) {
 			}
 		}
 		for _, method := range []string{"POST", "PATCH", "DELETE", "GET"} {
-			if method == "PATCH" && path == "/v1/entities" {
+			if (method == "PATCH" || method == "GET") && path == "/v1/entities" {
 				continue
 			}
 			if got := it.call(method, path, "", permitAll, it.admin); got.status != 405 || got.header.Get("Allow") != methodsOf(publishedPaths[path]) {
@@ -178,7 +178,7 @@ func TestValidating(t *testing.T) {
 	it := serveExample(t, "notes")
 	folder, _ := copied(t, "notes")
 	validate := func(body string, words bool) reply {
-		request := it.request("POST", "http://"+it.address+"/v1/validate", "text/plain", strings.NewReader(body))
+		request := it.request("POST", "http://"+it.admin+"/v1/validate", "text/plain", strings.NewReader(body))
 		if words {
 			request.Header.Set("Accept", "text/plain")
 		}
@@ -207,7 +207,7 @@ func TestValidating(t *testing.T) {
 
 func TestNoValidations(t *testing.T) {
 	it := serveExample(t, "notes", "--max-validations", "0")
-	if got := it.call("POST", "/v1/validate", "", permitAll); got.status != 404 {
+	if got := it.call("POST", "/v1/validate", "", permitAll, it.admin); got.status != 404 {
 		t.Error(got)
 	}
 }
@@ -216,13 +216,37 @@ func TestValidatingSeveralFiles(t *testing.T) {
 	it := serveExample(t, "repositories")
 	for body, status := range map[string]int{`{}`: 200, `{"links":[]}`: 200, `{"x":1}`: 400,
 		`{"policies":"permit(principal, action, resource);","links":[]}`: 200, `{"policies":"permit(principal, action, resource);"}`: 422} {
-		if got := it.call("POST", "/v1/validate", "application/json", body); got.status != status {
+		if got := it.call("POST", "/v1/validate", "application/json", body, it.admin); got.status != status {
 			t.Error(body, got)
 		}
 	}
 	// Without the template the links of the example are refused: docs/REFUSALS.md, 210.
-	got := it.call("POST", "/v1/validate", "application/json", `{"policies":"permit(principal, action, resource);"}`)
+	got := it.call("POST", "/v1/validate", "application/json", `{"policies":"permit(principal, action, resource);"}`, it.admin)
 	if why := decoded[failure](t, got.body); why.File != "links" || why.Refused != 210 {
 		t.Error(got)
+	}
+}
+
+// An object of several files is read as it is sent, or refused: nothing of it is replaced, left out or guessed.
+func TestSeveralFilesAreExact(t *testing.T) {
+	it := serveExample(t, "notes", "--public-validate")
+	for _, body := range []string{
+		"{\"policies\":\"@id(\\\"\xff\\\") permit(principal, action, resource);\"}",
+		`{"policies":"@id(\"\ud800\") permit(principal, action, resource);"}`, `{"policies":"@id(\"\udc00\ud800\") permit(principal, action, resource);"}`,
+		`{"policies":"@id(\"\ud800x\") permit(principal, action, resource);"}`,
+		`{"policies":""}}`, `{"policies":""}]`, `{"policies":""}x`, `{"policies":""}{}`, `{"policies":""},`, `{"POLICIES":""}`, `{"Policies":""}`,
+		`{"policies":null}`, `{"policies":1}`, `{"policies":"","policies":""}`, `{"policies":"","other":""}`, `[]`, `null`, ``, `{`, `{"policies"`, `{"policies":""`,
+		`{"policies":"",}`, `{policies:""}`} {
+		for _, got := range []reply{it.put("/v1/files", body), it.call("POST", "/v1/validate", "application/json", body)} {
+			if got.status != 400 || !strings.HasPrefix(got.body, `{"error":"the body is not an object with some of`) {
+				t.Error(body, got)
+			}
+		}
+	}
+	for _, body := range []string{`{}`, " {\n} \n", `{"policies":"// \\ud800\n@id(\"\ud83d\ude00\ufffd\") permit(principal, action, resource);"}`,
+		"{\"policies\":\"@id(\\\"\uFFFD\\\") permit(principal, action, resource);\"}"} {
+		if got := it.put("/v1/files", body); got.status != 200 {
+			t.Error(body, got)
+		}
 	}
 }

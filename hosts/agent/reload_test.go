@@ -35,7 +35,7 @@ func numberOf(answer string) (int64, bool) {
 
 // Each of 100,000 requests is answered according to the version that was current when it began, or one that was published meanwhile.
 func TestReloadsWhileRequestsRun(t *testing.T) {
-	it := serveExample(t, "notes")
+	it := serveExample(t, "notes", "--reload-replaces")
 	const clients, each = 16, 6250
 	policies := filepath.Join(it.folder, "policies.cedar")
 	write(t, policies, numbered(0))
@@ -105,9 +105,7 @@ func publishNumbered(it *served, path string, begun, done *atomic.Int64, isOver 
 			}
 			wanted := digestOf([]byte(numbered(number)))
 			eventually(it.t, "the policies are published", func() bool {
-				v := it.store.current.Load()
-				// A poll may be faster than SIGHUP, which then publishes the same file once more.
-				return v.digests[bobbinjade.Policies] == wanted && (number%3 != 1 || v.source == "hangup")
+				return it.store.current.Load().digests[bobbinjade.Policies] == wanted
 			})
 		}
 		done.Store(number)
@@ -193,7 +191,7 @@ func TestFilesThatChangeTogether(t *testing.T) {
 	eventually(t, "/readyz forgets", func() bool { return it.reloader.failure.Load() == nil })
 }
 
-// What a call has published stays where another file changes. SIGHUP reads all files anew.
+// What a call has published stays where another file changes, until the files are forced.
 func TestPublishedPoliciesAndFiles(t *testing.T) {
 	it := serveExample(t, "notes")
 	if got := it.put("/v1/policies", permitAll); got.status != 200 {
@@ -204,9 +202,18 @@ func TestPublishedPoliciesAndFiles(t *testing.T) {
 	if got := it.ask(line("carol", "read")); got.body != permittedAnswer {
 		t.Error(got)
 	}
-	it.hangups <- struct{}{}
-	eventually(t, "the files are published", func() bool { return it.store.current.Load().number == 4 })
+	if got := it.reload("?force=true"); got.status != 200 || it.store.current.Load().number != 4 {
+		t.Error(got)
+	}
 	if got := it.ask(line("carol", "read")); got.body != deniedAnswer {
+		t.Error(got)
+	}
+	// A file that becomes what a call has published before replaces nothing.
+	if got := it.put("/v1/policies", permitAll); got.status != 200 {
+		t.Fatal(got)
+	}
+	write(t, filepath.Join(it.folder, "policies.cedar"), permitAll)
+	if got := it.reload(""); got.status != 200 || it.store.current.Load().number != 5 || strings.Contains(got.body, "held") {
 		t.Error(got)
 	}
 }

@@ -52,8 +52,8 @@ func listenAll(it *agent, settings *config) (*servers, error) {
 // add adds a server.
 func (s *servers) add(name string, listener net.Listener, handler http.Handler, most, idle time.Duration) {
 	server := &http.Server{
-		Handler: handler, ReadHeaderTimeout: headerTime, ReadTimeout: most, WriteTimeout: most, IdleTimeout: idle,
-		MaxHeaderBytes: headerSize, ErrorLog: log.New(s.agent.log, "", 0),
+		Handler: handler, ReadHeaderTimeout: headerTime, ReadTimeout: most, WriteTimeout: most + lateTime, IdleTimeout: idle,
+		MaxHeaderBytes: headerSize, ErrorLog: log.New(s.agent.log, "", 0), ConnContext: withConnection,
 	}
 	s.running = append(s.running, running{name, server, listener})
 }
@@ -106,6 +106,8 @@ func (s *servers) stop(ends <-chan struct{}) bool {
 			isClean = false
 			_ = it.server.Close()
 		}
+		// A server that has not begun to serve does not know its listener, whose socket would stay.
+		_ = it.listener.Close()
 	}
 	if !isClean {
 		s.agent.log.event("warning", "cut_off")
@@ -126,6 +128,7 @@ func (a *agent) writeLogs(stopped <-chan struct{}) {
 		case <-decisions.C:
 			a.decisions.flush()
 		case <-counted.C:
+			a.decisions.reopenIfMoved()
 			a.log.flush()
 		}
 	}
@@ -139,13 +142,12 @@ func (a *agent) servePublic(w http.ResponseWriter, r *http.Request) {
 			a.failMethod(w, http.MethodPost)
 			return
 		}
-		a.authorize(w, r)
-	case path == "/v1/validate" && a.limits.validations > 0:
-		if r.Method != http.MethodPost {
-			a.failMethod(w, http.MethodPost)
+		if a.isEncoded(w, r) {
 			return
 		}
-		a.validate(w, r)
+		a.authorize(w, r)
+	case path == validatePath && a.isPublic && a.limits.validations > 0:
+		a.serveValidate(w, r, false)
 	case a.mapping != nil && (path == extAuthzPath || strings.HasPrefix(path, extAuthzPath+"/")):
 		a.extAuthz(w, r)
 	default:
@@ -153,17 +155,50 @@ func (a *agent) servePublic(w http.ResponseWriter, r *http.Request) {
 	}
 }
 
+// The path of the call that validates.
+const validatePath = "/v1/validate"
+
+// serveValidate answers a call that validates.
+func (a *agent) serveValidate(w http.ResponseWriter, r *http.Request, isAdmin bool) {
+	if r.Method != http.MethodPost {
+		a.failMethod(w, http.MethodPost)
+		return
+	}
+	if a.isEncoded(w, r) {
+		return
+	}
+	a.validate(w, r, isAdmin)
+}
+
+// isEncoded says whether a body has a Content-Encoding, which is then answered: no call decodes one.
+func (a *agent) isEncoded(w http.ResponseWriter, r *http.Request) bool {
+	for _, encoding := range r.Header["Content-Encoding"] {
+		if encoding != "" && !strings.EqualFold(encoding, "identity") {
+			a.fail(w, http.StatusUnsupportedMediaType, "encoding", "a body has no Content-Encoding here")
+			return true
+		}
+	}
+	return false
+}
+
 // serveAdmin answers a call of the listener for calls that publish.
 func (a *agent) serveAdmin(w http.ResponseWriter, r *http.Request) {
 	file, isOne := publishedPaths[r.URL.Path]
 	isPatch := r.Method == http.MethodPatch && file == bobbinjade.Entities
 	switch {
+	case r.URL.Path == "/v1/entities" && (r.Method == http.MethodGet || r.Method == http.MethodHead):
+		a.writeEntities(w)
+	case r.URL.Path == "/v1/reload":
+		a.reload(w, r)
+	case r.URL.Path == validatePath && a.limits.validations > 0:
+		a.serveValidate(w, r, true)
 	case !isOne:
 		a.serveState(w, r)
 	case r.Method != http.MethodPut && !isPatch:
 		a.failMethod(w, methodsOf(file))
-	case len(r.Header["Origin"]) > 0:
-		a.fail(w, http.StatusForbidden, "browser", "a page in a browser cannot publish")
+	case isOfBrowser(r):
+		a.failBrowser(w)
+	case a.isEncoded(w, r):
 	case isPatch:
 		a.patch(w, r)
 	default:
@@ -171,10 +206,15 @@ func (a *agent) serveAdmin(w http.ResponseWriter, r *http.Request) {
 	}
 }
 
+// isOfBrowser says whether a page in a browser makes a call.
+func isOfBrowser(r *http.Request) bool {
+	return len(r.Header["Origin"]) > 0
+}
+
 // methodsOf gives the methods of the path of a file.
 func methodsOf(file bobbinjade.File) string {
 	if file == bobbinjade.Entities {
-		return "PATCH, PUT"
+		return "GET, HEAD, PATCH, PUT"
 	}
 	return http.MethodPut
 }

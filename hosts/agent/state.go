@@ -6,6 +6,7 @@ import (
 	"bufio"
 	"encoding/json"
 	"net/http"
+	"strconv"
 	"time"
 
 	"bobbinjade"
@@ -53,24 +54,41 @@ type currentVersion struct {
 	Source     string            `json:"source"`
 	Published  time.Time         `json:"published"`
 	Engine     string            `json:"engine"`
+	Held       []string          `json:"held,omitempty"` // the files of which calls have published others
 }
 
 // describe describes a version.
-func describe(v *version) currentVersion {
+func (a *agent) describe(v *version) currentVersion {
 	engine, _ := bobbinjade.Version()
 	digests := map[string]string{}
 	for file, digest := range v.digests {
 		digests[file.String()] = digest
 	}
 	return currentVersion{Version: v.number, Digest: v.digest, Digests: digests, AnyDecimal: v.files.AnyDecimal, Source: v.source,
-		Published: v.published, Engine: engine}
+		Published: v.published, Engine: engine, Held: a.reloader.held(v)}
 }
 
 // writeVersion says which version is current.
 func (a *agent) writeVersion(w http.ResponseWriter) {
 	v := a.store.current.Load()
 	versionHeader(w, v)
-	writeJSON(w, http.StatusOK, describe(v))
+	writeJSON(w, http.StatusOK, a.describe(v))
+}
+
+// writeEntities writes the entities after all changes. Their digest is the tag that If-Match takes.
+func (a *agent) writeEntities(w http.ResponseWriter) {
+	text, v, err := a.store.entities()
+	if err != nil {
+		a.failEngine(w, err)
+		return
+	}
+	versionHeader(w, v)
+	header := w.Header()
+	header["Content-Type"] = jsonType
+	header["Content-Length"] = []string{strconv.Itoa(len(text))}
+	header.Set("ETag", `"`+v.digests[bobbinjade.Entities]+`"`)
+	w.WriteHeader(http.StatusOK)
+	_, _ = w.Write(text)
 }
 
 // writeJSON writes a value as a line.

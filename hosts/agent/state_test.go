@@ -8,7 +8,7 @@ import (
 )
 
 func TestState(t *testing.T) {
-	it := serveExample(t, "notes")
+	it := serveExample(t, "notes", "--public-validate")
 	if got := it.get("/healthz"); got.status != 200 || got.body != `{"healthy":true}`+"\n" {
 		t.Error(got)
 	}

@@ -8,7 +8,6 @@ import (
 	"errors"
 	"fmt"
 	"io"
-	"runtime"
 	"strconv"
 	"sync"
 	"sync/atomic"
@@ -28,7 +27,7 @@ type version struct {
 	files     bobbinjade.Files
 	digests   map[bobbinjade.File]string // "sha256:" and hexadecimal digits; none of links that are not there
 	digest    string                     // of all files and settings
-	source    string                     // what published it: start, reload, hangup, put or patch
+	source    string                     // what published it: start, reload, hangup, call (of /v1/reload), put or patch
 	published time.Time
 	header    []string // the number, as the header Cedar-Version has it
 }
@@ -106,17 +105,17 @@ func (s *store) publish(source string, change func(*bobbinjade.Files) error) (*v
 		return nil, err
 	}
 	s.swap(old, newVersion(number, source, engine, &files, digestsOf(&files)), nil)
-	if old != nil {
-		collect()
-	}
 	return s.current.Load(), nil
 }
 
 // publishEntities makes a version with other entities. The other files are not read again. With an error the current version stays.
-func (s *store) publishEntities(source string, entities []byte) (*version, error) {
+func (s *store) publishEntities(source string, entities []byte, tags []string) (*version, error) {
 	s.lock.Lock()
 	defer s.lock.Unlock()
 	old := s.current.Load()
+	if err := old.matches(bobbinjade.Entities, tags); err != nil {
+		return nil, err
+	}
 	engine, err := old.engine.WithChanges([]byte("{}"))
 	if err != nil {
 		return nil, err
@@ -128,16 +127,27 @@ func (s *store) publishEntities(source string, entities []byte) (*version, error
 	files := old.files
 	files.Entities = entities
 	s.swap(old, old.next(source, engine, &files, digestOf(entities)), nil)
-	collect()
 	return s.current.Load(), nil
+}
+
+// entities gives the entities after all changes, as a file, and the version of which they are.
+func (s *store) entities() ([]byte, *version, error) {
+	s.lock.Lock()
+	defer s.lock.Unlock()
+	v := s.current.Load()
+	text, err := s.changed.over(v.files.Entities)
+	return text, v, err
 }
 
 // change makes a version with changed entities. What the changes do not name is not read again. With an error the current version stays. The
 // digest of the entities is that of the last one and the changes: the same changes of the same file give the same digest.
-func (s *store) change(source string, changes []byte) (*version, error) {
+func (s *store) change(source string, changes []byte, tags []string) (*version, error) {
 	s.lock.Lock()
 	defer s.lock.Unlock()
 	old := s.current.Load()
+	if err := old.matches(bobbinjade.Entities, tags); err != nil {
+		return nil, err
+	}
 	engine, err := old.engine.WithChanges(changes)
 	if err != nil {
 		return nil, err
@@ -176,13 +186,6 @@ func (s *store) swap(old, next *version, changed changedEntities) {
 	if old != nil {
 		_ = old.engine.Close()
 	}
-}
-
-// collect has the collector of Go free the handles of old versions that are left in pools. It does not see how large the engine is to which
-// they lead. A pool drops what it has at the second collection.
-func collect() {
-	runtime.GC()
-	runtime.GC()
 }
 
 // A question is a call of an engine that appends the answer to request lines to a text.

@@ -1,4 +1,5 @@
-// Publishes the files of a folder, and answers requests: go run ./example FOLDER, for example examples/notes.
+// Publishes the files of a folder, and answers requests: go run ./example FOLDER [LINKS], for example examples/notes.
+// LINKS is a file of links.
 package main
 
 import (
@@ -12,9 +13,25 @@ import (
 	"bobbinjade"
 )
 
+// content reads a file of the folder. One that is not there ends the example: an empty text in its place would be other policies.
 func content(name string) []byte {
 	text, err := os.ReadFile(filepath.Join(os.Args[1], name))
-	if err != nil && !errors.Is(err, os.ErrNotExist) {
+	if err != nil {
+		log.Fatal(err)
+	}
+	return text
+}
+
+// links reads the file of links, where the command line names one. A file of no bytes is refused, since the library takes it for no file.
+func links() []byte {
+	if len(os.Args) < 3 {
+		return nil
+	}
+	text, err := os.ReadFile(os.Args[2])
+	if err == nil && len(text) == 0 {
+		err = errors.New("a file of links has a list")
+	}
+	if err != nil {
 		log.Fatal(err)
 	}
 	return text
@@ -22,7 +39,7 @@ func content(name string) []byte {
 
 func main() {
 	files := bobbinjade.Files{
-		Schema: content("schema.json"), Policies: content("policies.cedar"), Links: content("links.json"), Entities: content("entities.json"),
+		Schema: content("schema.json"), Policies: content("policies.cedar"), Links: links(), Entities: content("entities.json"),
 	}
 	engine, err := bobbinjade.New(files)
 	if err != nil {

@@ -130,6 +130,10 @@ class Engine:
     def __enter__(self) -> Engine:
         return self
 
+    def __reduce_ex__(self, _: Any) -> Any:
+        """An engine is not copied: two would share handles, and count versions apart. Threads share one, and another process makes its own."""
+        raise TypeError('an Engine cannot be copied or pickled: threads share one, and another process makes its own of the files')
+
     def __exit__(self, *_: object) -> None:
         self.close()
 

@@ -1,9 +1,14 @@
 """Why a call fails. A failure is never a decision."""
 from __future__ import annotations
 
-from typing import Optional
+from typing import Any, Optional
 
 FILES = {1: 'schema', 2: 'policies', 3: 'links', 4: 'entities'}
+
+
+def _notes(error: Exception) -> dict[str, Any]:
+    """What was put into an error after it was made, for example notes. pickle and copy make the error anew by its arguments."""
+    return dict(vars(error))
 
 
 class Error(Exception):
@@ -32,6 +37,9 @@ class Refused(Error):
         self.line = line
         self.words = words
 
+    def __reduce__(self) -> tuple[Any, ...]:
+        return type(self), (self.file, self.number, self.offset, self.line, self.words), _notes(self)
+
 
 class Faults(Error):
     """The policies have faults. Nothing has changed. `report` is what `cedar validate` prints; `words` explains it to people."""
@@ -41,6 +49,9 @@ class Faults(Error):
         self.report = report
         self.words = words
 
+    def __reduce__(self) -> tuple[Any, ...]:
+        return type(self), (self.report, self.words), _notes(self)
+
 
 class RequestRefused(Error, ValueError):
     """A request is refused, so nothing was decided. `number` is one of docs/REFUSALS.md."""
@@ -48,3 +59,6 @@ class RequestRefused(Error, ValueError):
     def __init__(self, number: int, words: str = '') -> None:
         super().__init__(words or 'the request is refused: %d' % number)
         self.number = number
+
+    def __reduce__(self) -> tuple[Any, ...]:
+        return type(self), (self.number, str(self)), _notes(self)

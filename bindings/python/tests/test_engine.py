@@ -1,6 +1,10 @@
 """The binding over the examples of this repository: each answer is that of answers.jsonl."""
+import concurrent.futures
+import copy
 import json
+import multiprocessing
 import os
+import pickle
 import re
 import sys
 import threading
@@ -215,6 +219,51 @@ class Refusals(unittest.TestCase):
                      lambda: engine.authorize('User::"ann"', 'Action::"write"', 'Notebook::"plans"'), lambda: engine.publish(*self.files)):
             self.assertRaises(bobbinjade.Closed, call)
 
+    def test_copies_of_engines(self):
+        """An engine is not copied, since two would share handles."""
+        engine = bobbinjade.Engine(*self.files)
+        for call in (copy.copy, copy.deepcopy, pickle.dumps, lambda it: pickle.dumps(it, 0), lambda it: copy.copy([it, copy.copy(it)])):
+            with self.assertRaisesRegex(TypeError, 'an Engine cannot be copied or pickled'):
+                call(engine)
+        self.assertTrue(engine.decide('User::"ann"', 'Action::"write"', 'Notebook::"plans"'))
+
+    def raised(self):
+        """An error of each kind."""
+        schema, policies, entities, _ = self.files
+        engine, closed = bobbinjade.Engine(*self.files), bobbinjade.Engine(*self.files)
+        closed.close()
+        request = 'User::"ann"', 'Action::"write"', 'Notebook::"plans"'
+        fault = 'permit(principal, action, resource) when { principal.age > 1 };'
+        for call in (lambda: engine.publish(schema, content('notes', 'broken_policies.cedar'), entities), lambda: engine.publish_entities('{}'),
+                     lambda: engine.publish(schema, fault, entities), lambda: engine.decide(*request, '['),
+                     lambda: engine.decide('ann', *request[1:]), lambda: closed.decide(*request)):
+            with self.assertRaises(bobbinjade.Error) as raised:
+                call()
+            yield raised.exception
+        yield bobbinjade.OutOfMemory('out of memory')
+        yield bobbinjade.Error('the library does not fit this package: status 4')
+
+    def test_copies_of_errors(self):
+        """What an error says is the same after pickle, as where a pool of processes passes it on, and after copy."""
+        kinds = set()
+        for error in self.raised():
+            kinds.add(type(error))
+            error.seen = 'a note'
+            ways = [copy.copy, copy.deepcopy] + [lambda it, way=way: pickle.loads(pickle.dumps(it, way)) for way in range(pickle.HIGHEST_PROTOCOL + 1)]
+            for way in ways:
+                other = way(error)
+                self.assertEqual((type(other), str(other), other.args, vars(other)), (type(error), str(error), error.args, vars(error)))
+        self.assertEqual(kinds, {bobbinjade.Refused, bobbinjade.Faults, bobbinjade.RequestRefused, bobbinjade.Closed, bobbinjade.OutOfMemory,
+                                 bobbinjade.Error})
+
+    def test_a_pool_of_processes(self):
+        """A refused file in another process is raised in this one."""
+        with concurrent.futures.ProcessPoolExecutor(1, multiprocessing.get_context('spawn')) as pool:
+            schema, _, entities, _ = self.files
+            with self.assertRaises(bobbinjade.Refused) as raised:
+                pool.submit(bobbinjade.validate, schema, content('notes', 'broken_policies.cedar')).result(60)
+        self.assertEqual((raised.exception.file, raised.exception.number, raised.exception.line), ('policies', 201, 4))
+
     def test_version(self):
         self.assertRegex(bobbinjade.version(), r'^\d+\.\d+\.\d+$')
 
@@ -337,6 +386,55 @@ class Changes(unittest.TestCase):
             engine = bobbinjade.Engine(schema, policies, '[]', links)
             engine.publish_changes(b'{"upsert":' + entities + b'}')
             self.assertEqual(engine.answer(content(name, 'requests.jsonl')), content(name, 'answers.jsonl').decode())
+
+
+def resident():
+    """The bytes of this process that are resident, or None where the system does not say it."""
+    if not os.path.exists('/proc/self/statm'):
+        return None
+    with open('/proc/self/statm', encoding='ascii') as file:
+        return int(file.read().split()[1]) * os.sysconf('SC_PAGE_SIZE')
+
+
+@unittest.skipUnless(resident(), 'the system does not say what is resident')
+class Memory(unittest.TestCase):
+    """An engine that nobody uses any more is freed, also while requests run: memory does not grow with publications."""
+    PUBLICATIONS, ALLOWED = 100, 32 << 20
+    SCHEMA = json.dumps({'': {
+        'entityTypes': {'Group': {}, 'User': {'memberOfTypes': ['Group'],
+                                              'shape': {'type': 'Record', 'attributes': {'name': {'type': 'String'}}}}},
+        'actions': {'view': {'appliesTo': {'principalTypes': ['User'], 'resourceTypes': ['Group']}}}}})
+
+    @staticmethod
+    def entities():
+        """500 groups, and 10,000 users with names, each in one of them: 2.1 MB."""
+        groups = [{'uid': {'type': 'Group', 'id': 'group%d' % at}} for at in range(500)]
+        users = [{'uid': {'type': 'User', 'id': 'user%d' % at}, 'attrs': {'name': 'x' * 100},
+                  'parents': [{'type': 'Group', 'id': 'group%d' % (at % 500)}]} for at in range(10000)]
+        return json.dumps(groups + users).encode()
+
+    def ask(self, engine):
+        while not self.is_over:
+            self.is_right &= engine.decide('User::"user7"', 'Action::"view"', 'Group::"group1"')
+            time.sleep(0.001)
+
+    def test_publications(self):
+        entities, self.is_over, self.is_right = self.entities(), False, True
+        before = resident()
+        engine = bobbinjade.Engine(self.SCHEMA, 'permit(principal in Group::"group7", action, resource);', entities)
+        one = resident() - before
+        threads = [threading.Thread(target=self.ask, args=(engine,)) for _ in range(16)]
+        for thread in threads:
+            thread.start()
+        for _ in range(self.PUBLICATIONS):
+            engine.publish_entities(entities)
+        after, self.is_over = resident(), True
+        for thread in threads:
+            thread.join()
+        print('%d MB before, one engine %d MB, %d MB after %d publications'
+              % (before >> 20, one >> 20, after >> 20, self.PUBLICATIONS))
+        self.assertTrue(self.is_right)
+        self.assertLessEqual(after, before + 2 * one + self.ALLOWED)
 
 
 class Versions(unittest.TestCase):

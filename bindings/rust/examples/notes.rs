@@ -1,4 +1,5 @@
-//! Publishes the files of a folder, and answers requests: `cargo run --example notes FOLDER`, for example examples/notes.
+//! Publishes the files of a folder, and answers requests: `cargo run --example notes FOLDER [LINKS]`, for example examples/notes. LINKS is
+//! a file of links.
 use std::{env, error::Error, fs};
 
 use bobbinjade::{Decision, Engine, Files, Request, Uid};
@@ -7,7 +8,12 @@ fn main() -> Result<(), Box<dyn Error>> {
     let folder = env::args().nth(1).unwrap_or("examples/notes".into());
     let content = |name: &str| fs::read(format!("{folder}/{name}"));
     let (schema, policies, entities) = (content("schema.json")?, content("policies.cedar")?, content("entities.json")?);
-    let links = content("links.json").unwrap_or_default();
+    // A file that is missing by mistake never means that there are no links, and the library takes one of no bytes for no file.
+    let links = env::args().nth(2).map(fs::read).transpose()?;
+    if links.as_ref().is_some_and(Vec::is_empty) {
+        return Err("a file of links has a list".into());
+    }
+    let links = links.unwrap_or_default();
     let files = Files { schema: &schema, policies: &policies, links: &links, entities: &entities, any_decimal: false };
     let engine = Engine::new(&files)?;
 

@@ -16,26 +16,25 @@
 //! files while requests run, [`Engine::publish_entities`] the entities alone, and [`Engine::publish_changes`] changes some of them. Each
 //! answer is that of files that were current during its call.
 //!
-//! All `unsafe` code is in `src/raw.rs`.
+//! All `unsafe` code is in `src/raw.rs` and `src/stack.rs`.
 #![deny(missing_docs, unsafe_code)]
 
 mod answer;
 mod error;
 mod pool;
 mod raw;
+mod stack;
 
 use std::borrow::Cow;
 use std::sync::Arc;
-use std::thread;
 
 pub use error::{Error, Faults, File, Refusal};
 use pool::{Pool, Published};
 use raw::{Decided, Handle, Why};
+use stack::{on_enough_stack, on_large_stack};
 
 /// The version of the interface that this crate is written for.
 const ABI_VERSION: u32 = 1;
-/// The stack that reading files and freeing engines may need, with room to spare.
-const STACK: usize = 8 << 20;
 
 /// The contents of the files of an engine.
 #[derive(Clone, Copy, Debug, Default)]
@@ -230,7 +229,7 @@ impl Engine {
     ///
     /// [`Error::Refused`], [`Error::Memory`] and [`Error::Closed`]. Nothing has changed then.
     pub fn publish_changes(&self, changes: &[u8]) -> Result<(), Error> {
-        on_large_stack(|| {
+        on_enough_stack(|| {
             let _publishing = self.pool.publishing();
             self.pool.swap(self.changed(changes)?)
         })
@@ -243,12 +242,15 @@ impl Engine {
     ///
     /// Those of [`Engine::publish_changes`].
     pub fn with_changes(&self, changes: &[u8]) -> Result<Engine, Error> {
-        on_large_stack(|| Ok(Engine { pool: Arc::new(Pool::new(self.changed(changes)?)) }))
+        on_enough_stack(|| Ok(Engine { pool: Arc::new(Pool::new(self.changed(changes)?)) }))
     }
 
     /// A handle that leads to an engine over the entities after changes.
     fn changed(&self, changes: &[u8]) -> Result<Published, Error> {
-        self.over(|handle, why, text| handle.publish_changes(changes, why, text), |schema, why| refused_changes(schema, changes, why))
+        self.over(
+            |handle, why, text| handle.publish_changes(changes, why, text),
+            |schema, why| on_large_stack(|| refused_changes(schema, changes, why)),
+        )
     }
 
     /// A handle of the current engine to which a call has published entities. `refuse` gives the error where the call refuses them.
@@ -444,12 +446,4 @@ fn done(status: u32, text: Vec<u8>) -> Result<String, Error> {
         raw::OK => text_of(text),
         status => Err(Error::of(status)),
     }
-}
-
-/// Runs work on a thread of its own, since a thread of Rust has 2 MiB of stack unless it is made with more.
-fn on_large_stack<T: Send>(work: impl FnOnce() -> Result<T, Error> + Send) -> Result<T, Error> {
-    thread::scope(|scope| match thread::Builder::new().stack_size(STACK).spawn_scoped(scope, work) {
-        Ok(worker) => worker.join().unwrap_or_else(|fault| std::panic::resume_unwind(fault)),
-        Err(_) => Err(Error::Memory),
-    })
 }

@@ -79,11 +79,13 @@ func TestMemoryOfReports(t *testing.T) {
 		t.Fatal(got)
 	}
 	before := residentBytes(t)
-	if got := it.call("POST", "/v1/validate", "application/json", wideFiles(310), it.admin); got.status != 422 || len(got.body) < 9_000_000 {
+	got := it.call("POST", "/v1/validate", "application/json", wideFiles(310), it.admin)
+	if got.status != 422 || len(got.body) < 9_000_000 {
 		t.Error(got.status, len(got.body))
 	}
 	t.Log(residentBytes(t)-before, "bytes")
-	if grown := residentBytes(t) - before; grown > 64<<20 && !isRaced {
+	// The client is in this process, too: it holds the body as a text, and what its buffer has outgrown.
+	if grown := residentBytes(t) - before - 3*int64(len(got.body)); grown > 64<<20 && !isRaced {
 		t.Error(grown>>20, "MB")
 	}
 }

@@ -17,7 +17,7 @@ ghost use Rattle.cedar_c.specs.Statuses.{IsOneOf};
 ghost use Rattle.cedar_c.specs.Texts.{held};
 ghost use Rattle.cedar_c.specs.Validating.{HaveNoFaults, IsRefusedIn, IsReported};
 ghost use Rattle.cedar_check_spec.specs.declared.settings.Settings.{Settings as SettingsTree};
-ghost use Rattle.cedar_files.specs.Authorization.{HoldAll};
+ghost use Rattle.cedar_files.specs.Authorization.{AreAnsweredSoundlyWithEntities, HoldAll};
 
 mod answering;
 mod buffer;
@@ -217,6 +217,7 @@ pub extern "C" fn cedar_raw_validate(
         × IsReported chosen (held schema.now policies.now links.now []) told × IsTooLong told text.old written.new }
     ensures argument { result ≡ 4 → (chosen : SettingsTree) → ¬ AreSettings settings chosen }
     ensures rest { result ≢ 1 → result ≢ 4 → result ≢ 6 → drop written.new text.new ≡ drop written.new text.old }
+    ensures fits { result ≢ 1 → result ≢ 4 → result ≢ 6 → written.new ≤ length text.old }
     ensures untouched { result ≡ 6 → text.new ≡ text.old }
     ensures unwritten { IsOneOf (1 ∷ 4 ∷ []) result → (text.new ≡ text.old) × (written.new ≡ 0) }
     ensures known { IsOneOf (0 ∷ 1 ∷ 2 ∷ 3 ∷ 4 ∷ 6 ∷ []) result }
@@ -342,6 +343,7 @@ pub extern "C" fn cedar_raw_answer(
     ensures same { place.new.value ≡ place.old.value }
     ensures ok { result ≡ 0 → AnswersLines place.old.value lines.now (take written.new text.new) }
     ensures rest { result ≡ 0 → drop written.new text.new ≡ drop written.new text.old }
+    ensures fits { result ≡ 0 → written.new ≤ length text.old }
     ensures room { result ≡ 6 → (answer : List ℕ) × AnswersLines place.old.value lines.now answer
         × IsTooLong answer text.old written.new }
     ensures untouched { result ≢ 0 → text.new ≡ text.old }
@@ -367,8 +369,10 @@ pub extern "C" fn cedar_raw_answer_with_entities(
     written: &mut usize,
 ) -> u32
     ensures same { place.new.value ≡ place.old.value }
+    ensures sound { result ≢ 5 → LeadsTo AreAnsweredSoundlyWithEntities place.old.value }
     ensures ok { result ≡ 0 → AnswersLinesWithEntities place.old.value lines.now (take written.new text.new) }
     ensures rest { result ≡ 0 → drop written.new text.new ≡ drop written.new text.old }
+    ensures fits { result ≡ 0 → written.new ≤ length text.old }
     ensures room { result ≡ 6 → (answer : List ℕ) × AnswersLinesWithEntities place.old.value lines.now answer
         × IsTooLong answer text.old written.new }
     ensures untouched { result ≢ 0 → text.new ≡ text.old }
@@ -395,6 +399,7 @@ pub extern "C" fn cedar_raw_answer_line(
     ensures same { place.new.value ≡ place.old.value }
     ensures ok { result ≡ 0 → AnswersOne place.old.value line.now (take written.new text.new) }
     ensures rest { result ≡ 0 → drop written.new text.new ≡ drop written.new text.old }
+    ensures fits { result ≡ 0 → written.new ≤ length text.old }
     ensures room { result ≡ 6 → (answer : List ℕ) × AnswersOne place.old.value line.now answer
         × IsTooLong answer text.old written.new }
     ensures untouched { result ≢ 0 → text.new ≡ text.old }
@@ -438,6 +443,7 @@ pub extern "C" fn cedar_raw_decide(
     ensures denied { result ≢ 0 → decision.new.allow ≡ 0 }
     ensures unrefused { result ≢ 7 → decision.new.refused ≡ 0 }
     ensures rest { (result ≡ 0) ⊎ (result ≡ 7) → drop written.new text.new ≡ drop written.new text.old }
+    ensures fits { (result ≡ 0) ⊎ (result ≡ 7) → written.new ≤ length text.old }
     ensures untouched { result ≢ 0 → result ≢ 7 → text.new ≡ text.old }
     ensures unwritten { IsOneOf (1 ∷ 5 ∷ []) result → written.new ≡ 0 }
     ensures unwanted { length text.old ≡ 0 → written.new ≡ 0 }

@@ -1,3 +1,4 @@
+pub mod Ends
 pub mod EntitiesFiles
 pub mod Found
 pub mod Holding

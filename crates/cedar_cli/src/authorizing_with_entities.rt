@@ -43,7 +43,7 @@ pub fn authorize_with_entities<F: Files, S: Source, K: Sink, O: Observer>(
 ) -> End
     requires source_count { S.failed source.old < 2 ^ 64 - 1 }
     requires sink_count { K.failed sink.old < 2 ^ 64 - 1 }
-    ensures { AuthorizesWithEntities settings (F.holds files.now) (S.left source.old) (S.failed source.old < S.failed source.new)
+    ensures ends { AuthorizesWithEntities settings (F.holds files.now) (S.left source.old) (S.failed source.old < S.failed source.new)
         (K.failed sink.old < K.failed sink.new) (K.written sink.old) (K.written sink.new) result }
     ensures unread { (result ≡ End.Refused) ⊎ (result ≡ End.Faults) → source.new ≡ source.old }
     ensures untouched { result ≡ End.CommandLine → (source.new ≡ source.old) × (sink.new ≡ sink.old) }

@@ -89,7 +89,7 @@ fn report_counts<K: Sink>(alloc: Global, policies: &PolicySet, sink: &mut K) -> 
 /// - `Memory`: memory ran out, which leaves nothing.
 pub fn check_parse<F: Files, K: Sink>(alloc: Global, files: &F, sink: &mut K) -> End
     requires { K.failed sink.old < 2 ^ 64 - 1 }
-    ensures { ChecksParse (F.holds files.now Role.Policies) (K.failed sink.old < K.failed sink.new) (K.written sink.old) (K.written sink.new) result }
+    ensures ends { ChecksParse (F.holds files.now Role.Policies) (K.failed sink.old < K.failed sink.new) (K.written sink.old) (K.written sink.new) result }
     ensures untouched { result ≡ End.CommandLine → sink.new ≡ sink.old }
 {
     let policies = match read_policies(alloc, files) {

@@ -70,7 +70,7 @@ pub fn validate<F: Files, K: Sink>(
     settings: Settings,
 ) -> End
     requires { K.failed sink.old < 2 ^ 64 - 1 }
-    ensures { Validates settings (F.holds files.now) (K.failed sink.old < K.failed sink.new) (K.written sink.old) (K.written sink.new) result }
+    ensures ends { Validates settings (F.holds files.now) (K.failed sink.old < K.failed sink.new) (K.written sink.old) (K.written sink.new) result }
     ensures untouched { result ≡ End.CommandLine → sink.new ≡ sink.old }
 {
     validate_keeping(alloc, files, sink, settings, &mut None)
@@ -85,7 +85,7 @@ pub fn validate_keeping<F: Files, K: Sink>(
     kept: &mut Option<PolicySet>,
 ) -> End
     requires { K.failed sink.old < 2 ^ 64 - 1 }
-    ensures { Validates settings (F.holds files.now) (K.failed sink.old < K.failed sink.new) (K.written sink.old) (K.written sink.new) result }
+    ensures ends { Validates settings (F.holds files.now) (K.failed sink.old < K.failed sink.new) (K.written sink.old) (K.written sink.new) result }
     ensures untouched { result ≡ End.CommandLine → sink.new ≡ sink.old }
 {
     match read_report(alloc, files, settings) {

@@ -3,6 +3,7 @@ pub mod EntitiesFiles
 pub mod Found
 pub mod Holding
 pub mod Links
+pub mod PolicyFiles
 pub mod Prefixes
 pub mod Telling
 pub mod Texts

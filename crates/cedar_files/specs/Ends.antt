@@ -1,5 +1,5 @@
 -- How the program ends, and what it has written by then, given what the files hold.
-use Rattle.std.specs.Prelude.{◌⊎◌, ℕ, List, [], Option}
+use Rattle.std.specs.Prelude.{◌≡◌, ◌⊎◌, ℕ, List, [], Option, None, IfSome}
 use Rattle.std.specs.Io.KnownBytes.{Keeps}
 use Rattle.cedar_ast.specs.PolicySetTree.{PolicySetTree}
 use Rattle.cedar_schema_spec.specs.SchemaTree.{SchemaTree}
@@ -10,13 +10,16 @@ use Rattle.cedar_files.specs.Authorization.{IsFirstRefused}
 use Rattle.cedar_files.specs.ReportText.{IsReportText}
 use Rattle.cedar_files.specs.Roles.{Holdings}
 use Rattle.cedar_files.specs.Standing.{BeginsRefusal, IsRefusalLine}
-use Rattle.cedar_files.specs.Unprepared.{IsUnprepared, IsUnreported}
 use Rattle.cedar_files.specs.Validation.{BeginsReport, Hold, IsRefused}
 use Rattle.cedar_files.specs.declared.ending.End.{End}
 use Rattle.cedar_files.specs.declared.ending.End.TheVariants.{Done, Refused, Faults, CommandLine, Device, Memory}
 use Rattle.cedar_files.specs.declared.files.Role.{Role}
+use Rattle.cedar_files.specs.declared.files.Role.TheVariants.{Schema, Policies, Links, Entities}
 use Rattle.cedar_files.specs.declared.refusal.FileRefusal.{FileRefusal}
-use Rattle.cedar_files.specs.declared.unprepared.Unprepared.TheVariants.{Unnamed, Device as Unread}
+
+-- The command line names no such file, where it is known whether it does (own).
+abbrev pub IsUnnamed : Option (Option (List ℕ)) → Type 0
+IsUnnamed held = IfSome held (λ file. file ≡ None)
 
 -- The files hold policies with faults under these settings, and the report on them was written (Cedar documentation, policy
 -- validation).
@@ -36,8 +39,8 @@ Validates settings holds failed old new Done =
     (s : SchemaTree) × (set : PolicySetTree) × Hold holds s set × AreFaultsWith settings s set.policies [] × Writes old new (IsReportText settings s set.policies)
 Validates settings holds failed old new Faults = ReportsFaults settings holds old new
 Validates settings holds failed old new Refused = (role : Role) × (refusal : FileRefusal) × IsRefused holds role refusal × Writes old new (IsRefusalLine role refusal)
-Validates settings holds failed old new CommandLine = IsUnreported holds Unnamed × Keeps old new
-Validates settings holds failed old new Device = (IsUnreported holds Unread ⊎ failed)
+Validates settings holds failed old new CommandLine = (IsUnnamed (holds Schema) ⊎ IsUnnamed (holds Policies)) × Keeps old new
+Validates settings holds failed old new Device = (((holds Schema ≡ None) ⊎ (holds Policies ≡ None) ⊎ (holds Links ≡ None)) ⊎ failed)
     × (Keeps old new
     ⊎ BeginsReporting settings holds old new
     ⊎ ((role : Role) × (refusal : FileRefusal) × IsRefused holds role refusal × Writes old new (BeginsRefusal role refusal)))
@@ -52,8 +55,8 @@ EndsUnready settings holds failed old new Done = ⊥
 EndsUnready settings holds failed old new Faults = ReportsFaults settings holds old new
 EndsUnready settings holds failed old new Refused =
     (role : Role) × (refusal : FileRefusal) × IsFirstRefused settings holds role refusal × Writes old new (IsRefusalLine role refusal)
-EndsUnready settings holds failed old new CommandLine = IsUnprepared settings holds Unnamed × Keeps old new
-EndsUnready settings holds failed old new Device = (IsUnprepared settings holds Unread ⊎ failed)
+EndsUnready settings holds failed old new CommandLine = (IsUnnamed (holds Schema) ⊎ IsUnnamed (holds Policies) ⊎ IsUnnamed (holds Entities)) × Keeps old new
+EndsUnready settings holds failed old new Device = (((holds Schema ≡ None) ⊎ (holds Policies ≡ None) ⊎ (holds Links ≡ None) ⊎ (holds Entities ≡ None)) ⊎ failed)
     × (Keeps old new
     ⊎ BeginsReporting settings holds old new
     ⊎ ((role : Role) × (refusal : FileRefusal) × IsFirstRefused settings holds role refusal × Writes old new (BeginsRefusal role refusal)))

@@ -107,13 +107,12 @@ fn refusal_of_text(fault: &ParseFault) -> Unread
         × (refusal ≡ record { number = text_fault_number fault.now; offset = offset_of fault.now })) }
     ensures others { (result ≢ Unread.Unnamed) × (result ≢ Unread.Device) }
 {
-    match fault.number() {
-        OUT_OF_MEMORY => Unread::Memory,
-        number => {
-            let offset = fault.offset();
-            Unread::Refused(FileRefusal { number, offset })
-        }
+    let number = fault.number();
+    if number == OUT_OF_MEMORY {
+        return Unread::Memory;
     }
+    let offset = fault.offset();
+    Unread::Refused(FileRefusal { number, offset })
 }
 
 // Why entities or links are refused.

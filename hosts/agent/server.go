@@ -134,9 +134,15 @@ func (a *agent) writeLogs(stopped <-chan struct{}) {
 	}
 }
 
+// pathOf gives the path of a call as it was sent. One with an escape is none of those that are served: a proxy that filters paths, and does
+// not decode them, would let it pass.
+func pathOf(r *http.Request) string {
+	return r.URL.EscapedPath()
+}
+
 // servePublic answers a call of the listener for requests.
 func (a *agent) servePublic(w http.ResponseWriter, r *http.Request) {
-	switch path := r.URL.Path; {
+	switch path := pathOf(r); {
 	case path == "/v1/authorize":
 		if r.Method != http.MethodPost {
 			a.failMethod(w, http.MethodPost)
@@ -183,14 +189,15 @@ func (a *agent) isEncoded(w http.ResponseWriter, r *http.Request) bool {
 
 // serveAdmin answers a call of the listener for calls that publish.
 func (a *agent) serveAdmin(w http.ResponseWriter, r *http.Request) {
-	file, isOne := publishedPaths[r.URL.Path]
+	path := pathOf(r)
+	file, isOne := publishedPaths[path]
 	isPatch := r.Method == http.MethodPatch && file == bobbinjade.Entities
 	switch {
-	case r.URL.Path == "/v1/entities" && (r.Method == http.MethodGet || r.Method == http.MethodHead):
+	case path == "/v1/entities" && (r.Method == http.MethodGet || r.Method == http.MethodHead):
 		a.writeEntities(w)
-	case r.URL.Path == "/v1/reload":
+	case path == "/v1/reload":
 		a.reload(w, r)
-	case r.URL.Path == validatePath && a.limits.validations > 0:
+	case path == validatePath && a.limits.validations > 0:
 		a.serveValidate(w, r, true)
 	case !isOne:
 		a.serveState(w, r)
@@ -224,7 +231,7 @@ func (a *agent) serveState(w http.ResponseWriter, r *http.Request) {
 	calls := map[string]func(http.ResponseWriter){
 		"/healthz": a.healthz, "/readyz": a.readyz, "/metrics": a.writeMetrics, "/v1/version": a.writeVersion,
 	}
-	call, isOne := calls[r.URL.Path]
+	call, isOne := calls[pathOf(r)]
 	switch {
 	case !isOne:
 		a.fail(w, http.StatusNotFound, "path", "there is no such path here")

@@ -2,6 +2,7 @@ package main
 
 import (
 	"fmt"
+	"net"
 	"strconv"
 	"strings"
 	"testing"
@@ -32,6 +33,28 @@ func TestState(t *testing.T) {
 	for _, path := range []string{"/v1/authorize", "/v1/validate"} {
 		if got := it.get(path); got.status != 405 || got.header.Get("Allow") != "POST" {
 			t.Error(path, got)
+		}
+	}
+}
+
+// A path is that which was sent: with an escape it is another one.
+func TestPathsAreNotDecoded(t *testing.T) {
+	it := serveMapping(t, notesMapping)
+	for _, path := range []string{"/v1%2fversion", "/v1/%76ersion", "/v1/versio%6E", "/%6detrics", "/v1%2Fauthorize", "/v1/%61uthorize",
+		"/v1/./version", "/v1//version", "//v1/version", "/v1/x/../version", "/v1/version/", "/v1/version%00", "/v1%2fext_authz/notebooks/plans",
+		"/v1/%65ntities", "/v1/%76alidate", "/v1/%72eload"} {
+		for _, address := range []string{it.address, it.admin} {
+			for _, method := range []string{"GET", "POST", "PUT"} {
+				connection, err := net.Dial("tcp", address)
+				if err != nil {
+					t.Fatal(err)
+				}
+				fmt.Fprintf(connection, "%s %s HTTP/1.1\r\nHost: a\r\nX-User: ann\r\nContent-Length: 0\r\n\r\n", method, path)
+				if got := status(connection); got != 404 {
+					t.Error(method, path, got)
+				}
+				_ = connection.Close()
+			}
 		}
 	}
 }

@@ -27,7 +27,7 @@ type agent struct {
 // newAgent reads the files, and publishes them as the first version.
 func newAgent(settings *config, log *logger) (*agent, error) {
 	it := &agent{metrics: newMetrics(), log: log, limits: settings.limits, validating: make(chan struct{}, settings.limits.validations)}
-	it.isPublic = settings.isPublic
+	it.isPublic, log.isDebug = settings.isPublic, settings.isDebug
 	it.one, it.lines = oneRequest, requestLines
 	if settings.hasEntities {
 		it.one, it.lines = oneWithEntities, linesWithEntities
@@ -49,7 +49,12 @@ func newAgent(settings *config, log *logger) (*agent, error) {
 // published counts and logs a version.
 func (a *agent) published(v *version, took time.Duration) {
 	a.metrics.published.Add(1)
-	a.log.event("info", "published", number("version", v.number), text("digest", v.digest), text("source", v.source),
+	level := "info"
+	if v.source == sourcePatch {
+		a.metrics.patched.Add(1)
+		level = "debug"
+	}
+	a.log.event(level, "published", number("version", v.number), text("digest", v.digest), text("source", v.source),
 		seconds("seconds", took))
 }
 

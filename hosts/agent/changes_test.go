@@ -204,3 +204,25 @@ func TestPatchingWhileRequestsRun(t *testing.T) {
 		t.Error(it.store.changed)
 	}
 }
+
+// A PATCH is counted, and logged only where that is wanted.
+func TestAPatchIsNotALineOfTheLog(t *testing.T) {
+	for _, words := range [][]string{nil, {"--log-debug"}} {
+		it := serveExample(t, "photos", words...)
+		for at := 0; at < 3; at++ {
+			if got := it.patch(fmt.Sprintf(`{"upsert":[{"uid":{"type":"User","id":"u%d"}}]}`, at)); got.status != 200 {
+				t.Error(got)
+			}
+		}
+		if got := it.metric("patches_total"); got != "3" {
+			t.Error(got)
+		}
+		wanted := 3 * len(words)
+		if got := strings.Count(it.log.String(), `"level":"debug","event":"published"`); got != wanted {
+			t.Error(words, got)
+		}
+		if got := strings.Count(it.log.String(), `"event":"published"`); got != wanted+1 {
+			t.Error(words, got)
+		}
+	}
+}

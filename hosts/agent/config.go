@@ -30,6 +30,7 @@ type config struct {
 	drain       time.Duration
 	shutdown    time.Duration
 	limits      limits
+	isDebug     bool // whether each PATCH is logged, too
 	isVersion   bool
 }
 
@@ -91,6 +92,7 @@ func flagsOf(settings *config) *flag.FlagSet {
 	flags.DurationVar(&settings.drain, "drain", 0, "at the end answer for so long with /readyz at 503, before listening ends")
 	flags.DurationVar(&settings.shutdown, "shutdown", 10*time.Second, "wait so long for running requests at the end")
 	settings.limits.declare(flags)
+	flags.BoolVar(&settings.isDebug, "log-debug", false, "log what is of the level debug, too: each PATCH")
 	flags.BoolVar(&settings.isVersion, "version", false, "print the version of the engine, and end")
 	return flags
 }

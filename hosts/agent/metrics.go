@@ -41,6 +41,7 @@ type metrics struct {
 	refusals        [refusalNumbers]atomic.Uint64
 	times           [callCount]times
 	published       atomic.Uint64
+	patched         atomic.Uint64 // of the published ones
 	publishRefused  atomic.Uint64
 	reloadRefused   atomic.Uint64
 	turnedAway      atomic.Uint64 // connections that were closed at the limit
@@ -97,6 +98,7 @@ func (m *metrics) write(to io.Writer, v *version, connections int, logFailures u
 	counter(to, "publications_total", "Versions that were published or refused, with those of files that changed.", "counter")
 	sample(to, "publications_total", `result="published"`, m.published.Load())
 	sample(to, "publications_total", `result="refused"`, m.publishRefused.Load()+m.reloadRefused.Load())
+	one(to, "patches_total", "Versions that PATCH made, each also a publication.", "counter", m.patched.Load())
 	one(to, "version", "The number of the current version.", "gauge", v.number)
 	counter(to, "version_info", "The digest of the current version.", "gauge")
 	sample(to, "version_info", fmt.Sprintf("digest=%q", v.digest), 1)

@@ -160,7 +160,11 @@ func TestSignals(t *testing.T) {
 	if got := it.end(t, syscall.SIGINT); got != statusDone {
 		t.Error(got)
 	}
-	for _, line := range strings.Split(strings.TrimSuffix(it.log.String(), "\n"), "\n") {
+	lines := strings.Split(strings.TrimSuffix(it.log.String(), "\n"), "\n")
+	if last := lines[len(lines)-1]; !strings.Contains(last, `"level":"info","event":"stopped"`) {
+		t.Error(last)
+	}
+	for _, line := range lines {
 		var read struct{ Time, Level, Event string }
 		if err := json.Unmarshal([]byte(line), &read); err != nil || read.Level == "" || read.Event == "" {
 			t.Error(line, err)
@@ -262,6 +266,9 @@ func TestEndsThatCutOff(t *testing.T) {
 		}
 		if got := it.end(t, syscall.SIGTERM); got != statusFailed || !strings.Contains(it.log.String(), `"event":"cut_off"`) {
 			t.Error(isTwice, got, it.log.String())
+		}
+		if !strings.Contains(it.log.String(), `"level":"error","event":"stopped"`) {
+			t.Error(it.log.String())
 		}
 	}
 }

@@ -41,7 +41,7 @@ func (a *agent) patch(w http.ResponseWriter, r *http.Request) {
 		a.failBody(w, err, a.limits.files)
 		return
 	}
-	v, err := a.store.change("patch", body, r.Header["If-Match"])
+	v, err := a.store.change(sourcePatch, body, r.Header["If-Match"])
 	a.answerPublish(w, r, v, err, began)
 }
 

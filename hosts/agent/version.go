@@ -19,6 +19,9 @@ import (
 // allFiles are the files of an engine, in the order in which it reads them.
 var allFiles = [...]bobbinjade.File{bobbinjade.Schema, bobbinjade.Policies, bobbinjade.Links, bobbinjade.Entities}
 
+// sourcePatch is the source of the versions that PATCH makes.
+const sourcePatch = "patch"
+
 // A version is an engine with the files of which it was made. Nothing of it changes. Entities that changes have named since their file was
 // published are not in files.Entities: the store has them.
 type version struct {

@@ -20,6 +20,7 @@ type agent struct {
 	limits     limits
 	validating chan struct{} // a place for each validation that runs
 	isPublic   bool          // whether all may validate
+	profiles   bool          // whether the profiles of Go are served
 	public     *connections
 	isStopping atomic.Bool
 }
@@ -27,7 +28,7 @@ type agent struct {
 // newAgent reads the files, and publishes them as the first version.
 func newAgent(settings *config, log *logger) (*agent, error) {
 	it := &agent{metrics: newMetrics(), log: log, limits: settings.limits, validating: make(chan struct{}, settings.limits.validations)}
-	it.isPublic, log.isDebug = settings.isPublic, settings.isDebug
+	it.isPublic, it.profiles, log.isDebug = settings.isPublic, settings.hasProfiles, settings.isDebug
 	it.one, it.lines = oneRequest, requestLines
 	if settings.hasEntities {
 		it.one, it.lines = oneWithEntities, linesWithEntities

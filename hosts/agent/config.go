@@ -30,6 +30,7 @@ type config struct {
 	drain       time.Duration
 	shutdown    time.Duration
 	limits      limits
+	hasProfiles bool
 	isDebug     bool // whether each PATCH is logged, too
 	isVersion   bool
 }
@@ -83,6 +84,7 @@ func flagsOf(settings *config) *flag.FlagSet {
 	flags.StringVar(&settings.listen, "listen", "127.0.0.1:8180", "the `ADDRESS` for requests: HOST:PORT, or unix:PATH")
 	flags.StringVar(&settings.admin, "admin", "", "the `ADDRESS` for calls that publish; without it there are none")
 	flags.BoolVar(&settings.isInsecure, "admin-insecure", false, "let whoever reaches the HOST:PORT of --admin publish")
+	flags.BoolVar(&settings.hasProfiles, "admin-pprof", false, "serve the profiles of Go at /debug/pprof/ on --admin")
 	flags.StringVar(&settings.extAuthz, "ext-authz", "", "the mapping `FILE` for Envoy's ext_authz; without it the path is off")
 	flags.BoolVar(&settings.hasEntities, "entities-in-requests", false, "a request may bring entities, which hold for it alone")
 	flags.BoolVar(&settings.isPublic, "public-validate", false, "serve /v1/validate on --listen, too, for policies according to the current schema")
@@ -118,6 +120,9 @@ func (c *config) check() error {
 	}
 	if c.admin != "" && !strings.HasPrefix(c.admin, unixPrefix) && !c.isInsecure {
 		return fmt.Errorf("--admin: whoever reaches %s could publish: use unix:PATH, or say --admin-insecure", c.admin)
+	}
+	if c.hasProfiles && c.admin == "" {
+		return errors.New("--admin-pprof needs --admin")
 	}
 	if c.admin == c.listen {
 		return errors.New("--admin and --listen are one address: calls that publish need a listener of their own")

@@ -349,6 +349,7 @@ func TestCommandLines(t *testing.T) {
 		{with("--admin", "8181"), "--admin: an address is HOST:PORT or unix:PATH"},
 		{with("--admin", "127.0.0.1:8180", "--admin-insecure"), "--admin and --listen are one address"},
 		{with("--admin", "127.0.0.1:8181"), "--admin: whoever reaches 127.0.0.1:8181 could publish: use unix:PATH, or say --admin-insecure"},
+		{with("--admin-pprof"), "--admin-pprof needs --admin"},
 		{with("--ext-authz", files[1]), "--ext-authz: "},
 		{with("--ext-authz", "/none"), "--ext-authz: open /none"},
 	} {

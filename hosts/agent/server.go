@@ -195,6 +195,8 @@ func (a *agent) serveAdmin(w http.ResponseWriter, r *http.Request) {
 	switch {
 	case path == "/v1/entities" && (r.Method == http.MethodGet || r.Method == http.MethodHead):
 		a.writeEntities(w)
+	case a.profiles && strings.HasPrefix(path, profilesPath):
+		writeProfile(w, r)
 	case path == "/v1/reload":
 		a.reload(w, r)
 	case path == validatePath && a.limits.validations > 0:

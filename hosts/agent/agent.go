@@ -12,6 +12,8 @@ import (
 type agent struct {
 	store      store
 	reloader   *reloader
+	guard      guard
+	watched    []*watched // what is read again beside the files of the engine
 	metrics    *metrics
 	log        *logger
 	decisions  *decisionLog
@@ -38,6 +40,9 @@ func newAgent(settings *config, log *logger) (*agent, error) {
 	if it.mapping, err = readMapping(settings.extAuthz); err != nil {
 		return nil, err
 	}
+	if err := it.readSecrets(settings); err != nil {
+		return nil, err
+	}
 	if err := it.reloader.start(); err != nil {
 		return nil, err
 	}
@@ -45,6 +50,19 @@ func newAgent(settings *config, log *logger) (*agent, error) {
 		return nil, err
 	}
 	return it, nil
+}
+
+// readSecrets reads who may call the listener of --admin.
+func (a *agent) readSecrets(settings *config) error {
+	a.guard.users = settings.users
+	if settings.adminToken != "" {
+		it, err := watch("token", func() error { return a.guard.useToken(settings.adminToken) }, settings.adminToken)
+		if err != nil {
+			return err
+		}
+		a.watched = append(a.watched, it)
+	}
+	return nil
 }
 
 // published counts and logs a version.

@@ -16,23 +16,28 @@ import (
 
 // config is what the command line says.
 type config struct {
-	paths       paths
-	anyDecimal  bool
-	listen      string
-	admin       string
-	isInsecure  bool // whether whoever reaches a port may publish
-	extAuthz    string
-	decisionLog string
-	hasEntities bool // whether requests may bring entities
-	isPublic    bool // whether /v1/validate is on the listener for requests, too
-	doesReplace bool // whether a file that has changed replaces what calls have published
-	reloadEvery time.Duration
-	drain       time.Duration
-	shutdown    time.Duration
-	limits      limits
-	hasProfiles bool
-	isDebug     bool // whether each PATCH is logged, too
-	isVersion   bool
+	paths                     paths
+	anyDecimal                bool
+	listen                    string
+	admin                     string
+	isInsecure                bool // whether whoever reaches a port may publish
+	adminToken                string
+	adminUsers                string
+	users                     map[uint32]bool // of adminUsers
+	sockets                   struct{ listenMode, listenGroup, adminMode, adminGroup string }
+	listenAccess, adminAccess access
+	extAuthz                  string
+	decisionLog               string
+	hasEntities               bool // whether requests may bring entities
+	isPublic                  bool // whether /v1/validate is on the listener for requests, too
+	doesReplace               bool // whether a file that has changed replaces what calls have published
+	reloadEvery               time.Duration
+	drain                     time.Duration
+	shutdown                  time.Duration
+	limits                    limits
+	hasProfiles               bool
+	isDebug                   bool // whether each PATCH is logged, too
+	isVersion                 bool
 }
 
 // paths are the files of an engine. That of the links is empty where there is none.
@@ -83,7 +88,13 @@ func flagsOf(settings *config) *flag.FlagSet {
 	flags.BoolVar(&settings.anyDecimal, "any-decimal", false, "accept decimal(..) of any string, which may then fail at a request")
 	flags.StringVar(&settings.listen, "listen", "127.0.0.1:8180", "the `ADDRESS` for requests: HOST:PORT, or unix:PATH")
 	flags.StringVar(&settings.admin, "admin", "", "the `ADDRESS` for calls that publish; without it there are none")
-	flags.BoolVar(&settings.isInsecure, "admin-insecure", false, "let whoever reaches the HOST:PORT of --admin publish")
+	flags.BoolVar(&settings.isInsecure, "admin-insecure", false, "let whoever reaches the address of --admin publish")
+	flags.StringVar(&settings.adminToken, "admin-token", "", "a call of --admin needs the token that this `FILE` has, after `Authorization: Bearer`")
+	flags.StringVar(&settings.adminUsers, "admin-users", "", "the `USERS` who may call at the socket of --admin: names or numbers, with commas between")
+	flags.StringVar(&settings.sockets.listenMode, "listen-mode", "", "the `MODE` of the socket of --listen, for example 0660")
+	flags.StringVar(&settings.sockets.listenGroup, "listen-group", "", "the `GROUP` of the socket of --listen, with the mode 0660 where none is given")
+	flags.StringVar(&settings.sockets.adminMode, "admin-mode", "", "the `MODE` of the socket of --admin; without it 0600, or 0660 with --admin-group")
+	flags.StringVar(&settings.sockets.adminGroup, "admin-group", "", "the `GROUP` of the socket of --admin")
 	flags.BoolVar(&settings.hasProfiles, "admin-pprof", false, "serve the profiles of Go at /debug/pprof/ on --admin")
 	flags.StringVar(&settings.extAuthz, "ext-authz", "", "the mapping `FILE` for Envoy's ext_authz; without it the path is off")
 	flags.BoolVar(&settings.hasEntities, "entities-in-requests", false, "a request may bring entities, which hold for it alone")
@@ -118,11 +129,8 @@ func (c *config) check() error {
 			return fmt.Errorf("%s: %w", name, err)
 		}
 	}
-	if c.admin != "" && !strings.HasPrefix(c.admin, unixPrefix) && !c.isInsecure {
-		return fmt.Errorf("--admin: whoever reaches %s could publish: use unix:PATH, or say --admin-insecure", c.admin)
-	}
-	if c.hasProfiles && c.admin == "" {
-		return errors.New("--admin-pprof needs --admin")
+	if err := c.checkAdmin(); err != nil {
+		return err
 	}
 	if c.admin == c.listen {
 		return errors.New("--admin and --listen are one address: calls that publish need a listener of their own")
@@ -131,6 +139,48 @@ func (c *config) check() error {
 		return errors.New("--reload, --drain and --shutdown are not negative")
 	}
 	return c.limits.check()
+}
+
+// checkAdmin finds what is wrong with who may call.
+func (c *config) checkAdmin() error {
+	isSocket, isAdminSocket := strings.HasPrefix(c.listen, unixPrefix), strings.HasPrefix(c.admin, unixPrefix)
+	for _, it := range []struct {
+		name           string
+		isGiven, isFit bool
+		needs          string
+	}{
+		{"--listen-mode", c.sockets.listenMode != "", isSocket, "--listen unix:PATH"},
+		{"--listen-group", c.sockets.listenGroup != "", isSocket, "--listen unix:PATH"},
+		{"--admin-mode", c.sockets.adminMode != "", isAdminSocket, "--admin unix:PATH"},
+		{"--admin-group", c.sockets.adminGroup != "", isAdminSocket, "--admin unix:PATH"},
+		{"--admin-users", c.adminUsers != "", isAdminSocket, "--admin unix:PATH"},
+		{"--admin-token", c.adminToken != "", c.admin != "", "--admin"},
+		{"--admin-pprof", c.hasProfiles, c.admin != "", "--admin"},
+	} {
+		if it.isGiven && !it.isFit {
+			return errors.New(it.name + " needs " + it.needs)
+		}
+	}
+	var err error
+	if c.users, err = usersOf(c.adminUsers); err != nil {
+		return err
+	}
+	if c.listenAccess, err = accessOf(c.sockets.listenMode, c.sockets.listenGroup, 0); err != nil {
+		return fmt.Errorf("--listen-mode: %w", err)
+	}
+	if c.adminAccess, err = accessOf(c.sockets.adminMode, c.sockets.adminGroup, privateMode); err != nil {
+		return fmt.Errorf("--admin-mode: %w", err)
+	}
+	isGuarded := c.isInsecure || c.adminToken != ""
+	switch {
+	case c.admin == "" || isGuarded:
+		return nil
+	case !isAdminSocket:
+		return fmt.Errorf("--admin: whoever reaches %s could publish: give --admin-token, use unix:PATH, or say --admin-insecure", c.admin)
+	case c.adminAccess.mode&modeOfOthers != 0 && c.adminUsers == "":
+		return errors.New("--admin-mode: all users of the machine could publish: give --admin-token or --admin-users, or say --admin-insecure")
+	}
+	return nil
 }
 
 // usage is the help.

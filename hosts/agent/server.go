@@ -31,7 +31,7 @@ type running struct {
 // listenAll listens at the addresses of the command line.
 func listenAll(it *agent, settings *config) (*servers, error) {
 	all := &servers{agent: it, drain: settings.drain, shutdown: settings.shutdown}
-	listener, err := listen(settings.listen, false)
+	listener, err := listen(settings.listen, settings.listenAccess)
 	if err != nil {
 		return nil, err
 	}
@@ -40,7 +40,7 @@ func listenAll(it *agent, settings *config) (*servers, error) {
 	if settings.admin == "" {
 		return all, nil
 	}
-	if listener, err = listen(settings.admin, true); err != nil {
+	if listener, err = listen(settings.admin, settings.adminAccess); err != nil {
 		_ = it.public.Close()
 		return nil, err
 	}
@@ -189,6 +189,9 @@ func (a *agent) isEncoded(w http.ResponseWriter, r *http.Request) bool {
 
 // serveAdmin answers a call of the listener for calls that publish.
 func (a *agent) serveAdmin(w http.ResponseWriter, r *http.Request) {
+	if !a.guard.admits(a, w, r) {
+		return
+	}
 	path := pathOf(r)
 	file, isOne := publishedPaths[path]
 	isPatch := r.Method == http.MethodPatch && file == bobbinjade.Entities

@@ -47,7 +47,11 @@ func (a *agent) writeMetrics(w http.ResponseWriter) {
 
 // failing says of all that is read again whether the last time failed.
 func (a *agent) failing() []failing {
-	return []failing{{"files", a.reloader.failure.Load() != nil}}
+	all := []failing{{"files", a.reloader.failure.Load() != nil}}
+	for _, it := range a.watched {
+		all = append(all, failing{it.what, it.isFailing.Load()})
+	}
+	return all
 }
 
 // currentVersion is what /v1/version says, and what a call that publishes answers.

@@ -13,6 +13,7 @@ type agent struct {
 	store      store
 	reloader   *reloader
 	guard      guard
+	tls        certificates
 	watched    []*watched // what is read again beside the files of the engine
 	metrics    *metrics
 	log        *logger
@@ -52,11 +53,18 @@ func newAgent(settings *config, log *logger) (*agent, error) {
 	return it, nil
 }
 
-// readSecrets reads who may call the listener of --admin.
+// readSecrets reads who may call the listener of --admin, and certificates.
 func (a *agent) readSecrets(settings *config) error {
 	a.guard.users = settings.users
 	if settings.adminToken != "" {
 		it, err := watch("token", func() error { return a.guard.useToken(settings.adminToken) }, settings.adminToken)
+		if err != nil {
+			return err
+		}
+		a.watched = append(a.watched, it)
+	}
+	if a.tls.paths = settings.tls; a.tls.paths.key != "" {
+		it, err := watch("certificate", a.tls.use, a.tls.paths.list()...)
 		if err != nil {
 			return err
 		}

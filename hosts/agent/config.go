@@ -26,6 +26,7 @@ type config struct {
 	users                     map[uint32]bool // of adminUsers
 	sockets                   struct{ listenMode, listenGroup, adminMode, adminGroup string }
 	listenAccess, adminAccess access
+	tls                       tlsPaths
 	extAuthz                  string
 	decisionLog               string
 	hasEntities               bool // whether requests may bring entities
@@ -95,6 +96,9 @@ func flagsOf(settings *config) *flag.FlagSet {
 	flags.StringVar(&settings.sockets.listenGroup, "listen-group", "", "the `GROUP` of the socket of --listen, with the mode 0660 where none is given")
 	flags.StringVar(&settings.sockets.adminMode, "admin-mode", "", "the `MODE` of the socket of --admin; without it 0600, or 0660 with --admin-group")
 	flags.StringVar(&settings.sockets.adminGroup, "admin-group", "", "the `GROUP` of the socket of --admin")
+	flags.StringVar(&settings.tls.certificate, "tls-cert", "", "the certificate `FILE` of each HOST:PORT, PEM; without it there is no TLS")
+	flags.StringVar(&settings.tls.key, "tls-key", "", "the `FILE` of its private key, PEM")
+	flags.StringVar(&settings.tls.clientAuthority, "tls-client-ca", "", "a client needs a certificate of an authority in this `FILE`, PEM")
 	flags.BoolVar(&settings.hasProfiles, "admin-pprof", false, "serve the profiles of Go at /debug/pprof/ on --admin")
 	flags.StringVar(&settings.extAuthz, "ext-authz", "", "the mapping `FILE` for Envoy's ext_authz; without it the path is off")
 	flags.BoolVar(&settings.hasEntities, "entities-in-requests", false, "a request may bring entities, which hold for it alone")
@@ -137,6 +141,9 @@ func (c *config) check() error {
 	}
 	if c.reloadEvery < 0 || c.drain < 0 || c.shutdown < 0 {
 		return errors.New("--reload, --drain and --shutdown are not negative")
+	}
+	if err := c.tls.check(c.listen, c.admin); err != nil {
+		return err
 	}
 	return c.limits.check()
 }

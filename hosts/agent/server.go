@@ -36,7 +36,7 @@ func listenAll(it *agent, settings *config) (*servers, error) {
 		return nil, err
 	}
 	it.public = limited(listener, settings.limits.connections, &it.metrics.turnedAway)
-	all.add("requests", it.public, http.HandlerFunc(it.servePublic), settings.limits.time, settings.limits.idle)
+	all.add("requests", it.tls.over(it.public), http.HandlerFunc(it.servePublic), settings.limits.time, settings.limits.idle)
 	if settings.admin == "" {
 		return all, nil
 	}
@@ -45,7 +45,7 @@ func listenAll(it *agent, settings *config) (*servers, error) {
 		return nil, err
 	}
 	admin := limited(listener, adminConnections, &it.metrics.turnedAway)
-	all.add("admin", admin, http.HandlerFunc(it.serveAdmin), settings.limits.adminTime, settings.limits.idle)
+	all.add("admin", it.tls.over(admin), http.HandlerFunc(it.serveAdmin), settings.limits.adminTime, settings.limits.idle)
 	return all, nil
 }
 

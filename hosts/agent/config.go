@@ -16,6 +16,7 @@ import (
 
 // config is what the command line says.
 type config struct {
+	file                      string // which has further settings
 	paths                     paths
 	anyDecimal                bool
 	listen                    string
@@ -72,6 +73,11 @@ func parseConfig(words []string) (*config, error) {
 	if flags.NArg() > 0 {
 		return nil, fmt.Errorf("unexpected word %q: each setting is a flag", flags.Arg(0))
 	}
+	if settings.file != "" {
+		if err := setFromFile(settings.file, flags); err != nil {
+			return nil, err
+		}
+	}
 	if settings.isVersion {
 		return settings, nil
 	}
@@ -82,6 +88,7 @@ func parseConfig(words []string) (*config, error) {
 func flagsOf(settings *config) *flag.FlagSet {
 	flags := flag.NewFlagSet("cedar-agent", flag.ContinueOnError)
 	flags.Usage = func() {}
+	flags.StringVar(&settings.file, "config", "", "a `FILE` with flags: an object of JSON with their names; those of the command line win")
 	flags.StringVar(&settings.paths.schema, "schema", "", "the schema `FILE`: JSON of the format that the Cedar language defines")
 	flags.StringVar(&settings.paths.policies, "policies", "", "the policies `FILE`: a text of the Cedar language")
 	flags.StringVar(&settings.paths.links, "links", "", "the links `FILE`, if templates are used")
@@ -196,6 +203,7 @@ func usage() string {
 	text.WriteString(`Answers authorization requests over HTTP, as cedar authorize answers lines
 
 Usage: cedar-agent --schema FILE --policies FILE [--links FILE] --entities FILE [FLAGS]
+       cedar-agent --config FILE [FLAGS]
 
 Flags:
 `)
@@ -220,7 +228,7 @@ Signals:
 Statuses:
   0  ended by a signal, and each request was answered
   1  a file cannot be read, an address cannot be listened at, or requests were cut off at the end
-  2  the command line or the mapping of --ext-authz is wrong
+  2  the command line, the file of --config or the mapping of --ext-authz is wrong
   3  a file is refused, or the policies have faults; standard error says why
 `)
 	return text.String()

@@ -289,9 +289,10 @@ func TestAnAddressThatIsTaken(t *testing.T) {
 // ran runs the program to its end, and gives what it says.
 func ran(t *testing.T, words ...string) (string, int) {
 	t.Helper()
+	path := built(t)
 	limit, cancel := context.WithTimeout(context.Background(), 20*time.Second)
 	defer cancel()
-	command := exec.CommandContext(limit, built(t), words...)
+	command := exec.CommandContext(limit, path, words...)
 	var output bytes.Buffer
 	command.Stdout, command.Stderr = &output, &output
 	err := command.Run()

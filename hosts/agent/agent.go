@@ -19,6 +19,7 @@ type agent struct {
 	log        *logger
 	decisions  *decisionLog
 	mapping    *mapping // nil where the path for ext_authz is off
+	namesIDs   bool     // whether the answer to ext_authz has a header with the ids of policies
 	one, lines question // how one request is answered, and request lines
 	limits     limits
 	validating chan struct{} // a place for each validation that runs
@@ -36,6 +37,7 @@ func newAgent(settings *config, log *logger) (*agent, error) {
 	if settings.hasEntities {
 		it.one, it.lines = oneWithEntities, linesWithEntities
 	}
+	it.namesIDs = settings.namesIDs
 	it.reloader = newReloader(it, settings)
 	var err error
 	if it.mapping, err = readMapping(settings.extAuthz); err != nil {
@@ -47,7 +49,7 @@ func newAgent(settings *config, log *logger) (*agent, error) {
 	if err := it.reloader.start(); err != nil {
 		return nil, err
 	}
-	if it.decisions, err = openDecisionLog(settings.decisionLog); err != nil {
+	if it.decisions, err = openDecisionLog(settings); err != nil {
 		return nil, err
 	}
 	return it, nil
@@ -92,8 +94,8 @@ func (a *agent) close() {
 }
 
 // count counts the answer lines of a request, and logs them where that is wanted.
-func (a *agent) count(v *version, request, answers []byte, isOne bool) {
-	a.decisions.add(v, request, answers, isOne)
+func (a *agent) count(v *version, request, answers []byte, of *decided) {
+	a.decisions.add(v, request, answers, of)
 	var found tally
 	for len(answers) > 0 {
 		line := nextLine(answers)

@@ -30,9 +30,13 @@ type config struct {
 	tls                       tlsPaths
 	extAuthz                  string
 	decisionLog               string
-	hasEntities               bool // whether requests may bring entities
-	isPublic                  bool // whether /v1/validate is on the listener for requests, too
-	doesReplace               bool // whether a file that has changed replaces what calls have published
+	decisionsMost             int64 // the bytes of the decision log, or 0
+	decisionsOmit             string
+	omitted                   omittedKeys // of decisionsOmit
+	namesIDs                  bool        // whether an answer to ext_authz names policies
+	hasEntities               bool        // whether requests may bring entities
+	isPublic                  bool        // whether /v1/validate is on the listener for requests, too
+	doesReplace               bool        // whether a file that has changed replaces what calls have published
 	reloadEvery               time.Duration
 	drain                     time.Duration
 	shutdown                  time.Duration
@@ -108,9 +112,12 @@ func flagsOf(settings *config) *flag.FlagSet {
 	flags.StringVar(&settings.tls.clientAuthority, "tls-client-ca", "", "a client needs a certificate of an authority in this `FILE`, PEM")
 	flags.BoolVar(&settings.hasProfiles, "admin-pprof", false, "serve the profiles of Go at /debug/pprof/ on --admin")
 	flags.StringVar(&settings.extAuthz, "ext-authz", "", "the mapping `FILE` for Envoy's ext_authz; without it the path is off")
+	flags.BoolVar(&settings.namesIDs, "ext-authz-policies", false, "name the policies that determine an answer to ext_authz in the header Cedar-Policies")
 	flags.BoolVar(&settings.hasEntities, "entities-in-requests", false, "a request may bring entities, which hold for it alone")
 	flags.BoolVar(&settings.isPublic, "public-validate", false, "serve /v1/validate on --listen, too, for policies according to the current schema")
 	flags.StringVar(&settings.decisionLog, "decision-log", "", "append each request and its answer to this `FILE`; without it none is logged")
+	flags.Int64Var(&settings.decisionsMost, "decisions-max", 0, "at so many `BYTES` rename the decision log to FILE.1, and begin it anew; 0 is no limit")
+	flags.StringVar(&settings.decisionsOmit, "decisions-omit", "", "leave `KEYS` of requests out of the decision log, with commas between, for example context")
 	flags.DurationVar(&settings.reloadEvery, "reload", time.Second, "look for changed files so often; 0 is only at SIGHUP")
 	flags.BoolVar(&settings.doesReplace, "reload-replaces", false, "a file that has changed replaces what calls have published in its place")
 	flags.DurationVar(&settings.drain, "drain", 0, "at the end answer for so long with /readyz at 503, before listening ends")
@@ -146,6 +153,9 @@ func (c *config) check() error {
 	if c.admin == c.listen {
 		return errors.New("--admin and --listen are one address: calls that publish need a listener of their own")
 	}
+	if err := c.checkDecisions(); err != nil {
+		return err
+	}
 	if c.reloadEvery < 0 || c.drain < 0 || c.shutdown < 0 {
 		return errors.New("--reload, --drain and --shutdown are not negative")
 	}
@@ -153,6 +163,23 @@ func (c *config) check() error {
 		return err
 	}
 	return c.limits.check()
+}
+
+// checkDecisions finds what is wrong with the decision log.
+func (c *config) checkDecisions() error {
+	var err error
+	if c.omitted, err = omittedKeysOf(c.decisionsOmit); err != nil {
+		return err
+	}
+	switch {
+	case c.decisionLog == "" && (c.decisionsMost != 0 || c.omitted != nil):
+		return errors.New("--decisions-max and --decisions-omit need --decision-log")
+	case c.decisionsMost < 0:
+		return errors.New("--decisions-max is not negative")
+	case c.namesIDs && c.extAuthz == "":
+		return errors.New("--ext-authz-policies needs --ext-authz")
+	}
+	return nil
 }
 
 // checkAdmin finds what is wrong with who may call.

@@ -362,7 +362,7 @@ func TestAnAnswerOfAnotherForm(t *testing.T) {
 	for _, text := range []string{"", "x", `{"decision":"Allow","determining":[],"erring":[]}`} {
 		it.one = func(_ *bobbinjade.Engine, to, _ []byte) ([]byte, error) { return append(to, text...), nil }
 		recorder := &recorded{header: http.Header{}}
-		it.answerOne(recorder, takeRoom(), http.StatusOK)
+		it.answerOne(recorder, takeRoom())
 		if recorder.status != 500 || strings.Contains(recorder.body, "decision") {
 			t.Error(text, recorder)
 		}

@@ -27,6 +27,7 @@ type agent struct {
 	profiles   bool          // whether the profiles of Go are served
 	public     *connections
 	isStopping atomic.Bool
+	hasFreed   atomic.Bool // whether versions were published since memory was given back
 }
 
 // newAgent reads the files, and publishes them as the first version.
@@ -78,6 +79,7 @@ func (a *agent) readSecrets(settings *config) error {
 // published counts and logs a version.
 func (a *agent) published(v *version, took time.Duration) {
 	a.metrics.published.Add(1)
+	a.hasFreed.Store(true)
 	level := "info"
 	if v.source == sourcePatch {
 		a.metrics.patched.Add(1)

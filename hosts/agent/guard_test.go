@@ -1,9 +1,7 @@
 package main
 
 import (
-	"context"
 	"fmt"
-	"net"
 	"net/http"
 	"os"
 	"path/filepath"
@@ -11,7 +9,6 @@ import (
 	"strings"
 	"syscall"
 	"testing"
-	"time"
 )
 
 const (
@@ -121,8 +118,8 @@ func TestTokensThatAreRefused(t *testing.T) {
 // over makes a call over a socket of the file system.
 func over(t *testing.T, socket, method, path, body string) int {
 	t.Helper()
-	dial := func(context.Context, string, string) (net.Conn, error) { return net.Dial("unix", socket) }
-	client := &http.Client{Timeout: 20 * time.Second, Transport: &http.Transport{DialContext: dial, DisableKeepAlives: true}}
+	client := clientOf(socket)
+	defer client.CloseIdleConnections()
 	request, err := http.NewRequest(method, "http://agent"+path, strings.NewReader(body))
 	if err != nil {
 		t.Fatal(err)

@@ -41,6 +41,7 @@ type metrics struct {
 	times           [callCount]times
 	published       atomic.Uint64
 	patched         atomic.Uint64 // of the published ones
+	compacted       atomic.Uint64
 	publishRefused  atomic.Uint64
 	reloadRefused   atomic.Uint64
 	turnedAway      atomic.Uint64 // connections that were closed at the limit
@@ -113,6 +114,7 @@ func (m *metrics) write(to io.Writer, now gauges) {
 	sample(to, "publications_total", `result="published"`, m.published.Load())
 	sample(to, "publications_total", `result="refused"`, m.publishRefused.Load()+m.reloadRefused.Load())
 	one(to, "patches_total", "Versions that PATCH made, each also a publication.", "counter", m.patched.Load())
+	one(to, "compactions_total", "How often the entities were written anew, since much was kept of changes.", "counter", m.compacted.Load())
 	one(to, "version", "The number of the current version.", "gauge", v.number)
 	counter(to, "version_info", "The digest of the current version.", "gauge")
 	sample(to, "version_info", fmt.Sprintf("digest=%q", v.digest), 1)

@@ -75,8 +75,7 @@ func started(t *testing.T, socket string, words ...string) *process {
 	command := exec.Command(built(t), append(words, "--listen", "unix:"+socket)...)
 	it := &process{command: command, log: &lockedBuffer{}, ended: make(chan error, 1)}
 	it.command.Stderr = it.log
-	dial := func(context.Context, string, string) (net.Conn, error) { return net.Dial("unix", socket) }
-	it.client = &http.Client{Timeout: 20 * time.Second, Transport: &http.Transport{DialContext: dial}}
+	it.client = clientOf(socket)
 	if err := it.command.Start(); err != nil {
 		t.Fatal(err)
 	}
@@ -84,6 +83,12 @@ func started(t *testing.T, socket string, words ...string) *process {
 	t.Cleanup(func() { _ = it.command.Process.Kill() })
 	eventually(t, "the program listens", func() bool { return strings.Contains(it.log.String(), `"event":"listening"`) })
 	return it
+}
+
+// clientOf gives a client of a socket of the file system.
+func clientOf(socket string) *http.Client {
+	dial := func(context.Context, string, string) (net.Conn, error) { return net.Dial("unix", socket) }
+	return &http.Client{Timeout: time.Minute, Transport: &http.Transport{DialContext: dial, MaxIdleConnsPerHost: 64}}
 }
 
 // ask makes a single request.

@@ -130,6 +130,9 @@ func (a *agent) writeLogs(stopped <-chan struct{}) {
 		case <-counted.C:
 			a.decisions.reopenIfMoved()
 			a.log.flush()
+			if a.hasFreed.Swap(false) {
+				trimEngine()
+			}
 		}
 	}
 }

@@ -35,7 +35,7 @@ func listenAll(it *agent, settings *config) (*servers, error) {
 	if err != nil {
 		return nil, err
 	}
-	it.public = limited(listener, settings.limits.connections, &it.metrics.turnedAway)
+	it.public = limited(listener, settings.limits.connections, settings.limits.idle, &it.metrics.turnedAway)
 	all.add("requests", it.tls.over(it.public), http.HandlerFunc(it.servePublic), settings.limits.time, settings.limits.idle)
 	if settings.admin == "" {
 		return all, nil
@@ -44,7 +44,7 @@ func listenAll(it *agent, settings *config) (*servers, error) {
 		_ = it.public.Close()
 		return nil, err
 	}
-	admin := limited(listener, adminConnections, &it.metrics.turnedAway)
+	admin := limited(listener, adminConnections, settings.limits.idle, &it.metrics.turnedAway)
 	all.add("admin", it.tls.over(admin), http.HandlerFunc(it.serveAdmin), settings.limits.adminTime, settings.limits.idle)
 	return all, nil
 }

@@ -41,15 +41,53 @@ func TestEntitiesInRequests(t *testing.T) {
 		`{"entities":[]}`: `{"refused":502}`,
 		`{"entities":[]`:  `{"refused":501}`,
 		`"entities"`:      `{"refused":502}`,
-		strings.TrimSuffix(beach, "}") + `,"context":{"entities":[]}}`:  `{"refused":506}`,
-		strings.Replace(bringing(`[]`), "entities", `entit\u0069es`, 1): `{"refused":502}`,
+		strings.TrimSuffix(beach, "}") + `,"context":{"entities":[]}}`: `{"refused":506}`,
 	} {
 		if got := it.ask(request); got.status != 400 || got.body != wanted+"\n" {
 			t.Error(request, got)
 		}
 	}
+	// An escape in a key is that of JSON.
+	if got := it.ask(strings.Replace(bringing(`[`+annAlone+`]`), "entities", `entit\u0069es`, 1)); got.status != 200 || got.body != stranger {
+		t.Error(got)
+	}
 	if got := it.metric("version"); got != "1" {
 		t.Error(got)
+	}
+}
+
+// The answers are those of the program, also where a request has line feeds, which lines have not.
+func TestTheProgramAnswersRequestsWithEntities(t *testing.T) {
+	it := serveExample(t, "photos", "--entities-in-requests")
+	folder, files := copied(t, "photos")
+	alone := bringing(`[` + annAlone + `]`)
+	requests := []string{beach, alone, bringing(`[]`), bringing(`[],"entities":[` + annAlone + `]`), bringing(`[` + annAlone + `],"entities":[]`),
+		bringing(`[` + annAlone + `],"context":{"entities":[]}`), bringing(`[`), bringing(`[]`) + "}", " " + alone + " ", "\r" + alone + "\r",
+		strings.ReplaceAll(alone, `"entities"`, `"Entities"`), strings.ReplaceAll(alone, `"entities"`, `"\u0065ntities"`), "[" + alone + "]",
+		strings.ReplaceAll(alone, "ann", "\xff"), strings.ReplaceAll(alone, "ann", "\x00"), alone + "\x00", "\ufeff" + alone, "\t", " ",
+		bringing(`[{"uid":{"type":"Action","id":"view"}}]`), bringing(`[{"uid":{"type":"User","id":"ann"},"attrs":{"x":1}}]`)}
+	output, _, _ := program(t, folder, strings.Join(requests, "\n")+"\n", append([]string{"authorize", "--quiet", "--entities-in-lines"}, files...)...)
+	answers := strings.SplitAfter(strings.TrimSuffix(output, "\n"), "\n")
+	if len(answers) != len(requests) {
+		t.Fatal(output)
+	}
+	if got := it.askLines(strings.Join(requests, "\n")); got.body != output {
+		t.Error(got)
+	}
+	for at, request := range requests {
+		wanted := strings.TrimSuffix(answers[at], "\n") + "\n"
+		// Between tokens a line feed is as good as none.
+		for _, one := range []string{request, request + "\n", "\n" + request, strings.ReplaceAll(request, ",", "\n,\r\n")} {
+			if got := it.ask(one); got.body != wanted {
+				t.Errorf("%q %v %s", one, got, wanted)
+			}
+		}
+	}
+	// In a string it is refused, with entities and without.
+	for _, one := range []string{strings.ReplaceAll(alone, "ann", "an\nn"), strings.ReplaceAll(beach, "ann", "an\nn"), "", "\n", "\n\n", "\r\n"} {
+		if got := it.ask(one); got.body != `{"refused":501}`+"\n" || got.status != 400 {
+			t.Errorf("%q %v", one, got)
+		}
 	}
 }
 

@@ -104,8 +104,10 @@ func serveUntilSignal(settings *config, errorOutput io.Writer) int {
 	isClean := servers.serve(hangups, ends)
 	it.close()
 	if !isClean {
+		log.event("error", "stopped", text("why", "requests were cut off, or a listener failed"))
 		return statusFailed
 	}
+	log.event("info", "stopped")
 	return statusDone
 }
 

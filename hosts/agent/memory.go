@@ -21,8 +21,20 @@ static size_t allocated(void) {
     return 0;
 #endif
 }
+
+// Gives memory that malloc holds and nobody uses back to the system.
+static void trim(void) {
+#ifdef __GLIBC__
+    malloc_trim(0);
+#endif
+}
 */
 import "C"
+
+// trimEngine gives memory of old versions back to the system. Each arena of malloc is locked meanwhile.
+func trimEngine() {
+	C.trim()
+}
 
 // engineBytes gives the bytes that the engine has allocated, of all versions that requests still use.
 func engineBytes() uint64 {

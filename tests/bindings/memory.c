@@ -32,7 +32,7 @@ static outcome publishes(void) {
 }
 
 static outcome publishes_faults(void) {
-    cedar_refusal refusal = {sizeof refusal, 0, 0, 0};
+    cedar_refusal refusal = {.size = sizeof refusal, .file = 0, .number = 0, .offset = 0};
     cedar_buffer text = text_buffer();
     uint32_t status = cedar_publish(&engine, &other_files, &refusal, &text);
     int is_right = status == CEDAR_FAULTS && text.written > 20;
@@ -43,7 +43,7 @@ static outcome publishes_entities(void) { return (outcome){cedar_publish_entitie
 
 /* Entities that are no list are refused, with any schema. */
 static outcome publishes_refused_entities(void) {
-    cedar_refusal refusal = {sizeof refusal, 0, 0, 0};
+    cedar_refusal refusal = {.size = sizeof refusal, .file = 0, .number = 0, .offset = 0};
     cedar_buffer text = text_buffer();
     uint32_t status = cedar_publish_entities(&engine, bytes_of("{}"), &refusal, &text);
     int is_right = status == CEDAR_REFUSED && refusal.file == CEDAR_ENTITIES && refusal.number == 502
@@ -62,7 +62,7 @@ static outcome publishes_all_as_changes(void) { return (outcome){cedar_publish_c
 
 /* Changes that are no object are refused, with any schema. */
 static outcome publishes_refused_changes(void) {
-    cedar_refusal refusal = {sizeof refusal, 0, 0, 0};
+    cedar_refusal refusal = {.size = sizeof refusal, .file = 0, .number = 0, .offset = 0};
     cedar_buffer text = text_buffer();
     uint32_t status = cedar_publish_changes(&engine, bytes_of("[]"), &refusal, &text);
     int is_right = status == CEDAR_REFUSED && refusal.file == CEDAR_ENTITIES && refusal.number == 502

@@ -103,7 +103,7 @@ static cedar_files files;
 static cedar_engine engine, small;
 static cedar_bytes asked_line, changes;
 /* Why the last changes were refused, or 0. */
-static cedar_refusal refusal = {sizeof refusal, 0, 0, 0};
+static cedar_refusal refusal = {.size = sizeof refusal, .file = 0, .number = 0, .offset = 0};
 static char room[1 << 16];
 
 static cedar_bytes text_of(const form *form) {

@@ -1,7 +1,7 @@
-/* An engine for any number of threads, as C uses it: shared FOLDER TURNS, where FOLDER is examples/notes.
+/* An engine for any number of threads, as C uses it: shared FOLDER VERSIONS, where FOLDER is examples/notes.
  *
- * First what its calls refuse and say. Then eight threads ask, each TURNS times, while another publishes files, entities and changes in
- * turn, and a third asks over changes of its own. The policies of a version have its number as their id, and permit where it is even. Each
+ * First what its calls refuse and say. Then eight threads ask while another publishes VERSIONS times files, entities and changes, and a
+ * tenth asks over changes of its own. The policies of a version have its number as their id, and permit where it is even. Each
  * answer has to be that of a version that was current during its call: not older than the last that was published before it, and not newer
  * than the last that was begun after it. At the end the engine is closed while threads ask. */
 #include "files.h"
@@ -16,7 +16,8 @@ static cedar_files files;
 static cedar_bytes lines, answers;
 static cedar_shared *engine;
 static atomic_long begun, done, right, wrong, asking, changed;
-static long turns;
+static atomic_int is_over;
+static long versions;
 
 /* Shared calls as those over one handle: whether all answers are right. */
 static int answers_are_right(cedar_shared *shared) {
@@ -180,16 +181,16 @@ static int turn_is_right(long turn) {
 }
 
 static void *asks(void *none) {
-    for (long turn = 0; turn < turns; turn++) {
+    long turn = 0;
+    do {
         *(turn_is_right(turn) ? &right : &wrong) += 1;
-    }
-    asking--;
+    } while (turn++ == 0 || !is_over);
     return none;
 }
 
 /* Asks over changes of its own, while others publish and ask. */
 static void *asks_over_changes(void *none) {
-    while (asking) {
+    while (!changed || !is_over) {
         cedar_shared *other;
         uint32_t status = cedar_shared_with_changes(engine, bytes_of("{\"remove\":[{\"type\":\"User\",\"id\":\"bob\"}]}"), &other, NULL, NULL);
         *(status == CEDAR_OK && is_allowed(other, "write") >= 0 ? &changed : &wrong) += 1;
@@ -198,9 +199,9 @@ static void *asks_over_changes(void *none) {
     return none;
 }
 
-/* Publishes versions until nobody asks: policies, entities and changes in turn. */
+/* Publishes versions: policies, entities and changes in turn. */
 static void *publishes(void *none) {
-    for (long number = 1; asking; number++) {
+    for (long number = 1; number <= versions; number++) {
         char room[128];
         cedar_files next = files;
         next.policies = policies_of(number, room);
@@ -211,6 +212,7 @@ static void *publishes(void *none) {
         status |= cedar_shared_publish_changes(engine, bytes_of("{\"upsert\":[{\"uid\":{\"type\":\"User\",\"id\":\"bob\"}}]}"), NULL, NULL);
         wrong += status != CEDAR_OK;
     }
+    is_over = 1;
     return none;
 }
 
@@ -239,7 +241,6 @@ static void check_threads(void) {
     cedar_files first = files;
     first.policies = policies_of(0, room);
     CHECK(cedar_shared_new(&engine) == CEDAR_OK && cedar_shared_publish(engine, &first, NULL, NULL) == CEDAR_OK);
-    asking = THREADS;
     for (int i = 0; i < THREADS + 2; i++) {
         run(&threads[i], i < THREADS ? asks : i == THREADS ? publishes : asks_over_changes);
     }
@@ -247,7 +248,7 @@ static void check_threads(void) {
         pthread_join(threads[i], NULL);
     }
     printf("%ld turns, %ld wrong, %ld versions, %ld changes\n", (long)right, (long)wrong, (long)done, (long)changed);
-    CHECK(wrong == 0 && right == THREADS * turns && done > 1 && changed > 1);
+    CHECK(wrong == 0 && right >= 2 * THREADS && done == versions && changed > 0);
     cedar_shared_free(engine);
 }
 
@@ -279,7 +280,7 @@ int main(int count, char **words) {
     files = files_of(words[1]);
     lines = content(words[1], "requests.jsonl");
     answers = content(words[1], "answers.jsonl");
-    turns = atol(words[2]);
+    versions = atol(words[2]);
     cedar_shared *shared;
     check_states();
     CHECK(cedar_shared_new(&shared) == CEDAR_OK && cedar_shared_publish(shared, &files, NULL, NULL) == CEDAR_OK);

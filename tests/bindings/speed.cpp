@@ -68,7 +68,7 @@ int main(int count, char **words) {
         {"c-decide-text", [](Handle &handle) { return decide(handle, true); }},
         {"c-answer-line", answer_line},
         {"c++-decide", [&](Handle &) { return engine.decide(REQUEST); }},
-        {"c++-authorize", [&](Handle &) { return engine.is_authorized(REQUEST).allow; }},
+        {"c++-authorize", [&](Handle &) { return engine.authorize(REQUEST).allow; }},
         {"c++-answer-line", [&](Handle &) { return engine.answer_line(LINE).size() > 20; }}};
     const auto &call = kinds.at(words[2]);
     Handle first(raw);

@@ -222,7 +222,7 @@ static void check_words_of_requests(void) {
     static const char FLY[] = "error[510]: an action is not declared\n --> request\n   = action: Action::\"fly\" is not declared\n";
     static const char LINE[] = "{\"principal\":\"User::\\\"ann\\\"\",\"action\":\"Action::\\\"fly\\\"\",\"resource\":\"Notebook::\\\"plans\\\"\"}";
     cedar_engine engine;
-    char room[1024];
+    char room[1024] = "";
     cedar_buffer text = {room, sizeof room, 0};
     cedar_request fly = asked("fly"), write = asked("write"), odd = asked("write");
     CHECK(cedar_new(&engine) == CEDAR_OK && cedar_explain_line(&engine, lines, CEDAR_LINE, 0, CEDAR_WORDS, &text) == CEDAR_NO_ENGINE);

@@ -1,23 +1,22 @@
-/* An engine for any number of threads, as C uses it: shared FOLDER VERSIONS, where FOLDER is examples/notes.
+/* An engine for any number of threads, as C uses it: shared FOLDER VERSIONS CLOSING, where FOLDER is examples/notes.
  *
  * First what its calls refuse and say. Then eight threads ask while another publishes VERSIONS times files, entities and changes, and a
  * tenth asks over changes of its own. The policies of a version have its number as their id, and permit where it is even. Each
  * answer has to be that of a version that was current during its call: not older than the last that was published before it, and not newer
- * than the last that was begun after it. At the end the engine is closed while threads ask. */
+ * than the last that was begun after it. At the end CLOSING threads ask until the engine is closed. */
 #include "files.h"
 
 #include <pthread.h>
 #include <stdatomic.h>
 
 #define THREADS 8
-#define MANY 100
 
 static cedar_files files;
 static cedar_bytes lines, answers;
 static cedar_shared *engine;
 static atomic_long begun, done, right, wrong, asking, changed;
 static atomic_int is_over;
-static long versions;
+static long versions, closing;
 
 /* Shared calls as those over one handle: whether all answers are right. */
 static int answers_are_right(cedar_shared *shared) {
@@ -252,35 +251,40 @@ static void check_threads(void) {
     cedar_shared_free(engine);
 }
 
-/* More threads than there are places ask until the engine is closed. */
+/* Threads ask until the engine is closed. There may be more of them than the engine keeps handles. */
 static void check_closing(void) {
-    pthread_t threads[MANY];
+    pthread_t *threads = calloc((size_t)closing, sizeof *threads);
     right = wrong = 0;
-    asking = MANY;
+    asking = closing;
+    if (!threads) {
+        exit(9);
+    }
     CHECK(cedar_shared_new(&engine) == CEDAR_OK && cedar_shared_publish(engine, &files, NULL, NULL) == CEDAR_OK);
-    for (int i = 0; i < MANY; i++) {
+    for (int i = 0; i < closing; i++) {
         run(&threads[i], asks_until_closed);
     }
-    while (right < 10 * MANY) {
+    while (right < 10 * closing) {
         wrong += cedar_shared_publish_entities(engine, files.entities, NULL, NULL) != CEDAR_OK;
     }
     cedar_shared_close(engine);
-    for (int i = 0; i < MANY; i++) {
+    for (int i = 0; i < closing; i++) {
         pthread_join(threads[i], NULL);
     }
     CHECK(wrong == 0 && asking == 0);
     CHECK(cedar_shared_publish(engine, &files, NULL, NULL) == CEDAR_CLOSED);
     cedar_shared_free(engine);
+    free(threads);
 }
 
 int main(int count, char **words) {
-    if (count != 3) {
+    if (count != 4) {
         return 9;
     }
     files = files_of(words[1]);
     lines = content(words[1], "requests.jsonl");
     answers = content(words[1], "answers.jsonl");
     versions = atol(words[2]);
+    closing = atol(words[3]);
     cedar_shared *shared;
     check_states();
     CHECK(cedar_shared_new(&shared) == CEDAR_OK && cedar_shared_publish(shared, &files, NULL, NULL) == CEDAR_OK);

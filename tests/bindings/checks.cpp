@@ -198,7 +198,13 @@ static void check_requests() {
     auto refusal = thrown<cedar::RequestRefusal>([&] { engine.decide(request); });
     CHECK(refusal && refusal->number == 501);
     refusal = thrown<cedar::RequestRefusal>([&] { engine.authorize(asked("ann", "fly")); });
-    CHECK(refusal && refusal->number == 510);
+    const std::string words = "error[510]: an action is not declared\n --> request\n   = action: Action::\"fly\" is not declared\n";
+    CHECK(refusal && refusal->number == 510 && refusal->words == words && refusal->what() == words);
+    const std::string line = R"({"principal":"User::\"ann\"","action":"Action::\"write\"","resource":"Notebook::\"plans\"")";
+    const std::string brings = line + R"(,"entities":[{"uid":{"type":"Ghost","id":"g"}}]})";
+    CHECK(engine.explain_line(line + "}").empty() && engine.explain_line(brings).rfind("error[502]: ", 0) == 0);
+    CHECK(engine.explain_line(brings, CEDAR_LINE_WITH_ENTITIES).rfind("error[503]: ", 0) == 0);
+    CHECK(!thrown<cedar::RequestRefusal>([&] { engine.is_authorized(asked("ann", "write")); }));
     CHECK(engine.decide(asked("ann", "write")) && !engine.decide(asked("carol", "write")));
 }
 

@@ -42,7 +42,7 @@ use base_loose::Loose;
 use buffer::give;
 pub use crossing::handle_crosses;
 use decided::Decided;
-use explaining::{explanation, explanation_of_changes, format_of};
+use explaining::{explanation, explanation_of_changes, explanation_of_line, format_of};
 use handle::Handle;
 use new_handle::NewHandle;
 use parts::{RequestBytes, UidBytes};
@@ -305,6 +305,48 @@ pub extern "C" fn cedar_raw_explain_changes(
     match explanation_of_changes(alloc, schema, changes, number, format) {
         Ok(told) => give(&told, text, written),
         Err(_) => MEMORY,
+    }
+}
+
+/// Explains to a person, or in JSON lines, why a request line is refused: kind 0, or one that may bring entities: kind 1. The text has
+/// length 0 where the line is not refused, or not with the number. Number 0 is for each.
+#[unsafe(no_mangle)]
+pub extern "C" fn cedar_raw_explain_line(
+    alloc: Global,
+    place: &mut Handle,
+    line: &[u8],
+    kind: u32,
+    number: u32,
+    format: u32,
+    text: &mut [u8],
+    written: &mut usize,
+) -> u32
+    ensures same { place.new.value ≡ place.old.value }
+    ensures rest { result ≡ 0 → drop written.new text.new ≡ drop written.new text.old }
+    ensures fits { result ≡ 0 → written.new ≤ length text.old }
+    ensures room { result ≡ 6 → length text.old < written.new }
+    ensures none { result ≡ 5 → place.old.value ≡ Empty }
+    ensures known_arguments { result ≢ 4 → (kind < 2) × (format < 2) }
+    ensures argument { result ≡ 4 → (1 < kind) ⊎ (1 < format) }
+    ensures untouched { result ≢ 0 → text.new ≡ text.old }
+    ensures unwritten { IsOneOf (1 ∷ 4 ∷ 5 ∷ []) result → written.new ≡ 0 }
+    ensures known { IsOneOf (0 ∷ 1 ∷ 4 ∷ 5 ∷ 6 ∷ []) result }
+{
+    *written = 0;
+    let Some(format) = format_of(format) else {
+        return ARGUMENT;
+    };
+    if kind > 1 {
+        return ARGUMENT;
+    }
+    match place.slot() {
+        Slot::Empty => NO_ENGINE,
+        Slot::Full(engine) => {
+            match explanation_of_line(alloc, &engine.ready, line, kind == 1, number, format) {
+                Ok(told) => give(&told, text, written),
+                Err(_) => MEMORY,
+            }
+        }
     }
 }
 

@@ -72,24 +72,6 @@ func TestReportsAreBounded(t *testing.T) {
 	}
 }
 
-// What the largest report within the limits takes of memory.
-func TestMemoryOfReports(t *testing.T) {
-	it := serveExample(t, "notes")
-	if got := it.call("POST", "/v1/validate", "application/json", wideFiles(5), it.admin); got.status != 422 {
-		t.Fatal(got)
-	}
-	before := residentBytes(t)
-	got := it.call("POST", "/v1/validate", "application/json", wideFiles(310), it.admin)
-	if got.status != 422 || len(got.body) < 9_000_000 {
-		t.Error(got.status, len(got.body))
-	}
-	t.Log(residentBytes(t)-before, "bytes")
-	// The client is in this process, too: it holds the body as a text, and what its buffer has outgrown.
-	if grown := residentBytes(t) - before - 3*int64(len(got.body)); grown > 64<<20 && !isRaced {
-		t.Error(grown>>20, "MB")
-	}
-}
-
 // Bodies that wait for their turn are not read.
 func TestWaitingBodiesTakeNoMemory(t *testing.T) {
 	it := serveExample(t, "notes")

@@ -218,8 +218,8 @@ func largestValidations() []large {
 	chained := func(first, format string) string {
 		return first + repeated(schema, func(at int) string { return fmt.Sprintf(format, at, at+1) }) + "}"
 	}
-	types := repeated(28000, func(at int) string { return fmt.Sprintf(`"T%x":{}`, at) })
-	names := repeated(18000, func(at int) string { return fmt.Sprintf(`"T%x"`, at) })
+	types := repeated(4700, func(at int) string { return fmt.Sprintf(`"T%x":{}`, at) })
+	names := repeated(3190, func(at int) string { return fmt.Sprintf(`"T%x"`, at) })
 	return []large{
 		{"brackets", path, "", words, strings.Repeat("[", 1<<20), 422},
 		{"quotes", path, "", words, strings.Repeat(`"`, 1<<20), 422},

@@ -58,6 +58,17 @@ func TestReportsAreBounded(t *testing.T) {
 			t.Error(got.status, len(got.body))
 		}
 	}
+	// Environments take memory, too, also where there are no policies.
+	var types []string
+	for at := 0; at < 501; at++ {
+		types = append(types, fmt.Sprintf(`"T%d"`, at))
+	}
+	list := strings.Join(types, ",")
+	environments := ofSchema(`"entityTypes":{` + strings.ReplaceAll(list, ",", ":{},") + `:{}},"actions":{"a":{"appliesTo":{"principalTypes":[` +
+		list + `],"resourceTypes":[` + list + `]}}}`)
+	if got := admin(environments); got.status != 413 {
+		t.Error(got)
+	}
 	// A key that is repeated is counted each time.
 	twice := strings.Replace(wideFiles(2), `"principalTypes"`, `"principalTypes":[`+strings.Repeat(`"U",`, 2000)+`"U"],"principalTypes"`, 1)
 	if got := admin(twice); got.status != 413 {

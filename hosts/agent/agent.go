@@ -27,7 +27,7 @@ type agent struct {
 	profiles   bool          // whether the profiles of Go are served
 	public     *connections
 	isStopping atomic.Bool
-	hasFreed   atomic.Bool // whether versions were published since memory was given back
+	hasFreed   atomic.Bool // whether much memory was freed that was not given back to the system
 }
 
 // newAgent reads the files, and publishes them as the first version.

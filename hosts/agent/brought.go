@@ -5,12 +5,21 @@ package main
 
 import (
 	"bytes"
+	"runtime"
 
 	"bobbinjade"
 )
 
+// bringing has a place for each call that may bring entities. Each takes a processor, and memory for what it brings: more than there are
+// processors would take more memory, and no less time.
+var bringing = make(chan struct{}, runtime.GOMAXPROCS(0))
+
 // linesWithEntities answers request lines, each of which may bring its entities.
-var linesWithEntities question = (*bobbinjade.Engine).AppendAnswerWithEntities
+func linesWithEntities(engine *bobbinjade.Engine, text, lines []byte) ([]byte, error) {
+	bringing <- struct{}{}
+	defer func() { <-bringing }()
+	return engine.AppendAnswerWithEntities(text, lines)
+}
 
 // oneWithEntities answers one request, which may bring its entities. The library takes lines. A line feed is between the tokens of JSON, where
 // a tab means the same, or in a string, where both are refused.
@@ -21,6 +30,6 @@ func oneWithEntities(engine *bobbinjade.Engine, text, request []byte) ([]byte, e
 	if bytes.IndexByte(request, '\n') >= 0 {
 		request = bytes.ReplaceAll(request, []byte("\n"), []byte("\t"))
 	}
-	answer, err := engine.AppendAnswerWithEntities(text, request)
+	answer, err := linesWithEntities(engine, text, request)
 	return bytes.TrimSuffix(answer, []byte("\n")), err
 }

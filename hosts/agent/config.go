@@ -85,7 +85,17 @@ func parseConfig(words []string) (*config, error) {
 	if settings.isVersion {
 		return settings, nil
 	}
+	if settings.hasEntities && !isGiven(flags, "max-line") {
+		settings.limits.line = lineWithEntities
+	}
 	return settings, settings.check()
+}
+
+// isGiven says whether the command line or the file of --config has a flag.
+func isGiven(flags *flag.FlagSet, name string) bool {
+	found := false
+	flags.Visit(func(it *flag.Flag) { found = found || it.Name == name })
+	return found
 }
 
 // flagsOf declares the flags.

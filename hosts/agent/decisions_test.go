@@ -50,8 +50,8 @@ func TestDecisionsCanBeReplayed(t *testing.T) {
 func TestDecisionsWithEntitiesCanBeReplayed(t *testing.T) {
 	log := filepath.Join(t.TempDir(), "decisions.jsonl")
 	it := serveExample(t, "photos", "--decision-log", log, "--entities-in-requests")
-	requests := []string{beach, bringing(`[` + annAlone + `]`), beach, bringing(`[]`), bringing(`[` + annAlone + `,` + annAlone + `]`),
-		bringing(`[{"uid":{"type":"Ghost","id":"g"}}]`), bringing(`{}`), bringing(`[],"more":1`)}
+	requests := []string{beach, requestBringing(`[` + annAlone + `]`), beach, requestBringing(`[]`), requestBringing(`[` + annAlone + `,` + annAlone + `]`),
+		requestBringing(`[{"uid":{"type":"Ghost","id":"g"}}]`), requestBringing(`{}`), requestBringing(`[],"more":1`)}
 	for _, request := range requests {
 		it.ask(request)
 	}

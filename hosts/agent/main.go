@@ -56,6 +56,7 @@ func run(words []string, output, errorOutput io.Writer) int {
 		// Requests leave little behind, so the collector of Go may run four times less often than it would.
 		debug.SetGCPercent(400)
 	}
+	limitArenas()
 	return serveUntilSignal(settings, errorOutput)
 }
 

@@ -31,6 +31,8 @@ LOST_NAME = re.compile(r'has no field|is not in scope|has no `|was not admitted'
 HEAD = re.compile(r'(?:unsafe )?impl(<.*?(?<!-)>)? (?:(.*) for )?(.*)')
 PARAMETER = re.compile(r'[<,] *(\w+)(?=[:,>])')
 WORD = re.compile(r"(?<!['\w])\w+(?!\w|::)")
+# A check judges at most so many edits, so that what it finds is entered before long.
+MOST = 12
 PROVED, FAILED, LOST, WAITS = 'proved', 'failed', 'lost', 'waits'
 NOTHING = 'refused only because a proof names what it took away, which says nothing of a contract'
 UNREAD = 'it does not compile: no contract was tried'
@@ -196,7 +198,7 @@ def tries(house, crate, edits):
         if os.path.isdir(own):
             shutil.copytree(own, kept, symlinks=True, copy_function=linked, dirs_exist_ok=True)
         left, single = [it for it in edits if None not in it.changed(house)], [it for it in edits if None in it.changed(house)]
-        most = len(left)
+        most = MOST
         while left:
             batch = batch_of(house, left)[:most]
             found = check(crate, merged(batch), names_of(house, batch), kept)
@@ -207,7 +209,7 @@ def tries(house, crate, edits):
             if not done and len(batch) == 1:
                 done = batch
                 single += batch
-            most = len(left) if done else len(batch) // 2
+            most = MOST if done else len(batch) // 2
             left = [it for it in left if it not in done]
         for edit in single:
             yield alone(house, edit, kept)

@@ -21,8 +21,8 @@ func linesWithEntities(engine *bobbinjade.Engine, text, lines []byte) ([]byte, e
 	return engine.AppendAnswerWithEntities(text, lines)
 }
 
-// oneWithEntities answers one request, which may bring its entities. The library takes lines. A line feed is between the tokens of JSON, where
-// a tab means the same, or in a string, where both are refused.
+// oneWithEntities answers one request, which may bring its entities. The library takes lines. A line feed is between the tokens of JSON,
+// where a tab means the same, or in a string, where both are refused.
 func oneWithEntities(engine *bobbinjade.Engine, text, request []byte) ([]byte, error) {
 	if len(request) == 0 {
 		return engine.AppendAnswerLine(text, request)

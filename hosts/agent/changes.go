@@ -1,7 +1,7 @@
 package main
 
-// What changes have made of the file of entities. The engine keeps the entities themselves. Where other files are published, a new engine reads
-// the entities from a file again: so the file is kept up to date, but only then, since that takes as long as reading it.
+// What changes have made of the file of entities. The engine keeps the entities themselves. Where other files are published, a new engine
+// reads the entities from a file again: so the file is kept up to date, but only then, since that takes as long as reading it.
 
 import (
 	"bytes"
@@ -30,8 +30,8 @@ func (c changedEntities) keep(key string, entry json.RawMessage) int {
 // errChanges says that changes, or a file of entities, that the engine has accepted cannot be read here. It never does.
 var errChanges = errors.New("entities that the engine has accepted cannot be read")
 
-// keyOf gives a uid as these maps have it: the type, a byte that a name never has, and the id. The engine has accepted it, so it has no keys
-// in other case, which Go would take for these.
+// keyOf gives a uid as these maps have it: the type, a byte that a name never has, and the id. The engine has accepted it, so it has no
+// keys in other case, which Go would take for these.
 func keyOf(uid json.RawMessage) (string, error) {
 	var parts struct {
 		Type  *string         `json:"type"`

@@ -108,26 +108,14 @@ func flagsOf(settings *config) *flag.FlagSet {
 	flags.StringVar(&settings.paths.links, "links", "", "the links `FILE`, if templates are used")
 	flags.StringVar(&settings.paths.entities, "entities", "", "the entities `FILE`: JSON")
 	flags.BoolVar(&settings.anyDecimal, "any-decimal", false, "accept decimal(..) of any string, which may then fail at a request")
-	flags.StringVar(&settings.listen, "listen", "127.0.0.1:8180", "the `ADDRESS` for requests: HOST:PORT, or unix:PATH")
-	flags.StringVar(&settings.admin, "admin", "", "the `ADDRESS` for calls that publish; without it there are none")
-	flags.BoolVar(&settings.isInsecure, "admin-insecure", false, "let whoever reaches the address of --admin publish")
-	flags.StringVar(&settings.adminToken, "admin-token", "", "a call of --admin needs the token that this `FILE` has, after `Authorization: Bearer`")
-	flags.StringVar(&settings.adminUsers, "admin-users", "", "the `USERS` who may call at the socket of --admin: names or numbers, with commas between")
-	flags.StringVar(&settings.sockets.listenMode, "listen-mode", "", "the `MODE` of the socket of --listen, for example 0660")
-	flags.StringVar(&settings.sockets.listenGroup, "listen-group", "", "the `GROUP` of the socket of --listen, with the mode 0660 where none is given")
-	flags.StringVar(&settings.sockets.adminMode, "admin-mode", "", "the `MODE` of the socket of --admin; without it 0600, or 0660 with --admin-group")
-	flags.StringVar(&settings.sockets.adminGroup, "admin-group", "", "the `GROUP` of the socket of --admin")
-	flags.StringVar(&settings.tls.certificate, "tls-cert", "", "the certificate `FILE` of each HOST:PORT, PEM; without it there is no TLS")
-	flags.StringVar(&settings.tls.key, "tls-key", "", "the `FILE` of its private key, PEM")
-	flags.StringVar(&settings.tls.clientAuthority, "tls-client-ca", "", "a client needs a certificate of an authority in this `FILE`, PEM")
-	flags.BoolVar(&settings.hasProfiles, "admin-pprof", false, "serve the profiles of Go at /debug/pprof/ on --admin")
+	settings.declareAccess(flags)
 	flags.StringVar(&settings.extAuthz, "ext-authz", "", "the mapping `FILE` for Envoy's ext_authz; without it the path is off")
-	flags.BoolVar(&settings.namesIDs, "ext-authz-policies", false, "name the policies that determine an answer to ext_authz in the header Cedar-Policies")
+	flags.BoolVar(&settings.namesIDs, "ext-authz-policies", false, "say in a header of ext_authz which policies determine the answer")
 	flags.BoolVar(&settings.hasEntities, "entities-in-requests", false, "a request may bring entities, which hold for it alone")
 	flags.BoolVar(&settings.isPublic, "public-validate", false, "serve /v1/validate on --listen, too, for policies according to the current schema")
 	flags.StringVar(&settings.decisionLog, "decision-log", "", "append each request and its answer to this `FILE`; without it none is logged")
-	flags.Int64Var(&settings.decisionsMost, "decisions-max", 0, "at so many `BYTES` rename the decision log to FILE.1, and begin it anew; 0 is no limit")
-	flags.StringVar(&settings.decisionsOmit, "decisions-omit", "", "leave `KEYS` of requests out of the decision log, with commas between, for example context")
+	flags.Int64Var(&settings.decisionsMost, "decisions-max", 0, "at so many `BYTES` begin a new decision log, the old one is FILE.1; 0 is no limit")
+	flags.StringVar(&settings.decisionsOmit, "decisions-omit", "", "leave `KEYS` of requests out of the decision log: context, principal ..")
 	flags.DurationVar(&settings.reloadEvery, "reload", time.Second, "look for changed files so often; 0 is only at SIGHUP")
 	flags.BoolVar(&settings.doesReplace, "reload-replaces", false, "a file that has changed replaces what calls have published in its place")
 	flags.DurationVar(&settings.drain, "drain", 0, "at the end answer for so long with /readyz at 503, before listening ends")
@@ -192,48 +180,6 @@ func (c *config) checkDecisions() error {
 	return nil
 }
 
-// checkAdmin finds what is wrong with who may call.
-func (c *config) checkAdmin() error {
-	isSocket, isAdminSocket := strings.HasPrefix(c.listen, unixPrefix), strings.HasPrefix(c.admin, unixPrefix)
-	for _, it := range []struct {
-		name           string
-		isGiven, isFit bool
-		needs          string
-	}{
-		{"--listen-mode", c.sockets.listenMode != "", isSocket, "--listen unix:PATH"},
-		{"--listen-group", c.sockets.listenGroup != "", isSocket, "--listen unix:PATH"},
-		{"--admin-mode", c.sockets.adminMode != "", isAdminSocket, "--admin unix:PATH"},
-		{"--admin-group", c.sockets.adminGroup != "", isAdminSocket, "--admin unix:PATH"},
-		{"--admin-users", c.adminUsers != "", isAdminSocket, "--admin unix:PATH"},
-		{"--admin-token", c.adminToken != "", c.admin != "", "--admin"},
-		{"--admin-pprof", c.hasProfiles, c.admin != "", "--admin"},
-	} {
-		if it.isGiven && !it.isFit {
-			return errors.New(it.name + " needs " + it.needs)
-		}
-	}
-	var err error
-	if c.users, err = usersOf(c.adminUsers); err != nil {
-		return err
-	}
-	if c.listenAccess, err = accessOf(c.sockets.listenMode, c.sockets.listenGroup, 0); err != nil {
-		return fmt.Errorf("--listen-mode: %w", err)
-	}
-	if c.adminAccess, err = accessOf(c.sockets.adminMode, c.sockets.adminGroup, privateMode); err != nil {
-		return fmt.Errorf("--admin-mode: %w", err)
-	}
-	isGuarded := c.isInsecure || c.adminToken != ""
-	switch {
-	case c.admin == "" || isGuarded:
-		return nil
-	case !isAdminSocket:
-		return fmt.Errorf("--admin: whoever reaches %s could publish: give --admin-token, use unix:PATH, or say --admin-insecure", c.admin)
-	case c.adminAccess.mode&modeOfOthers != 0 && c.adminUsers == "":
-		return errors.New("--admin-mode: all users of the machine could publish: give --admin-token or --admin-users, or say --admin-insecure")
-	}
-	return nil
-}
-
 // usage is the help.
 func usage() string {
 	var text bytes.Buffer
@@ -258,7 +204,7 @@ Example:
       http://127.0.0.1:8180/v1/authorize
 
 Signals:
-  SIGHUP   read the files now, and publish those that have changed
+  SIGHUP   read the files now, and publish those that have changed; read the token and certificates, too
   SIGUSR1  open the decision log anew, which the agent also does when it was renamed
   SIGTERM  end when the running requests are answered, as SIGINT does; a second one ends --drain, or else cuts requests off
 

@@ -3,8 +3,8 @@ package main
 // Connections: at most so many are open. Where all are taken, the one that has made no progress for longest is closed for a new one. So
 // clients that open connections and do nothing, or next to nothing, keep nobody out.
 //
-// The server gets a connection when its first byte has arrived, and its times begin then. Clients open connections before they need them, and
-// one that was closed meanwhile would fail their first request.
+// The server gets a connection when its first byte has arrived, and its times begin then. Clients open connections before they need them,
+// and one that was closed meanwhile would fail their first request.
 
 import (
 	"context"

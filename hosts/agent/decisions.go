@@ -116,8 +116,8 @@ func (d *decisionLog) add(v *version, requests, answers []byte, of *decided) {
 	}
 }
 
-// write writes a line. Where the file would then have more bytes than it may, it is renamed to FILE.1 before, in place of what was there. The
-// lock is held.
+// write writes a line. Where the file would then have more bytes than it may, it is renamed to FILE.1 before, in place of what was there.
+// The lock is held.
 func (d *decisionLog) write(line []byte) error {
 	if d.most > 0 && d.size > 0 && d.size+int64(len(line)) > d.most {
 		path := d.file.Name()

@@ -41,7 +41,7 @@ type limits struct {
 
 // declare declares the flags of limits.
 func (l *limits) declare(flags *flag.FlagSet) {
-	flags.Int64Var(&l.line, "max-line", 256<<10, "a request has at most so many `BYTES`; with --entities-in-requests 65536, unless it is given")
+	flags.Int64Var(&l.line, "max-line", 256<<10, "a request has at most so many `BYTES`; by default 65536 with --entities-in-requests")
 	flags.Int64Var(&l.body, "max-body", 64<<20, "the request lines of one body have together at most so many `BYTES`")
 	flags.Int64Var(&l.policies, "max-policies", 1<<20, "what /v1/validate is sent has at most so many `BYTES`")
 	flags.Int64Var(&l.schema, "max-schema", 256<<10, "a schema that /v1/validate is sent has at most so many `BYTES`")

@@ -3,7 +3,9 @@ package main
 import (
 	"fmt"
 	"net"
+	"os"
 	"path/filepath"
+	"regexp"
 	"strconv"
 	"strings"
 	"testing"
@@ -120,6 +122,28 @@ func TestMetricsOfPublications(t *testing.T) {
 	eventually(t, "reloading succeeds", func() bool { return it.value(isFailing) == 0 })
 	if got := it.value(published); got <= first {
 		t.Error(got, first)
+	}
+}
+
+// docs/PRODUCTION.md has alerts on metrics that are there.
+func TestMetricsOfTheAlerts(t *testing.T) {
+	it := serveExample(t, "notes")
+	it.ask("{")
+	it.call("POST", "/v1/authorize", "text/plain", "")
+	it.metrics.erred(failedPolicy{"policy0", "overflow"})
+	text, err := os.ReadFile("../../docs/PRODUCTION.md")
+	if err != nil {
+		t.Fatal(err)
+	}
+	written := it.get("/metrics").body
+	names := regexp.MustCompile(`cedar_agent_\w+`).FindAllString(string(text), -1)
+	if len(names) < 6 {
+		t.Error(names)
+	}
+	for _, name := range names {
+		if !regexp.MustCompile(`(?m)^` + name + `[ {]`).MatchString(written) {
+			t.Error(name)
+		}
 	}
 }
 

@@ -6,8 +6,7 @@ it changes fails there, and it is not where all of them are still proved. The pr
 proof failed; an edit of such a function is judged in a later check. One of text outside of functions is judged alone: over the modules
 that it changes, and if these are still proved, over the whole crate.
 
-The first check begins with what `rt check` has kept of the crate in this checkout, if it has, and each later one with what those before
-it have kept."""
+Each check begins with what those before it have kept of the crate in this checkout, and the first with what `rt check` has kept."""
 import os
 import re
 import shutil
@@ -129,6 +128,15 @@ def check(crate, texts, only, kept):
     return Check(ran.returncode, ran.stdout)
 
 
+def begun(crate):
+    """The folder of what checks of a crate with edits keep, in this checkout. It begins with what `rt check` has kept of the crate here."""
+    kept, own = (os.path.join(TOP, 'crates', crate, 'out', it) for it in ('edits', 'incremental'))
+    if not os.path.isdir(kept) and os.path.isdir(own):
+        shutil.copytree(own, kept, symlinks=True, copy_function=linked)
+    os.makedirs(kept, exist_ok=True)
+    return kept
+
+
 def linked(one, other):
     """Copies a file that a check has kept, by a link where it can: a check replaces such a file, and changes none."""
     if one.endswith('.oantt'):
@@ -193,26 +201,23 @@ def alone(house, edit, kept):
 
 def tries(house, crate, edits):
     """Judges edits of a crate, and gives each verdict as it is found."""
-    own = os.path.join(TOP, 'crates', crate, 'out', 'incremental')
-    with tempfile.TemporaryDirectory(prefix='edits-') as kept:
-        if os.path.isdir(own):
-            shutil.copytree(own, kept, symlinks=True, copy_function=linked, dirs_exist_ok=True)
-        left, single = [it for it in edits if None not in it.changed(house)], [it for it in edits if None in it.changed(house)]
-        most = MOST
-        while left:
-            batch = batch_of(house, left)[:most]
-            found = check(crate, merged(batch), names_of(house, batch), kept)
-            verdicts = verdicts_of(house, batch, found)
-            yield from verdicts
-            done = [it.edit for it in verdicts]
-            # A check that says nothing of any edit is made again with half of them, and one edit of which it says nothing is judged alone.
-            if not done and len(batch) == 1:
-                done = batch
-                single += batch
-            most = MOST if done else len(batch) // 2
-            left = [it for it in left if it not in done]
-        for edit in single:
-            yield alone(house, edit, kept)
+    kept = begun(crate)
+    left, single = [it for it in edits if None not in it.changed(house)], [it for it in edits if None in it.changed(house)]
+    most = MOST
+    while left:
+        batch = batch_of(house, left)[:most]
+        found = check(crate, merged(batch), names_of(house, batch), kept)
+        verdicts = verdicts_of(house, batch, found)
+        yield from verdicts
+        done = [it.edit for it in verdicts]
+        # A check that says nothing of any edit is made again with half of them, and one edit of which it says nothing is judged alone.
+        if not done and len(batch) == 1:
+            done = batch
+            single += batch
+        most = MOST if done else len(batch) // 2
+        left = [it for it in left if it not in done]
+    for edit in single:
+        yield alone(house, edit, kept)
 
 
 def verdicts_of(house, batch, found):

@@ -1,6 +1,9 @@
+//go:build !race
+
 package main
 
-// Tests of the memory of the process, which has none of that of its clients.
+// Tests of the memory of the process, which has none of that of its clients. The process is built without the race detector, so that a run
+// with it would only repeat them.
 
 import (
 	"fmt"
@@ -178,11 +181,6 @@ func repeated(size int, make func(at int) string) string {
 		}
 		text.WriteString("," + next)
 	}
-}
-
-// ofSchema gives files to validate with members of a schema, and no policies.
-func ofSchema(members string) string {
-	return `{"policies":"","links":[],"schema":{"":{` + members + `}}}`
 }
 
 // largestRequests are of the listener for requests.

@@ -30,6 +30,8 @@ LOST_NAME = re.compile(r'has no field|is not in scope|has no `|was not admitted'
 HEAD = re.compile(r'(?:unsafe )?impl(<.*?(?<!-)>)? (?:(.*) for )?(.*)')
 PARAMETER = re.compile(r'[<,] *(\w+)(?=[:,>])')
 WORD = re.compile(r"(?<!['\w])\w+(?!\w|::)")
+# The attribute that names the cycle of calls of a function.
+CYCLE = re.compile(r'\s*#\[cycle\((\w+)\)\]')
 # A check judges at most so many edits, so that what it finds is entered before long.
 MOST = 12
 PROVED, FAILED, LOST, WAITS = 'proved', 'failed', 'lost', 'waits'
@@ -66,14 +68,19 @@ class Check:
         goals += [goal[1] for goal in map(GOAL.search, rows) if goal]
         if goals:
             return FAILED, goals[0]
-        errors = [said for folder, said in IN_PROOF.findall(self.said) if is_name_of(folder.replace('/', '::'), function)]
+        errors = [said for folder, said in IN_PROOF.findall(self.said)
+                  if is_name_of(folder.replace('/', '::'), function) or os.path.basename(folder) == '+' + cycle_of(function)]
         if errors and 'not proved' in rows:
             return (LOST, '') if all(map(LOST_NAME.search, errors)) else (FAILED, 'proof')
         return WAITS, ''
 
     def failing(self):
         """The functions whose own proof failed, each with its goal."""
-        return [(name, goal[1]) for name, said in VERDICT.findall(self.said) for goal in [GOAL.search(said)] if goal]
+        errors = {}
+        for folder, said in IN_PROOF.findall(self.said):
+            errors.setdefault(folder.replace('/', '::'), []).append(said)
+        return [(name, goal[1]) for name, said in VERDICT.findall(self.said) for goal in [GOAL.search(said)] if goal] + \
+               [(name, 'proof') for name, said in errors.items() if not all(map(LOST_NAME.search, said))]
 
 
 def path_in(function):
@@ -105,6 +112,15 @@ def name_of(function):
 def is_name_of(name, function):
     """Whether the prover's name is that of a function."""
     return ('::' + name).endswith('::' + name_of(function))
+
+
+def cycle_of(function):
+    """The name of the cycle of calls that a function is in, whose functions have one proof, or its own name."""
+    for line in reversed(function.file.text.split('\n')[:function.line - 1]):
+        found = CYCLE.match(line)
+        if found or not line.strip() or line.endswith(('{', '}')):
+            break
+    return found[1] if found else function.name
 
 
 def names_of(house, edits):
@@ -161,11 +177,11 @@ def merged(edits):
 
 
 def batch_of(house, edits):
-    """The first edits of a list that change different functions, and no text outside of functions."""
+    """The first edits of a list that change different functions, of different cycles of calls, and no text outside of functions."""
     taken, batch = set(), []
     for edit in edits:
         its = edit.changed(house)
-        keys = {(it.file.file, it.label()) for it in its if it}
+        keys = {key for it in its if it for key in ((it.file.file, it.label()), (cycle_of(it),))}
         if None not in its and not keys & taken:
             taken |= keys
             batch.append(edit)

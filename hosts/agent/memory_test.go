@@ -18,6 +18,7 @@ import (
 	"sync/atomic"
 	"syscall"
 	"testing"
+	"time"
 )
 
 // memory gives a size of the process in bytes, of /proc/PID/status: VmRSS is what is resident, and VmHWM the most that was.
@@ -72,7 +73,9 @@ func startedOverMany(t *testing.T, words ...string) (*process, *process) {
 		words = append(words, "--"+name, filepath.Join(folder, name))
 	}
 	admin := filepath.Join(folder, "admin")
-	it := started(t, filepath.Join(folder, "socket"), append(words, "--admin", "unix:"+admin)...)
+	// On a busy machine the largest requests take their time.
+	it := started(t, filepath.Join(folder, "socket"), append(words, "--admin", "unix:"+admin, "--max-time", "10m")...)
+	it.client.Timeout = 10 * time.Minute
 	return it, it.at(admin)
 }
 
@@ -86,6 +89,7 @@ func memberOf(name, group string) string {
 func (p *process) at(socket string) *process {
 	other := *p
 	other.client = clientOf(socket)
+	other.client.Timeout = p.client.Timeout
 	return &other
 }
 

@@ -1,2 +1,3 @@
 -- What only proofs and private contracts use.
+pub mod Down
 pub mod Truths

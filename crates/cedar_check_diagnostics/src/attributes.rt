@@ -1,10 +1,11 @@
 //! Attributes that are not declared, and attributes that may be absent.
-use crate::listing::{push_listed, push_more};
+use crate::listing::{add_more, is_listed};
 use crate::spot::Spot;
 use crate::type_words::entity_of;
 use crate::words::Words;
 use crate::written::{has_opposite, written, written_guard};
 use base_names::Nearest;
+use base_places::Draft;
 use cedar_ast_expressions::{Expr, ExprKind, UnaryOperator};
 use cedar_check_operators::LentType;
 use cedar_schema::{Attribute, RecordType, Schema, Type, TypeKind};
@@ -64,41 +65,62 @@ fn attributes_of<'t>(schema: &'t Schema, ty: &'t LentType<'_>) -> Option<&'t Rec
     }
 }
 
-// What has the attributes: an entity type, or an expression of few words.
-fn owner_of(alloc: Global, operand: &Expr, ty: &LentType<'_>) -> Result<String, AllocError> {
+// Adds what has the attributes: an entity type, or an expression of few words.
+fn add_owner(out: &mut Draft, alloc: Global, operand: &Expr, ty: &LentType<'_>) {
     if let Some(name) = entity_of(ty) {
-        let name = name.as_str();
-        return format!(in alloc; "`{name}`");
+        out.add_all(&["`", name.as_str(), "`"]);
+        return;
     }
-    match written(alloc, operand)? {
-        Some(text) => format!(in alloc; "`{text}`"),
-        None => String::from_str(alloc, "this record"),
+    match written(alloc, operand) {
+        Some(text) => {
+            out.add_char('`');
+            out.add_made(text.done());
+            out.add_char('`');
+        }
+        None => out.add("this record"),
     }
 }
 
 /// What is said of an attribute that is not declared.
-pub(crate) fn absent_words(spot: Spot<'_>) -> Result<Words, AllocError> {
+pub(crate) fn absent_words(spot: Spot<'_>, words: &mut Words) -> Result<(), AllocError> {
+    let ty = spot.part_type(0)?;
+    match (access_of(spot.part), ty) {
+        (Some(access), Some(ty)) => absent_from(spot, words, access, &ty),
+        _ => words.says.add("this attribute is not declared"),
+    }
+    Ok(())
+}
+
+// What is said of an attribute that this type does not declare: the attributes that there are, and the nearest one.
+fn absent_from(spot: Spot<'_>, words: &mut Words, access: Access<'_>, ty: &LentType<'_>) {
     let alloc = spot.alloc();
-    let Some(access) = access_of(spot.part) else {
-        return Words::read(alloc, "this attribute is not declared");
-    };
     let key = access.key.as_str();
-    let Some(ty) = spot.part_type(0)? else {
-        return Words::read(alloc, "this attribute is not declared");
+    add_owner(&mut words.says, alloc, access.operand, ty);
+    words.says.add_all(&[" has no attribute `", key, "`"]);
+    add_owner(&mut words.note, alloc, access.operand, ty);
+    let declared = match attributes_of(spot.checking.schema, ty) {
+        Some(attributes) => attributes.attributes(),
+        None => &[],
     };
-    let owner = owner_of(alloc, access.operand, &ty)?;
-    let says = format!(in alloc; "{owner} has no attribute `{key}`")?;
-    let words = Words::new(alloc, says);
-    match attributes_of(spot.checking.schema, &ty) {
-        Some(attributes) => with_attributes(alloc, words, owner.as_str(), attributes, key),
-        None => with_no_attributes(alloc, words, owner.as_str()),
+    if declared.is_empty() {
+        words.note.add(" has no attributes");
+        return;
+    }
+    words.note.add(" has: ");
+    add_names(&mut words.note, declared);
+    if let Some(meant) = nearest_in(Nearest::new(key), declared) {
+        words.hint_at(meant);
     }
 }
 
-// The words with the note that there are no attributes.
-fn with_no_attributes(alloc: Global, words: Words, owner: &str) -> Result<Words, AllocError> {
-    let note = format!(in alloc; "{owner} has no attributes")?;
-    words.with_note(note)
+// Adds the names of attributes.
+fn add_names(note: &mut Draft, declared: &[Attribute]) {
+    for (position, attribute) in declared.iter().enumerate() {
+        if is_listed(note, position) {
+            note.add(attribute.name.as_str());
+        }
+    }
+    add_more(note, declared.len());
 }
 
 // The name of the attribute that a search finds the nearest one.
@@ -109,30 +131,6 @@ fn nearest_in<'a>(search: Nearest<'_, &'a str>, declared: &'a [Attribute]) -> Op
         nearest = nearest.compare(name, name);
     }
     nearest.name()
-}
-
-// The words with a note of the attributes that there are, and the nearest one as a hint.
-fn with_attributes(
-    alloc: Global,
-    words: Words,
-    owner: &str,
-    attributes: &RecordType,
-    key: &str,
-) -> Result<Words, AllocError> {
-    let declared = attributes.attributes();
-    if declared.is_empty() {
-        return with_no_attributes(alloc, words, owner);
-    }
-    let mut note = format!(in alloc; "{owner} has: ")?;
-    for (position, attribute) in declared.iter().enumerate() {
-        push_listed(&mut note, position, attribute.name.as_str())?;
-    }
-    push_more(&mut note, declared.len())?;
-    let words = words.with_note(note)?;
-    match nearest_in(Nearest::new(key), declared) {
-        Some(meant) => Ok(words.with_hint(Some(format!(in alloc; "is `{meant}` meant?")?))),
-        None => Ok(words),
-    }
 }
 
 // Whether an expression is needed to read a part of it as a Boolean.
@@ -160,31 +158,45 @@ fn whole_of<'a>(spot: Spot<'a>) -> &'a Expr {
 }
 
 /// What is said of an attribute that may be absent, where no `has` guards it.
-pub(crate) fn optional_words(spot: Spot<'_>) -> Result<Words, AllocError> {
+pub(crate) fn optional_words(spot: Spot<'_>, words: &mut Words) {
     let alloc = spot.alloc();
     let Some(access) = access_of(spot.part) else {
-        return Words::read(alloc, "this attribute may be absent");
+        words.says.add("this attribute may be absent");
+        return;
     };
     let key = access.key.as_str();
-    let says = match written(alloc, access.operand)? {
-        Some(operand) => format!(in alloc; "`{operand}` may have no `{key}`")?,
-        None => format!(in alloc; "the attribute `{key}` may be absent")?,
-    };
-    let words = Words::new(alloc, says);
-    match written_guard(alloc, access.operand, key)? {
-        Some(guard) => match written(alloc, whole_of(spot))? {
-            Some(whole) => {
-                let hint = format!(in alloc; "write `{guard} && {whole}`")?;
-                Ok(words.with_hint(Some(hint)))
-            }
-            None => {
-                let hint = format!(in alloc; "guard it with `{guard} && ..`")?;
-                Ok(words.with_hint(Some(hint)))
-            }
-        },
-        None => words.hinting(
-            alloc,
-            "guard it with `has`, for example `x has a && x.a ..`",
-        ),
+    match written(alloc, access.operand) {
+        Some(operand) => {
+            words.says.add_char('`');
+            words.says.add_made(operand.done());
+            words.says.add_all(&["` may have no `", key, "`"]);
+        }
+        None => words
+            .says
+            .add_all(&["the attribute `", key, "` may be absent"]),
+    }
+    match written_guard(alloc, access.operand, key) {
+        Some(guard) => add_guard(&mut words.hint, guard, written(alloc, whole_of(spot))),
+        None => words
+            .hint
+            .add("guard it with `has`, for example `x has a && x.a ..`"),
+    }
+}
+
+// Adds the hint to write this guard, before the Boolean that it guards where that has few words.
+fn add_guard(hint: &mut Draft, guard: Draft, whole: Option<Draft>) {
+    match whole {
+        Some(whole) => {
+            hint.add("write `");
+            hint.add_made(guard.done());
+            hint.add(" && ");
+            hint.add_made(whole.done());
+            hint.add_char('`');
+        }
+        None => {
+            hint.add("guard it with `");
+            hint.add_made(guard.done());
+            hint.add(" && ..`");
+        }
     }
 }

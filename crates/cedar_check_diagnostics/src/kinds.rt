@@ -1,37 +1,49 @@
 //! Operands of another kind than their operator takes.
 use crate::spot::Spot;
-use crate::type_words::{Kind, kind_of, type_words};
+use crate::type_words::{Kind, add_type, kind_of};
 use crate::words::Words;
 use cedar_ast_expressions::{BinaryOperator, Expr, ExprKind, UnaryOperator};
 use cedar_check_operators::LentType;
-use std::alloc::{AllocError, Global};
+use std::alloc::AllocError;
 
 /// What is said of operands of another kind than their operator takes.
-pub(crate) fn operand_words(spot: Spot<'_>) -> Result<Words, AllocError> {
+pub(crate) fn operand_words(spot: Spot<'_>, words: &mut Words) -> Result<(), AllocError> {
     match spot.part.kind() {
         ExprKind::And(_, _) => {
-            let says = if spot.is_joint() {
+            words.says.add(if spot.is_joint() {
                 "`when` and `&&` take Booleans"
             } else {
                 "`&&` takes two Booleans"
-            };
-            of_booleans(spot, says)
+            });
+            of_booleans(spot, words)
         }
-        ExprKind::Or(_, _) => of_booleans(spot, "`||` takes two Booleans"),
-        ExprKind::If(_, _, _) => of_one(spot, "`if` takes a Boolean"),
-        ExprKind::Unary(operator, _) => of_one(spot, taken_by_one(spot, operator)),
-        ExprKind::Binary(operator, _, _) => of_two(spot, *operator),
-        _ => Words::read(spot.alloc(), "this has no type"),
+        ExprKind::Or(_, _) => {
+            words.says.add("`||` takes two Booleans");
+            of_booleans(spot, words)
+        }
+        ExprKind::If(_, _, _) => {
+            words.says.add("`if` takes a Boolean");
+            of_one(spot, words)
+        }
+        ExprKind::Unary(operator, _) => {
+            words.says.add(taken_by_one(spot, operator));
+            of_one(spot, words)
+        }
+        ExprKind::Binary(operator, _, _) => {
+            words.says.add(taken_by_two(spot, *operator));
+            of_two(spot, words, *operator)
+        }
+        _ => {
+            words.says.add("this has no type");
+            Ok(())
+        }
     }
 }
 
 /// What is said of a condition that has a type, which is not Boolean.
-pub(crate) fn other_condition(alloc: Global, ty: &LentType<'_>) -> Result<Words, AllocError> {
-    let found = type_words(alloc, ty)?;
-    Ok(Words::new(
-        alloc,
-        format!(in alloc; "a condition is a Boolean, and this is {found}")?,
-    ))
+pub(crate) fn other_condition(words: &mut Words, ty: &LentType<'_>) {
+    words.says.add("a condition is a Boolean, and this is ");
+    add_type(&mut words.says, ty);
 }
 
 // What an operator on one operand takes.
@@ -88,46 +100,34 @@ fn taken_by_two(spot: Spot<'_>, operator: BinaryOperator) -> &'static str {
     }
 }
 
-// The words of `&&` or `||` with the first operand that is not a Boolean.
-fn of_booleans(spot: Spot<'_>, says: &str) -> Result<Words, AllocError> {
-    let mut words = Words::read(spot.alloc(), says)?;
+// Adds the first operand of `&&` or `||` that is not a Boolean.
+fn of_booleans(spot: Spot<'_>, words: &mut Words) -> Result<(), AllocError> {
     for number in 0..2usize {
         if let Some(ty) = spot.part_type(number)? {
             if kind_of(&ty) != Kind::Boolean {
-                spot.push_operand(&mut words.operands, number, &ty)?;
-                return Ok(words);
+                return spot.add_operand(words, number, &ty);
             }
         }
     }
-    Ok(words)
+    Ok(())
 }
 
-// The words of an operator on one operand, or of `if`, with the operand.
-fn of_one(spot: Spot<'_>, says: &str) -> Result<Words, AllocError> {
-    let mut words = Words::read(spot.alloc(), says)?;
-    if let Some(ty) = spot.part_type(0)? {
-        spot.push_operand(&mut words.operands, 0, &ty)?;
+// Adds the operand of an operator on one operand, or the condition of `if`.
+fn of_one(spot: Spot<'_>, words: &mut Words) -> Result<(), AllocError> {
+    match spot.part_type(0)? {
+        Some(ty) => spot.add_operand(words, 0, &ty),
+        None => Ok(()),
     }
-    Ok(words)
 }
 
-// The words of an operator on two operands, with both.
-fn of_two(spot: Spot<'_>, operator: BinaryOperator) -> Result<Words, AllocError> {
-    let alloc = spot.alloc();
-    let words = Words::read(alloc, taken_by_two(spot, operator))?;
-    let Some(left) = spot.part_type(0)? else {
-        return Ok(words);
-    };
-    let Some(right) = spot.part_type(1)? else {
-        return Ok(words);
-    };
-    let mut words = words;
-    spot.push_operand(&mut words.operands, 0, &left)?;
-    spot.push_operand(&mut words.operands, 1, &right)?;
-    match advice_of(operator, kind_of(&left), kind_of(&right)) {
-        Some(hint) => words.hinting(alloc, hint),
-        None => Ok(words),
+// Adds the operands of an operator on two, and what to do about their kinds.
+fn of_two(spot: Spot<'_>, words: &mut Words, operator: BinaryOperator) -> Result<(), AllocError> {
+    if let Some((left, right)) = spot.add_operands(words, 0, 1)? {
+        if let Some(advice) = advice_of(operator, kind_of(&left), kind_of(&right)) {
+            words.hint.add(advice);
+        }
     }
+    Ok(())
 }
 
 // What to do about operands of these kinds, where one thing is likely.

@@ -16,8 +16,8 @@
 #![tactic(auto)]
 
 mod attributes;
+mod before;
 mod checking;
-mod found;
 mod joins;
 mod kinds;
 mod listing;
@@ -25,12 +25,12 @@ mod literals;
 mod looking;
 mod parts;
 mod refusal;
-mod search;
 mod smallest;
 mod spot;
 mod type_words;
 mod undeclared;
 mod walk;
+mod way;
 mod words;
 mod written;
 

@@ -1,30 +1,22 @@
 //! Lists of names.
-use std::alloc::AllocError;
-use std::fmt::Write;
+use base_places::Draft;
 
 /// How many names of a list are written.
 const MOST_LISTED: usize = 12;
 
-/// Appends the name at a position, from 0, with a comma before it where it is not the first; nothing after the twelfth.
-pub(crate) fn push_listed(
-    says: &mut String,
-    position: usize,
-    name: &str,
-) -> Result<(), AllocError> {
-    if position >= MOST_LISTED {
-        return Ok(());
+/// Whether the name at a position, from 0, is written: at most twelve are. The comma before it is added, where it is not the first.
+pub(crate) fn is_listed(says: &mut Draft, position: usize) -> bool {
+    if position > 0 && position < MOST_LISTED {
+        says.add(", ");
     }
-    if position > 0 {
-        says.push_str(", ")?;
-    }
-    says.push_str(name)
+    position < MOST_LISTED
 }
 
-/// Appends how many of this many names are not written.
-pub(crate) fn push_more(says: &mut String, count: usize) -> Result<(), AllocError> {
-    if count <= MOST_LISTED {
-        return Ok(());
+/// Adds how many of this many names are not written.
+pub(crate) fn add_more(says: &mut Draft, count: usize) {
+    if count > MOST_LISTED {
+        says.add(" and ");
+        says.add_display(count.saturating_sub(MOST_LISTED));
+        says.add(" more");
     }
-    let more = count.saturating_sub(MOST_LISTED);
-    write!(says, " and {more} more")
 }

@@ -11,17 +11,21 @@ use std::alloc::AllocError;
 const FORM: &str = "write digits, a point and one to four digits, for example `decimal(\"1.5\")`";
 
 /// What is said of an empty set.
-pub(crate) fn empty_words(spot: Spot<'_>) -> Result<Words, AllocError> {
-    let alloc = spot.alloc();
-    let words = Words::read(alloc, "this set is empty")?;
+pub(crate) fn empty_words(spot: Spot<'_>, words: &mut Words) {
+    words.says.add("this set is empty");
     if let Some(other) = compared_with(spot) {
-        if let Some(text) = written(alloc, other)? {
-            let sign = if is_denied(spot) { "!" } else { "" };
-            let hint = format!(in alloc; "write `{sign}{text}.isEmpty()`")?;
-            return Ok(words.with_hint(Some(hint)));
+        if let Some(text) = written(spot.alloc(), other) {
+            words.hint.add(if is_denied(spot) {
+                "write `!"
+            } else {
+                "write `"
+            });
+            words.hint.add_made(text.done());
+            words.hint.add(".isEmpty()`");
+            return;
         }
     }
-    words.hinting(alloc, "`x.isEmpty()` tests whether a set is empty")
+    words.hint.add("`x.isEmpty()` tests whether a set is empty");
 }
 
 // What the part is compared with by `==`, where that is an attribute.
@@ -70,20 +74,18 @@ fn is_denied(spot: Spot<'_>) -> bool {
 }
 
 /// What is said of the operand of `decimal`.
-pub(crate) fn decimal_words(spot: Spot<'_>) -> Result<Words, AllocError> {
-    let alloc = spot.alloc();
-    match operand_of(spot.part) {
-        Some(value) => of_literal(spot, value),
-        None => {
-            let words = Words::read(alloc, "`decimal` takes a string literal")?;
-            let hint = if is_string(spot)? {
-                "the option `--any-decimal` allows any String"
-            } else {
-                FORM
-            };
-            words.hinting(alloc, hint)
-        }
+pub(crate) fn decimal_words(spot: Spot<'_>, words: &mut Words) -> Result<(), AllocError> {
+    if let Some(value) = operand_of(spot.part) {
+        of_literal(words, value);
+        return Ok(());
     }
+    words.says.add("`decimal` takes a string literal");
+    words.hint.add(if is_string(spot)? {
+        "the option `--any-decimal` allows any String"
+    } else {
+        FORM
+    });
+    Ok(())
 }
 
 // Whether the operand is a string.
@@ -116,18 +118,17 @@ fn are_digits(text: &str) -> bool {
 }
 
 // What is said of `decimal` of a literal.
-fn of_literal(spot: Spot<'_>, value: &Value) -> Result<Words, AllocError> {
-    let alloc = spot.alloc();
-    match value.kind() {
-        ValueKind::String(content) => {
-            let text = content.as_str();
-            let words = Words::read(alloc, "this string is not a decimal")?;
-            if are_digits(text) && text.len() < 16 {
-                let hint = format!(in alloc; "write `decimal(\"{text}.0\")`")?;
-                return Ok(words.with_hint(Some(hint)));
-            }
-            words.hinting(alloc, FORM)
-        }
-        _ => Words::read(alloc, "`decimal` takes a string literal")?.hinting(alloc, FORM),
+fn of_literal(words: &mut Words, value: &Value) {
+    let ValueKind::String(content) = value.kind() else {
+        words.says.add("`decimal` takes a string literal");
+        words.hint.add(FORM);
+        return;
+    };
+    let text = content.as_str();
+    words.says.add("this string is not a decimal");
+    if are_digits(text) && text.len() < 16 {
+        words.hint.add_all(&["write `decimal(\"", text, ".0\")`"]);
+    } else {
+        words.hint.add(FORM);
     }
 }

@@ -90,8 +90,8 @@ fn may_look_into(settings: Settings, expression: &Expr) -> bool
     }
 }
 
-// Whether the checker may look at the part of this number, as far as its guard does not say.
-fn may_look_at<'a>(
+/// Whether the checker may look at the part of this number, as far as its guard does not say.
+pub(crate) fn may_look_at<'a>(
     checking: Checking<'a>,
     held: &[Capability<'a>],
     expression: &'a Expr,
@@ -108,8 +108,8 @@ fn may_look_at<'a>(
     }
 }
 
-// The part of this number, where the checker looks at it and it has no type.
-fn untyped_of<'a>(
+/// The part of this number, where the checker looks at it and it has no type.
+pub(crate) fn untyped_of<'a>(
     checking: Checking<'a>,
     held: &[Capability<'a>],
     expression: &'a Expr,

@@ -1,18 +1,15 @@
 //! The part of a condition that has no type.
 ghost use Rattle.std.specs.Prelude.{◌≡◌, IfNone, IfOk, IfSome, [], None};
 ghost use Rattle.cedar_check.specs.Typings.{IsTypingOf};
-ghost use Rattle.cedar_check_operators.specs.View.{held_view};
-ghost use Rattle.cedar_check_diagnostics.specs.Paths.{LeadsTo};
 ghost use Rattle.cedar_check_diagnostics.specs.Refusals.{IsCondition, IsRefusedAt, IsUntypedAt};
 
 use crate::checking::Checking;
 use crate::kinds::other_condition;
 use crate::parts::around;
-use crate::search::untyped_path;
-use crate::smallest::smallest;
+use crate::smallest::{Untyped, smallest};
 use crate::spot::Spot;
-use crate::walk::{Untyped, untyped_at};
-use crate::words::{Words, words_of};
+use crate::words::{Words, add_words};
+use base_places::Draft;
 use cedar_ast_expressions::Expr;
 use cedar_check_operators::{TypeFault, Typing};
 use cedar_check_spec::Settings;
@@ -48,8 +45,8 @@ pub struct Operand {
 
 /// Why a condition has no type in an environment, or is not a Boolean there; none where it is accepted. `condition` is the whole
 /// condition of a policy, with the environment's action in place of the variable (`Expr::with_action`). The part is the first one
-/// in the order in which the checker looks at parts, and each of its own parts that the checker looks at has a type. It takes about the
-/// time of three more typings.
+/// in the order in which the checker looks at parts, and each of its own parts that the checker looks at has a type. It takes about
+/// the time of a dozen typings.
 ///
 /// # Errors
 ///
@@ -79,32 +76,56 @@ pub fn refused_part<'a>(
         Typing::Typed(x) => match x.ty.truth() {
             Some(_) => Ok(None),
             None => {
-                let words = other_condition(alloc, &x.ty)?;
-                let found = with_words(Vec::new(alloc), TypeFault::OperandKind.number(), words);
+                let mut words = Words::new(alloc);
+                other_condition(&mut words, &x.ty);
+                let found = with_words(
+                    alloc,
+                    Vec::new(alloc),
+                    TypeFault::OperandKind.number(),
+                    words,
+                )?;
                 Ok(Some(found))
             }
         },
     }
 }
 
+// What a draft has, or none where nothing was added.
+fn if_any(draft: Draft) -> Result<Option<String>, AllocError> {
+    let text = draft.done()?;
+    if text.is_empty() {
+        return Ok(None);
+    }
+    Ok(Some(text))
+}
+
 // The part of a path and a number with its words.
-fn with_words(path: Vec<usize>, number: u16, words: Words) -> RefusedPart
-    ensures { result.path.items ≡ path.items }
+fn with_words(
+    alloc: Global,
+    path: Vec<usize>,
+    number: u16,
+    words: Words,
+) -> Result<RefusedPart, AllocError>
+    ensures { IfOk result (λ r. r.path.items ≡ path.items) }
 {
     let Words {
         says,
         operands,
-        notes,
+        note,
         hint,
     } = words;
-    RefusedPart {
+    let mut notes = Vec::new(alloc);
+    if let Some(note) = if_any(note)? {
+        notes.push(note)?;
+    }
+    Ok(RefusedPart {
         path,
         number,
-        says,
+        says: says.done()?,
         operands,
         notes,
-        hint,
-    }
+        hint: if_any(hint)?,
+    })
 }
 
 // A part that has no type, with its words.
@@ -129,32 +150,9 @@ fn explained<'a>(
         above: &above,
         path: &path,
     };
-    let words = words_of(spot, fault)?;
-    Ok(with_words(path, fault.number(), words))
-}
-
-// A part of a condition that has no type, where the condition has none for this reason: the one that the search finds, or the whole
-// condition.
-fn found_part<'a>(
-    checking: Checking<'a>,
-    condition: &'a Expr,
-    fault: TypeFault,
-) -> Result<Untyped<'a>, AllocError>
-    requires { IsTypingOf checking.settings checking.schema.now checking.environment.now [] condition.now None }
-    ensures leads { IfOk result (λ u. LeadsTo checking.entry.settings checking.entry.schema.now checking.entry.environment.now [] condition.now u.path.items (held_view u.held.items) u.part.now) }
-    ensures untyped { IfOk result (λ u. IsTypingOf checking.entry.settings checking.entry.schema.now checking.entry.environment.now (held_view u.held.items) u.part.now None) }
-{
-    let path = untyped_path(checking, condition)?;
-    let found = untyped_at(checking, condition, path)?;
-    match found {
-        Some(untyped) => Ok(untyped),
-        None => Ok(Untyped {
-            path: Vec::new(checking.alloc),
-            held: Vec::new(checking.alloc),
-            part: condition,
-            fault,
-        }),
-    }
+    let mut words = Words::new(checking.alloc);
+    add_words(spot, &mut words, fault)?;
+    with_words(checking.alloc, path, fault.number(), words)
 }
 
 // The smallest part of a condition that has no type, where the condition has none for this reason.
@@ -166,7 +164,6 @@ fn untyped_part<'a>(
     requires { IsTypingOf checking.settings checking.schema.now checking.environment.now [] condition.now None }
     ensures { IfOk result (λ r. IsUntypedAt checking.entry.settings checking.entry.schema.now checking.entry.environment.now condition.now r.path.items) }
 {
-    let found = found_part(checking, condition, fault)?;
-    let untyped = smallest(checking, found)?;
+    let untyped = smallest(checking, condition, fault)?;
     explained(checking, condition, untyped)
 }

@@ -1,8 +1,10 @@
 //! Where a condition has no type.
 use crate::checking::Checking;
 use crate::refusal::Operand;
-use crate::type_words::type_words;
+use crate::type_words::add_type;
 use crate::walk::step_to;
+use crate::words::Words;
+use base_places::Draft;
 use cedar_ast_expressions::Expr;
 use cedar_check_operators::{Capability, LentType, Typing, extended};
 use std::alloc::{AllocError, Global};
@@ -55,20 +57,37 @@ impl<'a> Spot<'a> {
         }
     }
 
-    /// Appends a part of the part, with its type in words.
-    pub(crate) fn push_operand(
+    /// Adds a part of the part to the operands, with its type in words.
+    pub(crate) fn add_operand(
         self,
-        operands: &mut Vec<Operand>,
+        words: &mut Words,
         number: usize,
         ty: &LentType<'_>,
     ) -> Result<(), AllocError> {
-        let mut path = Vec::new(self.checking.alloc);
-        for step in self.path {
-            path.push(*step)?;
-        }
+        let mut path = Vec::from_slice(self.checking.alloc, self.path)?;
         path.push(number)?;
-        let says = type_words(self.checking.alloc, ty)?;
-        operands.push(Operand { path, says })?;
+        let mut says = Draft::new(self.checking.alloc);
+        add_type(&mut says, ty);
+        let says = says.done()?;
+        words.operands.push(Operand { path, says })?;
         Ok(())
+    }
+
+    /// Adds two parts of the part to the operands, with their types in words. Returns the types, or none where one of them has none.
+    pub(crate) fn add_operands(
+        self,
+        words: &mut Words,
+        one: usize,
+        two: usize,
+    ) -> Result<Option<(LentType<'a>, LentType<'a>)>, AllocError> {
+        let Some(left) = self.part_type(one)? else {
+            return Ok(None);
+        };
+        let Some(right) = self.part_type(two)? else {
+            return Ok(None);
+        };
+        self.add_operand(words, one, &left)?;
+        self.add_operand(words, two, &right)?;
+        Ok(Some((left, right)))
     }
 }

@@ -1,8 +1,8 @@
 //! Types in words.
+use base_places::Draft;
 use cedar_check_operators::LentType;
 use cedar_schema::{Type, TypeKind};
 use cedar_value::Name;
-use std::alloc::{AllocError, Global};
 
 // How deep the types of sets of sets are named.
 const MOST_NESTED: usize = 4;
@@ -15,64 +15,59 @@ fn member_of(ty: &Type) -> Option<&Type> {
     }
 }
 
-// Appends words, and a name between backquotes.
-fn push_named(says: &mut String, words: &str, name: &Name) -> Result<(), AllocError> {
-    says.push_str(words)?;
-    says.push('`')?;
-    says.push_str(name.as_str())?;
-    says.push('`')
+// Adds words, and a name between backquotes.
+fn add_named(says: &mut Draft, words: &str, name: &Name) {
+    says.add_all(&[words, "`", name.as_str(), "`"]);
 }
 
-// Appends the name of the values of a type, for example `Longs`.
-fn push_many(says: &mut String, ty: &Type) -> Result<(), AllocError> {
+// Adds the name of the values of a type, for example `Longs`.
+fn add_many(says: &mut Draft, ty: &Type) {
     let mut inner = ty;
     for _ in 0..MOST_NESTED {
         let Some(member) = member_of(inner) else {
             break;
         };
-        says.push_str("sets of ")?;
+        says.add("sets of ");
         inner = member;
     }
     match inner.kind() {
-        TypeKind::Boolean(_) => says.push_str("Booleans"),
-        TypeKind::Long => says.push_str("Longs"),
-        TypeKind::String => says.push_str("Strings"),
-        TypeKind::Decimal => says.push_str("decimals"),
-        TypeKind::Entity(name) => push_named(says, "entities of type ", name),
-        TypeKind::Set(_) => says.push_str("sets"),
-        TypeKind::Record(_) => says.push_str("records"),
+        TypeKind::Boolean(_) => says.add("Booleans"),
+        TypeKind::Long => says.add("Longs"),
+        TypeKind::String => says.add("Strings"),
+        TypeKind::Decimal => says.add("decimals"),
+        TypeKind::Entity(name) => add_named(says, "entities of type ", name),
+        TypeKind::Set(_) => says.add("sets"),
+        TypeKind::Record(_) => says.add("records"),
     }
 }
 
-// Appends the name of one value of a type, for example `a Long`.
-fn push_one(says: &mut String, ty: &Type) -> Result<(), AllocError> {
+// Adds the name of one value of a type, for example `a Long`.
+fn add_one(says: &mut Draft, ty: &Type) {
     match ty.kind() {
-        TypeKind::Boolean(_) => says.push_str("a Boolean"),
-        TypeKind::Long => says.push_str("a Long"),
-        TypeKind::String => says.push_str("a String"),
-        TypeKind::Decimal => says.push_str("a decimal"),
-        TypeKind::Entity(name) => push_named(says, "an entity of type ", name),
+        TypeKind::Boolean(_) => says.add("a Boolean"),
+        TypeKind::Long => says.add("a Long"),
+        TypeKind::String => says.add("a String"),
+        TypeKind::Decimal => says.add("a decimal"),
+        TypeKind::Entity(name) => add_named(says, "an entity of type ", name),
         TypeKind::Set(member) => {
-            says.push_str("a set of ")?;
-            push_many(says, member)
+            says.add("a set of ");
+            add_many(says, member);
         }
-        TypeKind::Record(_) => says.push_str("a record"),
+        TypeKind::Record(_) => says.add("a record"),
     }
 }
 
-/// A type in words, as one value of it: for example `a Long`, or `a set of Strings`.
-pub(crate) fn type_words(alloc: Global, ty: &LentType<'_>) -> Result<String, AllocError> {
-    let mut says = String::new(alloc);
+/// Adds a type in words, as one value of it: for example `a Long`, or `a set of Strings`.
+pub(crate) fn add_type(says: &mut Draft, ty: &LentType<'_>) {
     match ty {
-        LentType::Boolean(_) => says.push_str("a Boolean")?,
-        LentType::Long => says.push_str("a Long")?,
-        LentType::String => says.push_str("a String")?,
-        LentType::Decimal => says.push_str("a decimal")?,
-        LentType::Entity(name) => push_named(&mut says, "an entity of type ", name)?,
-        LentType::Lent(ty) => push_one(&mut says, ty)?,
-        LentType::Made(ty) => push_one(&mut says, ty)?,
+        LentType::Boolean(_) => says.add("a Boolean"),
+        LentType::Long => says.add("a Long"),
+        LentType::String => says.add("a String"),
+        LentType::Decimal => says.add("a decimal"),
+        LentType::Entity(name) => add_named(says, "an entity of type ", name),
+        LentType::Lent(ty) => add_one(says, ty),
+        LentType::Made(ty) => add_one(says, ty),
     }
-    Ok(says)
 }
 
 /// What the words of an operator need to know of a type.

@@ -1,8 +1,8 @@
 //! Entity types and actions that are not declared.
-use crate::listing::{push_listed, push_more};
+use crate::listing::{add_more, is_listed};
 use crate::spot::Spot;
 use crate::words::Words;
-use crate::written::uid_words;
+use crate::written::add_uid;
 use base_names::Nearest;
 use cedar_ast_expressions::{ExprKind, UnaryOperator};
 use cedar_schema::Schema;
@@ -11,26 +11,31 @@ use std::alloc::{AllocError, Global};
 use std::collections::BTreeSet;
 
 /// What is said of an entity type or an action that the schema does not declare.
-pub(crate) fn undeclared_words(spot: Spot<'_>) -> Result<Words, AllocError> {
+pub(crate) fn undeclared_words(spot: Spot<'_>, words: &mut Words) -> Result<(), AllocError> {
     match spot.part.kind() {
-        ExprKind::Literal(value) => match value.kind() {
-            ValueKind::Uid(uid) => words_of_uid(spot, uid),
-            _ => Words::read(spot.alloc(), "this is not declared"),
-        },
-        ExprKind::Unary(operator, _) => match operator {
-            UnaryOperator::Is(name) => words_of_type(spot, name),
-            _ => Words::read(spot.alloc(), "this is not declared"),
-        },
-        _ => Words::read(spot.alloc(), "this is not declared"),
+        ExprKind::Literal(value) => {
+            if let ValueKind::Uid(uid) = value.kind() {
+                return words_of_uid(spot, words, uid);
+            }
+        }
+        ExprKind::Unary(operator, _) => {
+            if let UnaryOperator::Is(name) = operator {
+                return words_of_type(spot, words, name);
+            }
+        }
+        _ => {}
     }
+    words.says.add("this is not declared");
+    Ok(())
 }
 
 // What is said of a uid.
-fn words_of_uid(spot: Spot<'_>, uid: &Uid) -> Result<Words, AllocError> {
+fn words_of_uid(spot: Spot<'_>, words: &mut Words, uid: &Uid) -> Result<(), AllocError> {
     if spot.checking.schema.has_action_type(&uid.ty) || last_of(uid.ty.as_str()) == "Action" {
-        words_of_action(spot, uid)
+        words_of_action(spot, words, uid);
+        Ok(())
     } else {
-        words_of_type(spot, &uid.ty)
+        words_of_type(spot, words, &uid.ty)
     }
 }
 
@@ -43,27 +48,30 @@ fn last_of(name: &str) -> &str {
 }
 
 // What is said of an entity type.
-fn words_of_type(spot: Spot<'_>, name: &Name) -> Result<Words, AllocError> {
-    let alloc = spot.alloc();
+fn words_of_type(spot: Spot<'_>, words: &mut Words, name: &Name) -> Result<(), AllocError> {
     let wanted = name.as_str();
-    let says = format!(in alloc; "there is no entity type `{wanted}`")?;
-    let types = types_of_actions(alloc, spot.checking.schema)?;
-    let mut note = String::from_str(alloc, "declared types include: ")?;
+    words
+        .says
+        .add_all(&["there is no entity type `", wanted, "`"]);
+    let types = types_of_actions(spot.alloc(), spot.checking.schema)?;
+    if !types.is_empty() {
+        words.note.add("declared types include: ");
+    }
     let mut nearest = Nearest::new(last_of(wanted));
     for (position, declared) in types.iter().enumerate() {
-        push_listed(&mut note, position, *declared)?;
+        if is_listed(&mut words.note, position) {
+            words.note.add(*declared);
+        }
         nearest = nearest.compare(last_of(*declared), *declared);
     }
-    push_more(&mut note, types.len())?;
-    let hint = match nearest.name() {
-        Some(meant) => Some(format!(in alloc; "is `{meant}` meant?")?),
-        None => in_namespace(spot, last_of(wanted))?,
-    };
-    let words = Words::new(alloc, says).with_hint(hint);
-    if types.is_empty() {
-        return Ok(words);
+    add_more(&mut words.note, types.len());
+    match nearest.name() {
+        Some(meant) => {
+            words.hint_at(meant);
+            Ok(())
+        }
+        None => hint_in_namespace(spot, words, last_of(wanted)),
     }
-    words.with_note(note)
 }
 
 // The types that actions apply to, ascending.
@@ -83,44 +91,41 @@ fn types_of_actions<'a>(
     Ok(types)
 }
 
-// The hint that the type is one of the principal's namespace, where that type is declared.
-fn in_namespace(spot: Spot<'_>, last: &str) -> Result<Option<String>, AllocError> {
+// Hints at the type of the principal's namespace, where that type is declared.
+fn hint_in_namespace(spot: Spot<'_>, words: &mut Words, last: &str) -> Result<(), AllocError> {
     let alloc = spot.alloc();
     let principal = spot.checking.environment.principal.as_str();
     let Some((namespace, _)) = principal.rsplit_once("::") else {
-        return Ok(None);
+        return Ok(());
     };
     let meant = format!(in alloc; "{namespace}::{last}")?;
-    let Some(name) = Name::read(alloc, meant.as_str())? else {
-        return Ok(None);
-    };
-    if spot.checking.schema.attributes(&name).is_none() {
-        return Ok(None);
+    if let Some(name) = Name::read(alloc, meant.as_str())? {
+        if spot.checking.schema.attributes(&name).is_some() {
+            words.hint_at(meant.as_str());
+        }
     }
-    Ok(Some(format!(in alloc; "is `{meant}` meant?")?))
+    Ok(())
 }
 
 // What is said of an action.
-fn words_of_action(spot: Spot<'_>, uid: &Uid) -> Result<Words, AllocError> {
-    let alloc = spot.alloc();
-    let wanted = uid_words(alloc, uid)?;
-    let says = format!(in alloc; "there is no action `{wanted}`")?;
-    let mut note = String::from_str(alloc, "declared actions: ")?;
+fn words_of_action(spot: Spot<'_>, words: &mut Words, uid: &Uid) {
+    words.says.add("there is no action `");
+    add_uid(&mut words.says, uid);
+    words.says.add_char('`');
+    words.note.add("declared actions: ");
     let mut nearest = Nearest::new(uid.id.as_str());
     let mut count = 0usize;
     for (declared, _) in spot.checking.schema.actions() {
-        let name = uid_words(alloc, declared)?;
-        push_listed(&mut note, count, name.as_str())?;
+        if is_listed(&mut words.note, count) {
+            add_uid(&mut words.note, declared);
+        }
         count = count.saturating_add(1);
         nearest = nearest.compare(declared.id.as_str(), declared);
     }
-    push_more(&mut note, count)?;
-    let words = Words::new(alloc, says).with_note(note)?;
-    match nearest.name() {
-        Some(meant) => {
-            let meant = uid_words(alloc, meant)?;
-            Ok(words.with_hint(Some(format!(in alloc; "is `{meant}` meant?")?)))
-        }
-        None => Ok(words),
+    add_more(&mut words.note, count);
+    if let Some(meant) = nearest.name() {
+        words.hint.add("is `");
+        add_uid(&mut words.hint, meant);
+        words.hint.add("` meant?");
     }
 }

@@ -1,16 +1,15 @@
-//! The walk from a condition to one of its parts, with what is held on the way.
-ghost use Rattle.std.specs.Prelude.{◌≡◌, IfNone, IfOk, IfSome, [], None};
+//! The step from an expression to one of its parts, with what is gained before it.
+ghost use Rattle.std.specs.Prelude.{◌≡◌, IfNone, IfOk, IfSome};
 ghost use Rattle.cedar_ast_expressions.specs.Expression.{Expression};
-ghost use Rattle.cedar_check.specs.Typings.{IsTypingOf};
 ghost use Rattle.cedar_check_spec.specs.Capabilities.{Capabilities};
 ghost use Rattle.cedar_check_operators.specs.View.{held_view};
-ghost use Rattle.cedar_check_diagnostics.specs.Paths.{Gains, IsStep, LeadsTo};
+ghost use Rattle.cedar_check_diagnostics.specs.Paths.{Gains, IsStep};
 ghost use Rattle.cedar_check_diagnostics.specs.Private.Truths.{may_hold};
 
 use crate::checking::Checking;
 use crate::parts::{guard_of, part_of};
 use cedar_ast_expressions::Expr;
-use cedar_check_operators::{Capability, TypeFault, Typing, together};
+use cedar_check_operators::{Capability, Typing};
 use cedar_schema::Truth;
 use std::alloc::AllocError;
 
@@ -21,26 +20,6 @@ pub(crate) struct Step<'a> {
     pub(crate) gained: Vec<Capability<'a>>,
     /// The part.
     pub(crate) part: &'a Expr,
-}
-
-// A part of a condition, and what is held there.
-#[derive(Drop)]
-struct Reached<'a> {
-    held: Vec<Capability<'a>>,
-    part: &'a Expr,
-}
-
-/// A part of a condition that has no type.
-#[derive(Drop)]
-pub(crate) struct Untyped<'a> {
-    /// From the condition to the part, the number of the child at each step.
-    pub(crate) path: Vec<usize>,
-    /// What is held at the part.
-    pub(crate) held: Vec<Capability<'a>>,
-    /// The part.
-    pub(crate) part: &'a Expr,
-    /// Why it has no type.
-    pub(crate) fault: TypeFault,
 }
 
 // Whether it is a Boolean that is not known to be false.
@@ -101,53 +80,5 @@ pub(crate) fn step_to<'a>(
     match gains {
         Some(gained) => Ok(Some(Step { gained, part })),
         None => Ok(None),
-    }
-}
-
-// The part to which a path leads, and what is held there; none where it leads to no part.
-fn reach<'a>(
-    checking: Checking<'a>,
-    condition: &'a Expr,
-    path: &[usize],
-) -> Result<Option<Reached<'a>>, AllocError>
-    ensures { IfOk result (λ o. IfSome o (λ r. LeadsTo checking.entry.settings checking.entry.schema.now checking.entry.environment.now [] condition.now path.now (held_view r.held.items) r.part.now)) }
-{
-    let mut held = Vec::new(checking.alloc);
-    let mut part = condition;
-    let mut rest = path;
-    'walk: while let Some((number, others)) = rest.split_first() {
-        let Some(next) = step_to(checking, &held, part, *number)? else {
-            return Ok(None);
-        };
-        held = together(held, next.gained)?;
-        part = next.part;
-        rest = others;
-    }
-    Ok(Some(Reached { held, part }))
-}
-
-/// The part to which a path leads, where it has no type; none where it has one, or where the path leads to no part.
-pub(crate) fn untyped_at<'a>(
-    checking: Checking<'a>,
-    condition: &'a Expr,
-    path: Vec<usize>,
-) -> Result<Option<Untyped<'a>>, AllocError>
-    ensures leads { IfOk result (λ o. IfSome o (λ u. LeadsTo checking.entry.settings checking.entry.schema.now checking.entry.environment.now [] condition.now u.path.items (held_view u.held.items) u.part.now)) }
-    ensures untyped { IfOk result (λ o. IfSome o (λ u. IsTypingOf checking.entry.settings checking.entry.schema.now checking.entry.environment.now (held_view u.held.items) u.part.now None)) }
-{
-    let found = reach(checking, condition, &path)?;
-    let Some(reached) = found else {
-        return Ok(None);
-    };
-    let Reached { held, part } = reached;
-    let typing = checking.typing(&held, part)?;
-    match typing {
-        Typing::Typed(_) => Ok(None),
-        Typing::Refused(fault) => Ok(Some(Untyped {
-            path,
-            held,
-            part,
-            fault,
-        })),
     }
 }

@@ -6,6 +6,7 @@ use crate::literals::{decimal_words, empty_words};
 use crate::refusal::Operand;
 use crate::spot::Spot;
 use crate::undeclared::undeclared_words;
+use base_places::Draft;
 use cedar_check_operators::TypeFault;
 use std::alloc::{AllocError, Global};
 
@@ -13,60 +14,51 @@ use std::alloc::{AllocError, Global};
 #[derive(Drop)]
 pub(crate) struct Words {
     /// What the mark under the part's name says.
-    pub(crate) says: String,
+    pub(crate) says: Draft,
     /// The operands, with their types.
     pub(crate) operands: Vec<Operand>,
-    /// What helps to see why.
-    pub(crate) notes: Vec<String>,
-    /// What to do.
-    pub(crate) hint: Option<String>,
+    /// What helps to see why. Empty where nothing does.
+    pub(crate) note: Draft,
+    /// What to do. Empty where nothing is likely.
+    pub(crate) hint: Draft,
 }
 
 impl Words {
-    /// These words for the mark, and nothing else yet.
-    pub(crate) fn new(alloc: Global, says: String) -> Words {
+    /// No words yet.
+    pub(crate) fn new(alloc: Global) -> Words {
         Words {
-            says,
+            says: Draft::new(alloc),
             operands: Vec::new(alloc),
-            notes: Vec::new(alloc),
-            hint: None,
+            note: Draft::new(alloc),
+            hint: Draft::new(alloc),
         }
     }
 
-    /// These words for the mark, and nothing else yet.
-    pub(crate) fn read(alloc: Global, says: &str) -> Result<Words, AllocError> {
-        Ok(Words::new(alloc, String::from_str(alloc, says)?))
-    }
-
-    /// The same with a note.
-    pub(crate) fn with_note(self, note: String) -> Result<Words, AllocError> {
-        let mut words = self;
-        words.notes.push(note)?;
-        Ok(words)
-    }
-
-    /// The same with a hint.
-    pub(crate) fn with_hint(self, hint: Option<String>) -> Words {
-        let mut words = self;
-        words.hint = hint;
-        words
-    }
-
-    /// The same with a hint of these words.
-    pub(crate) fn hinting(self, alloc: Global, hint: &str) -> Result<Words, AllocError> {
-        Ok(self.with_hint(Some(String::from_str(alloc, hint)?)))
+    /// Hints that this name is meant.
+    pub(crate) fn hint_at(&mut self, meant: &str) {
+        self.hint.add_all(&["is `", meant, "` meant?"]);
     }
 }
 
-/// What is said of a part that has no type for a reason.
-pub(crate) fn words_of(spot: Spot<'_>, fault: TypeFault) -> Result<Words, AllocError> {
+/// Says why a part has no type for a reason.
+pub(crate) fn add_words(
+    spot: Spot<'_>,
+    words: &mut Words,
+    fault: TypeFault,
+) -> Result<(), AllocError> {
     match fault {
-        TypeFault::Undeclared => undeclared_words(spot),
-        TypeFault::Unguarded => optional_words(spot),
-        TypeFault::NoAttribute => absent_words(spot),
-        TypeFault::NoJoin => joined_words(spot),
-        TypeFault::EmptySet => empty_words(spot),
-        TypeFault::OperandKind => operand_words(spot),
-        TypeFault::NoDecimal => decimal_words(spot),
+        TypeFault::Undeclared => undeclared_words(spot, words),
+        TypeFault::Unguarded => {
+            optional_words(spot, words);
+            Ok(())
+        }
+        TypeFault::NoAttribute => absent_words(spot, words),
+        TypeFault::NoJoin => joined_words(spot, words),
+        TypeFault::EmptySet => {
+            empty_words(spot, words);
+            Ok(())
+        }
+        TypeFault::OperandKind => operand_words(spot, words),
+        TypeFault::NoDecimal => decimal_words(spot, words),
     }
 }

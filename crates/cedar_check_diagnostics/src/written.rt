@@ -1,8 +1,8 @@
 //! Expressions as they are written.
+use base_places::Draft;
 use cedar_ast_expressions::{BinaryOperator, Expr, ExprKind, UnaryOperator, Variable};
 use cedar_value::{Uid, Value, ValueKind};
-use std::alloc::{AllocError, Global};
-use std::fmt::Write;
+use std::alloc::Global;
 
 // How many bytes of an expression are written at most.
 const MOST_WRITTEN: usize = 60;
@@ -43,86 +43,82 @@ fn is_plain(text: &str) -> bool {
     true
 }
 
-// Appends a text between quotes. Returns whether it needs no escape there.
-fn push_quoted(out: &mut String, text: &str) -> Result<bool, AllocError> {
-    if text.len() > MOST_WRITTEN || !is_plain(text) {
-        return Ok(false);
+// Adds a text between quotes. Returns whether it needs no escape there.
+fn add_quoted(out: &mut Draft, text: &str) -> bool {
+    let plain = text.len() <= MOST_WRITTEN && is_plain(text);
+    if plain {
+        out.add_all(&["\"", text, "\""]);
     }
-    out.push('"')?;
-    out.push_str(text)?;
-    out.push('"')?;
-    Ok(true)
+    plain
 }
 
-/// Appends a uid as a policy writes it. Returns whether its id needs no escape.
-pub(crate) fn push_uid(out: &mut String, uid: &Uid) -> Result<bool, AllocError> {
-    out.push_str(uid.ty.as_str())?;
-    out.push_str("::")?;
-    push_quoted(out, uid.id.as_str())
+// Adds a uid. Returns whether its id needs no escape.
+fn add_plain_uid(out: &mut Draft, uid: &Uid) -> bool {
+    out.add_all(&[uid.ty.as_str(), "::"]);
+    add_quoted(out, uid.id.as_str())
 }
 
-// Appends a literal. Returns whether it can be written.
-fn push_literal(out: &mut String, value: &Value) -> Result<bool, AllocError> {
+/// Adds a uid as a policy writes it, with `..` for an id that is long or needs escapes.
+pub(crate) fn add_uid(out: &mut Draft, uid: &Uid) {
+    if !add_plain_uid(out, uid) {
+        out.add("\"..\"");
+    }
+}
+
+// Adds a literal. Returns whether it can be written.
+fn add_literal(out: &mut Draft, value: &Value) -> bool {
     match value.kind() {
-        ValueKind::Boolean(true) => out.push_str("true")?,
-        ValueKind::Boolean(false) => out.push_str("false")?,
-        ValueKind::Long(number) => write!(out, "{number}")?,
-        ValueKind::String(text) => return push_quoted(out, text.as_str()),
-        ValueKind::Uid(uid) => return push_uid(out, uid),
-        _ => return Ok(false),
+        ValueKind::Boolean(true) => out.add("true"),
+        ValueKind::Boolean(false) => out.add("false"),
+        ValueKind::Long(number) => out.add_display(*number),
+        ValueKind::String(text) => return add_quoted(out, text.as_str()),
+        ValueKind::Uid(uid) => return add_plain_uid(out, uid),
+        _ => return false,
     }
-    Ok(true)
+    true
 }
 
-// Appends `.key`, or `["key"]`. Returns whether the key can be written.
-fn push_access(out: &mut String, key: &str) -> Result<bool, AllocError> {
+// Adds `.key`, or `["key"]`. Returns whether the key can be written.
+fn add_access(out: &mut Draft, key: &str) -> bool {
     if is_identifier(key) {
-        out.push('.')?;
-        out.push_str(key)?;
-        return Ok(true);
+        out.add_all(&[".", key]);
+        return true;
     }
-    out.push('[')?;
-    let plain = push_quoted(out, key)?;
-    out.push(']')?;
-    Ok(plain)
+    out.add_char('[');
+    let plain = add_quoted(out, key);
+    out.add_char(']');
+    plain
 }
 
-// Appends `has key`. Returns whether the key can be written.
-fn push_has(out: &mut String, key: &str) -> Result<bool, AllocError> {
-    out.push_str(" has ")?;
+// Adds `has key`. Returns whether the key can be written.
+fn add_has(out: &mut Draft, key: &str) -> bool {
+    out.add(" has ");
     if is_identifier(key) {
-        out.push_str(key)?;
-        return Ok(true);
+        out.add(key);
+        return true;
     }
-    push_quoted(out, key)
+    add_quoted(out, key)
 }
 
-// Appends a variable, a literal, an attribute of such, or `decimal` of such. Returns whether it is one and can be written.
-fn push_member(out: &mut String, expression: &Expr) -> Result<bool, AllocError> {
+// Adds a variable, a literal, an attribute of such, or `decimal` of such. Returns whether it is one and can be written.
+fn add_member(out: &mut Draft, expression: &Expr) -> bool {
     match expression.kind() {
         ExprKind::Variable(variable) => {
-            out.push_str(name_of(*variable))?;
-            Ok(true)
+            out.add(name_of(*variable));
+            true
         }
-        ExprKind::Literal(value) => push_literal(out, value),
+        ExprKind::Literal(value) => add_literal(out, value),
         ExprKind::Unary(operator, operand) => match operator {
-            UnaryOperator::Get(key) => {
-                if !push_member(out, operand)? {
-                    return Ok(false);
-                }
-                push_access(out, key.as_str())
-            }
+            UnaryOperator::Get(key) => add_member(out, operand) && add_access(out, key.as_str()),
             UnaryOperator::Decimal => {
-                out.push_str("decimal(")?;
-                if !push_member(out, operand)? {
-                    return Ok(false);
-                }
-                out.push(')')?;
-                Ok(true)
+                out.add("decimal(");
+                let written = add_member(out, operand);
+                out.add_char(')');
+                written
             }
-            _ => Ok(false),
+            _ => false,
         },
-        _ => Ok(false),
+        _ => false,
     }
 }
 
@@ -173,113 +169,84 @@ pub(crate) fn has_opposite(expression: &Expr) -> bool {
     }
 }
 
-// Appends an operator with its operands. Returns whether they can be written.
-fn push_binary(
-    out: &mut String,
-    sign: Sign,
-    left: &Expr,
-    right: &Expr,
-) -> Result<bool, AllocError> {
-    if !push_member(out, left)? {
-        return Ok(false);
-    }
+// Adds an operator with its operands. Returns whether they can be written.
+fn add_binary(out: &mut Draft, sign: Sign, left: &Expr, right: &Expr) -> bool {
     let (before, after) = match sign {
         Sign::Between(sign) => (sign, ""),
         Sign::Method(name) => (name, ")"),
     };
-    out.push_str(before)?;
-    if !push_member(out, right)? {
-        return Ok(false);
-    }
-    out.push_str(after)?;
-    Ok(true)
+    let written = add_member(out, left);
+    out.add(before);
+    let both = written && add_member(out, right);
+    out.add(after);
+    both
 }
 
-// Appends `!` of an expression, or the opposite of a comparison. Returns whether it can be written.
-fn push_denied(out: &mut String, operand: &Expr) -> Result<bool, AllocError> {
+// Adds `!` of an expression, or the opposite of a comparison. Returns whether it can be written.
+fn add_denied(out: &mut Draft, operand: &Expr) -> bool {
     if let ExprKind::Binary(operator, left, right) = operand.kind() {
         return match opposite_of(*operator) {
-            Some(sign) => push_binary(out, sign, left, right),
-            None => Ok(false),
+            Some(sign) => add_binary(out, sign, left, right),
+            None => false,
         };
     }
-    out.push('!')?;
-    push_member(out, operand)
+    out.add_char('!');
+    add_member(out, operand)
 }
 
-// Appends an operator with its operand. Returns whether it can be written.
-fn push_unary(
-    out: &mut String,
-    operator: &UnaryOperator,
-    operand: &Expr,
-) -> Result<bool, AllocError> {
+// Adds an operator with its operand. Returns whether it can be written.
+fn add_unary(out: &mut Draft, operator: &UnaryOperator, operand: &Expr) -> bool {
     match operator {
-        UnaryOperator::Not => push_denied(out, operand),
-        UnaryOperator::Has(key) => {
-            if !push_member(out, operand)? {
-                return Ok(false);
-            }
-            push_has(out, key.as_str())
-        }
+        UnaryOperator::Not => add_denied(out, operand),
+        UnaryOperator::Has(key) => add_member(out, operand) && add_has(out, key.as_str()),
         UnaryOperator::Is(name) => {
-            let written = push_member(out, operand)?;
-            out.push_str(" is ")?;
-            out.push_str(name.as_str())?;
-            Ok(written)
+            let written = add_member(out, operand);
+            out.add_all(&[" is ", name.as_str()]);
+            written
         }
         UnaryOperator::IsEmpty => {
-            let written = push_member(out, operand)?;
-            out.push_str(".isEmpty()")?;
-            Ok(written)
+            let written = add_member(out, operand);
+            out.add(".isEmpty()");
+            written
         }
-        _ => Ok(false),
+        _ => false,
     }
 }
 
-// Appends an expression of few words. Returns whether it is one.
-fn push_expression(out: &mut String, expression: &Expr) -> Result<bool, AllocError> {
+// Adds an expression of few words. Returns whether it is one.
+fn add_expression(out: &mut Draft, expression: &Expr) -> bool {
     match expression.kind() {
         ExprKind::Binary(operator, left, right) => {
-            push_binary(out, sign_of(*operator), left, right)
+            add_binary(out, sign_of(*operator), left, right)
         }
         ExprKind::Unary(operator, operand) => match operator {
-            UnaryOperator::Get(_) | UnaryOperator::Decimal => push_member(out, expression),
-            _ => push_unary(out, operator, operand),
+            UnaryOperator::Get(_) | UnaryOperator::Decimal => add_member(out, expression),
+            _ => add_unary(out, operator, operand),
         },
-        _ => push_member(out, expression),
+        _ => add_member(out, expression),
+    }
+}
+
+// What was added, where it can be written and has few words.
+fn if_short(out: Draft, written: bool) -> Option<Draft> {
+    if written && out.as_str().len() <= MOST_WRITTEN {
+        Some(out)
+    } else {
+        None
     }
 }
 
 /// An expression as a policy writes it, where it has few words: of variables, literals and attributes, with at most one operator on
 /// them. None for another expression.
-pub(crate) fn written(alloc: Global, expression: &Expr) -> Result<Option<String>, AllocError> {
-    let mut out = String::new(alloc);
-    if push_expression(&mut out, expression)? && out.len() <= MOST_WRITTEN {
-        Ok(Some(out))
-    } else {
-        Ok(None)
-    }
+pub(crate) fn written(alloc: Global, expression: &Expr) -> Option<Draft> {
+    let mut out = Draft::new(alloc);
+    let written = add_expression(&mut out, expression);
+    if_short(out, written)
 }
 
 /// `OPERAND has KEY` as a policy writes it, where it has few words.
-pub(crate) fn written_guard(
-    alloc: Global,
-    operand: &Expr,
-    key: &str,
-) -> Result<Option<String>, AllocError> {
-    let mut out = String::new(alloc);
-    if push_member(&mut out, operand)? && push_has(&mut out, key)? && out.len() <= MOST_WRITTEN {
-        Ok(Some(out))
-    } else {
-        Ok(None)
-    }
-}
-
-/// A uid as a policy writes it, with `..` for an id that is long or needs escapes.
-pub(crate) fn uid_words(alloc: Global, uid: &Uid) -> Result<String, AllocError> {
-    let mut out = String::new(alloc);
-    if !push_uid(&mut out, uid)? {
-        out.push_str("\"..\"")?;
-    }
-    Ok(out)
+pub(crate) fn written_guard(alloc: Global, operand: &Expr, key: &str) -> Option<Draft> {
+    let mut out = Draft::new(alloc);
+    let written = add_member(&mut out, operand) && add_has(&mut out, key);
+    if_short(out, written)
 }

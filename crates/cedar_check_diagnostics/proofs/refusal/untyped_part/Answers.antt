@@ -11,7 +11,7 @@ returns c =
     (λ r h. subst (λ (l : List ℕ). IsUntypedAt c.args.checking.settings c.args.checking.schema.now c.args.checking.environment.now c.args.condition.now l) (sym h) (record {
       held = held_view u.held.items;
       part = u.part.now;
-      leads = c.in_ok-untyped.ensures.leads c.args.condition.now c.in_ok-found.ensures.leads;
+      leads = c.in_ok-untyped.ensures.leads;
       untyped = c.in_ok-untyped.ensures.untyped;
       smallest = c.in_ok-untyped.ensures.smallest;
     })) c.explained.ensures

@@ -26,7 +26,7 @@ REJECTED = re.compile(r'^(?:\./)?(src/\S+?):(\d+):\d+: error\[[\w-]+\]', re.M)
 # An error in a proof file, and what the prover says where the file names what an edit took away, which says nothing of a contract.
 IN_PROOF = re.compile(r'^(?:note: )?(?:\./)?proofs/(\S+)/\w+\.antt:\d+:\d+: (.*)$', re.M)
 LOST_NAME = re.compile(r'has no field|is not in scope|has no `|was not admitted')
-# The head of an impl: its parameters, its trait and its type; a parameter; and a name that is no lifetime and no module.
+# The head of an impl: its parameters, its trait and its type; a parameter; and a name that is neither a lifetime nor a module.
 HEAD = re.compile(r'(?:unsafe )?impl(<.*?(?<!-)>)? (?:(.*) for )?(.*)')
 PARAMETER = re.compile(r'[<,] *(\w+)(?=[:,>])')
 WORD = re.compile(r"(?<!['\w])\w+(?!\w|::)")

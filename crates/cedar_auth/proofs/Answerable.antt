@@ -30,7 +30,7 @@ use Rattle.cedar_conform_values.specs.WrittenUids.{IsUidObject, WritesUid, UidAt
 use Rattle.cedar_conform_values.specs.Numbers.{number_of}
 use Rattle.cedar_conform_values.specs.declared.conform_fault.ConformFault.{ConformFault}
 use Rattle.cedar_conform_values.specs.declared.conform_fault.ConformFault.TheVariants.{OutOfMemory, Json, Shape, UnknownType, NoSuchAction, ActionDoesNotApply}
-use Rattle.cedar_conform.specs.Requests.{is_request_key, Names, Lacks, IsShapeless, context_of, Denotes, HasFault}
+use Rattle.cedar_conform.specs.Requests.{is_request_key, Names, Lacks, IsShapeless, context_of, Denotes, HasFault, LineDenotes, LineHasFault}
 use Rattle.cedar_auth_spec.specs.AnswerJson.{response_data, refused_data}
 use Rattle.cedar_auth.specs.AnswerLine.{AnswersLine}
 use Rattle.cedar_auth_spec.specs.Ready.{ReadyTree}
@@ -174,26 +174,25 @@ module _ (uids : UidsAreDecided) (names : NamesAreDecided) (actions : ActionsAre
 
 -- ---- lines
 
-answer_by : (r : ReadyTree) (line : List ℕ) (d : Data) → json_of line ≡ Some d
-    → ((q : Request) × Denotes r.schema d q) ⊎ ((f : ConformFault) × (f ≢ OutOfMemory) × HasFault r.schema d f) → (text : List ℕ) × AnswersLine r line text
-answer_by r line d e (inl h) = (
-  compact_text (response_data (response r.policies.policies h.0 r.world)),
-  inl (h.0, subst (λ (o : Option Data). MatchOption o ⊥ (λ x. Denotes r.schema x h.0)) (sym e) h.1, refl),
-)
-answer_by r line d e (inr h) = (
-  compact_text (refused_data (number_of h.0)),
-  inr (h.0, h.1, subst (λ (o : Option Data). MatchOption o (h.0 ≡ Json) (λ x. HasFault r.schema x h.0)) (sym e) h.2, refl),
-)
+-- a line that denotes a request has no fault
+abbrev pub DenotedHaveNoFault : SchemaTree → Type 0
+DenotedHaveNoFault s = (line : List ℕ) (q : Request) (f : ConformFault) → LineDenotes s line q → ¬ LineHasFault s line f
 
-line_by : UidsAreDecided → NamesAreDecided → ActionsAreDecided → ReadValuesBelong → (r : ReadyTree) → AreContextsOrdered r.schema
-    → (line : List ℕ) (o : Option Data) → json_of line ≡ o → (text : List ℕ) × AnswersLine r line text
-line_by uids names actions belong r contexts line None e = (
-  compact_text (refused_data 501),
-  inr (Json, λ e. cc, subst (λ (o : Option Data). MatchOption o (Json ≡ Json) (λ x. HasFault r.schema x Json)) (sym e) refl, refl),
-)
-line_by uids names actions belong r contexts line (Some d) e =
-    answer_by r line d e (by_keys uids names actions belong r.schema contexts d (has_only is_request_key d) refl)
+module _ (r : ReadyTree) (none : DenotedHaveNoFault r.schema) (line : List ℕ) where
+  refused_by : (f : ConformFault) → f ≢ OutOfMemory → LineHasFault r.schema line f → (text : List ℕ) × AnswersLine r line text
+  refused_by f other has = (compact_text (refused_data (number_of f)), inr (f, other, has, λ q h. none line q f h has, refl))
 
-pub answerable : UidsAreDecided → NamesAreDecided → ActionsAreDecided → ReadValuesBelong → (r : ReadyTree) → AreContextsOrdered r.schema
+  answer_by : (d : Data) → json_of line ≡ Some d → ((q : Request) × Denotes r.schema d q) ⊎ ((f : ConformFault) × (f ≢ OutOfMemory) × HasFault r.schema d f) → (text : List ℕ) × AnswersLine r line text
+  answer_by d e (inl h) = (
+    compact_text (response_data (response r.policies.policies h.0 r.world)),
+    inl (h.0, subst (λ (o : Option Data). MatchOption o ⊥ (λ x. Denotes r.schema x h.0)) (sym e) h.1, refl),
+  )
+  answer_by d e (inr h) = refused_by h.0 h.1 (subst (λ (o : Option Data). MatchOption o (h.0 ≡ Json) (λ x. HasFault r.schema x h.0)) (sym e) h.2)
+
+  line_by : UidsAreDecided → NamesAreDecided → ActionsAreDecided → ReadValuesBelong → AreContextsOrdered r.schema → (o : Option Data) → json_of line ≡ o → (text : List ℕ) × AnswersLine r line text
+  line_by uids names actions belong contexts None e = refused_by Json (λ e. cc) (subst (λ (o : Option Data). MatchOption o (Json ≡ Json) (λ x. HasFault r.schema x Json)) (sym e) refl)
+  line_by uids names actions belong contexts (Some d) e = answer_by d e (by_keys uids names actions belong r.schema contexts d (has_only is_request_key d) refl)
+
+pub answerable : UidsAreDecided → NamesAreDecided → ActionsAreDecided → ReadValuesBelong → (r : ReadyTree) → AreContextsOrdered r.schema → DenotedHaveNoFault r.schema
     → (line : List ℕ) → (text : List ℕ) × AnswersLine r line text
-answerable uids names actions belong r contexts line = line_by uids names actions belong r contexts line (json_of line) refl
+answerable uids names actions belong r contexts none line = line_by r none line uids names actions belong contexts (json_of line) refl

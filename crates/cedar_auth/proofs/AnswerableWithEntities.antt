@@ -11,6 +11,7 @@ use Rattle.cedar_value.specs.World.{World, Below, below}
 use Rattle.cedar_value.specs.declared.request.Request.{Request}
 use Rattle.cedar_value.specs.declared.uid.Uid.{Uid}
 use Rattle.cedar_schema_spec.specs.Declarations.{ActionsAreDecided, ActionDescentsAreDecided, TypeDescentsAreDecided}
+use Rattle.cedar_schema_spec.specs.SchemaTree.{SchemaTree}
 use Rattle.cedar_schema_spec.specs.WellFormed.{AreContextsOrdered, AreShapesOrdered}
 use Rattle.cedar_conform_values.specs.Belonging.{ReadValuesBelong}
 use Rattle.cedar_conform_values.specs.Objects.{has_only}
@@ -19,7 +20,7 @@ use Rattle.cedar_conform_values.specs.declared.conform_fault.ConformFault.{Confo
 use Rattle.cedar_conform_values.specs.declared.conform_fault.ConformFault.TheVariants.{OutOfMemory, Json}
 use Rattle.cedar_conform_entities.specs.Changes.{DenotesChangedWorld, HasChangesFault, upserts_only}
 use Rattle.cedar_conform.specs.Requests.{Denotes, HasFault, is_request_key}
-use Rattle.cedar_conform.specs.RequestsWithEntities.{DenotesWithEntities, HasFaultWithEntities, without}
+use Rattle.cedar_conform.specs.RequestsWithEntities.{DenotesWithEntities, HasFaultWithEntities, LineDenotesWithEntities, LineHasFaultWithEntities, without}
 use Rattle.cedar_auth_spec.specs.AnswerJson.{response_data, refused_data}
 use Rattle.cedar_auth_spec.specs.Ready.{ReadyTree}
 use Rattle.cedar_auth.specs.AnswerLineWithEntities.{AnswersLineWithEntities}
@@ -29,7 +30,14 @@ use Rattle.cedar_auth.proofs.EntriesAnswerable.{entries_answerable}
 abbrev key : List ℕ
 key = codes "entities"
 
-module _ (uids : UidsAreDecided) (names : NamesAreDecided) (actions : ActionsAreDecided) (action_descents : ActionDescentsAreDecided) (type_descents : TypeDescentsAreDecided) (belong : ReadValuesBelong) (chains : (w : World) (u v : Uid) → Decides (below w u v) (Below w u v)) (r : ReadyTree) (contexts : AreContextsOrdered r.schema) (shapes : AreShapesOrdered r.schema) where
+-- a line that denotes a request and a world for it has no fault
+abbrev pub DenotedHaveNoFault : SchemaTree → World → Type 0
+DenotedHaveNoFault s old = (line : List ℕ) (q : Request) (w : World) (f : ConformFault) → LineDenotesWithEntities s old line q w → ¬ LineHasFaultWithEntities s old line f
+
+module _ (uids : UidsAreDecided) (names : NamesAreDecided) (actions : ActionsAreDecided) (action_descents : ActionDescentsAreDecided) (type_descents : TypeDescentsAreDecided) (belong : ReadValuesBelong) (chains : (w : World) (u v : Uid) → Decides (below w u v) (Below w u v)) (r : ReadyTree) (contexts : AreContextsOrdered r.schema) (shapes : AreShapesOrdered r.schema) (none : DenotedHaveNoFault r.schema r.world) where
+  refused_by : (line : List ℕ) (f : ConformFault) → f ≢ OutOfMemory → LineHasFaultWithEntities r.schema r.world line f → (text : List ℕ) × AnswersLineWithEntities r line text
+  refused_by line f other has = (compact_text (refused_data (number_of f)), inr (f, other, has, λ q w h. none line q w f h has, refl))
+
   module _ (line : List ℕ) (d : Data) (is : json_of line ≡ Some d) where
     answered : (q : Request) (w : World) → DenotesWithEntities r.schema r.world d q w → (text : List ℕ) × AnswersLineWithEntities r line text
     answered q w h = (
@@ -38,10 +46,7 @@ module _ (uids : UidsAreDecided) (names : NamesAreDecided) (actions : ActionsAre
     )
 
     refused : (f : ConformFault) → f ≢ OutOfMemory → HasFaultWithEntities r.schema r.world d f → (text : List ℕ) × AnswersLineWithEntities r line text
-    refused f other h = (
-      compact_text (refused_data (number_of f)),
-      inr (f, other, subst (λ (o : Option Data). MatchOption o (f ≡ Json) (λ x. HasFaultWithEntities r.schema r.world x f)) (sym is) h, refl),
-    )
+    refused f other h = refused_by line f other (subst (λ (o : Option Data). MatchOption o (f ≡ Json) (λ x. HasFaultWithEntities r.schema r.world x f)) (sym is) h)
 
     by_upserts : (q : Request) → Denotes r.schema (without key d) q → (entries : Data) → get key d ≡ Some entries
         → ((w : World) × DenotesChangedWorld r.schema (upserts_only entries) r.world w) ⊎ ((f : ConformFault) × (f ≢ OutOfMemory) × HasChangesFault r.schema r.world (upserts_only entries) f)
@@ -58,10 +63,7 @@ module _ (uids : UidsAreDecided) (names : NamesAreDecided) (actions : ActionsAre
     by_request (inr f) = refused f.0 f.1 (inl f.2)
 
   line_by : (line : List ℕ) (o : Option Data) → json_of line ≡ o → (text : List ℕ) × AnswersLineWithEntities r line text
-  line_by line None e = (
-    compact_text (refused_data 501),
-    inr (Json, λ x. cc, subst (λ (o : Option Data). MatchOption o (Json ≡ Json) (λ x. HasFaultWithEntities r.schema r.world x Json)) (sym e) refl, refl),
-  )
+  line_by line None e = refused_by line Json (λ x. cc) (subst (λ (o : Option Data). MatchOption o (Json ≡ Json) (λ x. HasFaultWithEntities r.schema r.world x Json)) (sym e) refl)
   line_by line (Some d) e = by_request line d e (by_keys uids names actions belong r.schema contexts (without key d) (has_only is_request_key (without key d)) refl)
 
   pub answerable_with : (line : List ℕ) → (text : List ℕ) × AnswersLineWithEntities r line text

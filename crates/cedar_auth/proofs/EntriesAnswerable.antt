@@ -4,13 +4,13 @@ use Rattle.std.specs.Prelude.{IsSome, MatchOption}
 use Rattle.std.specs.Bool.{Decides}
 use Rattle.std.specs.List.{slice_get}
 use Rattle.std.proofs.lemmas.Option.{same_Some}
-use Rattle.serde_json.specs.Data.{Data, null, boolean, number, string, array, object, Items, no_items, item, Members, no_members, member}
+use Rattle.serde_json.specs.Data.{Data, object, Items, no_items, item, no_members}
 use Rattle.serde_json.specs.Find.{get, get_item, as_array, as_object}
 use Rattle.base_reach.proofs.Listed.{here, there, first_or_later, nowhere}
-use Rattle.cedar_value.specs.Datum.{Fields, fields_of, pairs_of, record_of, same_uid}
+use Rattle.cedar_value.specs.Datum.{Fields, pairs_of, record_of, same_uid}
 use Rattle.cedar_value.specs.Private.Equality.{same_uid-Decides}
 use Rattle.base_reach.specs.Closure.{one_link, more_links}
-use Rattle.cedar_value.specs.World.{World, EntityTree, entry_of, parents_of, Below, below}
+use Rattle.cedar_value.specs.World.{World, EntityTree, entry_of, Below, below}
 use Rattle.cedar_value.specs.declared.uid.Uid.{Uid}
 use Rattle.cedar_value.proofs.Reach.{parents-listed}
 use Rattle.cedar_schema_types.specs.Types.{TypeTree}
@@ -31,7 +31,7 @@ use Rattle.cedar_conform_values.specs.declared.conform_fault.ConformFault.{Confo
 use Rattle.cedar_conform_values.specs.declared.conform_fault.ConformFault.TheVariants.{OutOfMemory, DuplicateEntity, Cycle, Shape, UnknownType, BadAncestor, ActionDiffers}
 use Rattle.cedar_conform_entities.specs.Changes.{DenotesChanges, DenotesChangedWorld, HasChangesFault, is_change_key, upserts_only}
 use Rattle.cedar_conform_entities.specs.Changes as changes
-use Rattle.cedar_conform_entities.specs.Denotes.{DenotesEntity, DenoteEntities, IsAccepted, RepeatsAction, no_entries, an_entity, an_action}
+use Rattle.cedar_conform_entities.specs.Denotes.{DenoteEntities, IsAccepted, no_entries, an_entity, an_action}
 use Rattle.cedar_conform_entities.specs.Entries.{AreUids, no_uids, one_uid, IsUidOf, IsActionName, SomeWrites, TwoWrite, Writes, WritesEntity, attributes_in, is_entry_key, parents_in, tags_in}
 use Rattle.cedar_conform_entities.specs.Faults.{HasEntryFault}
 use Rattle.cedar_conform_entities.specs.Faults as fault

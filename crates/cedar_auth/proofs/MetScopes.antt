@@ -9,10 +9,10 @@ use Rattle.cedar_ast_expressions.specs.Expression.{Expression, and}
 use Rattle.cedar_ast_expressions.specs.declared.variable.Variable.TheVariants.{Principal, Resource}
 use Rattle.cedar_ast.specs.Condition.{condition_of, conditions_of, entity_scope_of, action_scope_of}
 use Rattle.cedar_ast.specs.PolicyTree.{PolicyTree}
-use Rattle.cedar_code.specs.TrueSides.{AreTrue, chain_of}
+use Rattle.cedar_code.specs.TrueSides.{AreTrue}
 use Rattle.cedar_conjunctions.specs.Alike.{truth_found}
 use Rattle.cedar_auth_candidates.specs.Scopes.{sides_of}
-use Rattle.cedar_machine.specs.Verdict.{Verdict, verdict_of}
+use Rattle.cedar_machine.specs.Verdict.{verdict_of}
 
 -- after a true side the other one decides
 and_true : (a b : Expression) (q : Request) (w : World) → eval a q w ≡ Ok (boolean true) → eval (and a b) q w ≡ with_answer (eval b q w) truth_of

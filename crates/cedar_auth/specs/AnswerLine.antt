@@ -15,11 +15,12 @@ use Rattle.cedar_auth_spec.specs.Ready.{ReadyTree}
 abbrev pub IsResponse : ReadyTree → List ℕ → List ℕ → Type 0
 IsResponse r line text = (q : Request) × LineDenotes r.schema line q × (text ≡ compact_text (response_data (response r.policies.policies q r.world)))
 
--- The text is the refusal of a fault that the line has for the schema. Out of memory is not a fault of a line (own).
+-- The text is the refusal of a fault that the line has for the schema, and the line denotes no request. Out of memory is not a fault
+-- of a line (own).
 abbrev pub IsRefusal : ReadyTree → List ℕ → List ℕ → Type 0
-IsRefusal r line text = (fault : ConformFault) × (fault ≢ OutOfMemory) × LineHasFault r.schema line fault × (text ≡ compact_text (refused_data (number_of fault)))
+IsRefusal r line text = (fault : ConformFault) × (fault ≢ OutOfMemory) × LineHasFault r.schema line fault × ((q : Request) → ¬ LineDenotes r.schema line q) × (text ≡ compact_text (refused_data (number_of fault)))
 
--- The text answers the line: it is the response to the request that the line denotes, or the refusal of a fault that it has
--- (own).
+-- The text answers the line: it is the response to the request that the line denotes, or, where it denotes none, the refusal of a
+-- fault that it has (own).
 abbrev pub AnswersLine : ReadyTree → List ℕ → List ℕ → Type 0
 AnswersLine r line text = IsResponse r line text ⊎ IsRefusal r line text

@@ -16,9 +16,10 @@ use Rattle.cedar_auth_spec.specs.Ready.{ReadyTree}
 abbrev pub IsResponseWithEntities : ReadyTree → List ℕ → List ℕ → Type 0
 IsResponseWithEntities r line text = (q : Request) × (w : World) × LineDenotesWithEntities r.schema r.world line q w × (text ≡ compact_text (response_data (response r.policies.policies q w)))
 
--- The text is the refusal of a fault that the line with entities has. Out of memory is not a fault of a line (own).
+-- The text is the refusal of a fault that the line with entities has, and the line denotes no request and world. Out of memory is not
+-- a fault of a line (own).
 abbrev pub IsRefusalWithEntities : ReadyTree → List ℕ → List ℕ → Type 0
-IsRefusalWithEntities r line text = (fault : ConformFault) × (fault ≢ OutOfMemory) × LineHasFaultWithEntities r.schema r.world line fault × (text ≡ compact_text (refused_data (number_of fault)))
+IsRefusalWithEntities r line text = (fault : ConformFault) × (fault ≢ OutOfMemory) × LineHasFaultWithEntities r.schema r.world line fault × ((q : Request) (w : World) → ¬ LineDenotesWithEntities r.schema r.world line q w) × (text ≡ compact_text (refused_data (number_of fault)))
 
 -- The text answers the line with entities. No line changes the world that the next one begins with: each is answered over the
 -- same world and what it brings itself (own).

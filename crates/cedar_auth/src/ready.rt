@@ -36,9 +36,9 @@ use cedar_check_law::candidates_are_enough;
 use cedar_check_spec::Settings;
 use cedar_code::Code;
 use cedar_conform::{
-    FittingRequest, RequestParts, RequestReader, denoted_requests_fit, read_changes,
-    read_entities_owned, read_fitting_parts, read_fitting_request, read_request,
-    read_request_parts,
+    FittingRequest, RequestParts, RequestReader, denoted_requests_fit,
+    denoted_requests_have_no_fault, read_changes, read_entities_owned, read_fitting_parts,
+    read_fitting_request, read_request, read_request_parts,
 };
 use cedar_conform_values::{ConformFault, read_values_belong};
 use cedar_parser_tokens::uid_or_none;
@@ -283,6 +283,7 @@ impl Ready {
         ensures denotes { IfOk result (λ found. LineDenotes self.now.schema line.now found.request) }
         ensures fits { IfOk result (λ found. Fits self.now.schema found.request) }
         ensures placed { IfOk result (λ found. IsPlacedAt self.now.schema found.request found.environment) }
+        ensures only { (q : RequestTree) → LineDenotes self.now.schema line.now q → MatchResult result (λ found. found.request ≡ q) (λ e. e ≡ OutOfMemory) }
         ensures refused { IfErr result (λ e. e ≢ OutOfMemory → LineHasFault self.now.schema line.now e) }
     {
         read_fitting_request(alloc, self.indexed.validated.schema(), line, reader)
@@ -539,12 +540,13 @@ impl Ready {
         self.soundness();
     }
 
-    /// Each line has an answer: it denotes a request for the schema, or it has a fault. A law: it runs no code.
+    /// Each line has an answer: it denotes a request for the schema, or it has a fault and denotes none. A law: it runs no code.
     pub fn lines_have_answers(&self)
         ensures { (line : List ℕ) → (text : List ℕ) × AnswersLine self.now line text }
     {
         // Each step of reading a line has a value or a fault: uids, names, actions of the schema, and contexts as values of
-        // their types.
+        // their types. A line that denotes a request has no fault.
+        denoted_requests_have_no_fault();
         uid_or_none();
         is_name_tells_names();
         tests_of_schemas_decide();

@@ -1,10 +1,11 @@
 //! Answers over entities that come with a request.
-ghost use Rattle.std.specs.Prelude.{ℕ, List, ◌≡◌, ◌≢◌, Contains, IfErr, IfOk, OnOk, unwrap_or};
+ghost use Rattle.std.specs.Prelude.{ℕ, List, ◌≡◌, ◌≢◌, Contains, IfErr, IfOk, MatchResult, OnOk, unwrap_or};
 ghost use Rattle.cedar_ast.specs.Response.{ErringTree, response};
 ghost use Rattle.cedar_conform_values.specs.declared.conform_fault.ConformFault.TheVariants.{OutOfMemory};
 ghost use Rattle.cedar_conform_entities.specs.Changes.{BytesDenoteChanged, BytesHaveChangesFault};
 ghost use Rattle.cedar_conform.specs.RequestsWithEntities.{LineDenotesWithEntities, LineHasFaultWithEntities};
 ghost use Rattle.cedar_schema_spec.specs.Conformance.{Conforms, Fits};
+ghost use Rattle.cedar_store.specs.Changes.{HaveSameEntities};
 ghost use Rattle.cedar_value.specs.World.{World};
 ghost use Rattle.cedar_value.specs.declared.request.Request.{Request as RequestTree};
 ghost use Rattle.cedar_check_spec.specs.Soundness.{IsAllowedWith};
@@ -19,7 +20,7 @@ use crate::tally::Tally;
 use cedar_auth_candidates::Selection;
 use cedar_conform::{
     RequestReader, changed_worlds_conform, read_changes, read_request_with_entities,
-    requests_with_entities_fit, worlds_for_requests_conform,
+    requests_with_entities_are_exact, requests_with_entities_fit, worlds_for_requests_conform,
 };
 use cedar_conform_values::{ConformFault, read_values_belong};
 use cedar_parser_tokens::uid_or_none;
@@ -71,6 +72,8 @@ impl Ready {
         ensures denotes { IfOk result (λ r. LineDenotesWithEntities self.now.schema self.now.world line.now r.0 (unwrap_or r.1 self.now.world)) }
         ensures fits { IfOk result (λ r. Fits self.now.schema r.0) }
         ensures conforms { IfOk result (λ r. Conforms self.now.schema (unwrap_or r.1 self.now.world)) }
+        ensures only { (q : RequestTree) (w : World) → LineDenotesWithEntities self.now.schema self.now.world line.now q w
+            → MatchResult result (λ r. (r.0 ≡ q) × HaveSameEntities (unwrap_or r.1 self.now.world) w) (λ e. e ≡ OutOfMemory) }
         ensures refused { IfErr result (λ e. e ≢ OutOfMemory → LineHasFaultWithEntities self.now.schema self.now.world line.now e) }
     {
         // The entities conform to the schema.
@@ -126,12 +129,15 @@ impl Ready {
         self.validated().schema().well_formedness();
     }
 
-    /// Each line with entities has an answer: it denotes a request and a world for it, or it has a fault. A law: it runs no code.
+    /// Each line with entities has an answer: it denotes a request and a world for it, or it has a fault and denotes none. A law: it
+    /// runs no code.
     pub fn lines_with_entities_have_answers(&self)
         ensures { (line : List ℕ) → (text : List ℕ) × AnswersLineWithEntities self.now line text }
     {
         // Each step of reading a line has a value or a fault: uids, names, declarations and descents of the schema, contexts and
-        // attributes as values of their types, and whether an entity is below itself.
+        // attributes as values of their types, and whether an entity is below itself. A line that denotes a request and a world
+        // has no fault.
+        requests_with_entities_are_exact();
         uid_or_none();
         is_name_tells_names();
         tests_of_schemas_decide();

@@ -14,7 +14,8 @@ use Rattle.cedar_conform_values.specs.declared.conform_fault.ConformFault.{Confo
 use Rattle.cedar_conform_values.specs.declared.conform_fault.ConformFault.TheVariants.{OutOfMemory, Json, Shape}
 use Rattle.cedar_conform.specs.Links.{IsGiven, DenotesSlots, DenotesLink, DenoteLinks, DenotesLinks, BytesDenoteLinks, LinksAreRefused}
 use Rattle.cedar_conform.specs.Private.Refusals.{Refuses}
-use Rattle.cedar_conform.proofs.RequestLemmas.{one_uid_at, memory_alone}
+use Rattle.cedar_conform_entities.proofs.OnlyMemory.{memory_alone}
+use Rattle.cedar_conform.proofs.RequestLemmas.{one_uid_at}
 
 -- ---- a link
 

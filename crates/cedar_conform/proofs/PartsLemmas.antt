@@ -14,12 +14,14 @@ use Rattle.cedar_schema_spec.specs.WellFormed.{AreListsDeclared}
 use Rattle.cedar_conform_values.specs.Values.{value_read}
 use Rattle.cedar_conform_values.specs.declared.conform_fault.ConformFault.{ConformFault}
 use Rattle.cedar_conform_values.specs.declared.conform_fault.ConformFault.TheVariants.{OutOfMemory, Json, UnknownType, NoSuchAction, ActionDoesNotApply}
+use Rattle.cedar_conform_entities.proofs.OnlyMemory.{memory_alone}
 use Rattle.cedar_conform.specs.declared.request.RequestUids.{RequestUids}
+use Rattle.cedar_conform.specs.Exactness.{DenotedPartsHaveNoFault}
 use Rattle.cedar_conform.specs.Parts.{HasPartsContextFault, PartsDenote, PartsHaveFault, PartsTree, context_json}
 use Rattle.cedar_conform.specs.Private.PartsAnswers.{AreUidsOf}
 use Rattle.cedar_conform.specs.Requests.{HasUidsFault}
 use Rattle.cedar_conform.proofs.EnvironmentSources.{one_context, action_declared, principal_declared, resource_declared}
-use Rattle.cedar_conform.proofs.RequestLemmas.{memory_alone, one_record}
+use Rattle.cedar_conform.proofs.RequestLemmas.{one_record}
 
 -- ---- what a fault of the uids or of the context is
 
@@ -83,3 +85,6 @@ module _ (s : SchemaTree) (up : IsStrictlySortedBy uid_cmp (keys_of s.actions)) 
       → (q : Request) → PartsDenote s parts q → MatchResult result (λ found. found ≡ q) (λ e. e ≡ OutOfMemory)
   only_parts (Ok found) g q h = same_request found q g h
   only_parts (Err f) g q h = memory_alone f (λ other. no_fault q h f (g other))
+
+pub no_parts_fault : DenotedPartsHaveNoFault
+no_parts_fault s parts q f up declared h fault = no_fault s up.1 declared parts q h f fault

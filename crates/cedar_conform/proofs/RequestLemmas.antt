@@ -22,6 +22,8 @@ use Rattle.cedar_conform_values.specs.Values.{value_read}
 use Rattle.cedar_conform_values.specs.WrittenUids.{UidAt, WritesUid, WritesOneUid}
 use Rattle.cedar_conform_values.specs.declared.conform_fault.ConformFault.{ConformFault}
 use Rattle.cedar_conform_values.specs.declared.conform_fault.ConformFault.TheVariants.{OutOfMemory, Json, Shape, UnknownType, NoSuchAction, ActionDoesNotApply}
+use Rattle.cedar_conform_entities.proofs.OnlyMemory.{memory_alone}
+use Rattle.cedar_conform.specs.Exactness.{DenotedRequestsHaveNoFault}
 use Rattle.cedar_conform.specs.Private.Answers.{IsAnswer, IsLineAnswer, IsNoJson, IsNoObjectFault}
 use Rattle.cedar_conform.specs.Requests.{Denotes, HasFault, HasUidsFault, HasContextFault, IsShapeless, LineDenotes, LineHasFault, Names, context_of, is_request_key}
 use Rattle.cedar_conform.proofs.EnvironmentSources.{one_context, action_declared, principal_declared, resource_declared}
@@ -103,7 +105,7 @@ pub one_record : (ps qs : List (List ℕ × Datum)) → record_of (fields_of ps)
 one_record ps qs e = sym (pairs_back ps) ∙ ap fields_in e ∙ pairs_back qs
 
 module _ (one : WritesOneUid) (s : SchemaTree) (up : IsStrictlySortedBy uid_cmp (keys_of s.actions)) where
-  same_request : (d : Data) (q r : Request) → Denotes s d q → Denotes s d r → q ≡ r
+  pub same_request : (d : Data) (q r : Request) → Denotes s d q → Denotes s d r → q ≡ r
   same_request d q r h g =
       let p = one_uid_at one (codes "principal") d q.principal r.principal h.names.principal_at g.names.principal_at in
       let a = one_uid_at one (codes "action") d q.action r.action h.names.action_at g.names.action_at in
@@ -118,11 +120,6 @@ one_line_request one s line q r up h g = at (json_of line) h g
     at : (o : Option Data) → MatchOption o ⊥ (λ d. Denotes s d q) → MatchOption o ⊥ (λ d. Denotes s d r) → q ≡ r
     at None h g = absurd h
     at (Some d) h g = same_request one s up.1 d q r h g
-
--- where no other refusal can be, memory ran out
-pub memory_alone : (f : ConformFault) → (f ≢ OutOfMemory → ⊥) → f ≡ OutOfMemory
-memory_alone OutOfMemory never = refl
-memory_alone _ never = absurd (never (λ e. cc))
 
 module _ (one : WritesOneUid) (s : SchemaTree) (up : IsStrictlySortedBy uid_cmp (keys_of s.actions)) (declared : AreListsDeclared s) (d : Data) where
   no_uids_fault : (q : Request) → Denotes s d q → (f : ConformFault) → HasUidsFault s q.principal q.action q.resource f → ⊥
@@ -151,7 +148,7 @@ module _ (one : WritesOneUid) (s : SchemaTree) (up : IsStrictlySortedBy uid_cmp 
       let none = ap (λ (x : TypeTree). (value_read x (context_of d)).faults) (sym t) ∙ h.fine in
       nowhere f (subst (λ (fs : List ConformFault). Contains fs f) none fault.broken)
 
-  no_fault : (q : Request) → Denotes s d q → (f : ConformFault) → HasFault s d f → ⊥
+  pub no_fault : (q : Request) → Denotes s d q → (f : ConformFault) → HasFault s d f → ⊥
   no_fault q h f (inl shape) = no_shape_fault q h shape.1
   no_fault q h f (inr (inl (p, a, r, names, fault))) = no_uids_fault q h f (named q h p a r names f fault)
   no_fault q h f (inr (inr fault)) = no_context_fault q h f fault
@@ -159,6 +156,13 @@ module _ (one : WritesOneUid) (s : SchemaTree) (up : IsStrictlySortedBy uid_cmp 
   only_answer : (q : Request) → Denotes s d q → (result : Result Request ConformFault) → IsAnswer s d result → MatchResult result (λ found. found ≡ q) (λ e. e ≡ OutOfMemory)
   only_answer q h (Ok found) g = same_request one s up d found q g h
   only_answer q h (Err f) g = memory_alone f (λ other. no_fault q h f (g other))
+
+pub no_line_fault : WritesOneUid → DenotedRequestsHaveNoFault
+no_line_fault one s line q f up declared h fault = at (json_of line) h fault
+  where
+    at : (o : Option Data) → MatchOption o ⊥ (λ d. Denotes s d q) → MatchOption o (f ≡ Json) (λ d. HasFault s d f) → ⊥
+    at None h fault = h
+    at (Some d) h fault = no_fault one s up.1 declared d q h f fault
 
 pub only_line : WritesOneUid → (s : SchemaTree) → IsStrictlySortedBy uid_cmp (keys_of s.actions) → AreListsDeclared s → (line : List ℕ) (result : Result Request ConformFault) → IsLineAnswer s line result
     → (q : Request) → LineDenotes s line q → MatchResult result (λ found. found ≡ q) (λ e. e ≡ OutOfMemory)

@@ -1,26 +1,28 @@
 -- Which request and which world a line with entities denotes.
-use Rattle.std.proofs.Common.{◌≡◌, ◌≢◌, ℕ, true, false, inl, inr, List, Option, Some, None, Result, Ok, Err, refl, sym, ap, subst, ◌∙◌}
+use Rattle.std.proofs.Common.{◌≡◌, ◌≢◌, ℕ, inl, inr, List, Option, Some, None, Result, Ok, Err, refl, sym, ap, subst, ◌∙◌}
 use Rattle.std.specs.Prelude.{◌↔◌, codes, IfErr, IfOk, MatchOption, MatchResult, option_map, unwrap_or}
 use Rattle.serde_json.specs.Data.{Data, null, boolean, number, string, array, Members, object}
-use Rattle.serde_json.specs.Find.{as_array, as_object, get, get_member}
+use Rattle.serde_json.specs.Find.{as_object, get}
 use Rattle.base_json.specs.JsonTree.{json_of}
-use Rattle.cedar_value.specs.World.{World}
+use Rattle.cedar_value.specs.World.{World, entry_of}
 use Rattle.cedar_value.specs.declared.request.Request.{Request}
 use Rattle.cedar_schema_spec.specs.Conformance.{Conforms, Fits}
 use Rattle.cedar_schema_spec.specs.SchemaTree.{SchemaTree}
-use Rattle.cedar_schema_spec.specs.WellFormed.{AreParentsDeclared, AreTypesApart, IsHierarchy}
+use Rattle.cedar_schema_spec.specs.WellFormed.{AreListsDeclared, AreParentsDeclared, AreTypesApart, IsHierarchy, IsListedInOrder}
 use Rattle.cedar_conform_values.specs.Belonging.{ReadValuesBelong}
-use Rattle.cedar_conform_values.specs.Objects.{are_only, has_only}
+use Rattle.cedar_conform_values.specs.WrittenUids.{WritesOneUid}
 use Rattle.cedar_conform_values.specs.declared.conform_fault.ConformFault.{ConformFault}
 use Rattle.cedar_conform_values.specs.declared.conform_fault.ConformFault.TheVariants.{OutOfMemory, Json, Shape}
 use Rattle.cedar_conform_entities.specs.Changes.{ChangedWorldsConform, DenotesChangedWorld, HasChangesFault, upserts_only}
 use Rattle.cedar_conform_entities.specs.Changes as changes
-use Rattle.cedar_conform.specs.Private.Answers.{IsAnswer, IsNoJson, IsNoObjectFault}
-use Rattle.cedar_conform.specs.Private.Fields.{data_in}
+use Rattle.cedar_conform_entities.proofs.ChangesExact.{changed_same, fine_changes}
+use Rattle.cedar_conform_entities.proofs.OnlyMemory.{memory_alone}
+use Rattle.cedar_store.specs.Changes.{HaveSameEntities}
+use Rattle.cedar_conform.specs.Private.Answers.{IsAnswer, IsNoObjectFault}
 use Rattle.cedar_conform.specs.Private.WithEntities.{IsAnswerWith, IsLineAnswerWith, IsNoJsonWith}
-use Rattle.cedar_conform.specs.Requests.{Denotes, HasFault, LineDenotes, LineHasFault, is_request_key}
-use Rattle.cedar_conform.specs.RequestsWithEntities.{BringsNothing, DenotesWithEntities, DenotesWorldFor, HasEntitiesFault, HasFaultWithEntities, LineDenotesWithEntities, LineHasFaultWithEntities, PlainLinesMeanTheSame, RequestsWithEntitiesFit, WorldsForRequestsConform, without}
-use Rattle.cedar_conform.proofs.RequestLemmas.{denoted_fits, no_keys}
+use Rattle.cedar_conform.specs.Requests.{Denotes, HasFault}
+use Rattle.cedar_conform.specs.RequestsWithEntities.{DenotesWithEntities, HasFaultWithEntities, LineDenotesWithEntities, LineHasFaultWithEntities, OneRequestWithEntities, PlainLinesMeanTheSame, RequestsWithEntitiesFit, RequestsWithEntitiesHaveNoFault, WorldsForRequestsConform, without}
+use Rattle.cedar_conform.proofs.RequestLemmas.{denoted_fits, no_fault, no_keys, same_request}
 use Rattle.cedar_conform.proofs.WithoutKey.{without_none}
 
 abbrev key : List ℕ
@@ -46,6 +48,37 @@ with_entities_conform law s old line q new declared apart hierarchy conforms h =
     at : (o : Option Data) → MatchOption o ⊥ (λ d. DenotesWithEntities s old d q new) → Conforms s new
     at None h = absurd h
     at (Some d) h = world_by law s old new declared apart hierarchy conforms (get key d) h.1
+
+-- ---- there is one request, its worlds have the same entities, and there is no fault then
+
+module _ (s : SchemaTree) (old : World) where
+  worlds_same : (v w : World) (o : Option Data) → MatchOption o (v ≡ old) (λ entries. DenotesChangedWorld s (upserts_only entries) old v)
+      → MatchOption o (w ≡ old) (λ entries. DenotesChangedWorld s (upserts_only entries) old w) → HaveSameEntities v w
+  worlds_same v w None h k = λ u. ap (λ (x : World). entry_of x u) (h ∙ sym k)
+  worlds_same v w (Some entries) h k = changed_same s (upserts_only entries) old v w h k
+
+  no_entities_fault : (new : World) (f : ConformFault) (o : Option Data) → MatchOption o (new ≡ old) (λ entries. DenotesChangedWorld s (upserts_only entries) old new)
+      → MatchOption o ⊥ (λ entries. HasChangesFault s old (upserts_only entries) f) → ⊥
+  no_entities_fault new f None h fault = fault
+  no_entities_fault new f (Some entries) h fault = fine_changes s (upserts_only entries) old new h f fault
+
+pub one_request_with_entities : WritesOneUid → OneRequestWithEntities
+one_request_with_entities one s old line q r v w up h k = at (json_of line) h k
+  where
+    at : (o : Option Data) → MatchOption o ⊥ (λ d. DenotesWithEntities s old d q v) → MatchOption o ⊥ (λ d. DenotesWithEntities s old d r w) → (q ≡ r) × HaveSameEntities v w
+    at None h k = absurd h
+    at (Some d) h k = (same_request one s up.1 (without key d) q r h.0 k.0, worlds_same s old v w (get key d) h.1 k.1)
+
+pub with_entities_have_no_fault : WritesOneUid → RequestsWithEntitiesHaveNoFault
+with_entities_have_no_fault one s old line q new f up declared h fault = at (json_of line) h fault
+  where
+    by : (d : Data) → DenotesWithEntities s old d q new → HasFaultWithEntities s old d f → ⊥
+    by d h (inl request) = no_fault one s up.1 declared (without key d) q h.0 f request
+    by d h (inr entities) = no_entities_fault s old new f (get key d) h.1 entities
+
+    at : (o : Option Data) → MatchOption o ⊥ (λ d. DenotesWithEntities s old d q new) → MatchOption o (f ≡ Json) (λ d. HasFaultWithEntities s old d f) → ⊥
+    at None h fault = h
+    at (Some d) h fault = by d h fault
 
 -- ---- a line that brings nothing
 
@@ -103,6 +136,11 @@ module _ (s : SchemaTree) (old : World) (line : List ℕ) where
   pub line_refused : (result : Result Read ConformFault) → IsLineAnswerWith s old line result → IfErr result (λ e. e ≢ OutOfMemory → LineHasFaultWithEntities s old line e)
   line_refused (Ok r) h = tt
   line_refused (Err f) h = h
+
+  pub line_only : OneRequestWithEntities → RequestsWithEntitiesHaveNoFault → IsListedInOrder s → AreListsDeclared s → (result : Result Read ConformFault) → IsLineAnswerWith s old line result
+      → (q : Request) (w : World) → LineDenotesWithEntities s old line q w → MatchResult result (λ r. (r.0 ≡ q) × HaveSameEntities (unwrap_or r.1 old) w) (λ e. e ≡ OutOfMemory)
+  line_only one none up declared (Ok r) h q w k = one s old line r.0 q (unwrap_or r.1 old) w up h k
+  line_only one none up declared (Err f) h q w k = memory_alone f (λ other. none s old line q w f up declared k (h other))
 
   pub answer_of_members : (mo : Option Members) (result : Result Read ConformFault) → json_of line ≡ option_map object mo
       → MatchOption mo (IsNoJsonWith result) (λ ms. IsAnswerWith s old (object ms) result) → IsLineAnswerWith s old line result

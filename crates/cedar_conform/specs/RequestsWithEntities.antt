@@ -8,10 +8,11 @@ use Rattle.cedar_value.specs.World.{World}
 use Rattle.cedar_value.specs.declared.request.Request.{Request}
 use Rattle.cedar_schema_spec.specs.Conformance.{Conforms, Fits}
 use Rattle.cedar_schema_spec.specs.SchemaTree.{SchemaTree}
-use Rattle.cedar_schema_spec.specs.WellFormed.{AreParentsDeclared, AreTypesApart, IsHierarchy}
+use Rattle.cedar_schema_spec.specs.WellFormed.{AreListsDeclared, AreParentsDeclared, AreTypesApart, IsHierarchy, IsListedInOrder}
 use Rattle.cedar_conform_values.specs.declared.conform_fault.ConformFault.{ConformFault}
 use Rattle.cedar_conform_values.specs.declared.conform_fault.ConformFault.TheVariants.{Json}
 use Rattle.cedar_conform_entities.specs.Changes.{DenotesChangedWorld, HasChangesFault, upserts_only}
+use Rattle.cedar_store.specs.Changes.{HaveSameEntities}
 use Rattle.cedar_conform.specs.Requests.{Denotes, HasFault, LineDenotes, LineHasFault}
 
 -- ---- the JSON
@@ -67,6 +68,16 @@ RequestsWithEntitiesFit = (s : SchemaTree) (old : World) (line : List ℕ) (q : 
 -- The world for a request conforms where the one before does (own; Cedar documentation, validation).
 abbrev pub WorldsForRequestsConform : Type 0
 WorldsForRequestsConform = (s : SchemaTree) (old : World) (line : List ℕ) (q : Request) (new : World) → AreParentsDeclared s → AreTypesApart s → IsHierarchy s → Conforms s old → LineDenotesWithEntities s old line q new → Conforms s new
+
+-- A line with entities denotes one request, and its worlds for it have the same entities, for a schema that lists its entity types
+-- and actions in order (own; Cedar documentation, entities and context in JSON).
+abbrev pub OneRequestWithEntities : Type 0
+OneRequestWithEntities = (s : SchemaTree) (old : World) (line : List ℕ) (q r : Request) (v w : World) → IsListedInOrder s → LineDenotesWithEntities s old line q v → LineDenotesWithEntities s old line r w → (q ≡ r) × HaveSameEntities v w
+
+-- A line with entities that denotes a request and a world for it has no fault, for a schema that lists its entity types and actions
+-- in order and declares the types to which its actions apply (own; Cedar documentation, validation).
+abbrev pub RequestsWithEntitiesHaveNoFault : Type 0
+RequestsWithEntitiesHaveNoFault = (s : SchemaTree) (old : World) (line : List ℕ) (q : Request) (new : World) (f : ConformFault) → IsListedInOrder s → AreListsDeclared s → LineDenotesWithEntities s old line q new → ¬ LineHasFaultWithEntities s old line f
 
 -- The line is not JSON with the key `entities` (own).
 abbrev pub BringsNothing : List ℕ → Type 0

@@ -44,7 +44,8 @@ pub use cedar_conform_values::{
 pub use fitting::fits;
 pub use fitting_request::FittingRequest;
 pub use laws::{
-    denoted_requests_fit, one_request, plain_lines_mean_the_same, requests_with_entities_fit,
+    denoted_parts_have_no_fault, denoted_requests_fit, denoted_requests_have_no_fault, one_request,
+    plain_lines_mean_the_same, requests_with_entities_are_exact, requests_with_entities_fit,
     worlds_for_requests_conform,
 };
 pub use links::read_links;

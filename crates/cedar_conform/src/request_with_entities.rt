@@ -1,14 +1,19 @@
 //! Requests from JSON, with entities.
-ghost use Rattle.std.specs.Prelude.{◌≡◌, ◌≢◌, IfErr, IfOk, MatchOption, unwrap_or};
+ghost use Rattle.std.specs.Prelude.{◌≡◌, ◌≢◌, IfErr, IfOk, MatchOption, MatchResult, unwrap_or};
 ghost use Rattle.serde_json.specs.Data.{Members, no_members, object};
 ghost use Rattle.base_json.specs.Members.{lent_view, members_to_come};
 ghost use Rattle.cedar_schema_spec.specs.Conformance.{Conforms, Fits};
+ghost use Rattle.cedar_store.specs.Changes.{HaveSameEntities};
+ghost use Rattle.cedar_value.specs.World.{World};
+ghost use Rattle.cedar_value.specs.declared.request.Request.{Request as RequestTree};
 ghost use Rattle.cedar_conform_values.specs.declared.conform_fault.ConformFault.TheVariants.{OutOfMemory};
 ghost use Rattle.cedar_conform.specs.RequestsWithEntities.{LineDenotesWithEntities, LineHasFaultWithEntities};
 ghost use Rattle.cedar_conform.specs.Private.WithEntities.{AreFieldsWith, IsAnswerWith, IsLineAnswerWith, IsNoJsonWith, IsUpserted, begun_with};
 
 use crate::fields_with_entities::FieldsWithEntities;
-use crate::laws::{requests_with_entities_fit, worlds_for_requests_conform};
+use crate::laws::{
+    requests_with_entities_are_exact, requests_with_entities_fit, worlds_for_requests_conform,
+};
 use crate::plain_request::plain_request;
 use crate::request::{no_object_fault, request_of};
 use crate::request_reader::RequestReader;
@@ -39,10 +44,14 @@ pub fn read_request_with_entities(
     ensures denotes { IfOk result (λ r. LineDenotesWithEntities schema.now store.now line.now r.0 (unwrap_or r.1 store.now)) }
     ensures fits { IfOk result (λ r. Fits schema.now r.0) }
     ensures conforms { Conforms schema.now store.now → IfOk result (λ r. Conforms schema.now (unwrap_or r.1 store.now)) }
+    ensures only { (q : RequestTree) (w : World) → LineDenotesWithEntities schema.now store.now line.now q w
+        → MatchResult result (λ r. (r.0 ≡ q) × HaveSameEntities (unwrap_or r.1 store.now) w) (λ e. e ≡ OutOfMemory) }
     ensures refused { IfErr result (λ e. e ≢ OutOfMemory → LineHasFaultWithEntities schema.now store.now line.now e) }
 {
-    // The request fits, and the world for it conforms to the schema, which is well formed, where the one before does.
+    // The request fits, and the world for it conforms to the schema, which is well formed, where the one before does. There is one
+    // request, its worlds have the same entities, and then there is no fault.
     schema.well_formedness();
+    requests_with_entities_are_exact();
     requests_with_entities_fit();
     worlds_for_requests_conform();
     read_line(alloc, schema, store, line, reader)

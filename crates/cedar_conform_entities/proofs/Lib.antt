@@ -1,5 +1,5 @@
 mod ChangedConforming
-mod ChangesExact
+pub mod ChangesExact
 mod ChangesLemmas
 mod ComingLemmas
 mod Conforming
@@ -8,6 +8,7 @@ pub mod EntryLemmas
 mod Exact
 mod ListLemmas
 mod OnceLemmas
+pub mod OnlyMemory
 mod PlainLemmas
 mod Repeats
 mod SameConforming

@@ -1,10 +1,12 @@
 //! Entities that are upserted alone, from a JSON that has been read.
-ghost use Rattle.std.specs.Prelude.{◌≢◌, IfErr, IfOk, MatchResult, []};
+ghost use Rattle.std.specs.Prelude.{◌≡◌, ◌≢◌, IfErr, IfOk, MatchResult, []};
 ghost use Rattle.serde_json.specs.View.{view};
 ghost use Rattle.cedar_conform_values.specs.declared.conform_fault.ConformFault.TheVariants.{OutOfMemory};
 ghost use Rattle.cedar_conform_entities.specs.Changes.{DenotesChangedWorld, DenotesChanges, HasChangesFault, upserts_only};
 ghost use Rattle.cedar_conform_entities.specs.Private.Changing.{RefusesChanges};
 ghost use Rattle.cedar_schema_spec.specs.Conformance.{Conforms};
+ghost use Rattle.cedar_store.specs.Changes.{HaveSameEntities};
+ghost use Rattle.cedar_value.specs.World.{World};
 
 use crate::changes::change_store;
 use crate::laws::changed_worlds_conform;
@@ -31,6 +33,8 @@ pub fn upsert_entities(
 ) -> Result<Store, ConformFault>
     ensures denotes { IfOk result (DenotesChangedWorld schema.now (upserts_only (view entries.now)) store.now) }
     ensures conforms { Conforms schema.now store.now → IfOk result (Conforms schema.now) }
+    ensures only { (w : World) → DenotesChangedWorld schema.now (upserts_only (view entries.now)) store.now w
+        → MatchResult result (λ v. HaveSameEntities v w) (λ f. f ≡ OutOfMemory) }
     ensures refused { IfErr result (λ f. f ≢ OutOfMemory → HasChangesFault schema.now store.now (upserts_only (view entries.now)) f) }
 {
     // The schema is well formed, and after changes that a JSON denotes a world that conforms still conforms to it.

@@ -1,9 +1,7 @@
 -- The members of a request line with entities as they are kept, and what reading them gives.
-use Rattle.std.specs.Prelude.{◌≡◌, ◌≢◌, ℕ, codes, List, Option, None, Result, MatchOption, MatchResult, unwrap_or}
+use Rattle.std.specs.Prelude.{◌≡◌, ◌≢◌, ℕ, codes, List, Option, None, Result, MatchResult, unwrap_or}
 use Rattle.serde_json.specs.Data.{Data, Members}
 use Rattle.serde_json.specs.Find.{get_member}
-use Rattle.base_json.specs.declared.lent_value.LentValue.{LentValue}
-use Rattle.base_json.specs.Members.{lent_view}
 use Rattle.base_json.specs.declared.three_quoted.ThreeQuoted.{ThreeQuoted}
 use Rattle.cedar_value.specs.World.{World}
 use Rattle.cedar_value.specs.declared.request.Request.{Request}

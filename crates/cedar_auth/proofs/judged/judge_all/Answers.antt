@@ -1,8 +1,7 @@
-use Rattle.std.proofs.Common.{[], ◌∷◌, ◌++◌, map, take, refl, arith, ap, sym, subst, ◌∙◌}
+use Rattle.std.proofs.Common.{[], ◌∷◌, ◌++◌, take, arith, ap, sym, subst, ◌∙◌}
 use Rattle.std.proofs.lemmas.List.{take_all}
 use Rattle.std.specs.Prelude.{option_copied}
-use Rattle.cedar_check.specs.FaultView.{fault_view}
-use Rattle.cedar_check_spec.specs.Reports.{AreFaultsWith, AreWarningsWith, of_none, on_none}
+use Rattle.cedar_check_spec.specs.Reports.{of_none, on_none}
 use Rattle.cedar_auth.specs.Private.Kept.{IsJudged}
 use Rattle.cedar_auth.proofs.PoliciesAt.{not_past}
 use Rattle.cedar_auth.proofs.Taken.{take-next}

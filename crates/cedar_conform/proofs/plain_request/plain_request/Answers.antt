@@ -1,4 +1,4 @@
-use Rattle.std.proofs.Common.{◌≡◌, [], Contains, Option, inl, inr, refl, sym, subst, ◌∙◌}
+use Rattle.std.proofs.Common.{◌≡◌, [], Contains, Option, inl, inr, sym, subst}
 use Rattle.std.specs.Prelude.{unwrap_or}
 use Rattle.serde_json.specs.Data.{Data, no_members, object}
 use Rattle.cedar_value.specs.Datum.{fields_of, record_of}

@@ -1,4 +1,4 @@
-use Rattle.cedar_conform.proofs.WithEntitiesLemmas.{line_denotes, line_fits, line_conforms, line_refused}
+use Rattle.cedar_conform.proofs.WithEntitiesLemmas.{line_denotes, line_fits, line_conforms, line_only, line_refused}
 use Rattle.cedar_conform.proofs.request_with_entities.read_request_with_entities.Goals as goal
 
 pub returns-clause-denotes : goal.returns-clause-denotes
@@ -13,3 +13,7 @@ returns-clause-conforms c =
 
 pub returns-clause-refused : goal.returns-clause-refused
 returns-clause-refused c = line_refused c.args.schema.now c.args.store.now c.args.line.now c.read_line.result c.read_line.ensures
+
+pub returns-clause-only : goal.returns-clause-only
+returns-clause-only c =
+    line_only c.args.schema.now c.args.store.now c.args.line.now c.requests_with_entities_are_exact.ensures.one c.requests_with_entities_are_exact.ensures.no_fault c.well_formedness.ensures.in_order c.well_formedness.ensures.lists c.read_line.result c.read_line.ensures

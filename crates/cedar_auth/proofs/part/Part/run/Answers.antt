@@ -1,4 +1,3 @@
-use Rattle.std.proofs.Common.{sym, ap}
 use Rattle.std.proofs.lemmas.Result.{IfOk-weaker}
 use Rattle.cedar_ast.specs.Condition.{condition_of}
 use Rattle.cedar_auth_candidates.proofs.Begun.{scope_short, comes_behind}

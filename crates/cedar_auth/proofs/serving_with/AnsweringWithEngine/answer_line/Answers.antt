@@ -24,6 +24,6 @@ returns-in_ok-append_fault-in-Err-clause-ok c =
     let fault = c.in-Err.fault in
     let told = c.in_ok-append_fault-in-Err.ensures.told in (
       compact_text (refused_data (number_of fault)),
-      inr (fault, told, c.in-Err.ensures.refused told, refl),
+      inr (fault, told, c.in-Err.ensures.refused told, λ q w h. told (c.in-Err.ensures.only q w h), refl),
       c.in_ok-append_fault-in-Err.ensures.ok,
     )

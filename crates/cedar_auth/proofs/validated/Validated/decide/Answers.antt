@@ -1,4 +1,4 @@
-use Rattle.std.proofs.Common.{get_or, Some, sym, ap, ◌∙◌}
+use Rattle.std.proofs.Common.{get_or, sym, ◌∙◌}
 use Rattle.std.proofs.lemmas.List.Elements.{Contains-get_or}
 use Rattle.cedar_auth.proofs.PoliciesAt.{not_past}
 use Rattle.cedar_auth.proofs.Rulings.{ruled_all, ruled_next}

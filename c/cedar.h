@@ -18,9 +18,10 @@
  * Memory: a call reads its bytes only while it runs, and keeps none of them. No argument that is written overlaps another. Handles are
  * not copied. The library asks malloc, realloc and free for memory (c/heap.c). A call that returns CEDAR_MEMORY has changed nothing.
  *
- * Stack: 4 MiB for calls whose name has `explain` and for those that are to give words (cedar_refusal), 512 KiB for those that publish,
- * change, validate, share or free, 64 KiB for the other calls. Do not call from a signal handler, nor in the forked child of a process with
- * several threads. No call starts a thread or reads a file, and only calls over a cedar_shared wait, as is said there. */
+ * Stack: 4 MiB for cedar_explain, cedar_explain_changes and those calls that are to give words (cedar_refusal), 512 KiB for those that
+ * publish, change, validate, share, free, or explain a request or a line, 64 KiB for the other calls. Do not call from a signal handler, nor
+ * in the forked child of a process with several threads. No call starts a thread or reads a file, and only calls over a cedar_shared wait, as
+ * is said there. */
 #ifndef CEDAR_H
 #define CEDAR_H
 #include <stddef.h>

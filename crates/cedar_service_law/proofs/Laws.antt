@@ -64,7 +64,7 @@ no_fault_is_803 ActionDoesNotApply e = omega (arith, e)
 jobs_end_here : (s : ServiceState) (line : List ℕ) → RefusesOpen s line 803 → s.next_job ≡ greatest
 jobs_end_here s line (inl e) = absurd (omega (arith, e))
 jobs_end_here s line (inr (inl e)) = e.1
-jobs_end_here s line (inr (inr e)) = absurd (no_fault_is_803 e.0 e.3)
+jobs_end_here s line (inr (inr e)) = absurd (no_fault_is_803 e.0 e.4)
 
 versions_end_here : (s : ServiceState) → RefusesPublish s 803 → s.number ≡ greatest
 versions_end_here s (inl e) = absurd (omega (arith, e))

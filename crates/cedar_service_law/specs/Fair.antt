@@ -40,7 +40,8 @@ pub record IsFair (v : ReadyTree) (h : History) : Type 0 where
   pub versions_numbered : (before : History) (w : ReadyTree) (n : ℕ) → Stands h before (publish w) (published n) → n ≡ publications before + 1
   pub jobs_end : (before : History) (line : List ℕ) → Stands h before (open_job line) (refused 803) → opens before ≡ greatest
   pub versions_end : (before : History) (w : ReadyTree) → Stands h before (publish w) (refused 803) → publications before ≡ greatest
-  -- a line is read with the version that is current there: it denotes a request, or it has the fault that is answered
+  -- a line is read with the version that is current there: it denotes a request, or it denotes none and has the fault that is
+  -- answered
   pub lines_denote : (before : History) (line : List ℕ) (j : ℕ) → Stands h before (open_job line) (opened j) → (q : Request) × LineDenotes (current_after v before).schema line q
   pub faults_are_there : (before : History) (line : List ℕ) (n : ℕ) → n ≢ 1 → n ≢ 803 → Stands h before (open_job line) (refused n) → IsFaultOfLine (current_after v before).schema line n
   -- the answer taken is that of the job's request in the version that was current at its opening

@@ -1,5 +1,6 @@
 -- The events of a service: versions are published, and jobs are opened, stepped and taken, one after another.
 use Rattle.std.specs.Prelude.{◌≡◌, ◌≢◌, ◌⊎◌, ℕ, ◌+◌, ◌<◌, Bool, true, List, [], ◌∷◌, Option, Some, None}
+use Rattle.cedar_value.specs.declared.request.Request.{Request}
 use Rattle.cedar_ast.specs.PolicyTree.{PolicyTree}
 use Rattle.cedar_ast.specs.Response.{ResponseTree}
 use Rattle.cedar_schema_spec.specs.SchemaTree.{SchemaTree}
@@ -96,9 +97,9 @@ TakesJob old j (Some job) response new = TakesLeft old j job job.left response n
 
 -- ---- events that are refused
 
--- For the schema, the line has a fault of this number. Out of memory is not a fault of a line (own).
+-- For the schema, the line has a fault of this number, and denotes no request. Out of memory is not a fault of a line (own).
 abbrev pub IsFaultOfLine : SchemaTree → List ℕ → ℕ → Type 0
-IsFaultOfLine s line number = (fault : ConformFault) × (fault ≢ OutOfMemory) × LineHasFault s line fault × (number ≡ number_of fault)
+IsFaultOfLine s line number = (fault : ConformFault) × (fault ≢ OutOfMemory) × LineHasFault s line fault × ((q : Request) → ¬ LineDenotes s line q) × (number ≡ number_of fault)
 
 -- A publication is refused with 1 when out of memory, or with 803 where no number is left (own).
 abbrev pub RefusesPublish : ServiceState → ℕ → Type 0

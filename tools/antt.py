@@ -205,7 +205,7 @@ class Source:
     members: list = field(default_factory=list)
 
 
-OWNER = re.compile(r'(?:unsafe )?impl(?:<.*?>)? (?:([\w:]+)(?:<.*>)? for )?&?(?:\'\w+ )?(\w+)')
+OWNER = re.compile(r'(?:unsafe )?impl(?:<.*?(?<!-)>)? (?:([\w:]+)(?:<.*>)? for )?&?(?:\'\w+ )?(\w+)')
 ITEM = re.compile(r'(pub(?:\(crate\))? )?(?:struct|enum|trait|const|static) (\w+)')
 FUNCTION = re.compile(r'( *)(pub(?:\(crate\))? )?(?:const |unsafe |extern "C" )*fn (\w+)')
 CLAUSE = re.compile(r'\s*(?:requires|ensures|ghost)\b')

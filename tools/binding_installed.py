@@ -29,16 +29,6 @@ def words_of(ended):
     return (ended.stdout + ended.stderr).decode(errors='replace')
 
 
-def layout(run):
-    """The folder of an installed library: the one that is tested, or one that is made of its archive where that folder is flat."""
-    if os.path.exists(os.path.join(run.folder, 'pkgconfig', 'cedar.pc')):
-        return os.path.dirname(run.folder)
-    folder = os.path.join(run.room, 'installed')
-    ended = run.done([os.path.join(TOP, 'tools', 'library'), '--of', os.path.join(run.folder, 'libcedar.a'), folder])
-    run.judge('tools/library --of libcedar.a', ended.returncode == 0, words_of(ended))
-    return folder
-
-
 def spaced(run):
     """The folder of an installed library whose path has a space; None where it cannot be made."""
     folder = os.path.join(run.room, 'a prefix')
@@ -80,6 +70,8 @@ def test_installed(run):
     folder, programs = spaced(run), []
     if not folder:
         return
+    shared = sorted(os.listdir(os.path.join(folder, 'share', 'cedar')))
+    run.judge('share/cedar', shared == ['calls.c', 'calls.h', 'heap.c', 'publications.c', 'shared.c', 'tsan.supp'], repr(shared))
     said = run.done(['pkg-config', '--cflags', '--libs', 'cedar'], PKG_CONFIG_PATH=os.path.join(folder, 'lib', 'pkgconfig'))
     run.judge('pkg-config', said.returncode == 0, words_of(said))
     for compiler, standard, source in EXAMPLES if said.returncode == 0 else ():

@@ -12,8 +12,9 @@ def body_of(text, function):
     """The text of a function in its file's text, from its head to its end."""
     lines = text.split('\n')
     at = function.line - 1
-    end = ' ' * (len(lines[at]) - len(lines[at].lstrip())) + '}'
-    return '\n'.join(lines[at:next((it for it in range(at, len(lines)) if lines[it] == end or lines[it].endswith('{}')), at) + 1])
+    end = re.compile(' ' * (len(lines[at]) - len(lines[at].lstrip())) + r'(?:\}|(?:\S.*)?\{\})')
+    last = next((it for it in range(at, len(lines)) if end.fullmatch(lines[it])), at)
+    return '\n'.join(lines[at:last + 1])
 
 
 @dataclass

@@ -1,9 +1,13 @@
 """Has the prover judge edits, several in one check. Used by tools/edits.
 
 A proof of a function rests on the contracts of what it calls, and not on their bodies. So edits of several functions are judged in one
-check of a copy of the crate, and each is refused where the proof of a function that it changes fails there. The prover does not try all of
-a function that calls one whose proof failed; an edit of such a function is judged in a later check. One whose own functions are still
-proved, and one of text outside of functions, is judged alone, over the whole crate."""
+check of a copy of the crate, which proves those functions alone and what they call. An edit is refused where the proof of a function that
+it changes fails there, and it is not where all of them are still proved. The prover does not try all of a function that calls one whose
+proof failed; an edit of such a function is judged in a later check. One of text outside of functions is judged alone: over the modules
+that it changes, and if these are still proved, over the whole crate.
+
+The first check begins with what `rt check` has kept of the crate in this checkout, if it has, and each later one with what those before
+it have kept."""
 import os
 import re
 import shutil
@@ -23,8 +27,15 @@ REJECTED = re.compile(r'^(?:\./)?(src/\S+?):(\d+):\d+: error\[[\w-]+\]', re.M)
 # An error in a proof file, and what the prover says where the file names what an edit took away, which says nothing of a contract.
 IN_PROOF = re.compile(r'^(?:note: )?(?:\./)?proofs/(\S+)/\w+\.antt:\d+:\d+: (.*)$', re.M)
 LOST_NAME = re.compile(r'has no field|is not in scope|has no `|was not admitted')
+# The head of an impl: its parameters, its trait and its type; a parameter; and a name that is neither a lifetime nor a module.
+HEAD = re.compile(r'(?:unsafe )?impl(<.*?(?<!-)>)? (?:(.*) for )?(.*)')
+PARAMETER = re.compile(r'[<,] *(\w+)(?=[:,>])')
+WORD = re.compile(r"(?<!['\w])\w+(?!\w|::)")
+# A check judges at most so many edits, so that what it finds is entered before long.
+MOST = 12
 PROVED, FAILED, LOST, WAITS = 'proved', 'failed', 'lost', 'waits'
 NOTHING = 'refused only because a proof names what it took away, which says nothing of a contract'
+UNREAD = 'it does not compile: no contract was tried'
 
 
 @dataclass
@@ -48,18 +59,18 @@ class Check:
 
     def of(self, function):
         """What became of the proof of a function, and the first goal that was left."""
+        rows = [said for name, said in VERDICT.findall(self.said) if is_name_of(name, function)]
+        if rows and all(it == PROVED for it in rows):
+            return PROVED, ''
         file, last = path_in(function), function.line + body_of(function.file.text, function).count('\n')
         goals = [goal for at, line, goal in PLACED.findall(self.said) if at == file and function.line <= int(line) <= last]
-        rows = [said for name, said in VERDICT.findall(self.said) if is_name_of(name, function)]
         goals += [goal[1] for goal in map(GOAL.search, rows) if goal]
         if goals:
             return FAILED, goals[0]
         errors = [said for folder, said in IN_PROOF.findall(self.said) if is_name_of(folder.replace('/', '::'), function)]
         if errors and 'not proved' in rows:
             return (LOST, '') if all(map(LOST_NAME.search, errors)) else (FAILED, 'proof')
-        if not rows or not all(it == PROVED for it in rows):
-            return WAITS, ''
-        return PROVED, ''
+        return WAITS, ''
 
     def failing(self):
         """The functions whose own proof failed, each with its goal."""
@@ -76,33 +87,45 @@ def module_of(file):
     return '::'.join(it for it in file[len('src/'):-len('.rt')].split('/') if it not in ('lib', 'main'))
 
 
+def owner_in(function):
+    """The type of a function and its trait, with their arguments, as the prover writes them."""
+    heads = [it for it in map(HEAD.match, function.file.text.split('\n')[:function.line]) if it]
+    if not function.owner or not heads:
+        return function.owner
+    parameters = PARAMETER.findall(heads[-1][1] or '')
+    trait, owner = ([it for it in WORD.findall(part or '') if it not in parameters] for part in heads[-1].groups()[1:])
+    return ''.join(owner + trait) if trait else '+'.join(owner)
+
+
+def name_of(function):
+    """The name of a function below its crate, as the prover writes it, or the end of it where its type is declared in another file."""
+    is_here = not function.owner or any(it.name == function.owner for it in function.file.types)
+    return '::'.join(filter(None, (module_of(path_in(function)) if is_here else '', owner_in(function), function.name)))
+
+
 def is_name_of(name, function):
-    """Whether the prover's name is that of a function: its module, its type, with the trait after it if there is one, and itself."""
-    module = module_of(path_in(function))
-    rest = name.removeprefix(module + '::') if module else name
-    if rest == name and module or not rest.endswith('::' + function.name) and rest != function.name:
-        return False
-    owner = rest[:-len(function.name)].rstrip(':')
-    return owner.startswith(function.owner) if function.owner else not owner
+    """Whether the prover's name is that of a function."""
+    return ('::' + name).endswith('::' + name_of(function))
 
 
-def check(crate, texts, only=()):
-    """Checks a copy of a crate with these texts, over what earlier checks have kept of it here."""
+def names_of(house, edits):
+    """The names of the functions that edits change, as the prover writes them."""
+    return sorted({name_of(it) for edit in edits for it in edit.changed(house) if it})
+
+
+def check(crate, texts, only, kept):
+    """Checks a copy of a crate with these texts: the functions and modules of these names, or all where there is none, or an empty one. It
+    begins with what the folder `kept` has, and leaves there what it keeps."""
     with tempfile.TemporaryDirectory(prefix='edits-') as room:
-        folder = os.path.join(TOP, 'crates', crate)
         for part in PARTS:
-            if os.path.isdir(os.path.join(folder, part)):
-                shutil.copytree(os.path.join(folder, part), os.path.join(room, part))
+            if os.path.isdir(os.path.join(TOP, 'crates', crate, part)):
+                shutil.copytree(os.path.join(TOP, 'crates', crate, part), os.path.join(room, part))
         for file, text in texts.items():
             with open(os.path.join(room, file), 'w', encoding='utf-8') as target:
                 target.write(text)
-        kept = os.path.join(folder, 'out', 'incremental')
-        call = [rattle(), 'check', *words(crate), *(word for it in only for word in ('--only', it))]
-        if os.path.isdir(kept):
-            shutil.copytree(kept, os.path.join(room, 'kept'), symlinks=True, copy_function=linked)
-            call += ['--incremental', os.path.join(room, 'kept')]
-        ran = subprocess.run(call, cwd=room, stdin=subprocess.DEVNULL, stdout=subprocess.PIPE, stderr=subprocess.STDOUT,
-                             encoding='utf-8', errors='replace', check=False)
+        paths = [word for it in only for word in ('--only', it)] if all(only) else []
+        ran = subprocess.run([rattle(), 'check', *words(crate), *paths, '--incremental', kept], cwd=room, stdin=subprocess.DEVNULL,
+                             stdout=subprocess.PIPE, stderr=subprocess.STDOUT, encoding='utf-8', errors='replace', check=False)
     return Check(ran.returncode, ran.stdout)
 
 
@@ -147,14 +170,20 @@ def judged(house, edit, found):
     refusing = [Verdict(edit, it.label(), goal) for it, state, goal in states if state == FAILED]
     if refusing:
         return refusing[0]
-    return Verdict(edit, why=NOTHING) if any(state == LOST for _it, state, _goal in states) else None
+    if any(state == LOST for _it, state, _goal in states):
+        return Verdict(edit, why=NOTHING)
+    is_proved = None not in edit.changed(house) and all(state == PROVED for _it, state, _goal in states)
+    return Verdict(edit, why='NOT REFUSED: what it changes is still proved') if is_proved else None
 
 
-def alone(house, edit):
-    """Judges one edit over its whole crate."""
-    found = check(edit.crate, edit.texts)
+def alone(house, edit, kept):
+    """Judges one edit over the modules that it changes, and if these are still proved, over its whole crate."""
+    modules = sorted(module_of(it) for it in edit.texts if it.startswith('src/'))
+    found = check(edit.crate, edit.texts, modules, kept)
+    if modules and all(modules) and not found.status:
+        found = check(edit.crate, edit.texts, (), kept)
     if found.rejected():
-        return Verdict(edit, why='it does not compile: no contract was tried')
+        return Verdict(edit, why=UNREAD)
     if not found.status:
         return Verdict(edit, why='NOT REFUSED: the crate is still proved with it')
     if found.status != 1:
@@ -164,34 +193,30 @@ def alone(house, edit):
 
 def tries(house, crate, edits):
     """Judges edits of a crate, and gives each verdict as it is found."""
-    left, single = list(edits), []
-    while left:
-        batch = batch_of(house, left)
-        single += [it for it in left if None in it.changed(house)]
-        left = [it for it in left if it not in single]
-        if not batch:
-            continue
-        modules = sorted({module_of(file) for it in batch for file in it.texts})
-        found = check(crate, merged(batch), modules if all(modules) else ())
-        bad = [it for it in batch if it.lines() & found.rejected()]
-        if found.rejected():
-            for edit in bad:
-                yield Verdict(edit, why='it does not compile: no contract was tried')
-            left = [it for it in left if it not in bad]
-            single += [] if bad else batch
-            left = left if bad else [it for it in left if it not in batch]
-            continue
-        before = len(left)
-        for edit in batch:
-            verdict = judged(house, edit, found)
-            waits = not verdict and any(found.of(it)[0] == WAITS for it in edit.changed(house))
-            if verdict:
-                yield verdict
-            elif not waits:
-                single.append(edit)
-            if not waits:
-                left.remove(edit)
-        if len(left) == before:
-            single.append(left.pop(0))
-    for edit in single:
-        yield alone(house, edit)
+    own = os.path.join(TOP, 'crates', crate, 'out', 'incremental')
+    with tempfile.TemporaryDirectory(prefix='edits-') as kept:
+        if os.path.isdir(own):
+            shutil.copytree(own, kept, symlinks=True, copy_function=linked, dirs_exist_ok=True)
+        left, single = [it for it in edits if None not in it.changed(house)], [it for it in edits if None in it.changed(house)]
+        most = MOST
+        while left:
+            batch = batch_of(house, left)[:most]
+            found = check(crate, merged(batch), names_of(house, batch), kept)
+            verdicts = verdicts_of(house, batch, found)
+            yield from verdicts
+            done = [it.edit for it in verdicts]
+            # A check that says nothing of any edit is made again with half of them, and one edit of which it says nothing is judged alone.
+            if not done and len(batch) == 1:
+                done = batch
+                single += batch
+            most = MOST if done else len(batch) // 2
+            left = [it for it in left if it not in done]
+        for edit in single:
+            yield alone(house, edit, kept)
+
+
+def verdicts_of(house, batch, found):
+    """What a check says of the edits of a batch. Of some it may say nothing."""
+    if found.rejected():
+        return [Verdict(it, why=UNREAD) for it in batch if it.lines() & found.rejected()]
+    return [it for it in (judged(house, edit, found) for edit in batch) if it]

@@ -3,22 +3,18 @@
  *   cedar::Engine engine({schema, policies, links, entities});
  *   bool may = engine.decide({{"User", "ann"}, {"Action", "write"}, {"Notebook", "plans"}});
  *
- * Any number of threads may use one Engine at the same time. A request takes no lock: it takes a handle out of an array of atomic
- * places. `publish` swaps the engine while requests run, `publish_entities` its entities alone, and `publish_changes` changes some of
- * them. Each answer is that of an engine that was current during its call, and an engine that is no longer current is freed with its last
- * request. A move, an assignment and the destructor need the Engine alone. */
+ * Any number of threads may use one Engine at the same time, and a request takes no lock: an Engine is a cedar_shared. `publish` swaps the
+ * engine while requests run, `publish_entities` its entities alone, and `publish_changes` changes some of them. Each answer is that of an
+ * engine that was current during its call. A move, an assignment and the destructor need the Engine alone. */
 #ifndef CEDAR_HPP
 #define CEDAR_HPP
 #include "cedar.h"
 
 #include <algorithm>
-#include <array>
-#include <atomic>
+#include <charconv>
 #include <cstddef>
 #include <cstdint>
-#include <cstdlib>
 #include <memory>
-#include <mutex>
 #include <new>
 #include <optional>
 #include <stdexcept>
@@ -33,6 +29,7 @@ namespace cedar {
 class Error : public std::runtime_error {
 public:
     Error(std::uint32_t status, const std::string &words) : std::runtime_error(words), status_(status) {}
+    explicit Error(std::uint32_t status) : Error(status, std::string("cedar: ") + cedar_status_text(status)) {}
     std::uint32_t status() const noexcept { return status_; }
 
 private:
@@ -48,22 +45,31 @@ public:
 /* Nothing was published to the engine. */
 class NoEngine : public Error {
 public:
-    NoEngine() : Error(CEDAR_NO_ENGINE, "cedar: nothing was published to the engine") {}
+    NoEngine() : Error(CEDAR_NO_ENGINE) {}
 };
 
 /* The engine was closed. */
 class Closed : public Error {
 public:
-    Closed() : Error(CEDAR_NO_ENGINE, "cedar: the engine is closed") {}
+    Closed() : Error(CEDAR_CLOSED) {}
 };
+
+namespace detail {
+
+inline std::string string(cedar_bytes text) { return std::string(static_cast<const char *>(text.at), text.length); }
+
+} // namespace detail
 
 /* A file is refused. `number` is one of docs/REFUSALS.md, `words` explains it to people, `text` is the line that the program prints. */
 class Refusal : public Error {
 public:
-    Refusal(const cedar_refusal &why, std::optional<std::uint64_t> line, std::string text, const std::string &words)
-        : Error(CEDAR_REFUSED, words), file(why.file), number(why.number), line(line), words(words), text(std::move(text)) {
+    explicit Refusal(const cedar_refusal &why)
+        : Error(CEDAR_REFUSED, detail::string(why.words)), file(why.file), number(why.number), words(what()), text(detail::string(why.text)) {
         if (why.offset != CEDAR_NO_OFFSET) {
             offset = why.offset;
+        }
+        if (why.line) {
+            line = why.line;
         }
     }
     std::uint32_t file; /* CEDAR_SCHEMA, CEDAR_POLICIES, CEDAR_LINKS or CEDAR_ENTITIES */
@@ -76,16 +82,18 @@ public:
 /* The policies have faults. `report` is what `cedar validate` prints, `words` explains it to people. */
 class Faults : public Error {
 public:
-    Faults(std::string report, const std::string &words) : Error(CEDAR_FAULTS, words), report(std::move(report)), words(words) {}
+    explicit Faults(const cedar_refusal &why)
+        : Error(CEDAR_FAULTS, detail::string(why.words)), report(detail::string(why.text)), words(what()) {}
     std::string report, words;
 };
 
-/* A request is refused, so nothing was decided. */
+/* A request is refused, so nothing was decided. `number` is one of docs/REFUSALS.md, `words` explains it to people. */
 class RequestRefusal : public Error {
 public:
-    explicit RequestRefusal(std::uint32_t number)
-        : Error(CEDAR_NO_REQUEST, "cedar: the request is refused: " + std::to_string(number)), number(number) {}
+    RequestRefusal(std::uint32_t refused, const std::string &why)
+        : Error(CEDAR_NO_REQUEST, why.empty() ? "cedar: the request is refused: " + std::to_string(refused) : why), number(refused), words(what()) {}
     std::uint32_t number;
+    std::string words;
 };
 
 /* The files of an engine, as texts. Without a file of links `links` is empty. */
@@ -132,14 +140,25 @@ inline cedar_files raw(const Files &files) {
     return {sizeof(cedar_files), bytes(files.schema), bytes(files.policies), bytes(files.links), bytes(files.entities), settings, 0};
 }
 
-[[noreturn]] inline void fail(std::uint32_t status) {
-    if (status == CEDAR_MEMORY) {
+inline cedar_request raw(const Request &it) {
+    return {sizeof(cedar_request), bytes(it.principal.type), bytes(it.principal.id), bytes(it.action.type),
+            bytes(it.action.id),   bytes(it.resource.type),  bytes(it.resource.id),  bytes(it.context)};
+}
+
+/* Throws what a status means, unless it is CEDAR_OK. */
+inline void check(std::uint32_t status) {
+    switch (status) {
+    case CEDAR_OK:
+        return;
+    case CEDAR_MEMORY:
         throw OutOfMemory();
-    }
-    if (status == CEDAR_NO_ENGINE) {
+    case CEDAR_NO_ENGINE:
         throw NoEngine();
+    case CEDAR_CLOSED:
+        throw Closed();
+    default:
+        throw Error(status);
     }
-    throw Error(status, "cedar: status " + std::to_string(status));
 }
 
 /* Makes a call that writes a text, in a buffer that grows until the text fits. Returns the status. */
@@ -148,7 +167,7 @@ template <class Call> std::uint32_t grown(std::string &text, std::size_t room, C
         text.resize(room);
         cedar_buffer buffer = {text.data(), text.size(), 0};
         std::uint32_t status = call(buffer);
-        if (buffer.written > room && (status == CEDAR_ROOM || status == CEDAR_REFUSED || status == CEDAR_FAULTS)) {
+        if (status == CEDAR_ROOM || buffer.written > room) {
             room = buffer.written;
             continue;
         }
@@ -157,46 +176,34 @@ template <class Call> std::uint32_t grown(std::string &text, std::size_t room, C
     }
 }
 
-inline std::string explained(const cedar_files &files, std::uint32_t format) {
+/* The text that a call writes, which has no other status than those of `check`. */
+template <class Call> std::string text_of(std::size_t room, Call call) {
     std::string text;
-    std::uint32_t status = grown(text, 4096, [&](cedar_buffer &buffer) { return cedar_explain(&files, format, &buffer); });
-    if (status != CEDAR_OK) {
-        fail(status);
-    }
+    check(grown(text, room, call));
     return text;
 }
 
-/* The line that an explanation in JSON names. The keys of an object ascend, so that of the place is before those of the marks. */
-inline std::optional<std::uint64_t> line_of(const std::string &explanation) {
-    static constexpr std::string_view KEY = "\"line\":";
-    std::size_t at = explanation.find(KEY), end = std::min(explanation.find("\"marks\":"), explanation.find('\n'));
-    if (at == std::string::npos || at > end) {
-        return std::nullopt;
+/* Why a call refuses what is published, with words. */
+struct Why : cedar_refusal {
+    Why() : cedar_refusal() {
+        size = sizeof(cedar_refusal);
+        wants = CEDAR_WANTS_WORDS;
     }
-    return std::strtoull(explanation.c_str() + at + KEY.size(), nullptr, 10);
-}
+    Why(const Why &) = delete;
+    Why &operator=(const Why &) = delete;
+    ~Why() { cedar_refusal_free(this); }
 
-/* Throws that a file of these is refused. */
-[[noreturn]] inline void refuse(const cedar_files &files, const cedar_refusal &why, const std::string &text) {
-    throw Refusal(why, line_of(explained(files, CEDAR_JSON)), text, explained(files, CEDAR_WORDS));
-}
-
-inline std::string explained_changes(std::string_view schema, std::string_view changes, std::uint32_t number, std::uint32_t format) {
-    std::string text;
-    std::uint32_t status = grown(text, 4096, [&](cedar_buffer &buffer) {
-        return cedar_explain_changes(bytes(schema), bytes(changes), number, format, &buffer);
-    });
-    if (status != CEDAR_OK) {
-        fail(status);
+    /* Throws why a call has failed with this status, unless it is CEDAR_OK. */
+    void check(std::uint32_t status) const {
+        if (status == CEDAR_REFUSED) {
+            throw Refusal(*this);
+        }
+        if (status == CEDAR_FAULTS) {
+            throw Faults(*this);
+        }
+        detail::check(status);
     }
-    return text;
-}
-
-/* Throws that changes of entities are refused for this schema. */
-[[noreturn]] inline void refuse_changes(std::string_view schema, std::string_view changes, const cedar_refusal &why, const std::string &text) {
-    throw Refusal(why, line_of(explained_changes(schema, changes, why.number, CEDAR_JSON)), text,
-                  explained_changes(schema, changes, why.number, CEDAR_WORDS));
-}
+};
 
 /* Reads an answer line. */
 class Reader {
@@ -236,7 +243,7 @@ private:
 
     void need(std::string_view word) {
         if (!take(word)) {
-            throw std::logic_error("cedar: an answer has another form");
+            throw Error(CEDAR_ARGUMENT, "cedar: an answer has another form");
         }
     }
 
@@ -273,8 +280,10 @@ private:
 
     std::uint32_t hex() {
         need("u");
-        std::uint32_t unit = static_cast<std::uint32_t>(std::stoul(std::string(rest_.substr(0, 4)), nullptr, 16));
-        rest_.remove_prefix(4);
+        std::string_view digits = rest_.substr(0, 4);
+        std::uint32_t unit = 0;
+        auto read = std::from_chars(digits.data(), digits.data() + digits.size(), unit, 16);
+        need(digits.size() == 4 && read.ptr == digits.data() + 4 ? digits : "four digits");
         return unit;
     }
 
@@ -294,402 +303,145 @@ private:
     std::string_view rest_;
 };
 
-/* A handle that requests use, the number of the version that it was shared at, and room for an answer. */
-struct Shared {
-    cedar_engine handle = {nullptr};
-    std::uint64_t version = 0;
-    std::string room = std::string(512, '\0');
-
-    Shared() = default;
-    Shared(const Shared &) = delete;
-    Shared &operator=(const Shared &) = delete;
-    ~Shared() { cedar_free(&handle); }
-};
-
-/* What an Engine leads to: the handle that is published to, and the places of the handles that requests use. */
-class Core {
-public:
-    static constexpr std::uint64_t NOTHING = 0, CLOSED = UINT64_MAX;
-
-    Core() = default;
-    Core(const Core &) = delete;
-    Core &operator=(const Core &) = delete;
-    ~Core() { close(); }
-
-    /* Keeps other publishers from swapping while it lives. Requests and `close` do not wait for it. */
-    std::unique_lock<std::mutex> publishing() { return std::unique_lock<std::mutex>(publishers_); }
-
-    /* Has a handle, to which was published, take the place of the main one. The caller has the lock of `publishing`. */
-    void swap(cedar_engine &handle, std::shared_ptr<const std::string> schema) {
-        {
-            std::lock_guard<std::mutex> guard(lock_);
-            if (version_.load() == CLOSED) {
-                throw Closed();
-            }
-            std::swap(main_, handle);
-            std::swap(schema_, schema);
-            version_.store(++count_);
-        }
-        sweep();
-    }
-
-    /* Has a handle lead to the current engine, and gives the schema of that engine, by which refused entities are explained. */
-    std::shared_ptr<const std::string> schema_of(Shared &shared) {
-        std::lock_guard<std::mutex> guard(lock_);
-        lead(shared);
-        return schema_;
-    }
-
-    void close() {
-        {
-            std::lock_guard<std::mutex> guard(lock_);
-            version_.store(CLOSED);
-            cedar_free(&main_);
-            schema_.reset();
-        }
-        sweep();
-    }
-
-    /* A handle that leads to the current engine. It takes the lock only if no place has one of the current version. */
-    std::unique_ptr<Shared> take() {
-        std::unique_ptr<Shared> shared;
-        for (std::size_t i = 0, home = home_place(); i < PLACES && !shared; i++) {
-            Place &place = places_[(home + i) % PLACES];
-            if (place.shared.load(std::memory_order_relaxed)) {
-                shared.reset(place.shared.exchange(nullptr));
-            }
-        }
-        std::uint64_t version = version_.load();
-        if (version == CLOSED) {
-            throw Closed();
-        }
-        if (version == NOTHING) {
-            throw NoEngine();
-        }
-        if (!shared) {
-            shared = std::make_unique<Shared>();
-        }
-        if (shared->version != version) {
-            renew(*shared);
-        }
-        return shared;
-    }
-
-    /* Puts a handle back into an empty place, or frees it. */
-    void give(std::unique_ptr<Shared> shared) noexcept {
-        std::uint64_t version = shared->version;
-        for (std::size_t i = 0, home = home_place(); i < PLACES && version == version_.load(); i++) {
-            if (put(places_[(home + i) % PLACES], shared)) {
-                /* A publisher that did not see the handle has changed the version before this. */
-                if (version != version_.load()) {
-                    sweep();
-                }
-                return;
-            }
-        }
-    }
-
-private:
-    static constexpr std::size_t PLACES = 64;
-    struct alignas(64) Place {
-        std::atomic<Shared *> shared{nullptr};
-    };
-
-    static std::size_t home_place() noexcept {
-        static std::atomic<std::size_t> threads{0};
-        thread_local std::size_t home = threads.fetch_add(1, std::memory_order_relaxed);
-        return home;
-    }
-
-    static bool put(Place &place, std::unique_ptr<Shared> &shared) noexcept {
-        Shared *none = nullptr;
-        bool is_put = place.shared.compare_exchange_strong(none, shared.get());
-        if (is_put) {
-            shared.release();
-        }
-        return is_put;
-    }
-
-    /* Has a handle lead to the current engine. */
-    void renew(Shared &shared) {
-        if (!shared.handle.at) {
-            if (std::uint32_t status = cedar_new(&shared.handle)) {
-                fail(status);
-            }
-        }
-        std::lock_guard<std::mutex> guard(lock_);
-        lead(shared);
-    }
-
-    /* The same where the handle is there. The caller has the lock. */
-    void lead(Shared &shared) {
-        if (version_.load() == CLOSED) {
-            throw Closed();
-        }
-        if (shared.version == version_.load()) {
-            return;
-        }
-        if (std::uint32_t status = cedar_share(&main_, &shared.handle)) {
-            fail(status);
-        }
-        shared.version = version_.load();
-    }
-
-    /* Frees the handles of other versions that are in the places. */
-    void sweep() noexcept {
-        std::uint64_t version;
-        do {
-            version = version_.load();
-            for (Place &place : places_) {
-                std::unique_ptr<Shared> shared(place.shared.exchange(nullptr));
-                if (shared && shared->version == version) {
-                    put(place, shared);
-                }
-            }
-        } while (version != version_.load());
-    }
-
-    std::mutex publishers_, lock_;
-    cedar_engine main_ = {nullptr};
-    std::shared_ptr<const std::string> schema_;
-    std::uint64_t count_ = 0;
-    std::atomic<std::uint64_t> version_{NOTHING};
-    std::array<Place, PLACES> places_;
-};
-
-/* A handle that is put back when its call ends. */
-class Lease {
-public:
-    explicit Lease(Core &core) : core_(core), shared_(core.take()) {}
-    Lease(const Lease &) = delete;
-    Lease &operator=(const Lease &) = delete;
-    ~Lease() { core_.give(std::move(shared_)); }
-    Shared &operator*() const { return *shared_; }
-
-private:
-    Core &core_;
-    std::unique_ptr<Shared> shared_;
-};
-
 } // namespace detail
 
 /* Validates the policies of files, of which `entities` is not read. Throws Refusal where a file is refused. */
 inline Report validate(const Files &files) {
     cedar_files raw = detail::raw(files);
+    detail::Why why;
     std::string text;
-    std::uint32_t status = detail::grown(text, 4096, [&](cedar_buffer &buffer) { return cedar_validate(&raw, &buffer); });
-    if (status == CEDAR_REFUSED) {
-        /* Publishing to a handle of its own says the file and the number. */
-        cedar_engine handle;
-        cedar_refusal why = {sizeof why, 0, 0, 0};
-        if (std::uint32_t refused = cedar_new(&handle)) {
-            detail::fail(refused);
-        }
-        status = cedar_publish(&handle, &raw, &why, nullptr);
-        cedar_free(&handle);
-        if (status == CEDAR_REFUSED) {
-            detail::refuse(raw, why, text);
-        }
-    }
-    if (status != CEDAR_OK && status != CEDAR_FAULTS) {
-        detail::fail(status);
+    std::uint32_t status = detail::grown(text, 4096, [&](cedar_buffer &buffer) {
+        cedar_refusal_free(&why);
+        return cedar_validate_files(&raw, &why, &buffer);
+    });
+    if (status != CEDAR_FAULTS) {
+        why.check(status);
     }
     return {status == CEDAR_OK, std::move(text)};
 }
 
 /* Explains in words why files are refused or have faults. Empty where they are accepted. */
-inline std::string explain(const Files &files) { return detail::explained(detail::raw(files), CEDAR_WORDS); }
+inline std::string explain(const Files &files) {
+    cedar_files raw = detail::raw(files);
+    return detail::text_of(4096, [&](cedar_buffer &buffer) { return cedar_explain(&raw, CEDAR_WORDS, &buffer); });
+}
 
 /* An engine, for any number of threads. */
 class Engine {
 public:
     /* An engine to which nothing was published. */
-    Engine() : core_(std::make_unique<detail::Core>()) {}
+    Engine() {
+        cedar_shared *made;
+        detail::check(cedar_shared_new(&made));
+        shared_.reset(made);
+    }
     explicit Engine(const Files &files) : Engine() { publish(files); }
 
     /* Reads and validates files, and has all later calls answer according to them. Where it throws, nothing has changed. The work is done
      * before the swap, so requests do not wait for it. Throws Refusal, Faults, OutOfMemory and Closed. */
     void publish(const Files &files) {
-        detail::Core &core = open();
         cedar_files raw = detail::raw(files);
-        struct Handle {
-            cedar_engine at = {nullptr};
-            ~Handle() { cedar_free(&at); }
-        } handle;
-        if (std::uint32_t status = cedar_new(&handle.at)) {
-            detail::fail(status);
-        }
-        cedar_refusal why = {sizeof why, 0, 0, 0};
-        std::string text;
-        std::uint32_t status =
-            detail::grown(text, 4096, [&](cedar_buffer &buffer) { return cedar_publish(&handle.at, &raw, &why, &buffer); });
-        if (status == CEDAR_REFUSED) {
-            detail::refuse(raw, why, text);
-        }
-        if (status == CEDAR_FAULTS) {
-            throw Faults(text, detail::explained(raw, CEDAR_WORDS));
-        }
-        if (status != CEDAR_OK) {
-            detail::fail(status);
-        }
-        auto schema = std::make_shared<const std::string>(files.schema);
-        auto publishing = core.publishing();
-        core.swap(handle.at, std::move(schema));
+        detail::Why why;
+        why.check(cedar_shared_publish(open(), &raw, &why, nullptr));
     }
 
     /* Reads entities, and has all later calls answer over them, according to the schema, the policies and the links of the current engine,
      * which are not read again. Where it throws, nothing has changed. Requests do not wait for it; another `publish` waits with its swap.
      * Throws Refusal, OutOfMemory, NoEngine and Closed. */
     void publish_entities(std::string_view entities) {
-        detail::Core &core = open();
-        auto publishing = core.publishing();
-        over(
-            [&](cedar_engine &handle, cedar_refusal &why, cedar_buffer &buffer) {
-                return cedar_publish_entities(&handle, detail::bytes(entities), &why, &buffer);
-            },
-            [&](const std::string &schema, const cedar_refusal &why, const std::string &text) {
-                detail::refuse(detail::raw({schema, {}, {}, entities}), why, text);
-            },
-            core);
+        detail::Why why;
+        why.check(cedar_shared_publish_entities(open(), detail::bytes(entities), &why, nullptr));
     }
 
     /* Reads changes of entities, {"upsert":[entry, ..],"remove":[uid, ..]}, and has all later calls answer over the entities after them. What
      * they do not name is not read again. Where it throws, nothing has changed. Requests do not wait for it; another publisher waits.
      * Throws Refusal, OutOfMemory, NoEngine and Closed. */
     void publish_changes(std::string_view changes) {
-        detail::Core &core = open();
-        auto publishing = core.publishing();
-        change(changes, core);
+        detail::Why why;
+        why.check(cedar_shared_publish_changes(open(), detail::bytes(changes), &why, nullptr));
     }
 
     /* Another engine, of the same policies, over the entities after changes, for example those that a request brings with it. This engine is
      * as before. The other one is freed with its last use. Throws what publish_changes throws. */
     Engine with_changes(std::string_view changes) const {
-        Engine other;
-        change(changes, *other.core_);
-        return other;
+        detail::Why why;
+        cedar_shared *other;
+        why.check(cedar_shared_with_changes(open(), detail::bytes(changes), &other, &why, nullptr));
+        return Engine(other);
     }
 
     /* Whether a request is allowed. It makes no text, so it is the fastest call. Throws RequestRefusal where the request is refused. */
     bool decide(const Request &request) const {
-        detail::Lease lease(open());
         cedar_decision decision = {sizeof decision, 0, 0};
-        cedar_request raw = raw_request(request);
-        std::uint32_t status = cedar_decide(&(*lease).handle, &raw, &decision, nullptr);
-        check(status, decision);
+        cedar_request raw = detail::raw(request);
+        check(cedar_shared_decide(open(), &raw, &decision, nullptr), raw, decision);
         return decision.allow == 1;
     }
 
     /* The answer to a request. Throws RequestRefusal where the request is refused. */
-    Response is_authorized(const Request &request) const {
-        detail::Lease lease(open());
-        detail::Shared &shared = *lease;
+    Response authorize(const Request &request) const {
         cedar_decision decision = {sizeof decision, 0, 0};
-        cedar_request raw = raw_request(request);
-        for (;;) {
-            cedar_buffer buffer = {shared.room.data(), shared.room.size(), 0};
-            std::uint32_t status = cedar_decide(&shared.handle, &raw, &decision, &buffer);
-            if (status != CEDAR_ROOM) {
-                check(status, decision);
-                return detail::Reader(std::string_view(shared.room.data(), buffer.written)).response();
-            }
-            shared.room.resize(buffer.written);
-        }
+        cedar_request raw = detail::raw(request);
+        std::string text;
+        check(detail::grown(text, 256, [&](cedar_buffer &buffer) { return cedar_shared_decide(open(), &raw, &decision, &buffer); }), raw,
+              decision);
+        return detail::Reader(text).response();
     }
+
+    /* The earlier name of `authorize`. */
+    Response is_authorized(const Request &request) const { return authorize(request); }
 
     /* The answer line to a request line, as `cedar authorize` writes it, without a line feed. */
-    std::string answer_line(std::string_view line) const {
-        return text_of(256, [&](cedar_engine &handle, cedar_buffer &buffer) {
-            return cedar_answer_line(&handle, detail::bytes(line), &buffer);
-        });
-    }
+    std::string answer_line(std::string_view line) const { return answered(cedar_shared_answer_line, 256, line); }
 
     /* The answer lines to request lines, all of one engine. */
-    std::string answer(std::string_view lines) const {
-        std::size_t room = 256 + lines.size();
-        return text_of(room, [&](cedar_engine &handle, cedar_buffer &buffer) { return cedar_answer(&handle, detail::bytes(lines), &buffer); });
-    }
+    std::string answer(std::string_view lines) const { return answered(cedar_shared_answer, 256 + lines.size(), lines); }
 
     /* The answer lines to request lines that may bring entities, as `cedar authorize --entities-in-lines` writes them, all of one engine.
      * The entities of a line replace those of the engine with their uids, or are added to them, for this line alone. A line with entities
      * that are refused has an answer that says so. */
     std::string answer_with_entities(std::string_view lines) const {
-        return text_of(256 + lines.size(), [&](cedar_engine &handle, cedar_buffer &buffer) {
-            return cedar_answer_with_entities(&handle, detail::bytes(lines), &buffer);
+        return answered(cedar_shared_answer_with_entities, 256 + lines.size(), lines);
+    }
+
+    /* Why a request line is refused, in words; empty where it is not. `kind` is CEDAR_LINE_WITH_ENTITIES where it may bring entities. */
+    std::string explain_line(std::string_view line, std::uint32_t kind = CEDAR_LINE) const {
+        return detail::text_of(1024, [&](cedar_buffer &buffer) {
+            return cedar_shared_explain_line(open(), detail::bytes(line), kind, 0, CEDAR_WORDS, &buffer);
         });
     }
 
     /* Frees all that no running call uses. Later calls throw Closed. Closing twice is safe. */
-    void close() {
-        if (core_) {
-            core_->close();
-        }
-    }
+    void close() { cedar_shared_close(shared_.get()); }
 
 private:
-    detail::Core &open() const {
-        if (!core_) {
+    explicit Engine(cedar_shared *shared) : shared_(shared) {}
+
+    cedar_shared *open() const {
+        if (!shared_) {
             throw Closed();
         }
-        return *core_;
+        return shared_.get();
     }
 
-    static cedar_request raw_request(const Request &it) {
-        using detail::bytes;
-        return {sizeof(cedar_request), bytes(it.principal.type), bytes(it.principal.id), bytes(it.action.type),
-                bytes(it.action.id),   bytes(it.resource.type),  bytes(it.resource.id),  bytes(it.context)};
-    }
-
-    static void check(std::uint32_t status, const cedar_decision &decision) {
-        if (status == CEDAR_NO_REQUEST) {
-            throw RequestRefusal(decision.refused);
+    /* Throws why nothing was decided, unless the status is CEDAR_OK. */
+    void check(std::uint32_t status, const cedar_request &request, const cedar_decision &decision) const {
+        if (status != CEDAR_NO_REQUEST) {
+            return detail::check(status);
         }
-        if (status != CEDAR_OK) {
-            detail::fail(status);
-        }
+        throw RequestRefusal(decision.refused, detail::text_of(1024, [&](cedar_buffer &buffer) {
+            return cedar_shared_explain_request(open(), &request, decision.refused, CEDAR_WORDS, &buffer);
+        }));
     }
 
-    /* Publishes to a handle of the current engine, which then becomes the main one of `to`; or says why the text is refused. */
-    template <class Call, class Refuse> void over(Call call, Refuse refuse, detail::Core &to) const {
-        detail::Core &core = open();
-        detail::Lease lease(core);
-        auto schema = core.schema_of(*lease);
-        cedar_refusal why = {sizeof why, 0, 0, 0};
-        std::string text;
-        std::uint32_t status = detail::grown(text, 256, [&](cedar_buffer &buffer) { return call((*lease).handle, why, buffer); });
-        if (status == CEDAR_REFUSED) {
-            refuse(*schema, why, text);
-        }
-        if (status != CEDAR_OK) {
-            detail::fail(status);
-        }
-        to.swap((*lease).handle, std::move(schema));
-        (*lease).version = detail::Core::NOTHING;
+    template <class Call> std::string answered(Call call, std::size_t room, std::string_view lines) const {
+        return detail::text_of(room, [&](cedar_buffer &buffer) { return call(open(), detail::bytes(lines), &buffer); });
     }
 
-    /* The same for changes of entities. */
-    void change(std::string_view changes, detail::Core &to) const {
-        over(
-            [&](cedar_engine &handle, cedar_refusal &why, cedar_buffer &buffer) {
-                return cedar_publish_changes(&handle, detail::bytes(changes), &why, &buffer);
-            },
-            [&](const std::string &schema, const cedar_refusal &why, const std::string &text) {
-                detail::refuse_changes(schema, changes, why, text);
-            },
-            to);
-    }
-
-    template <class Call> std::string text_of(std::size_t room, Call call) const {
-        detail::Lease lease(open());
-        std::string text;
-        std::uint32_t status = detail::grown(text, room, [&](cedar_buffer &buffer) { return call((*lease).handle, buffer); });
-        if (status != CEDAR_OK) {
-            detail::fail(status);
-        }
-        return text;
-    }
-
-    std::unique_ptr<detail::Core> core_;
+    struct Free {
+        void operator()(cedar_shared *it) const { cedar_shared_free(it); }
+    };
+    std::unique_ptr<cedar_shared, Free> shared_;
 };
 
 } // namespace cedar

@@ -42,18 +42,14 @@ static cedar_bytes links_of(const char *path) {
     return links;
 }
 
-/* Prints why the files are refused. The buffer grows until the words fit. */
-static void print_why(const cedar_files *files) {
-    cedar_buffer words = {NULL, 0, 0};
-    while (cedar_explain(files, CEDAR_WORDS, &words) == CEDAR_ROOM) {
-        words.room = words.written;
-        words.at = realloc(words.at, words.room);
-        if (!words.at) {
-            exit(1);
-        }
+/* Prints why something is refused, and frees the words. */
+static void print_why(uint32_t status, cedar_refusal *why) {
+    if (why->words.at) {
+        fwrite(why->words.at, 1, why->words.length, stderr);
+    } else {
+        fprintf(stderr, "%s\n", cedar_status_text(status));
     }
-    fwrite(words.at, 1, words.written, stderr);
-    free(words.at);
+    cedar_refusal_free(why);
 }
 
 int main(int count, char **words) {
@@ -62,26 +58,27 @@ int main(int count, char **words) {
     }
     cedar_files files = {sizeof files, content(words[1], "schema.json"), content(words[1], "policies.cedar"),
                          links_of(count == 3 ? words[2] : NULL), content(words[1], "entities.json"), 0, 0};
-    cedar_engine engine;
-    if (cedar_new(&engine) != CEDAR_OK) {
-        return 1;
+    cedar_shared *engine;
+    cedar_refusal why = {.size = sizeof why, .wants = CEDAR_WANTS_WORDS};
+    uint32_t status = cedar_shared_new(&engine);
+    if (status == CEDAR_OK) {
+        status = cedar_shared_publish(engine, &files, &why, NULL);
     }
-    uint32_t status = cedar_publish(&engine, &files, NULL, NULL);
     if (status != CEDAR_OK) {
-        print_why(&files);
+        print_why(status, &why);
         return (int)status;
     }
 
-    /* One request by parts. Only CEDAR_OK with `allow` is an allow. */
+    /* One request by parts. Any thread may ask, also while another publishes. Only CEDAR_OK with `allow` is an allow. */
     cedar_request request = {sizeof request, {"User", 4}, {"ann", 3}, {"Action", 6}, {"write", 5}, {"Notebook", 8}, {"plans", 5}, {NULL, 0}};
     cedar_decision decision = {sizeof decision, 0, 0};
-    status = cedar_decide(&engine, &request, &decision, NULL);
+    status = cedar_shared_decide(engine, &request, &decision, NULL);
     printf("%s\n", status == CEDAR_OK && decision.allow ? "allow" : "deny");
 
     /* All request lines of the folder, as `cedar authorize` answers them. */
     cedar_bytes lines = content(words[1], "requests.jsonl");
     cedar_buffer answers = {NULL, 0, 0};
-    while ((status = cedar_answer(&engine, lines, &answers)) == CEDAR_ROOM) {
+    while ((status = cedar_shared_answer(engine, lines, &answers)) == CEDAR_ROOM) {
         answers.room = answers.written;
         answers.at = realloc(answers.at, answers.room);
         if (!answers.at) {
@@ -91,30 +88,27 @@ int main(int count, char **words) {
     fwrite(answers.at, 1, answers.written, stdout);
     free(answers.at);
 
-    /* Entities that changed are read alone, and the policies are not read again. If they are refused, the handle is as before. */
+    /* Entities that changed are read alone, and the policies are not read again. If they are refused, nothing has changed. */
     cedar_bytes entities = content(words[1], "entities.json");
-    status = cedar_publish_entities(&engine, entities, NULL, NULL);
-    if (status == CEDAR_REFUSED) {
-        cedar_files refused = {sizeof refused, files.schema, {NULL, 0}, {NULL, 0}, entities, 0, 0};
-        print_why(&refused);
+    status = cedar_shared_publish_entities(engine, entities, &why, NULL);
+    if (status != CEDAR_OK) {
+        print_why(status, &why);
     }
 
     /* One user is stored, and another is gone. What the changes do not name stays as it is. */
     cedar_bytes changes = bytes("{\"upsert\":[{\"uid\":{\"type\":\"User\",\"id\":\"dora\"}}],\"remove\":[{\"type\":\"User\",\"id\":\"bob\"}]}");
-    status = cedar_publish_changes(&engine, changes, NULL, NULL);
+    status = cedar_shared_publish_changes(engine, changes, &why, NULL);
+    if (status != CEDAR_OK) {
+        print_why(status, &why);
+    }
 
-    /* A request that brings its entities: a handle is shared, changed, asked and freed. No other request sees these entities. */
-    cedar_engine once;
-    if (status == CEDAR_OK && (status = cedar_new(&once)) == CEDAR_OK) {
-        status = cedar_share(&engine, &once);
-        if (status == CEDAR_OK) {
-            status = cedar_publish_changes(&once, bytes("{\"upsert\":[{\"uid\":{\"type\":\"User\",\"id\":\"ann\"}}]}"), NULL, NULL);
-        }
-        if (status == CEDAR_OK) {
-            status = cedar_decide(&once, &request, &decision, NULL);
-        }
+    /* A request that brings its entities: an engine over changes is made, asked and freed. No other request sees these entities. */
+    cedar_shared *once;
+    changes = bytes("{\"upsert\":[{\"uid\":{\"type\":\"User\",\"id\":\"ann\"}}]}");
+    if (cedar_shared_with_changes(engine, changes, &once, NULL, NULL) == CEDAR_OK) {
+        status = cedar_shared_decide(once, &request, &decision, NULL);
         printf("%s\n", status == CEDAR_OK && decision.allow ? "allow" : "deny");
-        cedar_free(&once);
+        cedar_shared_free(once);
     }
 
     /* A request line that brings its entities. No other line sees them. */
@@ -122,10 +116,11 @@ int main(int count, char **words) {
                              "\"resource\":\"Notebook::\\\"plans\\\"\",\"entities\":[{\"uid\":{\"type\":\"User\",\"id\":\"ann\"}}]}\n");
     char room[512];
     cedar_buffer answer = {room, sizeof room, 0};
-    if (status == CEDAR_OK && (status = cedar_answer_with_entities(&engine, line, &answer)) == CEDAR_OK) {
+    status = cedar_shared_answer_with_entities(engine, line, &answer);
+    if (status == CEDAR_OK) {
         fwrite(answer.at, 1, answer.written, stdout);
     }
-    cedar_free(&engine);
+    cedar_shared_free(engine);
     const cedar_bytes read[] = {files.schema, files.policies, files.links, files.entities, entities, lines};
     for (size_t i = 0; i < sizeof read / sizeof *read; i++) {
         free((void *)read[i].at);

@@ -37,7 +37,7 @@ int main(int count, char **words) {
         // Any number of threads may ask, also while another publishes.
         cedar::Request request = {{"User", "ann"}, {"Action", "write"}, {"Notebook", "plans"}};
         std::cout << (engine.decide(request) ? "allow" : "deny") << '\n';
-        for (const std::string &policy : engine.is_authorized(request).determining) {
+        for (const std::string &policy : engine.authorize(request).determining) {
             std::cout << "determined by " << policy << '\n';
         }
 

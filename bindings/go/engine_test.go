@@ -172,6 +172,10 @@ func TestByParts(t *testing.T) {
 			var refusal, other *RequestRefusal
 			if errors.As(err, &refusal) && errors.As(otherErr, &other) && *refusal == *other {
 				got = fmt.Sprintf(`{"refused":%d}`, refusal.Number)
+				words, err := engine.ExplainLine([]byte(line))
+				if err != nil || words != refusal.Words || !strings.HasPrefix(words, fmt.Sprintf("error[%d]: ", refusal.Number)) {
+					t.Error(err, line, words, refusal.Words)
+				}
 			} else if err != nil || otherErr != nil {
 				t.Error(err, otherErr)
 			}
@@ -182,6 +186,32 @@ func TestByParts(t *testing.T) {
 	}
 	if count <= 60 {
 		t.Error("only", count, "lines were cut")
+	}
+}
+
+func TestWordsOfRequests(t *testing.T) {
+	engine := engineOf(t, exampleOf("notes").files)
+	request := Request{Principal: UID{"User", "ann"}, Action: UID{"Action", "fly"}, Resource: UID{"Notebook", "plans"}}
+	_, err := engine.Decide(context.Background(), request)
+	var refusal *RequestRefusal
+	wanted := "error[510]: an action is not declared\n --> request\n   = action: Action::\"fly\" is not declared\n"
+	if !errors.As(err, &refusal) || refusal.Number != 510 || refusal.Words != wanted || err.Error() != strings.TrimSpace(wanted) {
+		t.Error(err)
+	}
+	line := `{"principal":"User::\"ann\"","action":"Action::\"write\"","resource":"Notebook::\"plans\""`
+	if words, err := engine.ExplainLine([]byte(line + "}")); err != nil || words != "" {
+		t.Error(err, words)
+	}
+	brings := []byte(line + `,"entities":[{"uid":{"type":"Ghost","id":"g"}}]}`)
+	if words, err := engine.ExplainLine(brings); err != nil || !strings.HasPrefix(words, "error[502]: ") {
+		t.Error(err, words)
+	}
+	if words, err := engine.ExplainLineWithEntities(brings); err != nil || !strings.HasPrefix(words, "error[503]: ") {
+		t.Error(err, words)
+	}
+	engine.Close()
+	if _, err := engine.ExplainLine(brings); !errors.Is(err, ErrClosed) {
+		t.Error(err)
 	}
 }
 

@@ -50,10 +50,14 @@ func (f *Faults) Error() string { return strings.TrimSpace(f.Words) }
 // RequestRefusal says that a request is refused, so nothing was decided.
 type RequestRefusal struct {
 	Number uint32 // of docs/REFUSALS.md
+	Words  string // the explanation for people, as the program prints it
 }
 
 func (r *RequestRefusal) Error() string {
-	return fmt.Sprintf("bobbinjade: the request is refused: %d", r.Number)
+	if r.Words == "" {
+		return fmt.Sprintf("bobbinjade: the request is refused: %d", r.Number)
+	}
+	return strings.TrimSpace(r.Words)
 }
 
 // LibraryError says that the library does not fit this package.

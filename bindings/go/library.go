@@ -4,409 +4,348 @@ package bobbinjade
 #cgo LDFLAGS: -lcedar
 #include <cedar.h>
 
-#include <stdlib.h>
+// What a call gives, so that it writes nothing to memory of Go but the text.
+typedef struct outcome {
+    uint32_t status, allow, refused;
+    size_t written;
+} outcome;
 
-// What the calls of requests read and write. It is memory of C, so that no call has to test pointers to memory of Go.
-typedef struct slot {
-    cedar_engine engine;
-    cedar_raw_decision decision;
-    void *text;
-    size_t room, written;
-} slot;
+// The parts of a call are strings, since a struct that Go passes to C may have no addresses of memory of Go.
+static cedar_bytes bytes_of(_GoString_ text) { return (cedar_bytes){_GoStringPtr(text), _GoStringLen(text)}; }
 
-static uint32_t slot_new(slot **made) {
-    slot *it = calloc(1, sizeof *it);
-    void *text = malloc(512);
-    uint32_t status = it && text ? cedar_new(&it->engine) : CEDAR_MEMORY;
-    if (status != CEDAR_OK) {
-        free(text);
-        free(it);
-        return status;
-    }
-    it->text = text;
-    it->room = 512;
-    *made = it;
-    return CEDAR_OK;
+static cedar_files files_of(_GoString_ schema, _GoString_ policies, _GoString_ links, _GoString_ entities, uint32_t settings) {
+    return (cedar_files){sizeof(cedar_files), bytes_of(schema), bytes_of(policies), bytes_of(links), bytes_of(entities), settings, 0};
 }
 
-static void slot_free(slot *it) {
-    if (it) {
-        cedar_free(&it->engine);
-        free(it->text);
-        free(it);
-    }
+static cedar_request request_of(_GoString_ principal_type, _GoString_ principal_id, _GoString_ action_type, _GoString_ action_id,
+                                _GoString_ resource_type, _GoString_ resource_id, _GoString_ context) {
+    return (cedar_request){sizeof(cedar_request),    bytes_of(principal_type), bytes_of(principal_id), bytes_of(action_type),
+                           bytes_of(action_id),      bytes_of(resource_type),  bytes_of(resource_id),  bytes_of(context)};
 }
 
-// The address of the bytes of a string, which is not null.
-static const void *address(_GoString_ text) { return _GoStringLen(text) ? _GoStringPtr(text) : ""; }
-
-// cedar_raw_decide with strings, since a struct that Go passes to C may have no pointers to memory of Go.
-static uint32_t decide(slot *it, int with_text, _GoString_ principal_type, _GoString_ principal_id, _GoString_ action_type,
-                       _GoString_ action_id, _GoString_ resource_type, _GoString_ resource_id, _GoString_ context) {
-    for (;;) {
-        uint32_t status = cedar_raw_decide(
-            &it->engine, address(principal_type), _GoStringLen(principal_type), address(principal_id), _GoStringLen(principal_id),
-            address(action_type), _GoStringLen(action_type), address(action_id), _GoStringLen(action_id), address(resource_type),
-            _GoStringLen(resource_type), address(resource_id), _GoStringLen(resource_id), address(context), _GoStringLen(context),
-            &it->decision, it->text, with_text ? it->room : 0, &it->written);
-        void *larger = status == CEDAR_ROOM ? realloc(it->text, it->written) : NULL;
-        if (!larger) {
-            return status == CEDAR_ROOM ? CEDAR_MEMORY : status;
-        }
-        it->text = larger;
-        it->room = it->written;
-    }
+static uint32_t publish(void *shared, _GoString_ schema, _GoString_ policies, _GoString_ links, _GoString_ entities,
+                        uint32_t settings, cedar_refusal *why) {
+    cedar_files files = files_of(schema, policies, links, entities, settings);
+    return cedar_shared_publish(shared, &files, why, NULL);
 }
 
-// What a call answers: request lines, one of them, or request lines that may bring entities.
-enum { LINES, ONE_LINE, LINES_WITH_ENTITIES };
+static uint32_t publish_entities(void *shared, _GoString_ entities, cedar_refusal *why) {
+    return cedar_shared_publish_entities(shared, bytes_of(entities), why, NULL);
+}
 
-// Answers these into a text of the caller.
-static uint32_t answer(slot *it, int what, _GoString_ lines, char *text, size_t room) {
-    void *to = room ? text : it->text;
-    if (what == ONE_LINE) {
-        return cedar_raw_answer_line(&it->engine, address(lines), _GoStringLen(lines), to, room, &it->written);
-    }
-    if (what == LINES_WITH_ENTITIES) {
-        return cedar_raw_answer_with_entities(&it->engine, address(lines), _GoStringLen(lines), to, room, &it->written);
-    }
-    return cedar_raw_answer(&it->engine, address(lines), _GoStringLen(lines), to, room, &it->written);
+static uint32_t publish_changes(void *shared, _GoString_ changes, cedar_refusal *why) {
+    return cedar_shared_publish_changes(shared, bytes_of(changes), why, NULL);
+}
+
+static uint32_t with_changes(void *shared, _GoString_ changes, cedar_shared **other, cedar_refusal *why) {
+    return cedar_shared_with_changes(shared, bytes_of(changes), other, why, NULL);
+}
+
+// Validates or explains files.
+static outcome check(_GoString_ schema, _GoString_ policies, _GoString_ links, _GoString_ entities, uint32_t settings, cedar_refusal *why,
+                     char *text, size_t room) {
+    cedar_files files = files_of(schema, policies, links, entities, settings);
+    cedar_buffer buffer = {text, room, 0};
+    cedar_refusal_free(why);
+    uint32_t status = why ? cedar_validate_files(&files, why, &buffer) : cedar_explain(&files, CEDAR_WORDS, &buffer);
+    return (outcome){status, 0, 0, buffer.written};
+}
+
+// Decides a request, with a text of the caller.
+static outcome decide(void *shared, _GoString_ principal_type, _GoString_ principal_id, _GoString_ action_type, _GoString_ action_id,
+                      _GoString_ resource_type, _GoString_ resource_id, _GoString_ context, char *text, size_t room) {
+    cedar_request request = request_of(principal_type, principal_id, action_type, action_id, resource_type, resource_id, context);
+    cedar_decision decision = {sizeof decision, 0, 0};
+    cedar_buffer buffer = {text, room, 0};
+    uint32_t status = cedar_shared_decide(shared, &request, &decision, &buffer);
+    return (outcome){status, decision.allow, decision.refused, buffer.written};
+}
+
+static outcome explain_request(void *shared, _GoString_ principal_type, _GoString_ principal_id, _GoString_ action_type,
+                               _GoString_ action_id, _GoString_ resource_type, _GoString_ resource_id, _GoString_ context, uint32_t number,
+                               char *text, size_t room) {
+    cedar_request request = request_of(principal_type, principal_id, action_type, action_id, resource_type, resource_id, context);
+    cedar_buffer buffer = {text, room, 0};
+    uint32_t status = cedar_shared_explain_request(shared, &request, number, CEDAR_WORDS, &buffer);
+    return (outcome){status, 0, 0, buffer.written};
+}
+
+// What is asked with lines: answers to them, to one, or to lines that may bring entities; or words for one, or for one that may bring some.
+enum { LINES, ONE_LINE, LINES_WITH_ENTITIES, WORDS_OF_LINE, WORDS_OF_LINE_WITH_ENTITIES };
+
+static outcome ask(void *shared, int what, _GoString_ lines, char *text, size_t room) {
+    cedar_buffer buffer = {text, room, 0};
+    cedar_bytes given = bytes_of(lines);
+    uint32_t kind = what == WORDS_OF_LINE ? CEDAR_LINE : CEDAR_LINE_WITH_ENTITIES;
+    uint32_t status = what == LINES              ? cedar_shared_answer(shared, given, &buffer)
+                    : what == ONE_LINE            ? cedar_shared_answer_line(shared, given, &buffer)
+                    : what == LINES_WITH_ENTITIES ? cedar_shared_answer_with_entities(shared, given, &buffer)
+                                                  : cedar_shared_explain_line(shared, given, kind, 0, CEDAR_WORDS, &buffer);
+    return (outcome){status, 0, 0, buffer.written};
+}
+
+static outcome version(char *text, size_t room) {
+    cedar_buffer buffer = {text, room, 0};
+    uint32_t status = cedar_version(&buffer);
+    return (outcome){status, 0, 0, buffer.written};
 }
 */
 import "C"
 
 import (
-	"bytes"
-	"encoding/json"
 	"math"
 	"runtime"
 	"unsafe"
 )
 
-// What a call of appendAnswer answers.
+// What is asked with lines.
 const (
-	requestLines             = C.LINES
-	oneLine                  = C.ONE_LINE
-	requestLinesWithEntities = C.LINES_WITH_ENTITIES
+	lines                   = C.LINES
+	oneLine                 = C.ONE_LINE
+	linesWithEntities       = C.LINES_WITH_ENTITIES
+	wordsOfLine             = C.WORDS_OF_LINE
+	wordsOfLineWithEntities = C.WORDS_OF_LINE_WITH_ENTITIES
 )
 
-// A handle of the library, with what the calls of requests write to. One call at a time uses it.
-type handle struct {
-	slot *C.slot
-	home uint32 // the place to which it goes back first
+// text gives bytes as a string that shares their memory. It is valid while they stay as they are.
+func text(bytes []byte) string {
+	return *(*string)(unsafe.Pointer(&bytes))
 }
 
-// newHandle makes a handle that leads nowhere. It is freed by free, or when nothing refers to it.
-func newHandle() (*handle, error) {
-	h := &handle{}
-	if status := C.slot_new(&h.slot); status != C.CEDAR_OK {
-		return nil, failed(status)
+// room gives the address and the size of what a text has free behind its length.
+func room(text []byte) (*C.char, C.size_t) {
+	free := text[len(text):cap(text)]
+	if len(free) == 0 {
+		return nil, 0
 	}
-	runtime.SetFinalizer(h, (*handle).free)
-	return h, nil
+	return (*C.char)(unsafe.Pointer(&free[0])), C.size_t(len(free))
 }
 
-// free frees the handle. Freeing twice is safe.
-func (h *handle) free() {
-	C.slot_free(h.slot)
-	h.slot = nil
-	runtime.SetFinalizer(h, nil)
-}
-
-// share has another handle lead to the engine of this one.
-func (h *handle) share(other *handle) error {
-	status := C.cedar_share(&h.slot.engine, &other.slot.engine)
-	runtime.KeepAlive(h)
-	runtime.KeepAlive(other)
-	if status != C.CEDAR_OK {
-		return failed(status)
-	}
-	return nil
-}
-
-// decide decides a request.
-func (h *handle) decide(request *Request) (bool, error) {
-	return h.decided(request, 0)
-}
-
-// authorize decides a request, and gives the answer line, which is valid until the next call.
-func (h *handle) authorize(request *Request) (bool, []byte, error) {
-	isAllowed, err := h.decided(request, 1)
-	if err != nil {
-		return false, nil, err
-	}
-	return isAllowed, unsafe.Slice((*byte)(h.slot.text), int(h.slot.written)), nil
-}
-
-func (h *handle) decided(request *Request, withText C.int) (bool, error) {
-	context := *(*string)(unsafe.Pointer(&request.Context))
-	status := C.decide(h.slot, withText, request.Principal.Type, request.Principal.ID, request.Action.Type, request.Action.ID,
-		request.Resource.Type, request.Resource.ID, context)
-	runtime.KeepAlive(h)
+// failed gives the error of a status that needs no further words, and none where the call has done its work.
+func failed(status C.uint32_t) error {
 	switch status {
 	case C.CEDAR_OK:
-		return h.slot.decision.allow == 1, nil
-	case C.CEDAR_NO_REQUEST:
-		return false, &RequestRefusal{Number: uint32(h.slot.decision.refused)}
-	default:
-		return false, failed(status)
-	}
-}
-
-// answer answers request lines.
-func (h *handle) answer(lines []byte) ([]byte, error) {
-	from, length := address(lines)
-	status, text := grown(256+len(lines), func(at unsafe.Pointer, room C.size_t, written *C.size_t) C.uint32_t {
-		return C.cedar_raw_answer(&h.slot.engine, from, length, at, room, written)
-	})
-	runtime.KeepAlive(h)
-	return done(status, text)
-}
-
-// answerLine answers one request line.
-func (h *handle) answerLine(line []byte) ([]byte, error) {
-	from, length := address(line)
-	status, text := grown(256, func(at unsafe.Pointer, room C.size_t, written *C.size_t) C.uint32_t {
-		return C.cedar_raw_answer_line(&h.slot.engine, from, length, at, room, written)
-	})
-	runtime.KeepAlive(h)
-	return done(status, text)
-}
-
-// appendAnswer appends to a text what answers request lines, one of them, or request lines that may bring entities.
-func (h *handle) appendAnswer(text, lines []byte, what C.int) ([]byte, error) {
-	read := *(*string)(unsafe.Pointer(&lines))
-	for {
-		free := text[len(text):cap(text)]
-		var at *C.char
-		if len(free) > 0 {
-			at = (*C.char)(unsafe.Pointer(&free[0]))
-		}
-		status := C.answer(h.slot, what, read, at, C.size_t(len(free)))
-		runtime.KeepAlive(h)
-		runtime.KeepAlive(lines)
-		written := int(h.slot.written)
-		switch status {
-		case C.CEDAR_OK:
-			return text[:len(text)+written], nil
-		case C.CEDAR_ROOM:
-			text = append(make([]byte, 0, len(text)+written), text...)
-		default:
-			return text, failed(status)
-		}
-	}
-}
-
-// address gives the address of bytes, which is not null, and their length.
-func address(text []byte) (unsafe.Pointer, C.size_t) {
-	if len(text) == 0 {
-		return unsafe.Pointer(&nothing), 0
-	}
-	return unsafe.Pointer(&text[0]), C.size_t(len(text))
-}
-
-var nothing byte
-
-// grown makes a call that writes a text, in a buffer that grows until the text fits.
-func grown(room int, call func(unsafe.Pointer, C.size_t, *C.size_t) C.uint32_t) (C.uint32_t, []byte) {
-	var written C.size_t
-	for {
-		text := make([]byte, room)
-		at, length := address(text)
-		status := call(at, length, &written)
-		isShort := status == C.CEDAR_ROOM || status == C.CEDAR_REFUSED || status == C.CEDAR_FAULTS
-		if written <= length {
-			return status, text[:written]
-		}
-		if !isShort {
-			return status, nil
-		}
-		room = int(written)
-	}
-}
-
-// done gives the text of a call that has only statuses without further words.
-func done(status C.uint32_t, text []byte) ([]byte, error) {
-	if status != C.CEDAR_OK {
-		return nil, failed(status)
-	}
-	return text, nil
-}
-
-// failed gives the error of a status that needs no further words.
-func failed(status C.uint32_t) error {
-	if status == C.CEDAR_MEMORY {
+		return nil
+	case C.CEDAR_MEMORY:
 		return ErrMemory
+	case C.CEDAR_CLOSED:
+		return ErrClosed
 	}
 	return &LibraryError{Status: uint32(status)}
 }
 
 // settings gives the settings of files as the library takes them.
-func settings(files *Files) C.uint32_t {
-	if files.AnyDecimal {
+func (f *Files) settings() C.uint32_t {
+	if f.AnyDecimal {
 		return C.CEDAR_ANY_DECIMAL
 	}
 	return 0
 }
 
-// published makes a handle to which files are published.
-func published(files *Files) (*handle, error) {
-	if C.cedar_abi_version() != C.CEDAR_ABI_VERSION {
-		return nil, &LibraryError{Status: C.CEDAR_ARGUMENT}
-	}
-	h, err := newHandle()
-	if err != nil {
-		return nil, err
-	}
-	var why C.cedar_raw_refusal
-	schema, schemaLength := address(files.Schema)
-	policies, policiesLength := address(files.Policies)
-	links, linksLength := address(files.Links)
-	entities, entitiesLength := address(files.Entities)
-	status, text := grown(4096, func(at unsafe.Pointer, room C.size_t, written *C.size_t) C.uint32_t {
-		return C.cedar_raw_publish(&h.slot.engine, schema, schemaLength, policies, policiesLength, links, linksLength, entities, entitiesLength,
-			settings(files), &why, at, room, written)
-	})
-	if status == C.CEDAR_OK {
-		return h, nil
-	}
-	h.free()
+// refused makes a call that may refuse what it is given, and gives its error.
+func refused(call func(why *C.cedar_refusal) C.uint32_t) error {
+	why := C.cedar_refusal{size: C.sizeof_cedar_refusal, wants: C.CEDAR_WANTS_WORDS}
+	status := call(&why)
+	defer C.cedar_refusal_free(&why)
 	switch status {
 	case C.CEDAR_REFUSED:
-		return nil, refusal(files, &why)
-	case C.CEDAR_FAULTS:
-		words, err := explained(files, C.CEDAR_WORDS)
-		if err != nil {
-			return nil, err
+		offset := int64(-1)
+		if why.offset != math.MaxUint64 {
+			offset = int64(why.offset)
 		}
-		return nil, &Faults{Report: string(text), Words: string(words)}
-	}
-	return nil, failed(status)
-}
-
-// publishEntities has the handle lead to an engine of the same policies over entities. The schema, which is that of its engine, explains
-// entities that are refused.
-func (h *handle) publishEntities(entities, schema []byte) error {
-	var why C.cedar_raw_refusal
-	from, length := address(entities)
-	status, _ := grown(256, func(at unsafe.Pointer, room C.size_t, written *C.size_t) C.uint32_t {
-		return C.cedar_raw_publish_entities(&h.slot.engine, from, length, &why, at, room, written)
-	})
-	runtime.KeepAlive(h)
-	if status == C.CEDAR_REFUSED {
-		return refusal(&Files{Schema: schema, Entities: entities}, &why)
-	}
-	return failedUnlessDone(status)
-}
-
-// publishChanges has the handle lead to an engine of the same policies over changed entities. The schema, which is that of its engine,
-// explains changes that are refused.
-func (h *handle) publishChanges(changes, schema []byte) error {
-	var why C.cedar_raw_refusal
-	from, length := address(changes)
-	status, _ := grown(256, func(at unsafe.Pointer, room C.size_t, written *C.size_t) C.uint32_t {
-		return C.cedar_raw_publish_changes(&h.slot.engine, from, length, &why, at, room, written)
-	})
-	runtime.KeepAlive(h)
-	if status == C.CEDAR_REFUSED {
-		return refusalWith(func(format C.uint32_t) ([]byte, error) { return explainedChanges(schema, changes, why.number, format) }, &why)
-	}
-	return failedUnlessDone(status)
-}
-
-// change is publishChanges for a caller that needs no words: it gives the number for which the changes are refused, or 0.
-func (h *handle) change(changes []byte) (uint32, error) {
-	var why C.cedar_raw_refusal
-	var written C.size_t
-	from, length := address(changes)
-	status := C.cedar_raw_publish_changes(&h.slot.engine, from, length, &why, unsafe.Pointer(&nothing), 0, &written)
-	runtime.KeepAlive(h)
-	if status == C.CEDAR_REFUSED {
-		return uint32(why.number), nil
-	}
-	return 0, failedUnlessDone(status)
-}
-
-// failedUnlessDone gives the error of a status that needs no further words, and none where the call has done its work.
-func failedUnlessDone(status C.uint32_t) error {
-	if status == C.CEDAR_OK {
-		return nil
+		return &Refusal{File: File(why.file), Number: uint32(why.number), Offset: offset, Line: int64(why.line), Words: copied(why.words)}
+	case C.CEDAR_FAULTS:
+		return &Faults{Report: copied(why.text), Words: copied(why.words)}
 	}
 	return failed(status)
 }
 
-// refusal gives the error for a refused file.
-func refusal(files *Files, why *C.cedar_raw_refusal) error {
-	return refusalWith(func(format C.uint32_t) ([]byte, error) { return explained(files, format) }, why)
+// copied gives a copy of a text of the library.
+func copied(text C.cedar_bytes) string {
+	return string(unsafe.Slice((*byte)(text.at), int(text.length)))
 }
 
-// refusalWith gives the error for what is refused, with an explanation in each format.
-func refusalWith(explained func(format C.uint32_t) ([]byte, error), why *C.cedar_raw_refusal) error {
-	words, err := explained(C.CEDAR_WORDS)
-	if err != nil {
-		return err
+// checked validates files, where there is room for why they are refused, or explains them. It gives the status and the text.
+func checked(files *Files, why *C.cedar_refusal) (C.uint32_t, string) {
+	made := make([]byte, 0, 4096)
+	for {
+		at, size := room(made)
+		gives := C.check(text(files.Schema), text(files.Policies), text(files.Links), text(files.Entities), files.settings(), why, at, size)
+		if gives.written <= size {
+			return gives.status, string(made[:gives.written])
+		}
+		made = make([]byte, 0, gives.written)
 	}
-	data, err := explained(C.CEDAR_JSON)
-	if err != nil {
-		return err
-	}
-	var place struct{ Line int64 }
-	first, _, _ := bytes.Cut(data, []byte("\n"))
-	if err := json.Unmarshal(first, &place); err != nil {
-		place.Line = 0
-	}
-	offset := int64(-1)
-	if why.offset != math.MaxUint64 {
-		offset = int64(why.offset)
-	}
-	return &Refusal{File: File(why.file), Number: uint32(why.number), Offset: offset, Line: place.Line, Words: string(words)}
-}
-
-// explainedChanges says why changes of entities are refused with this number, in this format.
-func explainedChanges(schema, changes []byte, number, format C.uint32_t) ([]byte, error) {
-	schemaAt, schemaLength := address(schema)
-	changesAt, changesLength := address(changes)
-	return done(grown(4096, func(at unsafe.Pointer, room C.size_t, written *C.size_t) C.uint32_t {
-		return C.cedar_raw_explain_changes(schemaAt, schemaLength, changesAt, changesLength, number, format, at, room, written)
-	}))
-}
-
-// explained says why files are refused or have faults, in this format.
-func explained(files *Files, format C.uint32_t) ([]byte, error) {
-	schema, schemaLength := address(files.Schema)
-	policies, policiesLength := address(files.Policies)
-	links, linksLength := address(files.Links)
-	entities, entitiesLength := address(files.Entities)
-	return done(grown(4096, func(at unsafe.Pointer, room C.size_t, written *C.size_t) C.uint32_t {
-		return C.cedar_raw_explain(schema, schemaLength, policies, policiesLength, links, linksLength, entities, entitiesLength,
-			settings(files), format, at, room, written)
-	}))
 }
 
 // validated says whether the policies of files have no faults, and gives the report.
-func validated(files *Files) (bool, []byte, error) {
-	schema, schemaLength := address(files.Schema)
-	policies, policiesLength := address(files.Policies)
-	links, linksLength := address(files.Links)
-	status, text := grown(4096, func(at unsafe.Pointer, room C.size_t, written *C.size_t) C.uint32_t {
-		return C.cedar_raw_validate(schema, schemaLength, policies, policiesLength, links, linksLength, settings(files), at, room, written)
+func validated(files *Files) (isAccepted bool, report string, err error) {
+	err = refused(func(why *C.cedar_refusal) (status C.uint32_t) {
+		status, report = checked(files, why)
+		isAccepted = status == C.CEDAR_OK
+		if status == C.CEDAR_FAULTS {
+			return C.CEDAR_OK
+		}
+		return status
 	})
-	switch status {
-	case C.CEDAR_OK, C.CEDAR_FAULTS:
-		return status == C.CEDAR_OK, text, nil
-	case C.CEDAR_REFUSED:
-		// Publishing says which file is refused, and why.
-		if _, err := published(files); err != nil {
-			return false, nil, err
+	return isAccepted, report, err
+}
+
+// explained says why files are refused or have faults.
+func explained(files *Files) (string, error) {
+	status, words := checked(files, nil)
+	return words, failed(status)
+}
+
+// sharedEngine is an engine of the library, for any number of threads.
+type sharedEngine = unsafe.Pointer
+
+// newShared makes an engine to which nothing was published. The collector frees it, if nothing refers to it any more.
+func newShared() (*Engine, error) {
+	if C.cedar_abi_version() != C.CEDAR_ABI_VERSION {
+		return nil, &LibraryError{Status: C.CEDAR_ARGUMENT}
+	}
+	var shared *C.cedar_shared
+	if err := failed(C.cedar_shared_new(&shared)); err != nil {
+		return nil, err
+	}
+	return owning(shared), nil
+}
+
+// owning gives the engine that owns one of the library.
+func owning(shared *C.cedar_shared) *Engine {
+	e := &Engine{shared: sharedEngine(shared)}
+	runtime.SetFinalizer(e, (*Engine).free)
+	return e
+}
+
+// publish makes a call that publishes to the engine, and gives its error.
+func (e *Engine) publish(call func(why *C.cedar_refusal) C.uint32_t) error {
+	if e.shared == nil {
+		return ErrClosed
+	}
+	defer runtime.KeepAlive(e)
+	return refused(call)
+}
+
+func (e *Engine) publishFiles(files *Files) error {
+	return e.publish(func(why *C.cedar_refusal) C.uint32_t {
+		return C.publish(e.shared, text(files.Schema), text(files.Policies), text(files.Links), text(files.Entities), files.settings(), why)
+	})
+}
+
+func (e *Engine) publishEntities(entities []byte) error {
+	return e.publish(func(why *C.cedar_refusal) C.uint32_t { return C.publish_entities(e.shared, text(entities), why) })
+}
+
+func (e *Engine) publishChanges(changes []byte) error {
+	return e.publish(func(why *C.cedar_refusal) C.uint32_t { return C.publish_changes(e.shared, text(changes), why) })
+}
+
+func (e *Engine) withChanges(changes []byte) (*Engine, error) {
+	var other *C.cedar_shared
+	err := e.publish(func(why *C.cedar_refusal) C.uint32_t { return C.with_changes(e.shared, text(changes), &other, why) })
+	if err != nil {
+		return nil, err
+	}
+	return owning(other), nil
+}
+
+// numbered makes an engine over changed entities, which free frees, or gives the number for which the changes are refused.
+func (e *Engine) numbered(changes []byte) (number uint32, other *Engine, err error) {
+	if e.shared == nil {
+		return 0, nil, ErrClosed
+	}
+	why := C.cedar_refusal{size: C.sizeof_cedar_refusal}
+	var shared *C.cedar_shared
+	status := C.with_changes(e.shared, text(changes), &shared, &why)
+	runtime.KeepAlive(e)
+	if status == C.CEDAR_REFUSED {
+		return uint32(why.number), nil, nil
+	}
+	return 0, &Engine{shared: sharedEngine(shared)}, failed(status)
+}
+
+// free frees an engine that nobody uses.
+func (e *Engine) free() {
+	C.cedar_shared_free((*C.cedar_shared)(e.shared))
+}
+
+// close frees all that no running call uses.
+func (e *Engine) close() {
+	C.cedar_shared_close((*C.cedar_shared)(e.shared))
+	runtime.KeepAlive(e)
+}
+
+// decided decides a request, and gives the answer line in a text, which grows. A text without room is not written.
+func (e *Engine) decided(request *Request, made []byte) (bool, []byte, error) {
+	if e.shared == nil {
+		return false, nil, ErrClosed
+	}
+	for {
+		at, size := room(made)
+		gives := C.decide(e.shared, request.Principal.Type, request.Principal.ID, request.Action.Type, request.Action.ID,
+			request.Resource.Type, request.Resource.ID, text(request.Context), at, size)
+		runtime.KeepAlive(e)
+		switch gives.status {
+		case C.CEDAR_OK:
+			return gives.allow == 1, made[:gives.written], nil
+		case C.CEDAR_ROOM:
+			made = make([]byte, 0, gives.written)
+		case C.CEDAR_NO_REQUEST:
+			words, err := e.wordsOf(request, gives.refused)
+			if err != nil {
+				return false, nil, err
+			}
+			return false, nil, &RequestRefusal{Number: uint32(gives.refused), Words: words}
+		default:
+			return false, nil, failed(gives.status)
 		}
 	}
-	return false, nil, failed(status)
+}
+
+// wordsOf says why a request is refused with a number.
+func (e *Engine) wordsOf(request *Request, number C.uint32_t) (string, error) {
+	made := make([]byte, 0, 1024)
+	for {
+		at, size := room(made)
+		gives := C.explain_request(e.shared, request.Principal.Type, request.Principal.ID, request.Action.Type, request.Action.ID,
+			request.Resource.Type, request.Resource.ID, text(request.Context), number, at, size)
+		runtime.KeepAlive(e)
+		if gives.status != C.CEDAR_ROOM {
+			return string(made[:gives.written]), failed(gives.status)
+		}
+		made = make([]byte, 0, gives.written)
+	}
+}
+
+// ask appends to a text what is asked with lines. With an error nothing is appended.
+func (e *Engine) ask(to, given []byte, what int) ([]byte, error) {
+	if e.shared == nil {
+		return to, ErrClosed
+	}
+	for {
+		at, size := room(to)
+		gives := C.ask(e.shared, C.int(what), text(given), at, size)
+		runtime.KeepAlive(e)
+		switch gives.status {
+		case C.CEDAR_OK:
+			return to[:len(to)+int(gives.written)], nil
+		case C.CEDAR_ROOM:
+			to = append(make([]byte, 0, len(to)+int(gives.written)), to...)
+		default:
+			return to, failed(gives.status)
+		}
+	}
 }
 
 // Version gives the version of the engine, for example 0.1.0.
 func Version() (string, error) {
-	text, err := done(grown(64, func(at unsafe.Pointer, room C.size_t, written *C.size_t) C.uint32_t {
-		return C.cedar_raw_version(at, room, written)
-	}))
-	return string(text), err
+	made := make([]byte, 0, 64)
+	at, size := room(made)
+	gives := C.version(at, size)
+	if err := failed(gives.status); err != nil {
+		return "", err
+	}
+	return string(made[:gives.written]), nil
 }

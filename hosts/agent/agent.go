@@ -12,44 +12,80 @@ import (
 type agent struct {
 	store      store
 	reloader   *reloader
+	guard      guard
+	tls        certificates
+	watched    []*watched // what is read again beside the files of the engine
 	metrics    *metrics
 	log        *logger
 	decisions  *decisionLog
 	mapping    *mapping // nil where the path for ext_authz is off
+	namesIDs   bool     // whether the answer to ext_authz has a header with the ids of policies
 	one, lines question // how one request is answered, and request lines
 	limits     limits
 	validating chan struct{} // a place for each validation that runs
 	isPublic   bool          // whether all may validate
+	profiles   bool          // whether the profiles of Go are served
 	public     *connections
 	isStopping atomic.Bool
+	hasFreed   atomic.Bool // whether much memory was freed that was not given back to the system
 }
 
 // newAgent reads the files, and publishes them as the first version.
 func newAgent(settings *config, log *logger) (*agent, error) {
 	it := &agent{metrics: newMetrics(), log: log, limits: settings.limits, validating: make(chan struct{}, settings.limits.validations)}
-	it.isPublic = settings.isPublic
+	it.isPublic, it.profiles, log.isDebug = settings.isPublic, settings.hasProfiles, settings.isDebug
 	it.one, it.lines = oneRequest, requestLines
 	if settings.hasEntities {
 		it.one, it.lines = oneWithEntities, linesWithEntities
 	}
+	it.namesIDs = settings.namesIDs
 	it.reloader = newReloader(it, settings)
 	var err error
 	if it.mapping, err = readMapping(settings.extAuthz); err != nil {
 		return nil, err
 	}
+	if err := it.readSecrets(settings); err != nil {
+		return nil, err
+	}
 	if err := it.reloader.start(); err != nil {
 		return nil, err
 	}
-	if it.decisions, err = openDecisionLog(settings.decisionLog); err != nil {
+	if it.decisions, err = openDecisionLog(settings); err != nil {
 		return nil, err
 	}
 	return it, nil
 }
 
+// readSecrets reads who may call the listener of --admin, and certificates.
+func (a *agent) readSecrets(settings *config) error {
+	a.guard.users = settings.users
+	if settings.adminToken != "" {
+		it, err := watch("token", func() error { return a.guard.useToken(settings.adminToken) }, settings.adminToken)
+		if err != nil {
+			return err
+		}
+		a.watched = append(a.watched, it)
+	}
+	if a.tls.paths = settings.tls; a.tls.paths.key != "" {
+		it, err := watch("certificate", a.tls.use, a.tls.paths.list()...)
+		if err != nil {
+			return err
+		}
+		a.watched = append(a.watched, it)
+	}
+	return nil
+}
+
 // published counts and logs a version.
 func (a *agent) published(v *version, took time.Duration) {
 	a.metrics.published.Add(1)
-	a.log.event("info", "published", number("version", v.number), text("digest", v.digest), text("source", v.source),
+	a.hasFreed.Store(true)
+	level := "info"
+	if v.source == sourcePatch {
+		a.metrics.patched.Add(1)
+		level = "debug"
+	}
+	a.log.event(level, "published", number("version", v.number), text("digest", v.digest), text("source", v.source),
 		seconds("seconds", took))
 }
 
@@ -60,8 +96,8 @@ func (a *agent) close() {
 }
 
 // count counts the answer lines of a request, and logs them where that is wanted.
-func (a *agent) count(v *version, request, answers []byte, isOne bool) {
-	a.decisions.add(v, request, answers, isOne)
+func (a *agent) count(v *version, request, answers []byte, of *decided) {
+	a.decisions.add(v, request, answers, of)
 	var found tally
 	for len(answers) > 0 {
 		line := nextLine(answers)

@@ -51,33 +51,40 @@ func (a *agent) authorizeOne(w http.ResponseWriter, r *http.Request) {
 		a.failBody(w, err, a.limits.line)
 		return
 	}
-	a.answerOne(w, it, http.StatusOK)
+	a.answerOne(w, it)
 }
 
-// answerOne writes the answer to the request of a room: 200 for an allow, the given status for a deny, and 400 for a refusal.
-func (a *agent) answerOne(w http.ResponseWriter, it *room, deny int) {
+// answerOne writes the answer line to the request of a room: with 200 for an allow and a deny, and with 400 for a refusal.
+func (a *agent) answerOne(w http.ResponseWriter, it *room) {
+	what := a.decide(w, it)
+	if what == noDecision {
+		return
+	}
+	status := http.StatusOK
+	if what == refused {
+		status = http.StatusBadRequest
+	}
+	it.answer = append(it.answer, '\n')
+	w.Header()["Content-Type"] = jsonType
+	w.WriteHeader(status)
+	_, _ = w.Write(it.answer)
+}
+
+// decide has the request of a room answered, and gives the outcome. Where there is none, it has said so to the client.
+func (a *agent) decide(w http.ResponseWriter, it *room) outcome {
 	answer, v, err := a.store.ask(a.one, it.answer, it.body)
 	it.answer = answer
 	if err != nil {
 		a.failEngine(w, err)
-		return
+		return noDecision
 	}
-	a.count(v, it.body, it.answer, true)
-	status := 0
-	switch what, _ := outcomeOf(it.answer); what {
-	case allowed:
-		status = http.StatusOK
-	case denied:
-		status = deny
-	case refused:
-		status = http.StatusBadRequest
-	default:
+	of := a.decisions.decides(w, true)
+	a.count(v, it.body, it.answer, &of)
+	what, _ := outcomeOf(it.answer)
+	if what == noDecision {
 		a.fail(w, http.StatusInternalServerError, "answer", "the answer has another form than those that are known")
-		return
+		return noDecision
 	}
-	it.answer = append(it.answer, '\n')
 	versionHeader(w, v)
-	w.Header()["Content-Type"] = jsonType
-	w.WriteHeader(status)
-	_, _ = w.Write(it.answer)
+	return what
 }

@@ -7,8 +7,8 @@ import (
 	"testing"
 )
 
-// bringing makes the request for the beach with entities.
-func bringing(entities string) string {
+// requestBringing makes the request for the beach with entities.
+func requestBringing(entities string) string {
 	return strings.TrimSuffix(beach, "}") + `,"entities":` + entities + `}`
 }
 
@@ -31,7 +31,7 @@ func TestEntitiesInRequests(t *testing.T) {
 		{`[` + annAlone + `],"more":1`, `{"refused":502}` + "\n", 400},
 		{`[` + annAlone + `],"remove":[]`, `{"refused":502}` + "\n", 400},
 	} {
-		if got := it.ask(bringing(step.entities)); got.status != step.status || got.body != step.wanted {
+		if got := it.ask(requestBringing(step.entities)); got.status != step.status || got.body != step.wanted {
 			t.Error(step.entities, got)
 		}
 		// The next request does not see them.
@@ -41,32 +41,70 @@ func TestEntitiesInRequests(t *testing.T) {
 		`{"entities":[]}`: `{"refused":502}`,
 		`{"entities":[]`:  `{"refused":501}`,
 		`"entities"`:      `{"refused":502}`,
-		strings.TrimSuffix(beach, "}") + `,"context":{"entities":[]}}`:  `{"refused":506}`,
-		strings.Replace(bringing(`[]`), "entities", `entit\u0069es`, 1): `{"refused":502}`,
+		strings.TrimSuffix(beach, "}") + `,"context":{"entities":[]}}`: `{"refused":506}`,
 	} {
 		if got := it.ask(request); got.status != 400 || got.body != wanted+"\n" {
 			t.Error(request, got)
 		}
+	}
+	// An escape in a key is that of JSON.
+	if got := it.ask(strings.Replace(requestBringing(`[`+annAlone+`]`), "entities", `entit\u0069es`, 1)); got.status != 200 || got.body != stranger {
+		t.Error(got)
 	}
 	if got := it.metric("version"); got != "1" {
 		t.Error(got)
 	}
 }
 
-func TestRequestsBringNoEntitiesWithoutTheFlag(t *testing.T) {
-	it := serveExample(t, "photos")
-	if got := it.ask(bringing(`[]`)); got.status != 400 || got.body != `{"refused":502}`+"\n" {
+// The answers are those of the program, also where a request has line feeds, which lines have not.
+func TestTheProgramAnswersRequestsWithEntities(t *testing.T) {
+	it := serveExample(t, "photos", "--entities-in-requests")
+	folder, files := copied(t, "photos")
+	alone := requestBringing(`[` + annAlone + `]`)
+	requests := []string{beach, alone, requestBringing(`[]`), requestBringing(`[],"entities":[` + annAlone + `]`), requestBringing(`[` + annAlone + `],"entities":[]`),
+		requestBringing(`[` + annAlone + `],"context":{"entities":[]}`), requestBringing(`[`), requestBringing(`[]`) + "}", " " + alone + " ", "\r" + alone + "\r",
+		strings.ReplaceAll(alone, `"entities"`, `"Entities"`), strings.ReplaceAll(alone, `"entities"`, `"\u0065ntities"`), "[" + alone + "]",
+		strings.ReplaceAll(alone, "ann", "\xff"), strings.ReplaceAll(alone, "ann", "\x00"), alone + "\x00", "\ufeff" + alone, "\t", " ",
+		requestBringing(`[{"uid":{"type":"Action","id":"view"}}]`), requestBringing(`[{"uid":{"type":"User","id":"ann"},"attrs":{"x":1}}]`)}
+	output, _, _ := program(t, folder, strings.Join(requests, "\n")+"\n", append([]string{"authorize", "--quiet", "--entities-in-lines"}, files...)...)
+	answers := strings.SplitAfter(strings.TrimSuffix(output, "\n"), "\n")
+	if len(answers) != len(requests) {
+		t.Fatal(output)
+	}
+	if got := it.askLines(strings.Join(requests, "\n")); got.body != output {
 		t.Error(got)
 	}
-	if got := it.askLines(bringing(`[]`) + "\n" + beach); got.body != `{"refused":502}`+"\n"+friend {
+	for at, request := range requests {
+		wanted := strings.TrimSuffix(answers[at], "\n") + "\n"
+		// Between tokens a line feed is as good as none.
+		for _, one := range []string{request, request + "\n", "\n" + request, strings.ReplaceAll(request, ",", "\n,\r\n")} {
+			if got := it.ask(one); got.body != wanted {
+				t.Errorf("%q %v %s", one, got, wanted)
+			}
+		}
+	}
+	// In a string it is refused, with entities and without.
+	for _, one := range []string{strings.ReplaceAll(alone, "ann", "an\nn"), strings.ReplaceAll(beach, "ann", "an\nn"), "", "\n", "\n\n", "\r\n"} {
+		if got := it.ask(one); got.body != `{"refused":501}`+"\n" || got.status != 400 {
+			t.Errorf("%q %v", one, got)
+		}
+	}
+}
+
+func TestRequestsBringNoEntitiesWithoutTheFlag(t *testing.T) {
+	it := serveExample(t, "photos")
+	if got := it.ask(requestBringing(`[]`)); got.status != 400 || got.body != `{"refused":502}`+"\n" {
+		t.Error(got)
+	}
+	if got := it.askLines(requestBringing(`[]`) + "\n" + beach); got.body != `{"refused":502}`+"\n"+friend {
 		t.Error(got)
 	}
 }
 
 func TestEntitiesInRequestLines(t *testing.T) {
 	it := serveExample(t, "photos", "--entities-in-requests")
-	alone := bringing(`[` + annAlone + `]`)
-	lines := strings.Join([]string{beach, alone, beach, beach, alone, alone, "", `{"entities":`, bringing(`1`), beach}, "\n")
+	alone := requestBringing(`[` + annAlone + `]`)
+	lines := strings.Join([]string{beach, alone, beach, beach, alone, alone, "", `{"entities":`, requestBringing(`1`), beach}, "\n")
 	answers := friend + stranger + friend + friend + stranger + stranger + `{"refused":501}` + "\n" + `{"refused":501}` + "\n" +
 		`{"refused":502}` + "\n" + friend
 	for _, end := range []string{"", "\n"} {
@@ -105,12 +143,12 @@ func TestHostileEntitiesInRequests(t *testing.T) {
 		`[]` + strings.Repeat(`,"entities":[]`, 10000):                                          {status: 200, body: friend},
 		`[{"uid":{"type":"User","id":"` + strings.Repeat("b", 150000) + `"}},` + annAlone + `]`: {status: 200, body: stranger},
 	} {
-		if got := it.ask(bringing(entities)); got.status != wanted.status || got.body != wanted.body {
+		if got := it.ask(requestBringing(entities)); got.status != wanted.status || got.body != wanted.body {
 			t.Error(entities[:20], got.status, got.body, wanted)
 		}
 		it.isAnswered(friend)
 	}
-	if got := it.ask(bringing(`["` + strings.Repeat(`a`, 200000) + `"]`)); got.status != 413 {
+	if got := it.ask(requestBringing(`["` + strings.Repeat(`a`, 200000) + `"]`)); got.status != 413 {
 		t.Error(got.status)
 	}
 	it.isAnswered(friend)
@@ -125,7 +163,7 @@ func TestEntitiesInRequestsWhileTheyChange(t *testing.T) {
 		go func() {
 			defer asking.Done()
 			for count := 0; count < 200; count++ {
-				if got := it.ask(bringing(`[` + annAlone + `]`)); got.status != 200 || got.body != stranger {
+				if got := it.ask(requestBringing(`[` + annAlone + `]`)); got.status != 200 || got.body != stranger {
 					t.Error(got)
 				}
 			}

@@ -204,3 +204,113 @@ func TestPatchingWhileRequestsRun(t *testing.T) {
 		t.Error(it.store.changed)
 	}
 }
+
+// A PATCH is counted, and logged only where that is wanted.
+func TestAPatchIsNotALineOfTheLog(t *testing.T) {
+	for _, words := range [][]string{nil, {"--log-debug"}} {
+		it := serveExample(t, "photos", words...)
+		for at := 0; at < 3; at++ {
+			if got := it.patch(fmt.Sprintf(`{"upsert":[{"uid":{"type":"User","id":"u%d"}}]}`, at)); got.status != 200 {
+				t.Error(got)
+			}
+		}
+		if got := it.metric("patches_total"); got != "3" {
+			t.Error(got)
+		}
+		wanted := 3 * len(words)
+		if got := strings.Count(it.log.String(), `"level":"debug","event":"published"`); got != wanted {
+			t.Error(words, got)
+		}
+		if got := strings.Count(it.log.String(), `"event":"published"`); got != wanted+1 {
+			t.Error(words, got)
+		}
+	}
+}
+
+// Where much is kept of changes, the entities are written anew. Answers, the number and the digests stay, and so do the changes.
+func TestChangesAreCompacted(t *testing.T) {
+	it := serveExample(t, "photos")
+	if got := it.patch(`{"remove":[{"type":"User","id":"ann"}],"upsert":[{"uid":{"type":"User","id":"first"}}]}`); got.status != 200 {
+		t.Fatal(got)
+	}
+	var uids, entries []string
+	for at := 0; at < 3000; at++ {
+		uids = append(uids, fmt.Sprintf(`{"type":"User","id":"session%d"}`, at))
+		entries = append(entries, fmt.Sprintf(`{"uid":%s}`, uids[at]))
+	}
+	come, go_ := `{"upsert":[`+strings.Join(entries, ",")+`]}`, `{"remove":[`+strings.Join(uids, ",")+`]}`
+	other := serveExample(t, "photos")
+	other.store.lock.Lock()
+	other.store.kept = -1 << 40
+	other.store.lock.Unlock()
+	other.patch(`{"remove":[{"type":"User","id":"ann"}],"upsert":[{"uid":{"type":"User","id":"first"}}]}`)
+	for round := 0; round < 3; round++ {
+		for _, body := range []string{come, go_} {
+			before := it.metric("compactions_total")
+			got := it.patch(body)
+			described := decoded[currentVersion](t, got.body)
+			eventually(t, "the changes are compacted", func() bool { return it.metric("compactions_total") != before })
+			now := decoded[currentVersion](t, it.get("/v1/version").body)
+			if now.Digest != described.Digest || now.Version != described.Version || now.Published != described.Published {
+				t.Error(described, now)
+			}
+			// One that has the same changes, also the one that is not compacted, has the same digest.
+			if got := decoded[currentVersion](t, other.patch(body).body); got.Digest != now.Digest {
+				t.Error(got, now)
+			}
+			it.store.lock.Lock()
+			if len(it.store.changed) != 0 || it.store.kept != 0 {
+				t.Error(len(it.store.changed), it.store.kept)
+			}
+			it.store.lock.Unlock()
+			it.isAnswered(stranger)
+		}
+	}
+	text := it.call("GET", "/v1/entities", "", "", it.admin)
+	if strings.Contains(text.body, "session") || !strings.Contains(text.body, `"first"`) || strings.Contains(text.body, `"id": "ann" }, "parents"`) {
+		t.Error(text.body)
+	}
+	if got := other.metric("compactions_total"); got != "0" {
+		t.Error(got)
+	}
+	// What was read is published as it is.
+	if got := it.call("PUT", "/v1/entities", "", text.body, it.admin); got.status != 200 {
+		t.Error(got)
+	}
+	it.isAnswered(stranger)
+	if strings.Count(it.log.String(), `"event":"compacted"`) != 6 {
+		t.Error(it.log.String())
+	}
+}
+
+// Requests are answered, and the old engines freed, while changes are compacted.
+func TestRequestsWhileChangesAreCompacted(t *testing.T) {
+	it := serveExample(t, "photos")
+	isOver := make(chan struct{})
+	var asking sync.WaitGroup
+	for at := 0; at < 4; at++ {
+		asking.Add(1)
+		go func() {
+			defer asking.Done()
+			for {
+				select {
+				case <-isOver:
+					return
+				default:
+					it.isAnswered(friend)
+				}
+			}
+		}()
+	}
+	for round := 0; round < 30; round++ {
+		it.store.lock.Lock()
+		it.store.kept = mostKept * 2
+		it.store.lock.Unlock()
+		if got := it.patch(fmt.Sprintf(`{"upsert":[{"uid":{"type":"User","id":"u%d"}}]}`, round)); got.status != 200 {
+			t.Error(got)
+		}
+	}
+	eventually(t, "the changes are compacted", func() bool { return it.agent.metrics.compacted.Load() > 3 })
+	close(isOver)
+	asking.Wait()
+}

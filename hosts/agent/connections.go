@@ -2,6 +2,9 @@ package main
 
 // Connections: at most so many are open. Where all are taken, the one that has made no progress for longest is closed for a new one. So
 // clients that open connections and do nothing, or next to nothing, keep nobody out.
+//
+// The server gets a connection when its first byte has arrived, and its times begin then. Clients open connections before they need them,
+// and one that was closed meanwhile would fail their first request.
 
 import (
 	"context"
@@ -20,10 +23,15 @@ const noPlace = "HTTP/1.1 503 Service Unavailable\r\nContent-Type: application/j
 type connections struct {
 	net.Listener
 	limit      int
+	idle       time.Duration // a connection may be silent for so long
 	turnedAway *atomic.Uint64
 	lock       sync.Mutex
 	stalled    time.Duration // without progress for so long, a connection may be closed for a new one
 	open       map[*connection]struct{}
+	begin, end sync.Once
+	begun      chan *connection // those whose first byte has arrived
+	failed     chan error       // of the listener
+	ended      chan struct{}    // closed with the listener
 }
 
 // connection is an open connection, with the time of its last progress in nanoseconds.
@@ -31,23 +39,78 @@ type connection struct {
 	net.Conn
 	of       *connections
 	progress atomic.Int64
+	isSilent atomic.Bool // whether its first byte has not arrived
+	first    []byte      // what has arrived and was not read
 }
 
-func limited(listener net.Listener, limit int, turnedAway *atomic.Uint64) *connections {
-	return &connections{Listener: listener, limit: limit, turnedAway: turnedAway, stalled: stalledAfter, open: map[*connection]struct{}{}}
+func limited(listener net.Listener, limit int, idle time.Duration, turnedAway *atomic.Uint64) *connections {
+	return &connections{Listener: listener, limit: limit, idle: idle, turnedAway: turnedAway, stalled: stalledAfter,
+		open: map[*connection]struct{}{}, begun: make(chan *connection), failed: make(chan error), ended: make(chan struct{})}
 }
 
-// Accept gives the next connection for which there is a place.
+// Accept gives the next connection whose first byte has arrived.
 func (c *connections) Accept() (net.Conn, error) {
+	c.begin.Do(func() { go c.acceptAll() })
+	select {
+	case it := <-c.begun:
+		return it, nil
+	case err := <-c.failed:
+		return nil, err
+	case <-c.ended:
+		return nil, net.ErrClosed
+	}
+}
+
+// Close ends the listener, and closes the connections whose first byte has not arrived.
+func (c *connections) Close() error {
+	c.end.Do(func() { close(c.ended) })
+	err := c.Listener.Close()
+	c.lock.Lock()
+	defer c.lock.Unlock()
+	for it := range c.open {
+		if it.isSilent.Load() {
+			_ = it.Conn.Close()
+		}
+	}
+	return err
+}
+
+// await hands a connection to the server when its first byte has arrived.
+func (c *connections) await(it *connection) {
+	_ = it.Conn.SetReadDeadline(time.Now().Add(c.idle))
+	first := make([]byte, 1)
+	count, _ := it.Read(first)
+	_ = it.Conn.SetReadDeadline(time.Time{})
+	it.first = first[:count]
+	it.isSilent.Store(false)
+	if count > 0 {
+		select {
+		case c.begun <- it:
+			return
+		case <-c.ended:
+		}
+	}
+	_ = it.Close()
+}
+
+// acceptAll accepts connections, for each of which there is a place, until the listener is closed.
+func (c *connections) acceptAll() {
 	for {
 		accepted, err := c.Listener.Accept()
 		if err != nil {
-			return nil, err
+			select {
+			case c.failed <- err:
+				continue
+			case <-c.ended:
+				return
+			}
 		}
 		it := &connection{Conn: accepted, of: c}
 		it.progress.Store(time.Now().UnixNano())
+		it.isSilent.Store(true)
 		if c.enter(it) {
-			return it, nil
+			go c.await(it)
+			continue
 		}
 		c.turnedAway.Add(1)
 		_ = accepted.SetWriteDeadline(time.Now().Add(10 * time.Millisecond))
@@ -98,6 +161,11 @@ func (c *connections) count() int {
 
 // Read reads, which is progress where something has arrived.
 func (c *connection) Read(to []byte) (int, error) {
+	if len(c.first) > 0 {
+		count := copy(to, c.first)
+		c.first = c.first[count:]
+		return count, nil
+	}
 	count, err := c.Conn.Read(to)
 	if count > 0 {
 		c.progress.Store(time.Now().UnixNano())

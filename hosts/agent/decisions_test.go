@@ -50,8 +50,8 @@ func TestDecisionsCanBeReplayed(t *testing.T) {
 func TestDecisionsWithEntitiesCanBeReplayed(t *testing.T) {
 	log := filepath.Join(t.TempDir(), "decisions.jsonl")
 	it := serveExample(t, "photos", "--decision-log", log, "--entities-in-requests")
-	requests := []string{beach, bringing(`[` + annAlone + `]`), beach, bringing(`[]`), bringing(`[` + annAlone + `,` + annAlone + `]`),
-		bringing(`[{"uid":{"type":"Ghost","id":"g"}}]`), bringing(`{}`), bringing(`[],"more":1`)}
+	requests := []string{beach, requestBringing(`[` + annAlone + `]`), beach, requestBringing(`[]`), requestBringing(`[` + annAlone + `,` + annAlone + `]`),
+		requestBringing(`[{"uid":{"type":"Ghost","id":"g"}}]`), requestBringing(`{}`), requestBringing(`[],"more":1`)}
 	for _, request := range requests {
 		it.ask(request)
 	}
@@ -157,9 +157,180 @@ func TestADecisionLogThatCannotBeWritten(t *testing.T) {
 	}
 }
 
+// A logged is a line of the decision log.
+type logged struct {
+	ID, Time, Digest, Request, Answer string
+	Version                           uint64
+	Omitted                           []string
+}
+
+// decisionsOf reads decision logs.
+func decisionsOf(t *testing.T, paths ...string) []logged {
+	t.Helper()
+	var all []logged
+	for _, path := range paths {
+		text, err := os.ReadFile(path)
+		if err != nil {
+			t.Fatal(err)
+		}
+		for _, line := range strings.Split(strings.TrimSuffix(string(text), "\n"), "\n") {
+			all = append(all, decoded[logged](t, line))
+		}
+	}
+	return all
+}
+
+// Each decision has an id of its own, which the answer has, too.
+func TestIDsOfDecisions(t *testing.T) {
+	log := filepath.Join(t.TempDir(), "decisions.jsonl")
+	it := serveExample(t, "notes", "--decision-log", log)
+	var wanted []string
+	for _, request := range []string{line("ann", "write"), "{", line("carol", "read")} {
+		wanted = append(wanted, it.ask(request).header.Get("Cedar-Decision-Id"))
+	}
+	for count, send := range map[int]func(string) reply{3: it.askLines, 4: it.askStream, 7000: it.askLines} {
+		got := send(strings.Repeat(line("ann", "write")+"\n", count))
+		if got.body != strings.Repeat(allowedAnswer, count) {
+			t.Error(got.status, len(got.body))
+		}
+		for at := 1; at <= count; at++ {
+			wanted = append(wanted, fmt.Sprintf("%s.%d", got.header.Get("Cedar-Decision-Id"), at))
+		}
+	}
+	it.decisions.flush()
+	isThere := map[string]bool{}
+	for _, one := range decisionsOf(t, log) {
+		if isThere[one.ID] || len(one.ID) < 18 {
+			t.Error(one.ID)
+		}
+		isThere[one.ID] = true
+	}
+	for _, id := range wanted {
+		if !isThere[id] {
+			t.Error(id)
+		}
+	}
+	if len(isThere) != len(wanted) {
+		t.Error(len(isThere), len(wanted))
+	}
+	other := serveExample(t, "notes", "--decision-log", log)
+	if id := other.ask(line("ann", "write")).header.Get("Cedar-Decision-Id"); id == "" || isThere[id] {
+		t.Error(id)
+	}
+}
+
+// A log that would be too large is renamed, and begun anew. What was renamed before is gone.
+func TestTheDecisionLogIsBounded(t *testing.T) {
+	const most = 20000
+	log := filepath.Join(t.TempDir(), "decisions.jsonl")
+	write(t, log, strings.Repeat("x", most-100)+"\n")
+	it := serveExample(t, "notes", "--decision-log", log, "--decisions-max", fmt.Sprint(most))
+	for round := 0; round < 5; round++ {
+		it.askLines(strings.Repeat(line("ann", "write")+"\n", 100))
+		it.decisions.flush()
+		for _, path := range []string{log, log + ".1"} {
+			if found, err := os.Stat(path); err != nil || found.Size() > most {
+				t.Error(path, found, err)
+			}
+		}
+	}
+	kept := decisionsOf(t, log+".1", log)
+	if last := kept[len(kept)-1]; !strings.HasSuffix(last.ID, "5.100") || len(kept) < 20 {
+		t.Error(len(kept), last)
+	}
+	for at := 1; at < len(kept); at++ {
+		if kept[at].ID == kept[at-1].ID || kept[at].Request != line("ann", "write") {
+			t.Error(kept[at])
+		}
+	}
+	if got := it.decisions.failures(); got != 0 {
+		t.Error(got)
+	}
+	if found, err := filepath.Glob(log + "*"); err != nil || len(found) != 2 {
+		t.Error(found, err)
+	}
+}
+
+// Where the log cannot be renamed it does not grow, and requests are answered.
+func TestADecisionLogThatCannotBeRenamed(t *testing.T) {
+	const most = 5000
+	log := filepath.Join(t.TempDir(), "decisions.jsonl")
+	if err := os.MkdirAll(filepath.Join(log+".1", "folder"), 0o700); err != nil {
+		t.Fatal(err)
+	}
+	it := serveExample(t, "notes", "--decision-log", log, "--decisions-max", fmt.Sprint(most))
+	it.others(100)
+	it.decisions.flush()
+	found, err := os.Stat(log)
+	if err != nil || found.Size() > most || found.Size() < most/2 || it.decisions.failures() < 50 {
+		t.Error(found, err, it.decisions.failures())
+	}
+}
+
+// Keys that are left out are in no line of the log, whatever the request is. The others are as they were.
+func TestKeysThatAreLeftOut(t *testing.T) {
+	log := filepath.Join(t.TempDir(), "decisions.jsonl")
+	it := serveExample(t, "photos", "--decision-log", log, "--decisions-omit", "principal,entities,context", "--entities-in-requests")
+	const secret = "secret"
+	resource := `"action":"Action::\"view\"","resource":"Photo::\"beach\""`
+	users := `[{"uid":{"type":"User","id":"secret"}}]`
+	requests := []string{
+		`{"principal":"User::\"secret\"",` + resource + `}`,
+		`{"principal":"User::\"secret\"","context":{},` + resource + `,"entities":` + users + `}`,
+		"{\"context\":{\n},\n\"entities\":\n" + users + `,"principal":{"type":"User","id":"secret"},` + resource + `}`,
+		`{"principal":"User::\"secret\"","context":{"secret":1},` + resource + `}`,
+		`{"pr\u0069ncipal":"User::\"secret\"",` + resource + `}`,
+		`{"principal":"User::\"secret\"",` + resource + `,"principal":"User::\"secret\""}`,
+		`{"secret":1}`, `secret`, `["secret"]`, `{"principal":"secret`, ``,
+	}
+	for _, request := range requests {
+		it.ask(request)
+	}
+	it.askLines(strings.Join(append(requests[:2:2], requests[3:]...), "\n"))
+	it.decisions.flush()
+	text, err := os.ReadFile(log)
+	if err != nil || strings.Contains(string(text), secret) {
+		t.Error(err, string(text))
+	}
+	all := decisionsOf(t, log)
+	if one := all[0]; one.Request != `{`+resource+`}` || strings.Join(one.Omitted, " ") != "principal" || !strings.Contains(one.Answer, `"decision"`) {
+		t.Error(one)
+	}
+	if one := all[2]; one.Request != `{`+resource+`}` || strings.Join(one.Omitted, " ") != "context entities principal" {
+		t.Error(one)
+	}
+	if one := all[3]; one.Request != "" || strings.Join(one.Omitted, " ") != "request" || !strings.HasPrefix(one.Answer, `{"refused":`) {
+		t.Error(one)
+	}
+	_, files := copied(t, "photos")
+	if said, status := replay(t, log, files...); status != 0 || said != fmt.Sprintf("0 same, 0 differ, %d left out\n", len(all)) {
+		t.Error(status, said)
+	}
+}
+
+// Without a key that is left out a request is logged as it was, and can be answered anew.
+func TestRequestsThatLackTheKeys(t *testing.T) {
+	log := filepath.Join(t.TempDir(), "decisions.jsonl")
+	it := serveExample(t, "notes", "--decision-log", log, "--decisions-omit", "context")
+	request := strings.Replace(line("ann", "write"), ",", " ,\t", 1)
+	it.ask(request)
+	it.ask(strings.Replace(request, "{", `{"context":{},`, 1))
+	it.decisions.flush()
+	if all := decisionsOf(t, log); len(all) != 2 || all[0].Request != request || all[0].Omitted != nil {
+		t.Error(all)
+	}
+	_, files := copied(t, "notes")
+	if said, status := replay(t, log, files...); status != 0 || said != "1 same, 0 differ, 1 left out\n" {
+		t.Error(status, said)
+	}
+}
+
 func TestTheDecisionLogIsOff(t *testing.T) {
 	it := serveExample(t, "notes")
 	it.others(1)
+	if got := it.ask(line("ann", "write")); got.header["Cedar-Decision-Id"] != nil {
+		t.Error(got.header)
+	}
 	if it.decisions != nil || strings.Contains(it.log.String(), "ann") {
 		t.Error(it.log.String())
 	}

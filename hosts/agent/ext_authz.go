@@ -11,6 +11,7 @@ import (
 	"os"
 	"strings"
 	"time"
+	"unicode/utf16"
 	"unicode/utf8"
 )
 
@@ -189,8 +190,73 @@ func (a *agent) extAuthz(w http.ResponseWriter, r *http.Request) {
 	defer it.give()
 	var err error
 	if it.body, err = a.mapping.request(it.body, r); err != nil {
-		a.fail(w, http.StatusBadRequest, "mapping", err.Error())
+		a.log.repeat(repeat{event: "mapping", name: err.Error()}, 1)
+		a.fail(w, http.StatusBadRequest, "mapping", noDecisionWords)
 		return
 	}
-	a.answerOne(w, it, http.StatusForbidden)
+	what := a.decide(w, it)
+	said, isOne := authzAnswers[what]
+	if !isOne {
+		return
+	}
+	header := w.Header()
+	header["Content-Type"] = jsonType
+	if ids := determiningOf(it.answer); a.namesIDs && ids != "" {
+		header["Cedar-Policies"] = []string{ids}
+	}
+	w.WriteHeader(said.status)
+	_, _ = w.Write(said.body)
+}
+
+// noDecisionWords are all that a client is told where nothing was decided: the log says why.
+const noDecisionWords = "nothing was decided"
+
+// authzAnswers are the statuses and bodies for outcomes. A proxy hands them on to its clients, so no policy is named there.
+var authzAnswers = map[outcome]struct {
+	status int
+	body   []byte
+}{
+	allowed: {http.StatusOK, []byte(`{"decision":"allow"}` + "\n")},
+	denied:  {http.StatusForbidden, []byte(`{"decision":"deny"}` + "\n")},
+	refused: {http.StatusBadRequest, []byte(`{"error":"` + noDecisionWords + `"}` + "\n")},
+}
+
+// The header with the ids of policies has at most so many bytes. A longer one is left out.
+const mostIDs = 4096
+
+// determiningOf gives the ids of the policies that determine an answer, as a list of JSON in ASCII; it is empty where the list is too long.
+func determiningOf(answer []byte) string {
+	var read struct {
+		Determining []string `json:"determining"`
+	}
+	if json.Unmarshal(answer, &read) != nil || read.Determining == nil {
+		return ""
+	}
+	list := []byte{'['}
+	for at, id := range read.Determining {
+		if at > 0 {
+			list = append(list, ',')
+		}
+		list = appendASCII(list, id)
+		if len(list) >= mostIDs {
+			return ""
+		}
+	}
+	return string(append(list, ']'))
+}
+
+// appendASCII appends a string as JSON writes it in ASCII, which alone is sure to pass through a header.
+func appendASCII(to []byte, text string) []byte {
+	for _, r := range string(appendQuoted(nil, text)) {
+		switch {
+		case r < utf8.RuneSelf:
+			to = append(to, byte(r))
+		case r < 0x10000:
+			to = append(to, fmt.Sprintf("\\u%04x", r)...)
+		default:
+			first, second := utf16.EncodeRune(r)
+			to = append(to, fmt.Sprintf("\\u%04x\\u%04x", first, second)...)
+		}
+	}
+	return to
 }

@@ -185,6 +185,48 @@ func TestASlowWriter(t *testing.T) {
 	}
 }
 
+// Clients open connections before they need them: one that was silent for longer than a header may take is answered.
+func TestAConnectionThatIsOpenedEarly(t *testing.T) {
+	t.Parallel()
+	it := serveExample(t, "notes")
+	var all []net.Conn
+	for at := 0; at < 20; at++ {
+		all = append(all, it.dial())
+	}
+	time.Sleep(headerTime + time.Second)
+	for _, connection := range all {
+		_ = connection.SetDeadline(time.Now().Add(20 * time.Second))
+		fmt.Fprintf(connection, "POST /v1/authorize HTTP/1.1\r\nHost: a\r\nContent-Length: %d\r\n\r\n%s", len(line("ann", "write")), line("ann", "write"))
+		if got := status(connection); got != 200 {
+			t.Error(got)
+		}
+	}
+}
+
+// Connections that are silent end with --max-idle, and at once where the agent ends.
+func TestConnectionsThatStaySilent(t *testing.T) {
+	it := serveExample(t, "notes", "--max-idle", "300ms")
+	connection := it.dial()
+	_ = connection.SetReadDeadline(time.Now().Add(20 * time.Second))
+	if _, err := connection.Read(make([]byte, 1)); !errors.Is(err, io.EOF) {
+		t.Error(err)
+	}
+	other := serveExample(t, "notes")
+	connection = other.dial()
+	_ = connection.SetReadDeadline(time.Now().Add(20 * time.Second))
+	eventually(t, "the connection is there", func() bool { return other.public.count() > 0 })
+	began := time.Now()
+	other.ends <- struct{}{}
+	isClean := <-other.done
+	if took := time.Since(began); !isClean || took > 3*time.Second {
+		t.Error(isClean, took)
+	}
+	other.done <- isClean
+	if _, err := connection.Read(make([]byte, 1)); err == nil {
+		t.Error("a silent connection stays")
+	}
+}
+
 // A client that sends the header byte by byte is cut off after headerTime.
 func TestASlowHeader(t *testing.T) {
 	t.Parallel()
@@ -362,7 +404,7 @@ func TestAnAnswerOfAnotherForm(t *testing.T) {
 	for _, text := range []string{"", "x", `{"decision":"Allow","determining":[],"erring":[]}`} {
 		it.one = func(_ *bobbinjade.Engine, to, _ []byte) ([]byte, error) { return append(to, text...), nil }
 		recorder := &recorded{header: http.Header{}}
-		it.answerOne(recorder, takeRoom(), http.StatusOK)
+		it.answerOne(recorder, takeRoom())
 		if recorder.status != 500 || strings.Contains(recorder.body, "decision") {
 			t.Error(text, recorder)
 		}

@@ -23,6 +23,9 @@ const (
 	validationTime = 10 * time.Second
 	// An answer that says that the body did not arrive in time is written in so much time.
 	lateTime = 5 * time.Second
+	// A request that may bring entities has at most so many bytes, unless --max-line says otherwise: a chain of groups takes some 40 bytes
+	// times the square of its length.
+	lineWithEntities = 64 << 10
 	// The connections of the listener for calls that publish.
 	adminConnections = 64
 )
@@ -30,7 +33,7 @@ const (
 // limits are sizes in bytes, times and numbers.
 type limits struct {
 	body, line, policies, files int64
-	report                      int64
+	report, schema              int64
 	connections, validations    int
 	time, idle, adminTime       time.Duration
 	turn                        time.Duration // of a validation
@@ -38,9 +41,10 @@ type limits struct {
 
 // declare declares the flags of limits.
 func (l *limits) declare(flags *flag.FlagSet) {
-	flags.Int64Var(&l.line, "max-line", 256<<10, "a request has at most so many `BYTES`")
+	flags.Int64Var(&l.line, "max-line", 256<<10, "a request has at most so many `BYTES`; by default 65536 with --entities-in-requests")
 	flags.Int64Var(&l.body, "max-body", 64<<20, "the request lines of one body have together at most so many `BYTES`")
 	flags.Int64Var(&l.policies, "max-policies", 1<<20, "what /v1/validate is sent has at most so many `BYTES`")
+	flags.Int64Var(&l.schema, "max-schema", 256<<10, "a schema that /v1/validate is sent has at most so many `BYTES`")
 	flags.Int64Var(&l.report, "max-report", 16<<20, "what /v1/validate could answer has at most so many `BYTES`")
 	flags.Int64Var(&l.files, "max-files", 1<<30, "what is published over --admin has at most so many `BYTES`")
 	flags.IntVar(&l.connections, "max-connections", 4096, "the `NUMBER` of open connections")
@@ -53,7 +57,7 @@ func (l *limits) declare(flags *flag.FlagSet) {
 
 // check finds limits that nothing could meet.
 func (l *limits) check() error {
-	if l.body < 1 || l.line < 1 || l.policies < 1 || l.report < 1 || l.files < 1 || l.connections < 1 || l.validations < 0 {
+	if l.body < 1 || l.line < 1 || l.policies < 1 || l.report < 1 || l.schema < 1 || l.files < 1 || l.connections < 1 || l.validations < 0 {
 		return errors.New("each --max- is at least 1, and --max-validations at least 0")
 	}
 	if l.time <= 0 || l.idle <= 0 || l.adminTime <= 0 {

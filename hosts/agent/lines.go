@@ -18,7 +18,7 @@ func (a *agent) authorizeLines(w http.ResponseWriter, r *http.Request) {
 		return
 	}
 	if r.ContentLength < 0 || r.ContentLength > wholeBody {
-		s := &stream{agent: a, w: w, room: it}
+		s := &stream{agent: a, w: w, room: it, of: a.decisions.decides(w, false)}
 		s.run(r.Body)
 		return
 	}
@@ -36,7 +36,8 @@ func (a *agent) authorizeLines(w http.ResponseWriter, r *http.Request) {
 		a.failEngine(w, err)
 		return
 	}
-	a.count(v, it.body, it.answer, false)
+	of := a.decisions.decides(w, false)
+	a.count(v, it.body, it.answer, &of)
 	versionHeader(w, v)
 	header := w.Header()
 	header["Content-Type"] = linesType
@@ -50,6 +51,7 @@ type stream struct {
 	agent   *agent
 	w       http.ResponseWriter
 	room    *room
+	of      decided
 	read    int64 // the bytes of the body so far
 	isBegun bool  // whether an answer has been written
 }
@@ -115,7 +117,7 @@ func (s *stream) answer(lines []byte) error {
 	if err != nil {
 		return err
 	}
-	s.agent.count(v, lines, answer, false)
+	s.agent.count(v, lines, answer, &s.of)
 	s.begin(v)
 	if _, err := s.w.Write(answer); err != nil {
 		return err

@@ -7,6 +7,8 @@ import (
 	"fmt"
 	"net"
 	"os"
+	"os/user"
+	"strconv"
 	"strings"
 	"syscall"
 	"time"
@@ -28,8 +30,36 @@ func checkAddress(address string) error {
 	return nil
 }
 
-// listen listens at an address. Only the user of the process may connect to a private socket of the file system.
-func listen(address string, isPrivate bool) (net.Listener, error) {
+// An access says who may connect to a socket of the file system. A mode of 0 is that of the process, and an empty group that, too.
+type access struct {
+	mode  os.FileMode
+	group string
+}
+
+// The modes of the sockets of --admin, and of one with a group.
+const (
+	privateMode os.FileMode = 0o600
+	groupMode   os.FileMode = 0o660
+)
+
+// accessOf gives the access that a mode, in octal digits, and a group say, and the default mode where there are neither.
+func accessOf(mode, group string, byDefault os.FileMode) (access, error) {
+	it := access{byDefault, group}
+	if group != "" {
+		it.mode = groupMode
+	}
+	if mode != "" {
+		bits, err := strconv.ParseUint(mode, 8, 32)
+		if err != nil || bits == 0 || bits > 0o777 {
+			return it, errors.New("a mode has octal digits, for example 0660")
+		}
+		it.mode = os.FileMode(bits)
+	}
+	return it, nil
+}
+
+// listen listens at an address. Only those may connect to a socket of the file system whom the access names.
+func listen(address string, allowed access) (net.Listener, error) {
 	path := strings.TrimPrefix(address, unixPrefix)
 	if path == address {
 		return net.Listen("tcp", address)
@@ -37,10 +67,38 @@ func listen(address string, isPrivate bool) (net.Listener, error) {
 	if err := removeStale(path); err != nil {
 		return nil, err
 	}
-	if isPrivate {
-		defer syscall.Umask(syscall.Umask(0o177))
+	if allowed == (access{}) {
+		return net.Listen("unix", path)
 	}
-	return net.Listen("unix", path)
+	// Until the group and the mode are set, only the user of the process may connect.
+	defer syscall.Umask(syscall.Umask(0o177))
+	listener, err := net.Listen("unix", path)
+	if err != nil {
+		return nil, err
+	}
+	if err := allowed.set(path); err != nil {
+		_ = listener.Close()
+		return nil, err
+	}
+	return listener, nil
+}
+
+// set sets the group and the mode of a socket.
+func (a access) set(path string) error {
+	if a.group != "" {
+		id := a.group
+		if found, err := user.LookupGroup(a.group); err == nil {
+			id = found.Gid
+		}
+		number, err := strconv.Atoi(id)
+		if err != nil {
+			return fmt.Errorf("%s: there is no group %q", path, a.group)
+		}
+		if err := os.Chown(path, -1, number); err != nil {
+			return err
+		}
+	}
+	return os.Chmod(path, a.mode)
 }
 
 // removeStale removes a socket that a process left which was killed. A socket at which someone listens stays, and so does another file.

@@ -17,6 +17,7 @@ import (
 type logger struct {
 	writing  sync.Mutex // of to
 	to       io.Writer
+	isDebug  bool       // whether lines of the level debug are written
 	lock     sync.Mutex // of repeated
 	repeated map[repeat]uint64
 }
@@ -48,8 +49,11 @@ func newLogger(to io.Writer) *logger {
 	return &logger{to: to, repeated: map[repeat]uint64{}}
 }
 
-// event writes a line: its time, its level, what happened, and fields.
+// event writes a line: its time, its level, what happened, and fields. The level debug is for what may happen many times a second.
 func (l *logger) event(level, event string, fields ...field) {
+	if level == "debug" && !l.isDebug {
+		return
+	}
 	line := append([]byte(`{"time":"`), time.Now().UTC().Format(time.RFC3339Nano)...)
 	line = append(line, `","level":"`+level+`","event":"`+event+`"`...)
 	for _, it := range fields {

@@ -56,6 +56,7 @@ func run(words []string, output, errorOutput io.Writer) int {
 		// Requests leave little behind, so the collector of Go may run four times less often than it would.
 		debug.SetGCPercent(400)
 	}
+	limitArenas()
 	return serveUntilSignal(settings, errorOutput)
 }
 
@@ -104,8 +105,10 @@ func serveUntilSignal(settings *config, errorOutput io.Writer) int {
 	isClean := servers.serve(hangups, ends)
 	it.close()
 	if !isClean {
+		log.event("error", "stopped", text("why", "requests were cut off, or a listener failed"))
 		return statusFailed
 	}
+	log.event("info", "stopped")
 	return statusDone
 }
 

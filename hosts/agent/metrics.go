@@ -5,7 +5,6 @@ package main
 import (
 	"fmt"
 	"io"
-	"runtime"
 	"sort"
 	"sync"
 	"sync/atomic"
@@ -41,6 +40,8 @@ type metrics struct {
 	refusals        [refusalNumbers]atomic.Uint64
 	times           [callCount]times
 	published       atomic.Uint64
+	patched         atomic.Uint64 // of the published ones
+	compacted       atomic.Uint64
 	publishRefused  atomic.Uint64
 	reloadRefused   atomic.Uint64
 	turnedAway      atomic.Uint64 // connections that were closed at the limit
@@ -81,8 +82,23 @@ func (m *metrics) erred(it failedPolicy) {
 	m.erring[it]++
 }
 
+// Gauges are what is read when the metrics are written, and not counted.
+type gauges struct {
+	version     *version
+	connections int
+	logFailures uint64
+	failing     []failing
+}
+
+// A failing says whether what was read last of something that may change could not be used.
+type failing struct {
+	what string
+	isSo bool
+}
+
 // write writes all counters.
-func (m *metrics) write(to io.Writer, v *version, connections int, logFailures uint64) {
+func (m *metrics) write(to io.Writer, now gauges) {
+	v := now.version
 	counter(to, "decisions_total", "Answered requests, by decision.", "counter")
 	sample(to, "decisions_total", `decision="allow"`, m.allowed.Load())
 	sample(to, "decisions_total", `decision="deny"`, m.denied.Load())
@@ -97,13 +113,26 @@ func (m *metrics) write(to io.Writer, v *version, connections int, logFailures u
 	counter(to, "publications_total", "Versions that were published or refused, with those of files that changed.", "counter")
 	sample(to, "publications_total", `result="published"`, m.published.Load())
 	sample(to, "publications_total", `result="refused"`, m.publishRefused.Load()+m.reloadRefused.Load())
+	one(to, "patches_total", "Versions that PATCH made, each also a publication.", "counter", m.patched.Load())
+	one(to, "compactions_total", "How often the entities were written anew, since much was kept of changes.", "counter", m.compacted.Load())
 	one(to, "version", "The number of the current version.", "gauge", v.number)
 	counter(to, "version_info", "The digest of the current version.", "gauge")
 	sample(to, "version_info", fmt.Sprintf("digest=%q", v.digest), 1)
-	one(to, "connections", "Open connections of the listener for requests.", "gauge", uint64(connections))
+	one(to, "connections", "Open connections of the listener for requests.", "gauge", uint64(now.connections))
 	one(to, "connections_turned_away_total", "Connections that were closed at the limit.", "counter", m.turnedAway.Load())
-	one(to, "decision_log_failures_total", "Writes to the decision log that failed.", "counter", logFailures)
-	writeMemory(to)
+	one(to, "decision_log_failures_total", "Writes to the decision log that failed.", "counter", now.logFailures)
+	counter(to, "last_publish_timestamp_seconds", "When the current version was published, in seconds since 1970.", "gauge")
+	fmt.Fprintf(to, "cedar_agent_last_publish_timestamp_seconds %.3f\n", float64(v.published.UnixMilli())/1000)
+	counter(to, "reload_failing", "1 where what was read last could not be used, and what was there before still is.", "gauge")
+	for _, it := range now.failing {
+		value := uint64(0)
+		if it.isSo {
+			value = 1
+		}
+		sample(to, "reload_failing", fmt.Sprintf("what=%q", it.what), value)
+	}
+	writeProcess(to)
+	writeGo(to)
 }
 
 // writeMaps writes the counters by name.
@@ -146,18 +175,20 @@ func (m *metrics) writeTimes(to io.Writer) {
 	}
 }
 
-// writeMemory writes the memory that the engine holds and that of Go.
-func writeMemory(to io.Writer) {
-	var memory runtime.MemStats
-	runtime.ReadMemStats(&memory)
-	one(to, "engine_bytes", "Memory that the engine has, of all versions that requests use; 0 where the C library does not count it.",
-		"gauge", engineBytes())
-	one(to, "go_bytes", "Memory that the Go runtime has taken from the system.", "gauge", memory.Sys)
+// head writes the head of a metric.
+func head(to io.Writer, name, help, kind string) {
+	fmt.Fprintf(to, "# HELP %s %s\n# TYPE %s %s\n", name, help, name, kind)
 }
 
-// counter writes the head of a metric.
+// plain writes a metric of any process, without labels.
+func plain(to io.Writer, name, help, kind string, value uint64) {
+	head(to, name, help, kind)
+	fmt.Fprintf(to, "%s %d\n", name, value)
+}
+
+// counter writes the head of a metric of the agent.
 func counter(to io.Writer, name, help, kind string) {
-	fmt.Fprintf(to, "# HELP cedar_agent_%s %s\n# TYPE cedar_agent_%s %s\n", name, help, name, kind)
+	head(to, "cedar_agent_"+name, help, kind)
 }
 
 // sample writes a value of a metric.
@@ -165,10 +196,9 @@ func sample(to io.Writer, name, labels string, value uint64) {
 	fmt.Fprintf(to, "cedar_agent_%s{%s} %d\n", name, labels, value)
 }
 
-// one writes a metric without labels.
+// one writes a metric of the agent without labels.
 func one(to io.Writer, name, help, kind string, value uint64) {
-	counter(to, name, help, kind)
-	fmt.Fprintf(to, "cedar_agent_%s %d\n", name, value)
+	plain(to, "cedar_agent_"+name, help, kind, value)
 }
 
 // label gives the text of a label: Prometheus escapes a quote, a backslash and a line feed, and nothing else.

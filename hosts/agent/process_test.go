@@ -75,8 +75,7 @@ func started(t *testing.T, socket string, words ...string) *process {
 	command := exec.Command(built(t), append(words, "--listen", "unix:"+socket)...)
 	it := &process{command: command, log: &lockedBuffer{}, ended: make(chan error, 1)}
 	it.command.Stderr = it.log
-	dial := func(context.Context, string, string) (net.Conn, error) { return net.Dial("unix", socket) }
-	it.client = &http.Client{Timeout: 20 * time.Second, Transport: &http.Transport{DialContext: dial}}
+	it.client = clientOf(socket)
 	if err := it.command.Start(); err != nil {
 		t.Fatal(err)
 	}
@@ -84,6 +83,12 @@ func started(t *testing.T, socket string, words ...string) *process {
 	t.Cleanup(func() { _ = it.command.Process.Kill() })
 	eventually(t, "the program listens", func() bool { return strings.Contains(it.log.String(), `"event":"listening"`) })
 	return it
+}
+
+// clientOf gives a client of a socket of the file system.
+func clientOf(socket string) *http.Client {
+	dial := func(context.Context, string, string) (net.Conn, error) { return net.Dial("unix", socket) }
+	return &http.Client{Timeout: time.Minute, Transport: &http.Transport{DialContext: dial, MaxIdleConnsPerHost: 64}}
 }
 
 // ask makes a single request.
@@ -160,7 +165,11 @@ func TestSignals(t *testing.T) {
 	if got := it.end(t, syscall.SIGINT); got != statusDone {
 		t.Error(got)
 	}
-	for _, line := range strings.Split(strings.TrimSuffix(it.log.String(), "\n"), "\n") {
+	lines := strings.Split(strings.TrimSuffix(it.log.String(), "\n"), "\n")
+	if last := lines[len(lines)-1]; !strings.Contains(last, `"level":"info","event":"stopped"`) {
+		t.Error(last)
+	}
+	for _, line := range lines {
 		var read struct{ Time, Level, Event string }
 		if err := json.Unmarshal([]byte(line), &read); err != nil || read.Level == "" || read.Event == "" {
 			t.Error(line, err)
@@ -263,6 +272,9 @@ func TestEndsThatCutOff(t *testing.T) {
 		if got := it.end(t, syscall.SIGTERM); got != statusFailed || !strings.Contains(it.log.String(), `"event":"cut_off"`) {
 			t.Error(isTwice, got, it.log.String())
 		}
+		if !strings.Contains(it.log.String(), `"level":"error","event":"stopped"`) {
+			t.Error(it.log.String())
+		}
 	}
 }
 
@@ -282,9 +294,10 @@ func TestAnAddressThatIsTaken(t *testing.T) {
 // ran runs the program to its end, and gives what it says.
 func ran(t *testing.T, words ...string) (string, int) {
 	t.Helper()
+	path := built(t)
 	limit, cancel := context.WithTimeout(context.Background(), 20*time.Second)
 	defer cancel()
-	command := exec.CommandContext(limit, built(t), words...)
+	command := exec.CommandContext(limit, path, words...)
 	var output bytes.Buffer
 	command.Stdout, command.Stderr = &output, &output
 	err := command.Run()
@@ -341,7 +354,27 @@ func TestCommandLines(t *testing.T) {
 		{with("--listen", "unix:"), "--listen: an address is HOST:PORT or unix:PATH"},
 		{with("--admin", "8181"), "--admin: an address is HOST:PORT or unix:PATH"},
 		{with("--admin", "127.0.0.1:8180", "--admin-insecure"), "--admin and --listen are one address"},
-		{with("--admin", "127.0.0.1:8181"), "--admin: whoever reaches 127.0.0.1:8181 could publish: use unix:PATH, or say --admin-insecure"},
+		{with("--admin", "127.0.0.1:8181"), "--admin: whoever reaches 127.0.0.1:8181 could publish: give --admin-token, use unix:PATH, or say --admin-insecure"},
+		{with("--admin", "unix:a", "--admin-mode", "0606"), "--admin-mode: all users of the machine could publish"},
+		{with("--admin", "unix:a", "--admin-mode", "rw"), "--admin-mode: a mode has octal digits, for example 0660"},
+		{with("--admin", "unix:a", "--admin-mode", "1777"), "--admin-mode: a mode has octal digits, for example 0660"},
+		{with("--admin", "unix:a", "--admin-users", "root,nobody-is-called-so"), `--admin-users: there is no user "nobody-is-called-so"`},
+		{with("--admin", "unix:a", "--admin-users", "0,"), `--admin-users: there is no user ""`},
+		{with("--admin", "127.0.0.1:8181", "--admin-insecure", "--admin-users", "0"), "--admin-users needs --admin unix:PATH"},
+		{with("--admin", "127.0.0.1:8181", "--admin-insecure", "--admin-mode", "0600"), "--admin-mode needs --admin unix:PATH"},
+		{with("--admin-token", files[1]), "--admin-token needs --admin"},
+		{with("--tls-cert", files[1]), "--tls-cert and --tls-key need each other, and --tls-client-ca needs both"},
+		{with("--tls-key", files[1]), "--tls-cert and --tls-key need each other"},
+		{with("--tls-client-ca", files[1]), "--tls-cert and --tls-key need each other"},
+		{with("--tls-cert", files[1], "--tls-key", files[1], "--listen", "unix:a", "--admin", "unix:b"), "--tls-cert needs a HOST:PORT"},
+		{with("--decisions-max", "7"), "--decisions-max and --decisions-omit need --decision-log"},
+		{with("--decisions-omit", "context"), "--decisions-max and --decisions-omit need --decision-log"},
+		{with("--decision-log", "x", "--decisions-omit", "context,answer"), `--decisions-omit: "answer" is none of principal`},
+		{with("--decision-log", "x", "--decisions-max", "-1"), "--decisions-max is not negative"},
+		{with("--ext-authz-policies"), "--ext-authz-policies needs --ext-authz"},
+		{with("--listen-mode", "0660"), "--listen-mode needs --listen unix:PATH"},
+		{with("--listen-group", "0"), "--listen-group needs --listen unix:PATH"},
+		{with("--admin-pprof"), "--admin-pprof needs --admin"},
 		{with("--ext-authz", files[1]), "--ext-authz: "},
 		{with("--ext-authz", "/none"), "--ext-authz: open /none"},
 	} {

@@ -41,8 +41,23 @@ func (a *agent) patch(w http.ResponseWriter, r *http.Request) {
 		a.failBody(w, err, a.limits.files)
 		return
 	}
-	v, err := a.store.change("patch", body, r.Header["If-Match"])
+	v, err := a.store.change(sourcePatch, body, r.Header["If-Match"])
 	a.answerPublish(w, r, v, err, began)
+	if err == nil {
+		go a.compact()
+	}
+}
+
+// compact frees what is kept of changes, where that is much. What fails here has changed nothing, and is tried again after the next change.
+func (a *agent) compact() {
+	took, err := a.store.compact()
+	switch {
+	case err != nil:
+		a.log.event("error", "compact_failed", text("error", err.Error()))
+	case took > 0:
+		a.metrics.compacted.Add(1)
+		a.log.event("info", "compacted", seconds("seconds", took))
+	}
 }
 
 // put publishes a version with a file, or with several, where the tags of If-Match are those of what is current.

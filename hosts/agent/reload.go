@@ -64,8 +64,14 @@ func (r *reloader) run(hangups, stopped <-chan struct{}) {
 		case <-stopped:
 			return
 		case <-hangups:
+			for _, it := range r.agent.watched {
+				it.again(r.agent.log)
+			}
 			r.hangup()
 		case <-polls:
+			for _, it := range r.agent.watched {
+				it.poll(r.agent.log)
+			}
 			r.poll()
 		}
 	}
@@ -265,12 +271,21 @@ func (r *reloader) keepFailure(err error) {
 
 // stamps gives the states of all files now.
 func (r *reloader) stamps() stamps {
-	all := stamps{}
+	var paths []string
 	for _, it := range r.paths {
-		if found, err := os.Stat(it.path); err == nil {
-			all[it.path] = stamp{found.ModTime(), found.Size(), true, found}
+		paths = append(paths, it.path)
+	}
+	return stampsOf(paths)
+}
+
+// stampsOf gives the states of files now.
+func stampsOf(paths []string) stamps {
+	all := stamps{}
+	for _, path := range paths {
+		if found, err := os.Stat(path); err == nil {
+			all[path] = stamp{found.ModTime(), found.Size(), true, found}
 		} else {
-			all[it.path] = stamp{}
+			all[path] = stamp{}
 		}
 	}
 	return all

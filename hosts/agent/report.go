@@ -6,6 +6,7 @@ package main
 import (
 	"bytes"
 	"encoding/json"
+	"math"
 
 	"bobbinjade"
 )
@@ -18,10 +19,17 @@ type environments struct {
 	count, names float64 // which cannot overflow
 }
 
-// mostOfReport gives an upper bound of the bytes of the report of files. Each policy ends with a semicolon, and each link is an object.
+// Each environment takes some 110 bytes where policies are validated, and at most so many are.
+const mostEnvironments = 250_000
+
+// mostOfReport gives an upper bound of the bytes of the report of files. Each policy ends with a semicolon, and each link is an object. The
+// bound is infinite where there are too many environments.
 func mostOfReport(files *bobbinjade.Files) float64 {
 	policies := float64(bytes.Count(files.Policies, []byte(";")) + bytes.Count(files.Links, []byte("{")))
 	all := environmentsOf(files.Schema)
+	if all.count > mostEnvironments {
+		return math.Inf(1)
+	}
 	return policies*(all.count*lineOfReport+all.names) + float64(len(files.Policies)+len(files.Links))*all.count
 }
 

@@ -31,21 +31,21 @@ type running struct {
 // listenAll listens at the addresses of the command line.
 func listenAll(it *agent, settings *config) (*servers, error) {
 	all := &servers{agent: it, drain: settings.drain, shutdown: settings.shutdown}
-	listener, err := listen(settings.listen, false)
+	listener, err := listen(settings.listen, settings.listenAccess)
 	if err != nil {
 		return nil, err
 	}
-	it.public = limited(listener, settings.limits.connections, &it.metrics.turnedAway)
-	all.add("requests", it.public, http.HandlerFunc(it.servePublic), settings.limits.time, settings.limits.idle)
+	it.public = limited(listener, settings.limits.connections, settings.limits.idle, &it.metrics.turnedAway)
+	all.add("requests", it.tls.over(it.public), http.HandlerFunc(it.servePublic), settings.limits.time, settings.limits.idle)
 	if settings.admin == "" {
 		return all, nil
 	}
-	if listener, err = listen(settings.admin, true); err != nil {
+	if listener, err = listen(settings.admin, settings.adminAccess); err != nil {
 		_ = it.public.Close()
 		return nil, err
 	}
-	admin := limited(listener, adminConnections, &it.metrics.turnedAway)
-	all.add("admin", admin, http.HandlerFunc(it.serveAdmin), settings.limits.adminTime, settings.limits.idle)
+	admin := limited(listener, adminConnections, settings.limits.idle, &it.metrics.turnedAway)
+	all.add("admin", it.tls.over(admin), http.HandlerFunc(it.serveAdmin), settings.limits.adminTime, settings.limits.idle)
 	return all, nil
 }
 
@@ -130,13 +130,22 @@ func (a *agent) writeLogs(stopped <-chan struct{}) {
 		case <-counted.C:
 			a.decisions.reopenIfMoved()
 			a.log.flush()
+			if a.hasFreed.Swap(false) {
+				trimEngine()
+			}
 		}
 	}
 }
 
+// pathOf gives the path of a call as it was sent. One with an escape is none of those that are served: a proxy that filters paths, and does
+// not decode them, would let it pass.
+func pathOf(r *http.Request) string {
+	return r.URL.EscapedPath()
+}
+
 // servePublic answers a call of the listener for requests.
 func (a *agent) servePublic(w http.ResponseWriter, r *http.Request) {
-	switch path := r.URL.Path; {
+	switch path := pathOf(r); {
 	case path == "/v1/authorize":
 		if r.Method != http.MethodPost {
 			a.failMethod(w, http.MethodPost)
@@ -183,14 +192,20 @@ func (a *agent) isEncoded(w http.ResponseWriter, r *http.Request) bool {
 
 // serveAdmin answers a call of the listener for calls that publish.
 func (a *agent) serveAdmin(w http.ResponseWriter, r *http.Request) {
-	file, isOne := publishedPaths[r.URL.Path]
+	if !a.guard.admits(a, w, r) {
+		return
+	}
+	path := pathOf(r)
+	file, isOne := publishedPaths[path]
 	isPatch := r.Method == http.MethodPatch && file == bobbinjade.Entities
 	switch {
-	case r.URL.Path == "/v1/entities" && (r.Method == http.MethodGet || r.Method == http.MethodHead):
+	case path == "/v1/entities" && (r.Method == http.MethodGet || r.Method == http.MethodHead):
 		a.writeEntities(w)
-	case r.URL.Path == "/v1/reload":
+	case a.profiles && strings.HasPrefix(path, profilesPath):
+		writeProfile(w, r)
+	case path == "/v1/reload":
 		a.reload(w, r)
-	case r.URL.Path == validatePath && a.limits.validations > 0:
+	case path == validatePath && a.limits.validations > 0:
 		a.serveValidate(w, r, true)
 	case !isOne:
 		a.serveState(w, r)
@@ -224,7 +239,7 @@ func (a *agent) serveState(w http.ResponseWriter, r *http.Request) {
 	calls := map[string]func(http.ResponseWriter){
 		"/healthz": a.healthz, "/readyz": a.readyz, "/metrics": a.writeMetrics, "/v1/version": a.writeVersion,
 	}
-	call, isOne := calls[r.URL.Path]
+	call, isOne := calls[pathOf(r)]
 	switch {
 	case !isOne:
 		a.fail(w, http.StatusNotFound, "path", "there is no such path here")

@@ -49,12 +49,26 @@ var fileNames = map[string]bobbinjade.File{
 
 // readSeveral gives the values of an object by its keys.
 func readSeveral(body []byte) (map[string]json.RawMessage, error) {
+	sent, err := readObject(body, func(key string) error {
+		if _, isOne := fileNames[key]; !isOne {
+			return errors.New("it has the key " + strconv.Quote(key))
+		}
+		return nil
+	})
+	if err != nil {
+		return nil, notObject(err.Error())
+	}
+	return sent, nil
+}
+
+// readObject gives the values of an object of JSON by its keys. It judges each key, of which none is repeated, and nothing is after it.
+func readObject(body []byte, judge func(key string) error) (map[string]json.RawMessage, error) {
 	if !utf8.Valid(body) {
-		return nil, notObject("it is not UTF-8")
+		return nil, errors.New("it is not UTF-8")
 	}
 	decoder := json.NewDecoder(bytes.NewReader(body))
 	if open, err := decoder.Token(); err != nil || open != json.Delim('{') {
-		return nil, notObject("it is not an object of JSON")
+		return nil, errors.New("it is not an object of JSON")
 	}
 	sent := map[string]json.RawMessage{}
 	for decoder.More() {
@@ -62,21 +76,21 @@ func readSeveral(body []byte) (map[string]json.RawMessage, error) {
 		key, isKey := token.(string)
 		var value json.RawMessage
 		if err != nil || !isKey || decoder.Decode(&value) != nil {
-			return nil, notObject("it is not JSON")
+			return nil, errors.New("it is not JSON")
 		}
-		if _, isOne := fileNames[key]; !isOne {
-			return nil, notObject("it has the key " + strconv.Quote(key))
+		if err := judge(key); err != nil {
+			return nil, err
 		}
 		if _, isThere := sent[key]; isThere {
-			return nil, notObject("it has the key " + strconv.Quote(key) + " twice")
+			return nil, errors.New("it has the key " + strconv.Quote(key) + " twice")
 		}
 		sent[key] = value
 	}
 	if closing, err := decoder.Token(); err != nil || closing != json.Delim('}') {
-		return nil, notObject("it is not JSON")
+		return nil, errors.New("it is not JSON")
 	}
 	if _, err := decoder.Token(); err != io.EOF {
-		return nil, notObject("something is after it")
+		return nil, errors.New("something is after it")
 	}
 	return sent, nil
 }

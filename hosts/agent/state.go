@@ -41,8 +41,17 @@ func (a *agent) readyz(w http.ResponseWriter) {
 func (a *agent) writeMetrics(w http.ResponseWriter) {
 	w.Header()["Content-Type"] = []string{"text/plain; version=0.0.4; charset=utf-8"}
 	buffer := bufio.NewWriter(w)
-	a.metrics.write(buffer, a.store.current.Load(), a.public.count(), a.decisions.failures())
+	a.metrics.write(buffer, gauges{a.store.current.Load(), a.public.count(), a.decisions.failures(), a.failing()})
 	_ = buffer.Flush()
+}
+
+// failing says of all that is read again whether the last time failed.
+func (a *agent) failing() []failing {
+	all := []failing{{"files", a.reloader.failure.Load() != nil}}
+	for _, it := range a.watched {
+		all = append(all, failing{it.what, it.isFailing.Load()})
+	}
+	return all
 }
 
 // currentVersion is what /v1/version says, and what a call that publishes answers.

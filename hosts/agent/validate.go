@@ -27,6 +27,7 @@ func (a *agent) validate(w http.ResponseWriter, r *http.Request, isAdmin bool) {
 		return
 	}
 	defer func() { <-a.validating }()
+	defer a.hasFreed.Store(true)
 	setReadDeadline(r, time.Now().Add(a.limits.turn))
 	body, err := readWhole(nil, r, a.limits.policies)
 	if err != nil {
@@ -39,6 +40,9 @@ func (a *agent) validate(w http.ResponseWriter, r *http.Request, isAdmin bool) {
 	switch {
 	case err != nil:
 		a.fail(w, http.StatusBadRequest, "object", err.Error())
+	case !isOwnSchema && int64(len(files.Schema)) > a.limits.schema:
+		a.fail(w, http.StatusRequestEntityTooLarge, "schema_too_large", "the schema has more than "+
+			strconv.FormatInt(a.limits.schema, 10)+" bytes (--max-schema): use `cedar validate`")
 	case !isOwnSchema && !isAdmin:
 		a.fail(w, http.StatusForbidden, "schema", "a schema is accepted on the listener of --admin alone")
 	default:

@@ -58,6 +58,17 @@ func TestReportsAreBounded(t *testing.T) {
 			t.Error(got.status, len(got.body))
 		}
 	}
+	// Environments take memory, too, also where there are no policies.
+	var types []string
+	for at := 0; at < 501; at++ {
+		types = append(types, fmt.Sprintf(`"T%d"`, at))
+	}
+	list := strings.Join(types, ",")
+	environments := ofSchema(`"entityTypes":{` + strings.ReplaceAll(list, ",", ":{},") + `:{}},"actions":{"a":{"appliesTo":{"principalTypes":[` +
+		list + `],"resourceTypes":[` + list + `]}}}`)
+	if got := admin(environments); got.status != 413 {
+		t.Error(got)
+	}
 	// A key that is repeated is counted each time.
 	twice := strings.Replace(wideFiles(2), `"principalTypes"`, `"principalTypes":[`+strings.Repeat(`"U",`, 2000)+`"U"],"principalTypes"`, 1)
 	if got := admin(twice); got.status != 413 {
@@ -69,24 +80,6 @@ func TestReportsAreBounded(t *testing.T) {
 	}
 	if got := it.call("POST", "/v1/validate", "application/json", `{"policies":""}`); got.status != 200 {
 		t.Error(got)
-	}
-}
-
-// What the largest report within the limits takes of memory.
-func TestMemoryOfReports(t *testing.T) {
-	it := serveExample(t, "notes")
-	if got := it.call("POST", "/v1/validate", "application/json", wideFiles(5), it.admin); got.status != 422 {
-		t.Fatal(got)
-	}
-	before := residentBytes(t)
-	got := it.call("POST", "/v1/validate", "application/json", wideFiles(310), it.admin)
-	if got.status != 422 || len(got.body) < 9_000_000 {
-		t.Error(got.status, len(got.body))
-	}
-	t.Log(residentBytes(t)-before, "bytes")
-	// The client is in this process, too: it holds the body as a text, and what its buffer has outgrown.
-	if grown := residentBytes(t) - before - 3*int64(len(got.body)); grown > 64<<20 && !isRaced {
-		t.Error(grown>>20, "MB")
 	}
 }
 

@@ -19,6 +19,9 @@ import (
 // allFiles are the files of an engine, in the order in which it reads them.
 var allFiles = [...]bobbinjade.File{bobbinjade.Schema, bobbinjade.Policies, bobbinjade.Links, bobbinjade.Entities}
 
+// sourcePatch is the source of the versions that PATCH makes.
+const sourcePatch = "patch"
+
 // A version is an engine with the files of which it was made. Nothing of it changes. Entities that changes have named since their file was
 // published are not in files.Entities: the store has them.
 type version struct {
@@ -80,6 +83,7 @@ func newVersion(number uint64, source string, engine *bobbinjade.Engine, files *
 type store struct {
 	lock    sync.Mutex // of publishers
 	changed changedEntities
+	kept    int // the bytes that changed takes, in this process and in the engine
 	current atomic.Pointer[version]
 }
 
@@ -162,11 +166,41 @@ func (s *store) change(source string, changes []byte, tags []string) (*version, 
 		all = changedEntities{}
 	}
 	for key, entry := range read {
-		all[key] = entry
+		s.kept += all.keep(key, entry)
 	}
 	digest := digestOf([]byte(old.digests[bobbinjade.Entities] + "\n" + digestOf(changes)))
 	s.swap(old, old.next(source, engine, &old.files, digest), all)
 	return s.current.Load(), nil
+}
+
+// The changes of which the entities are written anew take so many bytes, and as many as half of the file of entities.
+const mostKept = 1 << 20
+
+// compact writes the entities anew where much is kept of changes, so that nothing is kept of entities that came and went. Answers, the number
+// and the digests of the version stay. It gives the time that it took, or 0 where little is kept.
+func (s *store) compact() (time.Duration, error) {
+	s.lock.Lock()
+	defer s.lock.Unlock()
+	began, old := time.Now(), s.current.Load()
+	if s.kept < mostKept+len(old.files.Entities)/2 {
+		return 0, nil
+	}
+	text, err := s.changed.over(old.files.Entities)
+	if err != nil {
+		return 0, err
+	}
+	engine, err := old.engine.WithChanges([]byte("{}"))
+	if err != nil {
+		return 0, err
+	}
+	if err := engine.PublishEntities(text); err != nil {
+		_ = engine.Close()
+		return 0, err
+	}
+	same := *old
+	same.engine, same.files.Entities = engine, text
+	s.swap(old, &same, nil)
+	return time.Since(began), nil
 }
 
 // next gives the version after this one, of which the entities alone differ.
@@ -182,6 +216,9 @@ func (v *version) next(source string, engine *bobbinjade.Engine, files *bobbinja
 // swap has a version take the place of the current one, with the entities that changes have named. The publisher has the lock.
 func (s *store) swap(old, next *version, changed changedEntities) {
 	s.changed = changed
+	if changed == nil {
+		s.kept = 0
+	}
 	s.current.Store(next)
 	if old != nil {
 		_ = old.engine.Close()

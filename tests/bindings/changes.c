@@ -32,7 +32,7 @@ static int is_answered(cedar_engine *engine, const char *who, const char *answer
 static void check_arguments(void) {
     cedar_engine none = {NULL}, engine;
     cedar_bytes changes = bytes_of(UPSERT(ANN));
-    cedar_refusal refusal = {sizeof refusal, 7, 7, 7}, other = {sizeof other - 1, 7, 7, 7};
+    cedar_refusal refusal = {.size = sizeof refusal, .file = 7, .number = 7, .offset = 7}, other = {.size = sizeof other - 1, .file = 7, .number = 7, .offset = 7};
     char room[] = "####";
     cedar_buffer text = {room, 4, 9};
     CHECK(cedar_publish_changes(NULL, changes, NULL, NULL) == CEDAR_ARGUMENT);
@@ -49,7 +49,7 @@ static void check_arguments(void) {
 /* The next decision sees an upsert and a removal. A handle that was shared before them keeps its answers. */
 static void check_changes(void) {
     cedar_engine engine = published(), before;
-    cedar_refusal refusal = {sizeof refusal, 7, 7, 7};
+    cedar_refusal refusal = {.size = sizeof refusal, .file = 7, .number = 7, .offset = 7};
     CHECK(cedar_new(&before) == CEDAR_OK && cedar_share(&engine, &before) == CEDAR_OK);
     CHECK(is_answered(&engine, "ann", DENIED) && is_answered(&engine, "bob", ALLOWED));
     CHECK(cedar_publish_changes(&engine, bytes_of(UPSERT(ANN)), &refusal, NULL) == CEDAR_OK);
@@ -73,7 +73,7 @@ static void check_changes(void) {
 
 /* Whether changes are refused with this number, with any room for the line, and have words. */
 static int are_refused(cedar_engine *engine, const char *changes, unsigned number) {
-    cedar_refusal refusal = {sizeof refusal, 7, 7, 7};
+    cedar_refusal refusal = {.size = sizeof refusal, .file = 7, .number = 7, .offset = 7};
     char room[64], line[64], begin[32], said[2048];
     cedar_buffer text = {room, sizeof room, 0}, words = {said, sizeof said, 0};
     snprintf(line, sizeof line, "{\"file\":\"entities\",\"refused\":%u}\n", number);

@@ -1,8 +1,8 @@
 // What cedar.hpp promises beyond the answers: checks FOLDER, where FOLDER is examples/.
 #include "cedar.hpp"
-
 #include "changes.h"
 
+#include <atomic>
 #include <cstdio>
 #include <fstream>
 #include <functional>
@@ -70,7 +70,7 @@ static void check_entities(const std::string &folder) {
     engine.publish({schema, policies, {}, entities});
     CHECK(engine.is_authorized(request).determining == std::vector<std::string>{"shared-with-friends"});
     engine.publish_entities(others);
-    CHECK(!engine.decide(request) && engine.is_authorized(request).erring.empty());
+    CHECK(!engine.decide(request) && engine.authorize(request).erring.empty());
     auto refusal = thrown<cedar::Refusal>([&] { engine.publish_entities(broken); });
     CHECK(refusal && refusal->file == CEDAR_ENTITIES && refusal->number == 506 && !refusal->offset && refusal->line == 3u);
     CHECK(refusal && refusal->text == "{\"file\":\"entities\",\"refused\":506}\n" && refusal->status() == CEDAR_REFUSED);
@@ -79,7 +79,7 @@ static void check_entities(const std::string &folder) {
     CHECK(refusal && other && refusal->words == other->words && refusal->text == other->text);
     CHECK(!engine.decide(request));
     engine.publish_entities("[]");
-    cedar::Response response = engine.is_authorized(request);
+    cedar::Response response = engine.authorize(request);
     CHECK(!response.allow && response.determining.empty() && response.erring.size() == 1);
     CHECK(response.erring.at(0).policy == "private" && response.erring.at(0).error == "missing_entity");
     engine.publish_entities(entities);
@@ -104,7 +104,7 @@ static void check_changes() {
     }
     CHECK(!engine.decide(ann) && engine.decide(bob));
     engine.publish_changes(UPSERT(ANN));
-    CHECK(engine.decide(ann) && engine.is_authorized(ann).determining == std::vector<std::string>{"staff"});
+    CHECK(engine.decide(ann) && engine.authorize(ann).determining == std::vector<std::string>{"staff"});
     cedar::Engine before = engine.with_changes("{}");
     engine.publish_changes(REMOVE(UID("User", "ann")));
     CHECK(!engine.decide(ann) && engine.decide(bob) && before.decide(ann));
@@ -174,14 +174,14 @@ static void check_room() {
         text += "@id(\"a long name of a policy, number " + std::to_string(i) + "\") permit(principal, action, resource);";
     }
     cedar::Engine engine(files(text));
-    cedar::Response response = engine.is_authorized(asked("ann", "write"));
+    cedar::Response response = engine.authorize(asked("ann", "write"));
     CHECK(response.allow && response.determining.size() == 400 && response.determining[0] == "a long name of a policy, number 0");
     CHECK(engine.answer_line(requests.substr(0, requests.find('\n'))).size() > 10000);
 }
 
 static void check_escapes() {
     cedar::Engine engine(files("@id(\"a\\\"\\\\\\n\\u{1}\\u{e9}\\u{1f600}\") permit(principal, action, resource);"));
-    cedar::Response response = engine.is_authorized(asked("ann", "write"));
+    cedar::Response response = engine.authorize(asked("ann", "write"));
     CHECK(response.determining.size() == 1 && response.determining[0] == "a\"\\\n\x01\xc3\xa9\xf0\x9f\x98\x80");
     cedar::Response other = cedar::detail::Reader("{\"decision\":\"deny\",\"determining\":[\"\\ud83d\\ude00\\u00e9\\u20ac\"],\"erring\":"
                                                   "[{\"error\":\"overflow\",\"policy\":\"p\"},{\"error\":\"decimal\",\"policy\":\"q\"}]}")
@@ -197,8 +197,14 @@ static void check_requests() {
     request.context = "[";
     auto refusal = thrown<cedar::RequestRefusal>([&] { engine.decide(request); });
     CHECK(refusal && refusal->number == 501);
-    refusal = thrown<cedar::RequestRefusal>([&] { engine.is_authorized(asked("ann", "fly")); });
-    CHECK(refusal && refusal->number == 510);
+    refusal = thrown<cedar::RequestRefusal>([&] { engine.authorize(asked("ann", "fly")); });
+    const std::string words = "error[510]: an action is not declared\n --> request\n   = action: Action::\"fly\" is not declared\n";
+    CHECK(refusal && refusal->number == 510 && refusal->words == words && refusal->what() == words);
+    const std::string line = R"({"principal":"User::\"ann\"","action":"Action::\"write\"","resource":"Notebook::\"plans\"")";
+    const std::string brings = line + R"(,"entities":[{"uid":{"type":"Ghost","id":"g"}}]})";
+    CHECK(engine.explain_line(line + "}").empty() && engine.explain_line(brings).rfind("error[502]: ", 0) == 0);
+    CHECK(engine.explain_line(brings, CEDAR_LINE_WITH_ENTITIES).rfind("error[503]: ", 0) == 0);
+    CHECK(!thrown<cedar::RequestRefusal>([&] { engine.is_authorized(asked("ann", "write")); }));
     CHECK(engine.decide(asked("ann", "write")) && !engine.decide(asked("carol", "write")));
 }
 
@@ -213,7 +219,7 @@ static void check_closing() {
     engine.close();
     engine.close();
     CHECK(thrown<cedar::Closed>([&] { engine.decide(asked("ann", "write")); }));
-    CHECK(thrown<cedar::Closed>([&] { engine.is_authorized(asked("ann", "write")); }));
+    CHECK(thrown<cedar::Closed>([&] { engine.authorize(asked("ann", "write")); }));
     CHECK(thrown<cedar::Closed>([&] { engine.answer(requests); }));
     CHECK(thrown<cedar::Closed>([&] { engine.answer_line("{}"); }));
     CHECK(thrown<cedar::Closed>([&] { engine.publish(files(policies)); }));

@@ -1,4 +1,4 @@
-/* The edges of the inline functions of cedar.h: edges FOLDER, where FOLDER is examples/notes, with examples/photos beside it. */
+/* The edges of the calls of cedar.h over one handle: edges FOLDER, where FOLDER is examples/notes, with examples/photos beside it. */
 #include "files.h"
 
 #include <sys/wait.h>
@@ -18,7 +18,7 @@ static void check_null(void) {
     cedar_engine engine;
     cedar_decision decision = {sizeof decision, 7, 7};
     cedar_request request = asked("write");
-    cedar_refusal refusal = {sizeof refusal, 7, 7, 7};
+    cedar_refusal refusal = {.size = sizeof refusal, .file = 7, .number = 7, .offset = 7};
     CHECK(cedar_new(NULL) == CEDAR_ARGUMENT);
     cedar_free(NULL);
     cedar_free(&none);
@@ -46,7 +46,7 @@ static void check_null(void) {
 
 static void check_empty_handle(void) {
     cedar_engine engine, other;
-    cedar_refusal refusal = {sizeof refusal, 7, 7, 7};
+    cedar_refusal refusal = {.size = sizeof refusal, .file = 7, .number = 7, .offset = 7};
     char room[] = "####";
     cedar_buffer text = {room, 4, 9};
     cedar_decision decision = {sizeof decision, 7, 7};
@@ -70,7 +70,7 @@ static void check_arguments(void) {
     cedar_decision decision = {sizeof decision, 7, 7};
     cedar_request request = asked("write");
     cedar_files other = files;
-    cedar_refusal refusal = {sizeof refusal - 1, 7, 7, 7};
+    cedar_refusal refusal = {.size = sizeof refusal - 1, .file = 7, .number = 7, .offset = 7};
     CHECK(cedar_new(&engine) == CEDAR_OK);
     CHECK(cedar_publish(&engine, &files, &refusal, NULL) == CEDAR_ARGUMENT && refusal.file == 7);
     CHECK(cedar_publish_entities(&engine, files.entities, &refusal, NULL) == CEDAR_ARGUMENT && refusal.file == 7);
@@ -98,27 +98,160 @@ static void check_arguments(void) {
 static void check_empty_bytes(void) {
     cedar_engine engine;
     cedar_buffer nothing = {NULL, 0, 9};
-    cedar_bytes none = {NULL, 0}, no_length = {NULL, 5};
+    cedar_bytes none = {NULL, 0};
     char room[64];
     cedar_buffer text = {room, sizeof room, 0};
     CHECK(cedar_new(&engine) == CEDAR_OK && cedar_publish(&engine, &files, NULL, NULL) == CEDAR_OK);
     CHECK(cedar_answer(&engine, none, &nothing) == CEDAR_OK && nothing.written == 0);
-    CHECK(cedar_answer(&engine, no_length, NULL) == CEDAR_OK);
     nothing.written = 9;
     CHECK(cedar_answer_with_entities(&engine, none, &nothing) == CEDAR_OK && nothing.written == 0);
-    CHECK(cedar_answer_with_entities(&engine, no_length, NULL) == CEDAR_OK);
     CHECK(cedar_answer_line(&engine, none, &text) == CEDAR_OK && has(&text, bytes_of("{\"refused\":501}")));
     cedar_files empty = {sizeof empty, none, none, none, none, 0, 0};
-    cedar_refusal refusal = {sizeof refusal, 0, 0, 0};
+    cedar_refusal refusal = {.size = sizeof refusal, .file = 0, .number = 0, .offset = 0};
     CHECK(cedar_publish(&engine, &empty, &refusal, &text) == CEDAR_REFUSED && refusal.file == CEDAR_SCHEMA && refusal.number == 301);
     CHECK(refusal.offset == CEDAR_NO_OFFSET && has(&text, bytes_of("{\"file\":\"schema\",\"refused\":301}\n")));
     CHECK(answers_are_right(&engine));
     /* Entities of no bytes are no JSON. */
-    for (int i = 0; i < 2; i++) {
-        CHECK(cedar_publish_entities(&engine, i ? none : no_length, &refusal, &text) == CEDAR_REFUSED && refusal.file == CEDAR_ENTITIES);
-        CHECK(refusal.number == 501 && has(&text, bytes_of("{\"file\":\"entities\",\"refused\":501}\n")));
-    }
+    CHECK(cedar_publish_entities(&engine, none, &refusal, &text) == CEDAR_REFUSED && refusal.file == CEDAR_ENTITIES);
+    CHECK(refusal.number == 501 && has(&text, bytes_of("{\"file\":\"entities\",\"refused\":501}\n")));
     CHECK(answers_are_right(&engine));
+    cedar_free(&engine);
+}
+
+/* Bytes with a length and no address are what a read that failed leaves. They are never no bytes: neither a file, nor a part of a request. */
+static void check_no_address(void) {
+    cedar_engine engine;
+    cedar_bytes lost = {NULL, 5};
+    cedar_buffer no_room = {NULL, 5, 9};
+    cedar_decision decision = {sizeof decision, 7, 7};
+    CHECK(cedar_new(&engine) == CEDAR_OK && cedar_publish(&engine, &files, NULL, NULL) == CEDAR_OK);
+    for (int i = 0; i < 4; i++) {
+        cedar_files other = files;
+        *(i == 0 ? &other.schema : i == 1 ? &other.policies : i == 2 ? &other.links : &other.entities) = lost;
+        CHECK(cedar_publish(&engine, &other, NULL, NULL) == CEDAR_ARGUMENT && cedar_validate(&other, NULL) == CEDAR_ARGUMENT);
+        CHECK(cedar_explain(&other, CEDAR_WORDS, NULL) == CEDAR_ARGUMENT);
+    }
+    for (int i = 0; i < 7; i++) {
+        cedar_request request = asked("write");
+        (&request.principal_type)[i] = lost;
+        decision.allow = 7;
+        CHECK(cedar_decide(&engine, &request, &decision, NULL) == CEDAR_ARGUMENT && decision.allow == 0);
+        CHECK(cedar_explain_request(&engine, &request, 0, CEDAR_WORDS, NULL) == CEDAR_ARGUMENT);
+    }
+    cedar_request request = asked("write");
+    CHECK(cedar_publish_entities(&engine, lost, NULL, NULL) == CEDAR_ARGUMENT);
+    CHECK(cedar_publish_changes(&engine, lost, NULL, NULL) == CEDAR_ARGUMENT);
+    CHECK(cedar_answer(&engine, lost, NULL) == CEDAR_ARGUMENT && cedar_answer_line(&engine, lost, NULL) == CEDAR_ARGUMENT);
+    CHECK(cedar_answer_with_entities(&engine, lost, NULL) == CEDAR_ARGUMENT);
+    CHECK(cedar_explain_line(&engine, lost, CEDAR_LINE, 0, CEDAR_WORDS, NULL) == CEDAR_ARGUMENT);
+    CHECK(cedar_explain_changes(lost, files.entities, 501, CEDAR_WORDS, NULL) == CEDAR_ARGUMENT);
+    CHECK(cedar_explain_changes(files.schema, lost, 501, CEDAR_WORDS, NULL) == CEDAR_ARGUMENT);
+    CHECK(cedar_answer(&engine, lines, &no_room) == CEDAR_ARGUMENT && no_room.written == 0);
+    CHECK(cedar_decide(&engine, &request, &decision, &no_room) == CEDAR_ARGUMENT && decision.allow == 0);
+    CHECK(cedar_publish(&engine, &files, NULL, &no_room) == CEDAR_ARGUMENT && cedar_validate(&files, &no_room) == CEDAR_ARGUMENT);
+    CHECK(cedar_publish_entities(&engine, files.entities, NULL, &no_room) == CEDAR_ARGUMENT && cedar_version(&no_room) == CEDAR_ARGUMENT);
+    CHECK(answers_are_right(&engine));
+    cedar_free(&engine);
+}
+
+/* The version and the statuses in words, and a refusal of the size that the first version has. */
+static void check_numbers(void) {
+    cedar_engine engine;
+    char room[32], wanted[32];
+    cedar_buffer text = {room, sizeof room, 0};
+    cedar_files broken = files;
+    cedar_refusal refusal = {offsetof(cedar_refusal, wants), 7, 7, 7, 7, 7, 7, {wanted, 7}, {wanted, 7}};
+    snprintf(wanted, sizeof wanted, "%d.%d.%d", CEDAR_VERSION_MAJOR, CEDAR_VERSION_MINOR, CEDAR_VERSION_PATCH);
+    CHECK(cedar_version(&text) == CEDAR_OK && has(&text, bytes_of(wanted)) && cedar_abi_version() == CEDAR_ABI_VERSION);
+    for (uint32_t status = 0; status <= 10; status++) {
+        int is_known = strcmp(cedar_status_text(status), "an unknown status") != 0;
+        CHECK(is_known == (status <= CEDAR_CLOSED) && (status == 0 || strcmp(cedar_status_text(status), cedar_status_text(status - 1)) != 0 || !is_known));
+    }
+    broken.policies = bytes_of("permit(");
+    CHECK(cedar_new(&engine) == CEDAR_OK && cedar_publish(&engine, &broken, &refusal, NULL) == CEDAR_REFUSED && refusal.number == 201);
+    /* The fields after those of the first version are as they were. */
+    CHECK(refusal.wants == 7 && refusal.line == 7 && refusal.words.at == wanted && refusal.text.length == 7);
+    cedar_refusal_free(&refusal);
+    CHECK(refusal.words.at == wanted);
+    for (size_t size = 0; size <= sizeof refusal + 8; size++) {
+        refusal.size = size;
+        refusal.wants = refusal.reserved = 0;
+        uint32_t status = cedar_publish(&engine, &broken, &refusal, NULL);
+        CHECK(status == (size == 24 || size == sizeof refusal ? CEDAR_REFUSED : CEDAR_ARGUMENT));
+    }
+    refusal = (cedar_refusal){.size = sizeof refusal, .wants = 2};
+    CHECK(cedar_publish(&engine, &broken, &refusal, NULL) == CEDAR_ARGUMENT);
+    refusal = (cedar_refusal){.size = sizeof refusal, .reserved = 1};
+    CHECK(cedar_publish(&engine, &broken, &refusal, NULL) == CEDAR_ARGUMENT);
+    cedar_free(&engine);
+}
+
+/* A refusal has its words if they are wanted: those that cedar_explain gives. */
+static void check_words(void) {
+    static const char *const POLICIES[] = {"permit(", "permit(principal, action, resource) when { 1 };", "\n\npermit(principal, action)"};
+    cedar_engine engine;
+    char room[4096], line[1024], report[1024];
+    CHECK(cedar_new(&engine) == CEDAR_OK);
+    for (size_t i = 0; i < sizeof POLICIES / sizeof *POLICIES; i++) {
+        cedar_files broken = files;
+        cedar_refusal refusal = {.size = sizeof refusal, .wants = CEDAR_WANTS_WORDS}, checked = refusal;
+        cedar_buffer text = {line, sizeof line, 0}, words = {room, sizeof room, 0}, told = {report, sizeof report, 0};
+        broken.policies = bytes_of(POLICIES[i]);
+        uint32_t status = cedar_publish(&engine, &broken, &refusal, &text);
+        CHECK(status == (i == 1 ? CEDAR_FAULTS : CEDAR_REFUSED) && has(&text, refusal.text) && refusal.text.length > 20);
+        CHECK(cedar_explain(&broken, CEDAR_WORDS, &words) == CEDAR_OK && has(&words, refusal.words) && refusal.words.length > 40);
+        CHECK(((const char *)refusal.words.at)[refusal.words.length] == 0 && refusal.line == (i == 0 ? 1 : i == 1 ? 0 : 3));
+        CHECK(cedar_validate_files(&broken, &checked, &told) == status && has(&told, refusal.text));
+        CHECK(checked.number == refusal.number && checked.line == refusal.line && (i == 1 || has(&words, checked.words)));
+        cedar_refusal_free(&refusal);
+        cedar_refusal_free(&refusal);
+        cedar_refusal_free(&checked);
+        CHECK(refusal.words.at == NULL && refusal.text.length == 0);
+        text.room = 3;
+        CHECK(cedar_publish(&engine, &broken, &refusal, &text) == status && text.written == refusal.text.length);
+        cedar_refusal_free(&refusal);
+    }
+    cedar_refusal none = {.size = sizeof none, .wants = CEDAR_WANTS_WORDS, .line = 9};
+    CHECK(cedar_publish(&engine, &files, &none, NULL) == CEDAR_OK && none.words.at == NULL && none.text.at == NULL && none.line == 0);
+    CHECK(answers_are_right(&engine));
+    cedar_free(&engine);
+}
+
+/* A refused request has words, by parts and as a line. They are those of `cedar authorize --explain-lines`, of a file `request`. */
+static void check_words_of_requests(void) {
+    static const char FLY[] = "error[510]: an action is not declared\n --> request\n   = action: Action::\"fly\" is not declared\n";
+    static const char LINE[] = "{\"principal\":\"User::\\\"ann\\\"\",\"action\":\"Action::\\\"fly\\\"\",\"resource\":\"Notebook::\\\"plans\\\"\"}";
+    cedar_engine engine;
+    char room[1024] = "";
+    cedar_buffer text = {room, sizeof room, 0};
+    cedar_request fly = asked("fly"), write = asked("write"), odd = asked("write");
+    CHECK(cedar_new(&engine) == CEDAR_OK && cedar_explain_line(&engine, lines, CEDAR_LINE, 0, CEDAR_WORDS, &text) == CEDAR_NO_ENGINE);
+    CHECK(cedar_publish(&engine, &files, NULL, NULL) == CEDAR_OK);
+    CHECK(cedar_explain_request(&engine, &fly, 510, CEDAR_WORDS, &text) == CEDAR_OK && has(&text, bytes_of(FLY)));
+    for (uint32_t kind = CEDAR_LINE; kind <= CEDAR_LINE_WITH_ENTITIES; kind++) {
+        CHECK(cedar_explain_line(&engine, bytes_of(LINE), kind, 0, CEDAR_WORDS, &text) == CEDAR_OK && has(&text, bytes_of(FLY)));
+        CHECK(cedar_explain_line(&engine, bytes_of(LINE), kind, 511, CEDAR_WORDS, &text) == CEDAR_OK && text.written == 0);
+        CHECK(cedar_explain_line(&engine, bytes_of(LINE), kind, 0, CEDAR_JSON, &text) == CEDAR_OK && strstr(room, "\"number\":510"));
+    }
+    CHECK(cedar_explain_line(&engine, bytes_of(LINE), 2, 0, CEDAR_WORDS, &text) == CEDAR_ARGUMENT);
+    CHECK(cedar_explain_line(&engine, bytes_of(LINE), CEDAR_LINE, 0, 2, &text) == CEDAR_ARGUMENT);
+    CHECK(cedar_explain_request(&engine, &write, 0, CEDAR_WORDS, &text) == CEDAR_OK && text.written == 0);
+    text.room = 3;
+    CHECK(cedar_explain_request(&engine, &fly, 510, CEDAR_WORDS, &text) == CEDAR_ROOM && text.written == strlen(FLY));
+    text.room = sizeof room;
+    /* Each byte of an id is one of the request that is explained, and a context brings no members of its own. */
+    odd.principal_id = (cedar_bytes){"\"\\\n\0\x1f\xc3\xa9", 7};
+    CHECK(cedar_explain_request(&engine, &odd, 0, CEDAR_WORDS, &text) == CEDAR_OK && text.written == 0);
+    odd = asked("write");
+    odd.context = bytes_of("{}},{\"principal\":1");
+    CHECK(cedar_explain_request(&engine, &odd, 501, CEDAR_WORDS, &text) == CEDAR_OK && text.written > 0);
+    odd.context = bytes_of("{\"n\":1}");
+    CHECK(cedar_explain_request(&engine, &odd, 506, CEDAR_WORDS, &text) == CEDAR_OK && text.written > 0);
+    odd.context = (cedar_bytes){NULL, 0};
+    odd.principal_type = bytes_of("no name");
+    CHECK(cedar_explain_request(&engine, &odd, 502, CEDAR_WORDS, &text) == CEDAR_OK && text.written > 0);
+    odd.principal_type = bytes_of("\xff");
+    CHECK(cedar_explain_request(&engine, &odd, 502, CEDAR_WORDS, &text) == CEDAR_OK && text.written == 0);
     cedar_free(&engine);
 }
 
@@ -166,7 +299,7 @@ static void check_room(void) {
 static void check_versions(void) {
     cedar_engine engine, other;
     cedar_files broken = files, open = files;
-    cedar_refusal refusal = {sizeof refusal, 0, 0, 0};
+    cedar_refusal refusal = {.size = sizeof refusal, .file = 0, .number = 0, .offset = 0};
     cedar_request request = asked("delete");
     cedar_decision decision = {sizeof decision, 7, 7};
     char room[4096];
@@ -231,7 +364,7 @@ static int is_answered(cedar_engine *engine, const char *answer) {
 /* Whether entities of examples/photos are refused as `cedar_publish` refuses them, with any room for the text, and explained by the schema
  * alone in the same words. */
 static int are_refused(cedar_engine *engine, cedar_files photos, cedar_bytes entities, uint32_t number, const char *line) {
-    cedar_refusal refusal = {sizeof refusal, 7, 7, 7}, other = {sizeof other, 7, 7, 7};
+    cedar_refusal refusal = {.size = sizeof refusal, .file = 7, .number = 7, .offset = 7}, other = {.size = sizeof other, .file = 7, .number = 7, .offset = 7};
     char room[64], words[2][1024];
     cedar_buffer text = {room, sizeof room, 0}, all = {words[0], sizeof words[0], 0}, alone = {words[1], sizeof words[1], 0};
     int is_right = cedar_publish_entities(engine, entities, &refusal, &text) == CEDAR_REFUSED && has(&text, bytes_of(line));
@@ -259,7 +392,7 @@ static void check_entities(const char *folder) {
     snprintf(photos_folder, sizeof photos_folder, "%s/../photos", folder);
     cedar_files photos = files_of(photos_folder);
     cedar_bytes broken = content(photos_folder, "broken_entities.json");
-    cedar_refusal refusal = {sizeof refusal, 7, 7, 7};
+    cedar_refusal refusal = {.size = sizeof refusal, .file = 7, .number = 7, .offset = 7};
     CHECK(cedar_new(&engine) == CEDAR_OK && cedar_new(&other) == CEDAR_OK && cedar_publish(&engine, &photos, NULL, NULL) == CEDAR_OK);
     CHECK(cedar_share(&engine, &other) == CEDAR_OK && is_answered(&engine, ALLOWED) && is_answered(&other, ALLOWED));
     CHECK(cedar_publish_entities(&engine, bytes_of(ANN_IN_NO_GROUP), &refusal, NULL) == CEDAR_OK);
@@ -382,6 +515,10 @@ int main(int count, char **words) {
     check_empty_handle();
     check_arguments();
     check_empty_bytes();
+    check_no_address();
+    check_numbers();
+    check_words();
+    check_words_of_requests();
     check_room();
     check_versions();
     check_entities(words[1]);

@@ -41,7 +41,7 @@ static std::string answer_of(const cedar::Engine &engine, std::string_view field
     std::vector<std::string_view> it = split(fields, '\x1f');
     cedar::Request request = {{it.at(0), it.at(1)}, {it.at(2), it.at(3)}, {it.at(4), it.at(5)}, it.at(6)};
     try {
-        cedar::Response response = engine.is_authorized(request);
+        cedar::Response response = engine.authorize(request);
         return engine.decide(request) == response.allow ? line_of(response) : "decide differs";
     } catch (const cedar::RequestRefusal &refusal) {
         return "{\"refused\":" + std::to_string(refusal.number) + "}";

@@ -32,7 +32,7 @@ static outcome publishes(void) {
 }
 
 static outcome publishes_faults(void) {
-    cedar_refusal refusal = {sizeof refusal, 0, 0, 0};
+    cedar_refusal refusal = {.size = sizeof refusal, .file = 0, .number = 0, .offset = 0};
     cedar_buffer text = text_buffer();
     uint32_t status = cedar_publish(&engine, &other_files, &refusal, &text);
     int is_right = status == CEDAR_FAULTS && text.written > 20;
@@ -43,7 +43,7 @@ static outcome publishes_entities(void) { return (outcome){cedar_publish_entitie
 
 /* Entities that are no list are refused, with any schema. */
 static outcome publishes_refused_entities(void) {
-    cedar_refusal refusal = {sizeof refusal, 0, 0, 0};
+    cedar_refusal refusal = {.size = sizeof refusal, .file = 0, .number = 0, .offset = 0};
     cedar_buffer text = text_buffer();
     uint32_t status = cedar_publish_entities(&engine, bytes_of("{}"), &refusal, &text);
     int is_right = status == CEDAR_REFUSED && refusal.file == CEDAR_ENTITIES && refusal.number == 502
@@ -62,7 +62,7 @@ static outcome publishes_all_as_changes(void) { return (outcome){cedar_publish_c
 
 /* Changes that are no object are refused, with any schema. */
 static outcome publishes_refused_changes(void) {
-    cedar_refusal refusal = {sizeof refusal, 0, 0, 0};
+    cedar_refusal refusal = {.size = sizeof refusal, .file = 0, .number = 0, .offset = 0};
     cedar_buffer text = text_buffer();
     uint32_t status = cedar_publish_changes(&engine, bytes_of("[]"), &refusal, &text);
     int is_right = status == CEDAR_REFUSED && refusal.file == CEDAR_ENTITIES && refusal.number == 502
@@ -210,6 +210,48 @@ static void try_explanations(void) {
     try_explanation("error[302]", broken);
 }
 
+/* A shared engine: it is made, published to, asked, changed, and freed. */
+static outcome shares_between_threads(void) {
+    cedar_shared *shared = NULL, *changed = NULL;
+    cedar_buffer text = text_buffer();
+    uint32_t status = cedar_shared_new(&shared);
+    status = status == CEDAR_OK ? cedar_shared_publish(shared, &files, NULL, NULL) : status;
+    status = status == CEDAR_OK ? cedar_shared_answer_line(shared, line, &text) : status;
+    status = status == CEDAR_OK ? cedar_shared_publish_changes(shared, bytes_of("{}"), NULL, NULL) : status;
+    status = status == CEDAR_OK ? cedar_shared_publish_entities(shared, files.entities, NULL, NULL) : status;
+    status = status == CEDAR_OK ? cedar_shared_with_changes(shared, bytes_of("{}"), &changed, NULL, NULL) : status;
+    status = status == CEDAR_OK ? cedar_shared_answer_line(changed, line, &text) : status;
+    int is_right = status == CEDAR_MEMORY || (status == CEDAR_OK && has(&text, answer));
+    cedar_shared_free(changed);
+    cedar_shared_free(shared);
+    return (outcome){status, is_right};
+}
+
+/* What is refused has all of its words, or the status says that memory ran out, and there are none. */
+static outcome refuses_with_words(void) {
+    cedar_refusal refusal = {.size = sizeof refusal, .wants = CEDAR_WANTS_WORDS};
+    cedar_files broken = files;
+    broken.policies = bytes_of("permit(");
+    cedar_shared *shared = NULL;
+    uint32_t status = cedar_shared_new(&shared);
+    status = status == CEDAR_OK ? cedar_shared_publish(shared, &broken, &refusal, NULL) : status;
+    int is_refused = status == CEDAR_REFUSED && refusal.number == 201 && refusal.line == 1 && refusal.words.length > 40;
+    int is_right = is_refused || (status == CEDAR_MEMORY && !refusal.words.at && !refusal.text.at);
+    cedar_refusal_free(&refusal);
+    cedar_shared_free(shared);
+    return (outcome){is_refused ? CEDAR_OK : status, is_right};
+}
+
+/* Words of a request that is refused, whatever the schema is. */
+static outcome explains_requests(void) {
+    cedar_buffer text = text_buffer();
+    cedar_request odd = asked("write");
+    odd.context = bytes_of("[");
+    uint32_t status = cedar_explain_request(&engine, &odd, 501, CEDAR_WORDS, &text);
+    status = status == CEDAR_OK && text.written > 20 ? cedar_explain_line(&engine, brought_fault, CEDAR_LINE_WITH_ENTITIES, 0, CEDAR_JSON, &text) : status;
+    return (outcome){status, status == CEDAR_OK ? text.written > 20 : status == CEDAR_MEMORY && text.written == 0};
+}
+
 static cedar_bytes first_line(cedar_bytes text) {
     const char *feed = memchr(text.at, '\n', text.length);
     return (cedar_bytes){text.at, (size_t)(feed - (const char *)text.at)};
@@ -248,6 +290,9 @@ int main(int count, char **words) {
     try_each("validate", validates);
     try_explanations();
     try_each("share", shares);
+    try_each("a shared engine", shares_between_threads);
+    try_each("a refusal with words", refuses_with_words);
+    try_each("explain requests", explains_requests);
     try_each("answer", answers_lines);
     try_each("answer a line that brings all entities", answers_with_entities);
     try_each("answer a line with entities that are refused", answers_with_refused_entities);

@@ -58,7 +58,7 @@ int main(int count, char **words) {
     const cedar::Request request = {{"User", "ann"}, {"Action", "write"}, {"Notebook", "plans"}};
     cedar::Engine engine(files);
     const auto asks = [&] {
-        return engine.decide(request) && engine.is_authorized(request).determining.at(0) == "policy0" &&
+        return engine.decide(request) && engine.authorize(request).determining.at(0) == "policy0" &&
                engine.answer_line(line) == answer && engine.answer(requests) == answers;
     };
     try_each("ask", asks);

@@ -2,6 +2,7 @@
 // entities of 2.1 MB are published a hundred times. What is resident then is at most twice one engine, and ALLOWED, above what was before.
 #include "cedar.hpp"
 
+#include <atomic>
 #include <chrono>
 #include <cstdio>
 #include <fstream>

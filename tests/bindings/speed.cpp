@@ -3,6 +3,7 @@
 // Prints the nanoseconds of processor time that a call takes, and the calls of all threads in a second.
 #include "cedar.hpp"
 
+#include <atomic>
 #include <chrono>
 #include <cstdio>
 #include <ctime>
@@ -38,19 +39,20 @@ struct Handle {
     ~Handle() { cedar_free(&at); }
 };
 
-static bool decide(Handle &handle, bool with_text) {
+// Decides by a call over a handle, or over a shared engine.
+template <class Call, class Asked> static bool decide(Call call, Asked *asked, bool with_text) {
     char room[512];
     cedar_buffer text = {room, with_text ? sizeof room : 0, 0};
     cedar_request request = {sizeof request, {"User", 4},     {"ann", 3},   {"Action", 6},
                              {"write", 5},   {"Notebook", 8}, {"plans", 5}, {nullptr, 0}};
     cedar_decision decision = {sizeof decision, 0, 0};
-    return cedar_decide(&handle.at, &request, &decision, &text) == CEDAR_OK && decision.allow == 1;
+    return call(asked, &request, &decision, &text) == CEDAR_OK && decision.allow == 1;
 }
 
-static bool answer_line(Handle &handle) {
+template <class Call, class Asked> static bool answer_line(Call call, Asked *asked) {
     char room[512];
     cedar_buffer text = {room, sizeof room, 0};
-    return cedar_answer_line(&handle.at, {LINE, sizeof LINE - 1}, &text) == CEDAR_OK;
+    return call(asked, cedar_bytes{LINE, sizeof LINE - 1}, &text) == CEDAR_OK;
 }
 
 int main(int count, char **words) {
@@ -63,12 +65,19 @@ int main(int count, char **words) {
     const cedar::Files files = {schema, policies, {}, entities};
     const cedar_files raw = cedar::detail::raw(files);
     cedar::Engine engine(files);
+    cedar_shared *shared = nullptr;
+    if (cedar_shared_new(&shared) != CEDAR_OK || cedar_shared_publish(shared, &raw, nullptr, nullptr) != CEDAR_OK) {
+        return 9;
+    }
     const std::map<std::string, std::function<bool(Handle &)>> kinds = {
-        {"c-decide", [](Handle &handle) { return decide(handle, false); }},
-        {"c-decide-text", [](Handle &handle) { return decide(handle, true); }},
-        {"c-answer-line", answer_line},
+        {"c-decide", [](Handle &handle) { return decide(cedar_decide, &handle.at, false); }},
+        {"c-decide-text", [](Handle &handle) { return decide(cedar_decide, &handle.at, true); }},
+        {"c-answer-line", [](Handle &handle) { return answer_line(cedar_answer_line, &handle.at); }},
+        {"shared-decide", [&](Handle &) { return decide(cedar_shared_decide, shared, false); }},
+        {"shared-decide-text", [&](Handle &) { return decide(cedar_shared_decide, shared, true); }},
+        {"shared-answer-line", [&](Handle &) { return answer_line(cedar_shared_answer_line, shared); }},
         {"c++-decide", [&](Handle &) { return engine.decide(REQUEST); }},
-        {"c++-authorize", [&](Handle &) { return engine.is_authorized(REQUEST).allow; }},
+        {"c++-authorize", [&](Handle &) { return engine.authorize(REQUEST).allow; }},
         {"c++-answer-line", [&](Handle &) { return engine.answer_line(LINE).size() > 20; }}};
     const auto &call = kinds.at(words[2]);
     Handle first(raw);
@@ -94,6 +103,7 @@ int main(int count, char **words) {
         thread.join();
     }
     double seconds = std::chrono::duration<double>(std::chrono::steady_clock::now() - began).count();
+    cedar_shared_free(shared);
     double total = static_cast<double>(threads * calls);
     std::printf("%.0f %.0f\n", static_cast<double>(std::clock() - spent) / CLOCKS_PER_SEC / total * 1e9, total / seconds);
     return wrong != 0;

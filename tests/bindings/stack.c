@@ -103,7 +103,7 @@ static cedar_files files;
 static cedar_engine engine, small;
 static cedar_bytes asked_line, changes;
 /* Why the last changes were refused, or 0. */
-static cedar_refusal refusal = {sizeof refusal, 0, 0, 0};
+static cedar_refusal refusal = {.size = sizeof refusal, .file = 0, .number = 0, .offset = 0};
 static char room[1 << 16];
 
 static cedar_bytes text_of(const form *form) {
@@ -213,6 +213,20 @@ static void *answers_with_entities(void *none) {
     return none;
 }
 
+/* Explains why a line is refused, as a line of each kind, and why a request with the line as its context is. */
+static void *explains_lines(void *none) {
+    cedar_request request = asked("write");
+    request.context = asked_line;
+    is_right = 1;
+    for (uint32_t kind = CEDAR_LINE; kind <= CEDAR_LINE_WITH_ENTITIES; kind++) {
+        cedar_buffer text = {room, sizeof room, 0};
+        is_right = is_right && cedar_explain_line(&engine, asked_line, kind, 0, CEDAR_WORDS, &text) == CEDAR_OK;
+    }
+    cedar_buffer text = {room, sizeof room, 0};
+    is_right = is_right && cedar_explain_request(&engine, &request, 0, CEDAR_WORDS, &text) == CEDAR_OK;
+    return none;
+}
+
 /* Makes a call on a stack of this size, which is not a larger one that another thread has left. */
 static void on_a_stack(size_t size, void *(*call)(void *)) {
     pthread_attr_t attributes;
@@ -297,6 +311,8 @@ static void check_line(int is_accepted) {
     room[0] = '\0';
     on_a_stack(ASKING_STACK, answers_with_entities);
     CHECK(is_right && strncmp(room, begin, strlen(begin)) == 0);
+    on_a_stack(READING_STACK, explains_lines);
+    CHECK(is_right);
     free((void *)asked_line.at);
 }
 
@@ -351,6 +367,7 @@ static void print_least_for(const form *schema, const form *form, uint32_t statu
     asked_line = bringing(bytes_of(USER_LINE), files.entities);
     printf("| %s: %s |", schema->name, form->name);
     printf(" %zu | %zu | %zu |", least(publishes_entities), least(publishes_changes), least(answers_with_entities));
+    printf(" %zu |", least(explains_lines));
     refusal.number = 0;
     if (status == CEDAR_REFUSED) {
         on_a_stack(64 << 20, publishes_changes);
@@ -363,8 +380,8 @@ static void print_least_for(const form *schema, const form *form, uint32_t statu
 }
 
 static void print_least_of_entities(void) {
-    printf("\n| Entities | publish entities | publish changes | answer a line that brings them | explain changes |\n");
-    printf("|---|---|---|---|---|\n");
+    printf("\n| Entities | publish entities | publish changes | answer a line that brings them | explain the line | explain changes |\n");
+    printf("|---|---|---|---|---|---|\n");
     for (size_t i = 0; i < COUNT(schemas); i++) {
         open_schema(&schemas[i]);
         print_least_for(&schemas[i], &entities[i], CEDAR_OK);
@@ -386,12 +403,13 @@ static void print_least(void) {
         printf(" %zu |\n", least(frees));
         close_engine();
     }
-    printf("\n| Lines | answer | answer with entities |\n|---|---|---|\n");
+    printf("\n| Lines | answer | answer with entities | explain |\n|---|---|---|---|\n");
     open_engine(&policies[0]);
     on_a_stack(64 << 20, publishes);
     for (size_t i = 0; i < COUNT(lines); i++) {
         asked_line = text_of(&lines[i]);
-        printf("| %s | %zu | %zu |\n", lines[i].name, least(answers), least(answers_with_entities));
+        printf("| %s | %zu | %zu |", lines[i].name, least(answers), least(answers_with_entities));
+        printf(" %zu |\n", least(explains_lines));
         free((void *)asked_line.at);
     }
     close_engine();
@@ -413,6 +431,8 @@ static void check(const form *form) {
             on_a_stack(ASKING_STACK, answers);
             CHECK(is_right);
             on_a_stack(ASKING_STACK, answers_with_entities);
+            CHECK(is_right);
+            on_a_stack(READING_STACK, explains_lines);
             CHECK(is_right);
         }
         free((void *)asked_line.at);

@@ -9,6 +9,7 @@
 // policy. At last changes make these versions, one after another, while another thread asks over changes of its own.
 #include "cedar.hpp"
 
+#include <atomic>
 #include <chrono>
 #include <cstdio>
 #include <fstream>
@@ -51,7 +52,7 @@ static void ask(const cedar::Engine &engine) {
     const cedar::Request request = {{"User", "ann"}, {"Action", "write"}, {"Notebook", "plans"}};
     for (long turn = 0; !is_over; turn++) {
         long first = done;
-        cedar::Response response = turn % 2 ? engine.is_authorized(request) : cedar::detail::Reader(engine.answer_line(line)).response();
+        cedar::Response response = turn % 2 ? engine.authorize(request) : cedar::detail::Reader(engine.answer_line(line)).response();
         long last = begun, answered = std::stol(response.determining.at(0));
         bool is_right = first <= answered && answered <= last && response.allow == (answered % 2 == 0);
         long before = done;
@@ -65,7 +66,7 @@ static void ask_for_the_group(const cedar::Engine &engine) {
     const cedar::Request request = {{"User", "ann"}, {"Action", "write"}, {"Group", "0"}};
     while (!is_over) {
         long first = done;
-        cedar::Response response = engine.is_authorized(request);
+        cedar::Response response = engine.authorize(request);
         long last = begun, answered = response.determining.size() == 1 ? std::stol(response.determining[0]) : -1;
         bool is_right = last - first >= GROUPS || (first + (answered - first % GROUPS + GROUPS) % GROUPS) <= last;
         (is_right && response.allow ? right : wrong)++;

@@ -54,11 +54,12 @@ class Faults(Error):
 
 
 class RequestRefused(Error, ValueError):
-    """A request is refused, so nothing was decided. `number` is one of docs/REFUSALS.md."""
+    """A request is refused, so nothing was decided. `number` is one of docs/REFUSALS.md; `words` explains it to people."""
 
     def __init__(self, number: int, words: str = '') -> None:
-        super().__init__(words or 'the request is refused: %d' % number)
+        super().__init__(words.rstrip('\n') or 'the request is refused: %d' % number)
         self.number = number
+        self.words = words
 
     def __reduce__(self) -> tuple[Any, ...]:
-        return type(self), (self.number, str(self)), _notes(self)
+        return type(self), (self.number, self.words), _notes(self)

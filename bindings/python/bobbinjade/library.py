@@ -2,40 +2,59 @@
 from __future__ import annotations
 
 import ctypes
-import json
 import os
+from collections import deque
 from collections.abc import Callable
-from typing import Any, NamedTuple, Optional, Union
+from typing import Any, Optional, Union
 
-from .errors import FILES, Error, Faults, OutOfMemory, Refused
+from .errors import FILES, Closed, Error, Faults, OutOfMemory, Refused
 
-OK, MEMORY, REFUSED, FAULTS, NO_ENGINE, ROOM, NO_REQUEST = 0, 1, 2, 3, 5, 6, 7
+OK, MEMORY, REFUSED, FAULTS, ROOM, NO_REQUEST, CLOSED = 0, 1, 2, 3, 6, 7, 8
 ABI_VERSION = 1
 NAME = 'libcedar.so'
 SYSTEM_NAME = NAME + '.1'
 NO_OFFSET = 2 ** 64 - 1
-# Sizes as calls take them. `from_param` makes what a call would otherwise make anew for each argument of each call.
-SIZES = [ctypes.c_size_t.from_param(length) for length in range(2048)]
+WORDS = ctypes.c_uint32(0)
+LINE, LINE_WITH_ENTITIES = ctypes.c_uint32(0), ctypes.c_uint32(1)
 Text = Union[str, bytes]
 
 
-class Files(NamedTuple):
-    """The contents of the files of an engine, as bytes, and the settings."""
-    schema: bytes
-    policies: bytes
-    links: bytes
-    entities: bytes
-    settings: ctypes.c_uint32
+class Bytes(ctypes.Structure):
+    """cedar_bytes. It keeps the bytes that it was made of."""
+    _fields_ = [('at', ctypes.c_char_p), ('length', ctypes.c_size_t)]
 
 
-class Why(ctypes.Structure):
-    """Why a file is refused, as the library writes it."""
-    _fields_ = [('file', ctypes.c_uint32), ('number', ctypes.c_uint32), ('offset', ctypes.c_uint64)]
+class Buffer(ctypes.Structure):
+    """cedar_buffer."""
+    _fields_ = [('at', ctypes.c_void_p), ('room', ctypes.c_size_t), ('written', ctypes.c_size_t)]
+
+
+class Files(ctypes.Structure):
+    """cedar_files."""
+    _fields_ = [('size', ctypes.c_size_t), ('schema', Bytes), ('policies', Bytes), ('links', Bytes), ('entities', Bytes),
+                ('settings', ctypes.c_uint32), ('reserved', ctypes.c_uint32)]
+
+
+class Uid(ctypes.Structure):
+    """The type and the id of a request's entity."""
+    _fields_ = [('type', Bytes), ('id', Bytes)]
+
+
+class Request(ctypes.Structure):
+    """cedar_request."""
+    _fields_ = [('size', ctypes.c_size_t), ('principal', Uid), ('action', Uid), ('resource', Uid), ('context', Bytes)]
 
 
 class Decision(ctypes.Structure):
-    """A decision, as the library writes it."""
-    _fields_ = [('allow', ctypes.c_uint32), ('refused', ctypes.c_uint32)]
+    """cedar_decision."""
+    _fields_ = [('size', ctypes.c_size_t), ('allow', ctypes.c_uint32), ('refused', ctypes.c_uint32)]
+
+
+class Why(ctypes.Structure):
+    """cedar_refusal. It owns its texts."""
+    _fields_ = [('size', ctypes.c_size_t), ('file', ctypes.c_uint32), ('number', ctypes.c_uint32), ('offset', ctypes.c_uint64),
+                ('wants', ctypes.c_uint32), ('reserved', ctypes.c_uint32), ('line', ctypes.c_uint64), ('text_at', ctypes.c_void_p),
+                ('text_length', ctypes.c_size_t), ('words_at', ctypes.c_void_p), ('words_length', ctypes.c_size_t)]
 
 
 def loaded(kind: type) -> Any:
@@ -43,11 +62,14 @@ def loaded(kind: type) -> Any:
     folder = os.environ.get('BOBBINJADE_LIB')
     beside = os.path.join(os.path.dirname(os.path.abspath(__file__)), NAME)
     library = kind(os.path.join(folder, NAME) if folder else beside if os.path.exists(beside) else SYSTEM_NAME)
-    for name in ('new', 'publish', 'publish_entities', 'publish_changes', 'validate', 'explain', 'explain_changes', 'share', 'answer',
-                 'answer_with_entities', 'answer_line', 'decide', 'abi_version', 'version'):
-        getattr(library, 'cedar_raw_' + name).restype = ctypes.c_uint32
-    library.cedar_raw_free.restype = None
-    if library.cedar_raw_abi_version() != ABI_VERSION:
+    for name in ('abi_version', 'version', 'validate_files', 'explain', 'shared_new', 'shared_publish', 'shared_publish_entities',
+                 'shared_publish_changes', 'shared_with_changes', 'shared_decide', 'shared_answer', 'shared_answer_line',
+                 'shared_answer_with_entities', 'shared_explain_line', 'shared_explain_request'):
+        getattr(library, 'cedar_' + name).restype = ctypes.c_uint32
+    for name in ('refusal_free', 'shared_free', 'shared_close'):
+        getattr(library, 'cedar_' + name).restype = None
+    library.cedar_status_text.restype = ctypes.c_char_p
+    if library.cedar_abi_version() != ABI_VERSION:
         raise Error('the library does not fit this package')
     return library
 
@@ -58,9 +80,32 @@ LIBRARY = loaded(ctypes.CDLL)
 SHORT = loaded(ctypes.PyDLL)
 
 
-def size(length: int) -> Any:
-    """A size as calls take it."""
-    return SIZES[length] if length < len(SIZES) else ctypes.c_size_t.from_param(length)
+class Scratch:
+    """What the calls of a request read and write. One call at a time uses it."""
+    __slots__ = ('line', 'request', 'request_at', 'decision', 'decision_at', 'buffer', 'buffer_at', 'view', 'storage')
+
+    # Those that no call uses. A deque is changed without a lock.
+    POOL: deque[Scratch] = deque(maxlen=64)
+
+    def __init__(self) -> None:
+        self.line = Bytes()
+        self.request = Request(ctypes.sizeof(Request))
+        self.request_at = ctypes.byref(self.request)
+        self.decision = Decision(ctypes.sizeof(Decision))
+        self.decision_at = ctypes.byref(self.decision)
+        self.buffer = Buffer()
+        self.buffer_at = ctypes.byref(self.buffer)
+        self.grow(512)
+
+    def grow(self, room: int) -> None:
+        """Makes the buffer this large."""
+        self.storage = ctypes.create_string_buffer(room)
+        self.view = memoryview(self.storage).cast('B')
+        self.buffer.at, self.buffer.room = ctypes.addressof(self.storage), room
+
+    def text(self) -> str:
+        """What was written."""
+        return str(self.view[:self.buffer.written], 'utf-8')
 
 
 def encoded(text: Text) -> bytes:
@@ -68,138 +113,69 @@ def encoded(text: Text) -> bytes:
     return text if isinstance(text, bytes) else text.encode('utf-8', 'surrogatepass')
 
 
+def bytes_of(text: Text) -> Bytes:
+    """A text as the library takes it."""
+    given = encoded(text)
+    return Bytes(given, len(given))
+
+
 def files_of(schema: Text, policies: Text, links: Optional[Text], entities: Text, any_decimal: bool) -> Files:
     """The files as the library takes them."""
-    return Files(encoded(schema), encoded(policies), encoded(links or b''), encoded(entities), ctypes.c_uint32(int(bool(any_decimal))))
+    texts = map(bytes_of, (schema, policies, links or b'', entities))
+    return Files(ctypes.sizeof(Files), *texts, int(bool(any_decimal)), 0)
 
 
 def failed(status: int) -> Error:
     """The error of a status that needs no further words."""
     if status == MEMORY:
         return OutOfMemory('out of memory')
-    return Error('the library does not fit this package: status %d' % status)
+    if status == CLOSED:
+        return Closed('the engine is closed')
+    return Error('the library does not fit this package: status %d, %s' % (status, LIBRARY.cedar_status_text(ctypes.c_uint32(status)).decode()))
 
 
-def grown(room: int, call: Callable[[Any, ctypes.c_size_t, Any], int]) -> tuple[int, bytes]:
-    """Makes a call that writes a text, in a buffer that grows until the text fits. Gives the status and the text."""
-    written = ctypes.c_size_t()
-    while True:
-        buffer = ctypes.create_string_buffer(max(room, 1))
-        status = call(buffer, ctypes.c_size_t(room), ctypes.byref(written))
-        if written.value <= room or status not in (ROOM, REFUSED, FAULTS):
-            return status, buffer.raw[:written.value]
-        room = written.value
+def text_of(at: Optional[int], length: int) -> str:
+    """A copy of a text of the library."""
+    return ctypes.string_at(at, length).decode() if at else ''
 
 
-def flat(*texts: bytes) -> list[Any]:
-    """The addresses and lengths of texts."""
-    return [it for text in texts for it in (text, size(len(text)))]
-
-
-def explained(files: Files, form: int) -> str:
-    """Why files are refused or have faults: in words (0), or as JSON lines (1)."""
-    words = flat(files.schema, files.policies, files.links, files.entities)
-    status, text = grown(4096, lambda *room: LIBRARY.cedar_raw_explain(*words, files.settings, ctypes.c_uint32(form), *room))
-    if status != OK:
-        raise failed(status)
-    return text.decode()
-
-
-def explained_changes(schema: bytes, changes: bytes, number: int, form: int) -> str:
-    """Why changes of entities are refused with a number: in words (0), or as JSON lines (1)."""
-    words = flat(schema, changes)
-    status, text = grown(4096, lambda *room: LIBRARY.cedar_raw_explain_changes(*words, ctypes.c_uint32(number), ctypes.c_uint32(form), *room))
-    if status != OK:
-        raise failed(status)
-    return text.decode()
-
-
-def refused_with(explain: Callable[[int], str], why: Why) -> Refused:
-    """The error for what is refused, with an explanation of each form."""
-    lines = explain(1).splitlines()
-    offset = None if why.offset == NO_OFFSET else why.offset
-    line = json.loads(lines[0]).get('line') if lines else None
-    return Refused(FILES.get(why.file, ''), why.number, offset, line, explain(0))
-
-
-def refused(files: Files, why: Why) -> Refused:
-    """The error for a refused file."""
-    return refused_with(lambda form: explained(files, form), why)
-
-
-class Handle:
-    """A handle of the library, with what the calls of requests write to. One call at a time uses it."""
-    __slots__ = ('place', 'at', 'version', 'decision', 'decision_at', 'written', 'written_at', 'buffer', 'buffer_at', 'view', 'room')
-
-    def __init__(self) -> None:
-        self.place = ctypes.c_void_p()
-        self.at = ctypes.byref(self.place)
-        self.version = 0
-        self.decision = Decision()
-        self.decision_at = ctypes.byref(self.decision)
-        self.written = ctypes.c_size_t()
-        self.written_at = ctypes.byref(self.written)
-        self.grow(512)
-        status = LIBRARY.cedar_raw_new(self.at)
-        if status != OK:
-            raise failed(status)
-
-    def __del__(self, free: Any = LIBRARY.cedar_raw_free) -> None:
-        if self.place.value:
-            free(self.place)
-            self.place.value = None
-
-    def grow(self, room: int) -> None:
-        """Makes the buffer this large."""
-        self.buffer = ctypes.create_string_buffer(room)
-        self.buffer_at = ctypes.byref(self.buffer)
-        self.view = memoryview(self.buffer).cast('B')
-        self.room = size(room)
-
-
-def published(files: Files) -> Handle:
-    """A new handle to which files are published."""
-    handle, why = Handle(), Why()
-    words = flat(files.schema, files.policies, files.links, files.entities)
-    status, text = grown(4096, lambda *room: LIBRARY.cedar_raw_publish(handle.at, *words, files.settings, ctypes.byref(why), *room))
+def refused(status: int, why: Why) -> Error:
+    """The error of a call that may refuse what it was given."""
     if status == REFUSED:
-        raise refused(files, why)
+        offset = None if why.offset == NO_OFFSET else why.offset
+        return Refused(FILES.get(why.file, ''), why.number, offset, why.line or None, text_of(why.words_at, why.words_length))
     if status == FAULTS:
-        raise Faults(text.decode(), explained(files, 0))
+        return Faults(text_of(why.text_at, why.text_length), text_of(why.words_at, why.words_length))
+    return failed(status)
+
+
+def check(call: Callable[[Any], int], accepted: tuple[int, ...] = (OK,)) -> int:
+    """Makes a call that may refuse what it is given, and raises why. Gives the status."""
+    why = Why(ctypes.sizeof(Why), wants=1)
+    at = ctypes.byref(why)
+    try:
+        status = call(at)
+        if status not in accepted:
+            raise refused(status, why)
+        return status
+    finally:
+        LIBRARY.cedar_refusal_free(at)
+
+
+def grown(room: int, call: Callable[[Any], int]) -> tuple[int, str]:
+    """Makes a call that writes a text, in a buffer that grows until the text fits. Gives the status and the text."""
+    while True:
+        storage = ctypes.create_string_buffer(max(room, 1))
+        buffer = Buffer(ctypes.addressof(storage), room)
+        status = call(ctypes.byref(buffer))
+        if buffer.written <= room:
+            return status, storage.raw[:buffer.written].decode()
+        room = buffer.written
+
+
+def written(room: int, call: Callable[[Any], int]) -> str:
+    """The text that a call writes. Raises the error of its status."""
+    status, text = grown(room, call)
     if status != OK:
         raise failed(status)
-    return handle
-
-
-def publish_entities(handle: Handle, schema: bytes, entities: bytes) -> None:
-    """Has a handle lead to an engine of the same policies over entities. `schema` is that of its engine, and explains refused entities."""
-    why = Why()
-    words = flat(entities)
-    status, _ = grown(256, lambda *room: LIBRARY.cedar_raw_publish_entities(handle.at, *words, ctypes.byref(why), *room))
-    if status == REFUSED:
-        raise refused(files_of(schema, b'', None, entities, False), why)
-    if status != OK:
-        raise failed(status)
-
-
-def publish_changes(handle: Handle, schema: bytes, changes: bytes) -> None:
-    """Has a handle lead to an engine of the same policies over changed entities. `schema` is that of its engine, and explains refused changes."""
-    why = Why()
-    words = flat(changes)
-    status, _ = grown(256, lambda *room: LIBRARY.cedar_raw_publish_changes(handle.at, *words, ctypes.byref(why), *room))
-    if status == REFUSED:
-        raise refused_with(lambda form: explained_changes(schema, changes, why.number, form), why)
-    if status != OK:
-        raise failed(status)
-
-
-def validated(files: Files) -> tuple[bool, str]:
-    """Whether the policies of files have no faults, and the report."""
-    words = flat(files.schema, files.policies, files.links)
-    status, text = grown(4096, lambda *room: LIBRARY.cedar_raw_validate(*words, files.settings, *room))
-    if status == REFUSED:
-        # Publishing says which file is refused, and why.
-        published(files)
-    if status not in (OK, FAULTS):
-        raise failed(status)
-    return status == OK, text.decode()
+    return text

@@ -79,6 +79,20 @@ class Examples(unittest.TestCase):
             engine.publish_entities(entities)
             self.assertEqual(engine.answer(content(name, 'requests.jsonl')), content(name, 'answers.jsonl').decode())
 
+    def test_words_of_requests(self):
+        engine = bobbinjade.Engine(*files_of('notes'))
+        with self.assertRaises(bobbinjade.RequestRefused) as raised:
+            engine.decide('User::"ann"', 'Action::"fly"', 'Notebook::"plans"')
+        wanted = 'error[510]: an action is not declared\n --> request\n   = action: Action::"fly" is not declared\n'
+        self.assertEqual((raised.exception.number, raised.exception.words, str(raised.exception)), (510, wanted, wanted.rstrip()))
+        line = {'principal': 'User::"ann"', 'action': 'Action::"write"', 'resource': 'Notebook::"plans"'}
+        self.assertEqual(engine.explain_line(json.dumps(line)), '')
+        line['entities'] = [{'uid': {'type': 'Ghost', 'id': 'g'}}]
+        self.assertTrue(engine.explain_line(json.dumps(line)).startswith('error[502]: '))
+        self.assertTrue(engine.explain_line(json.dumps(line), True).startswith('error[503]: '))
+        engine.close()
+        self.assertRaises(bobbinjade.Closed, engine.explain_line, json.dumps(line))
+
     def test_lines_that_bring_entities(self):
         having = [it for it in names() if content(it, 'requests_with_entities.jsonl')]
         self.assertTrue(having)
@@ -112,6 +126,8 @@ class Examples(unittest.TestCase):
             with self.assertRaises(bobbinjade.RequestRefused) as raised:
                 engine.decide(*uids, context)
             self.assertEqual(raised.exception.number, refused.number)
+            self.assertEqual(raised.exception.words, refused.words)
+            self.assertTrue(refused.words.startswith('error[%d]: ' % refused.number), refused.words)
             return
         self.assertEqual(written(response), wanted)
         self.assertEqual(response.text, wanted)

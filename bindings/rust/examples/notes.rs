@@ -20,7 +20,7 @@ fn main() -> Result<(), Box<dyn Error>> {
     // Any number of threads may ask, also while another publishes.
     let request = Request::new(Uid::new("User", "ann"), Uid::new("Action", "write"), Uid::new("Notebook", "plans"));
     println!("{}", if engine.decide(&request)? == Decision::Allow { "allow" } else { "deny" });
-    println!("determined by {:?}", engine.is_authorized(&request)?.determining);
+    println!("determined by {:?}", engine.authorize(&request)?.determining);
 
     // All request lines of the folder, as `cedar authorize` answers them.
     print!("{}", engine.answer(content("requests.jsonl")?)?);

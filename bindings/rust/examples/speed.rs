@@ -15,7 +15,7 @@ fn main() {
     let request = Request::new(Uid::new("User", "ann"), Uid::new("Action", "write"), Uid::new("Notebook", "plans"));
     let call = |kind: &str| match kind {
         "decide" => drop(engine.decide(&request).unwrap()),
-        "authorize" => drop(engine.is_authorized(&request).unwrap()),
+        "authorize" => drop(engine.authorize(&request).unwrap()),
         _ => drop(engine.answer_line(LINE).unwrap()),
     };
     let began = Instant::now();

@@ -1,4 +1,4 @@
-//! Reads answer lines and explanations.
+//! Reads answer lines.
 use crate::{Decision, Erring, EvalError, Response};
 
 /// The response that an answer line has; `None` where it has another form.
@@ -24,15 +24,6 @@ pub(crate) fn response(text: &str) -> Option<Response> {
     }
     reader.need("}")?;
     Some(Response { decision, determining, erring })
-}
-
-/// The line that the first object of an explanation names. The keys of an object ascend, so that of the place is before those of the
-/// marks.
-pub(crate) fn line_of(explanation: &str) -> Option<u64> {
-    let first = explanation.lines().next()?;
-    let place = first.split("\"marks\":").next()?;
-    let (_, after) = place.split_once("\"line\":")?;
-    after.split(|it: char| !it.is_ascii_digit()).next()?.parse().ok()
 }
 
 /// What is left of a text.
@@ -113,12 +104,5 @@ mod tests {
         {
             assert_eq!(response(line), None);
         }
-    }
-
-    #[test]
-    fn a_line_is_that_of_the_place() {
-        assert_eq!(line_of(r#"{"column":55,"file":"p","line":12,"marks":[{"line":3}]}"#), Some(12));
-        assert_eq!(line_of(r#"{"file":"p","marks":[{"line":3}]}"#), None);
-        assert_eq!(line_of(""), None);
     }
 }

@@ -42,6 +42,16 @@ pub struct Faults {
     pub words: String,
 }
 
+/// Why a request is refused.
+#[derive(Clone, Debug, PartialEq, Eq)]
+#[non_exhaustive]
+pub struct RequestRefusal {
+    /// The number of docs/REFUSALS.md.
+    pub number: u32,
+    /// The explanation for people, as the program prints it.
+    pub words: String,
+}
+
 /// Why a call fails. It is never a decision.
 #[derive(Clone, Debug, PartialEq, Eq)]
 #[non_exhaustive]
@@ -52,8 +62,8 @@ pub enum Error {
     Refused(Box<Refusal>),
     /// The policies have faults. Nothing has changed.
     Faults(Box<Faults>),
-    /// The request is refused, with this number of docs/REFUSALS.md.
-    Request(u32),
+    /// The request is refused, so nothing was decided.
+    Request(Box<RequestRefusal>),
     /// The engine was closed.
     Closed,
     /// The library does not fit this crate: the status that it returned, or its version of the interface.
@@ -65,6 +75,7 @@ impl Error {
     pub(crate) fn of(status: u32) -> Error {
         match status {
             raw::MEMORY => Error::Memory,
+            raw::CLOSED => Error::Closed,
             other => Error::Library(other),
         }
     }
@@ -76,9 +87,10 @@ impl fmt::Display for Error {
             Error::Memory => to.write_str("out of memory"),
             Error::Refused(refusal) => to.write_str(refusal.words.trim_end()),
             Error::Faults(faults) => to.write_str(faults.words.trim_end()),
-            Error::Request(number) => write!(to, "the request is refused: {number}"),
+            Error::Request(refusal) if refusal.words.is_empty() => write!(to, "the request is refused: {}", refusal.number),
+            Error::Request(refusal) => to.write_str(refusal.words.trim_end()),
             Error::Closed => to.write_str("the engine is closed"),
-            Error::Library(status) => write!(to, "the library does not fit this crate: {status}"),
+            Error::Library(status) => write!(to, "the library does not fit this crate: status {status}, {}", raw::status_text(*status)),
         }
     }
 }

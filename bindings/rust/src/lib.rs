@@ -21,16 +21,13 @@
 
 mod answer;
 mod error;
-mod pool;
 mod raw;
 mod stack;
 
 use std::borrow::Cow;
-use std::sync::Arc;
 
-pub use error::{Error, Faults, File, Refusal};
-use pool::{Pool, Published};
-use raw::{Decided, Handle, Why};
+pub use error::{Error, Faults, File, Refusal, RequestRefusal};
+use raw::{Asks, Shared, Why};
 use stack::{on_enough_stack, on_large_stack};
 
 /// The version of the interface that this crate is written for.
@@ -138,6 +135,16 @@ impl EvalError {
     }
 }
 
+impl std::fmt::Display for EvalError {
+    fn fmt(&self, to: &mut std::fmt::Formatter<'_>) -> std::fmt::Result {
+        to.write_str(match self {
+            EvalError::Overflow => "overflow",
+            EvalError::MissingEntity => "missing_entity",
+            EvalError::Decimal => "decimal",
+        })
+    }
+}
+
 /// A policy that failed, and was skipped.
 #[derive(Clone, Debug, PartialEq, Eq)]
 pub struct Erring {
@@ -149,6 +156,7 @@ pub struct Erring {
 
 /// The answer to a request.
 #[derive(Clone, Debug, PartialEq, Eq)]
+#[non_exhaustive]
 pub struct Response {
     /// The decision.
     pub decision: Decision,
@@ -160,6 +168,7 @@ pub struct Response {
 
 /// A report of the validation of policies.
 #[derive(Clone, Debug, PartialEq, Eq)]
+#[non_exhaustive]
 pub struct Report {
     /// Whether the policies have no faults.
     pub is_accepted: bool,
@@ -170,7 +179,7 @@ pub struct Report {
 /// An engine, for any number of threads. Clones are the same engine.
 #[derive(Clone)]
 pub struct Engine {
-    pool: Arc<Pool>,
+    shared: Shared,
 }
 
 impl std::fmt::Debug for Engine {
@@ -187,7 +196,11 @@ impl Engine {
     /// [`Error::Refused`], [`Error::Faults`], [`Error::Memory`], or [`Error::Library`] where the library does not fit this crate.
     pub fn new(files: &Files) -> Result<Engine, Error> {
         match raw::abi_version() {
-            ABI_VERSION => on_large_stack(|| published(files)).map(|main| Engine { pool: Arc::new(Pool::new(main)) }),
+            ABI_VERSION => {
+                let engine = Engine { shared: Shared::new()? };
+                engine.publish(files)?;
+                Ok(engine)
+            }
             other => Err(Error::Library(other)),
         }
     }
@@ -200,9 +213,9 @@ impl Engine {
     /// Those of [`Engine::new`], and [`Error::Closed`]. Nothing has changed then.
     pub fn publish(&self, files: &Files) -> Result<(), Error> {
         on_large_stack(|| {
-            let published = published(files)?;
-            let _publishing = self.pool.publishing();
-            self.pool.swap(published)
+            let mut why = Why::new(true);
+            let status = self.shared.publish(files, &mut why);
+            why.done(status)
         })
     }
 
@@ -214,11 +227,9 @@ impl Engine {
     /// [`Error::Refused`], [`Error::Memory`] and [`Error::Closed`]. Nothing has changed then.
     pub fn publish_entities(&self, entities: &[u8]) -> Result<(), Error> {
         on_large_stack(|| {
-            let _publishing = self.pool.publishing();
-            self.pool.swap(self.over(
-                |handle, why, text| handle.publish_entities(entities, why, text),
-                |schema, why| refused(&Files { schema, entities, ..Files::default() }, why),
-            )?)
+            let mut why = Why::new(true);
+            let status = self.shared.publish_entities(entities, &mut why);
+            why.done(status)
         })
     }
 
@@ -229,10 +240,7 @@ impl Engine {
     ///
     /// [`Error::Refused`], [`Error::Memory`] and [`Error::Closed`]. Nothing has changed then.
     pub fn publish_changes(&self, changes: &[u8]) -> Result<(), Error> {
-        on_enough_stack(|| {
-            let _publishing = self.pool.publishing();
-            self.pool.swap(self.changed(changes)?)
-        })
+        changed(|why| (self.shared.publish_changes(changes, why), ()))
     }
 
     /// Another engine, of the same policies, over the entities after changes, for example those that a request brings with it. This engine is
@@ -242,30 +250,8 @@ impl Engine {
     ///
     /// Those of [`Engine::publish_changes`].
     pub fn with_changes(&self, changes: &[u8]) -> Result<Engine, Error> {
-        on_enough_stack(|| Ok(Engine { pool: Arc::new(Pool::new(self.changed(changes)?)) }))
-    }
-
-    /// A handle that leads to an engine over the entities after changes.
-    fn changed(&self, changes: &[u8]) -> Result<Published, Error> {
-        self.over(
-            |handle, why, text| handle.publish_changes(changes, why, text),
-            |schema, why| on_large_stack(|| refused_changes(schema, changes, why)),
-        )
-    }
-
-    /// A handle of the current engine to which a call has published entities. `refuse` gives the error where the call refuses them.
-    fn over(
-        &self,
-        call: impl FnOnce(&mut Handle, &mut Why, &mut Vec<u8>) -> u32,
-        refuse: impl FnOnce(&[u8], &Why) -> Result<Error, Error>,
-    ) -> Result<Published, Error> {
-        let (mut lease, schema) = self.pool.lease_with_schema()?;
-        let (mut why, mut text) = (Why::default(), room(256)?);
-        match lease.call(|handle| call(handle, &mut why, &mut text)) {
-            raw::OK => Ok(Published { handle: lease.into_handle().ok_or(Error::Closed)?, schema }),
-            raw::REFUSED => Err(refuse(&schema, &why)?),
-            status => Err(Error::of(status)),
-        }
+        let shared = changed(|why| self.shared.with_changes(changes, why))?;
+        Ok(Engine { shared: shared.ok_or(Error::Memory)? })
     }
 
     /// Whether a request is allowed. It makes no text, so it is the fastest call.
@@ -282,10 +268,19 @@ impl Engine {
     /// # Errors
     ///
     /// Those of [`Engine::decide`].
-    pub fn is_authorized(&self, request: &Request) -> Result<Response, Error> {
+    pub fn authorize(&self, request: &Request) -> Result<Response, Error> {
         let mut text = room(256)?;
         self.decided(request, &mut text)?;
         answer::response(&text_of(text)?).ok_or(Error::Library(raw::OK))
+    }
+
+    /// The earlier name of [`Engine::authorize`].
+    ///
+    /// # Errors
+    ///
+    /// Those of [`Engine::decide`].
+    pub fn is_authorized(&self, request: &Request) -> Result<Response, Error> {
+        self.authorize(request)
     }
 
     /// The answer line to a request line, as `cedar authorize` writes it, without a line feed.
@@ -294,9 +289,7 @@ impl Engine {
     ///
     /// [`Error::Memory`] and [`Error::Closed`]. A line that is refused has an answer that says so.
     pub fn answer_line(&self, line: impl AsRef<[u8]>) -> Result<String, Error> {
-        let mut text = room(256)?;
-        let status = self.pool.lease()?.call(|handle| handle.answer_line(line.as_ref(), &mut text));
-        done(status, text)
+        self.answered(Asks::Line, line.as_ref(), 256)
     }
 
     /// The answer lines to request lines, all of one engine.
@@ -305,10 +298,7 @@ impl Engine {
     ///
     /// Those of [`Engine::answer_line`].
     pub fn answer(&self, lines: impl AsRef<[u8]>) -> Result<String, Error> {
-        let lines = lines.as_ref();
-        let mut text = room(256 + lines.len())?;
-        let status = self.pool.lease()?.call(|handle| handle.answer(lines, &mut text));
-        done(status, text)
+        self.answered(Asks::Lines, lines.as_ref(), 256 + lines.as_ref().len())
     }
 
     /// The answer lines to request lines that may bring entities, as `cedar authorize --entities-in-lines` writes them, all of one engine.
@@ -318,26 +308,57 @@ impl Engine {
     ///
     /// Those of [`Engine::answer_line`]. A line with entities that are refused has an answer that says so.
     pub fn answer_with_entities(&self, lines: impl AsRef<[u8]>) -> Result<String, Error> {
-        let lines = lines.as_ref();
-        let mut text = room(256 + lines.len())?;
-        let status = self.pool.lease()?.call(|handle| handle.answer_with_entities(lines, &mut text));
-        done(status, text)
+        self.answered(Asks::LinesWithEntities, lines.as_ref(), 256 + lines.as_ref().len())
+    }
+
+    /// Why a request line is refused, in words; empty where it is not. `may_bring_entities` is for lines of
+    /// [`Engine::answer_with_entities`].
+    ///
+    /// # Errors
+    ///
+    /// [`Error::Memory`] and [`Error::Closed`].
+    pub fn explain_line(&self, line: impl AsRef<[u8]>, may_bring_entities: bool) -> Result<String, Error> {
+        let line = line.as_ref();
+        written(1024, |text| self.shared.explain_line(line, may_bring_entities, text))
     }
 
     /// Frees all that no running call uses. Later calls fail with [`Error::Closed`]. Closing twice is safe. Dropping the last clone
     /// frees the engine, too.
     pub fn close(&self) {
-        self.pool.close();
+        self.shared.close();
+    }
+
+    fn answered(&self, asks: Asks, lines: &[u8], bytes: usize) -> Result<String, Error> {
+        written(bytes, |text| self.shared.answer(asks, lines, text))
     }
 
     fn decided(&self, request: &Request, text: &mut Vec<u8>) -> Result<Decision, Error> {
-        let mut decided = Decided::default();
-        match self.pool.lease()?.call(|handle| handle.decide(&request.parts(), &mut decided, text)) {
-            raw::OK if decided.allow == 1 => Ok(Decision::Allow),
-            raw::OK => Ok(Decision::Deny),
-            raw::NO_REQUEST => Err(Error::Request(decided.refused)),
-            status => Err(Error::of(status)),
+        match self.shared.decide(&request.parts(), text) {
+            (raw::OK, decided) if decided.allow == 1 => Ok(Decision::Allow),
+            (raw::OK, _) => Ok(Decision::Deny),
+            (raw::NO_REQUEST, decided) => Err(self.refused(request, decided.refused)?),
+            (status, _) => Err(Error::of(status)),
         }
+    }
+
+    /// The error for a request that is refused with a number.
+    fn refused(&self, request: &Request, number: u32) -> Result<Error, Error> {
+        let words = written(1024, |text| self.shared.explain_request(&request.parts(), number, text))?;
+        Ok(Error::Request(Box::new(RequestRefusal { number, words })))
+    }
+}
+
+/// Makes a call that takes changes, on the caller's thread where that has enough stack. Where it refuses them it is made once more, on a
+/// thread with the stack for the words.
+fn changed<T: Send>(call: impl Fn(&mut Why) -> (u32, T) + Sync) -> Result<T, Error> {
+    let made = |wants_words: bool| {
+        let mut why = Why::new(wants_words);
+        let (status, value) = call(&mut why);
+        why.done(status).map(|()| value)
+    };
+    match on_enough_stack(|| made(false)) {
+        Err(Error::Refused(_)) => on_large_stack(|| made(true)),
+        done => done,
     }
 }
 
@@ -348,13 +369,10 @@ impl Engine {
 /// [`Error::Refused`] where a file is refused, and [`Error::Memory`].
 pub fn validate(files: &Files) -> Result<Report, Error> {
     on_large_stack(|| {
-        let mut text = room(1024)?;
-        match raw::validate(files, &mut text) {
-            raw::OK => Ok(Report { is_accepted: true, text: text_of(text)? }),
-            raw::FAULTS => Ok(Report { is_accepted: false, text: text_of(text)? }),
-            // Publishing says which file is refused, and why.
-            raw::REFUSED => Err(published(files).err().unwrap_or(Error::Library(raw::REFUSED))),
-            status => Err(Error::of(status)),
+        let (mut why, mut text) = (Why::new(true), room(1024)?);
+        match raw::validate(files, &mut why, &mut text) {
+            status @ (raw::OK | raw::FAULTS) => Ok(Report { is_accepted: status == raw::OK, text: text_of(text)? }),
+            status => Err(why.done(status).err().unwrap_or(Error::Library(status))),
         }
     })
 }
@@ -365,7 +383,7 @@ pub fn validate(files: &Files) -> Result<Report, Error> {
 ///
 /// [`Error::Memory`].
 pub fn explain(files: &Files) -> Result<String, Error> {
-    on_large_stack(|| explained(files, 0))
+    on_large_stack(|| written(1024, |text| raw::explain(files, text)))
 }
 
 /// The version of the engine, for example `0.1.0`.
@@ -374,53 +392,7 @@ pub fn explain(files: &Files) -> Result<String, Error> {
 ///
 /// [`Error::Memory`].
 pub fn version() -> Result<String, Error> {
-    let mut text = room(16)?;
-    let status = raw::version(&mut text);
-    done(status, text)
-}
-
-/// A new handle to which these files are published.
-fn published(files: &Files) -> Result<Published, Error> {
-    let (mut handle, mut why, mut text) = (Handle::new().map_err(Error::of)?, Why::default(), room(1024)?);
-    match handle.publish(files, &mut why, &mut text) {
-        raw::OK => Ok(Published { handle, schema: Arc::new(copied(files.schema)?) }),
-        raw::REFUSED => Err(refused(files, &why)?),
-        raw::FAULTS => Err(Error::Faults(Box::new(Faults { report: text_of(text)?, words: explained(files, 0)? }))),
-        status => Err(Error::of(status)),
-    }
-}
-
-/// The error for a file of these that is refused.
-fn refused(files: &Files, why: &Why) -> Result<Error, Error> {
-    refused_with(why, |format| explained(files, format))
-}
-
-/// The error for changes that are refused for a schema.
-fn refused_changes(schema: &[u8], changes: &[u8], why: &Why) -> Result<Error, Error> {
-    refused_with(why, |format| {
-        let mut text = room(1024)?;
-        let status = raw::explain_changes(schema, changes, why.number, format, &mut text);
-        done(status, text)
-    })
-}
-
-/// The error for what is refused, with an explanation in each format.
-fn refused_with(why: &Why, explained: impl Fn(u32) -> Result<String, Error>) -> Result<Error, Error> {
-    let file = match why.file {
-        1 => File::Schema,
-        2 => File::Policies,
-        3 => File::Links,
-        _ => File::Entities,
-    };
-    let offset = (why.offset != u64::MAX).then_some(why.offset);
-    let (line, words) = (answer::line_of(&explained(1)?), explained(0)?);
-    Ok(Error::Refused(Box::new(Refusal { file, number: why.number, offset, line, words })))
-}
-
-fn explained(files: &Files, format: u32) -> Result<String, Error> {
-    let mut text = room(1024)?;
-    let status = raw::explain(files, format, &mut text);
-    done(status, text)
+    written(16, raw::version)
 }
 
 /// A buffer of this many bytes.
@@ -441,8 +413,10 @@ fn text_of(text: Vec<u8>) -> Result<String, Error> {
     String::from_utf8(text).map_err(|_| Error::Library(raw::OK))
 }
 
-fn done(status: u32, text: Vec<u8>) -> Result<String, Error> {
-    match status {
+/// The text that a call writes, which begins with room for so many bytes.
+fn written(bytes: usize, call: impl FnOnce(&mut Vec<u8>) -> u32) -> Result<String, Error> {
+    let mut text = room(bytes)?;
+    match call(&mut text) {
         raw::OK => text_of(text),
         status => Err(Error::of(status)),
     }

@@ -1,422 +1,306 @@
-//! The calls of libcedar, and the places of the handles: all `unsafe` code of this crate.
+//! The calls of libcedar: all `unsafe` code of this crate but that of `stack.rs`.
 #![allow(unsafe_code)]
-use std::ffi::c_void;
-use std::ptr;
-use std::sync::atomic::{AtomicPtr, Ordering};
+use std::ffi::{c_char, c_void, CStr};
+use std::ptr::{self, NonNull};
 
-use crate::Files;
+use crate::{Error, Faults, File, Files, Refusal};
 
 pub(crate) const OK: u32 = 0;
 pub(crate) const MEMORY: u32 = 1;
 pub(crate) const REFUSED: u32 = 2;
 pub(crate) const FAULTS: u32 = 3;
-pub(crate) const ROOM: u32 = 6;
 pub(crate) const NO_REQUEST: u32 = 7;
+pub(crate) const CLOSED: u32 = 8;
 
-/// Why a file is refused, as the library writes it.
+/// `cedar_bytes`, which lend what they were made of.
 #[repr(C)]
-#[derive(Default)]
-pub(crate) struct Why {
-    pub(crate) file: u32,
-    pub(crate) number: u32,
-    pub(crate) offset: u64,
+#[derive(Clone, Copy)]
+pub(crate) struct Bytes {
+    at: *const u8,
+    length: usize,
 }
 
-/// A decision, as the library writes it.
+impl From<&[u8]> for Bytes {
+    fn from(text: &[u8]) -> Bytes {
+        Bytes { at: text.as_ptr(), length: text.len() }
+    }
+}
+
+impl Bytes {
+    const NONE: Bytes = Bytes { at: ptr::null(), length: 0 };
+
+    /// A copy as a text. The bytes are those of a refusal that is not freed yet.
+    fn text(self) -> Result<String, Error> {
+        if self.at.is_null() {
+            return Ok(String::new());
+        }
+        // SAFETY: the library gives the length of its texts.
+        let bytes = unsafe { std::slice::from_raw_parts(self.at, self.length) };
+        crate::text_of(crate::copied(bytes)?)
+    }
+}
+
+/// `cedar_buffer`.
 #[repr(C)]
-#[derive(Default)]
+struct Buffer {
+    at: *mut u8,
+    room: usize,
+    written: usize,
+}
+
+/// `cedar_files`.
+#[repr(C)]
+struct RawFiles {
+    size: usize,
+    texts: [Bytes; 4],
+    settings: u32,
+    reserved: u32,
+}
+
+impl From<&Files<'_>> for RawFiles {
+    fn from(files: &Files) -> RawFiles {
+        let texts = [files.schema, files.policies, files.links, files.entities].map(Bytes::from);
+        RawFiles { size: std::mem::size_of::<RawFiles>(), texts, settings: u32::from(files.any_decimal), reserved: 0 }
+    }
+}
+
+/// `cedar_request`, whose parts are three types with their ids, and the context.
+#[repr(C)]
+struct RawRequest {
+    size: usize,
+    parts: [Bytes; 7],
+}
+
+impl From<&[&str; 7]> for RawRequest {
+    fn from(parts: &[&str; 7]) -> RawRequest {
+        RawRequest { size: std::mem::size_of::<RawRequest>(), parts: parts.map(|it| it.as_bytes().into()) }
+    }
+}
+
+/// `cedar_decision`.
+#[repr(C)]
 pub(crate) struct Decided {
+    size: usize,
     pub(crate) allow: u32,
     pub(crate) refused: u32,
 }
 
-/// Where a handle is. Calls take its address, since they may write to it.
+/// `cedar_refusal`, which owns its texts.
 #[repr(C)]
-struct Place {
-    at: *mut c_void,
+pub(crate) struct Why {
+    size: usize,
+    file: u32,
+    number: u32,
+    offset: u64,
+    wants: u32,
+    reserved: u32,
+    line: u64,
+    text: Bytes,
+    words: Bytes,
+}
+
+impl Why {
+    /// Room for a refusal, with words or without.
+    pub(crate) fn new(wants_words: bool) -> Why {
+        let (size, none) = (std::mem::size_of::<Why>(), Bytes::NONE);
+        Why { size, file: 0, number: 0, offset: 0, wants: wants_words.into(), reserved: 0, line: 0, text: none, words: none }
+    }
+
+    /// What a call has done that returned this status.
+    pub(crate) fn done(&self, status: u32) -> Result<(), Error> {
+        match status {
+            OK => Ok(()),
+            REFUSED => Err(Error::Refused(Box::new(self.refusal()?))),
+            FAULTS => Err(Error::Faults(Box::new(Faults { report: self.text.text()?, words: self.words.text()? }))),
+            other => Err(Error::of(other)),
+        }
+    }
+
+    fn refusal(&self) -> Result<Refusal, Error> {
+        let file = match self.file {
+            1 => File::Schema,
+            2 => File::Policies,
+            3 => File::Links,
+            _ => File::Entities,
+        };
+        let (offset, line) = ((self.offset != u64::MAX).then_some(self.offset), (self.line != 0).then_some(self.line));
+        Ok(Refusal { file, number: self.number, offset, line, words: self.words.text()? })
+    }
+}
+
+impl Drop for Why {
+    fn drop(&mut self) {
+        // SAFETY: the texts are null or those of the library, which sets them to null.
+        unsafe { cedar_refusal_free(self) }
+    }
 }
 
 extern "C" {
-    fn cedar_raw_new(out: *mut *mut c_void) -> u32;
-    fn cedar_raw_free(place: Place);
-    fn cedar_raw_publish(
-        place: *mut Place,
-        schema: *const u8,
-        _: usize,
-        policies: *const u8,
-        _: usize,
-        links: *const u8,
-        _: usize,
-        entities: *const u8,
-        _: usize,
-        settings: u32,
-        why: *mut Why,
-        text: *mut u8,
-        room: usize,
-        written: *mut usize,
-    ) -> u32;
-    fn cedar_raw_publish_entities(
-        place: *mut Place,
-        entities: *const u8,
-        _: usize,
-        why: *mut Why,
-        text: *mut u8,
-        room: usize,
-        written: *mut usize,
-    ) -> u32;
-    fn cedar_raw_publish_changes(
-        place: *mut Place,
-        changes: *const u8,
-        _: usize,
-        why: *mut Why,
-        text: *mut u8,
-        room: usize,
-        written: *mut usize,
-    ) -> u32;
-    fn cedar_raw_validate(
-        schema: *const u8,
-        _: usize,
-        policies: *const u8,
-        _: usize,
-        links: *const u8,
-        _: usize,
-        settings: u32,
-        text: *mut u8,
-        room: usize,
-        written: *mut usize,
-    ) -> u32;
-    fn cedar_raw_explain(
-        schema: *const u8,
-        _: usize,
-        policies: *const u8,
-        _: usize,
-        links: *const u8,
-        _: usize,
-        entities: *const u8,
-        _: usize,
-        settings: u32,
-        format: u32,
-        text: *mut u8,
-        room: usize,
-        written: *mut usize,
-    ) -> u32;
-    fn cedar_raw_explain_changes(
-        schema: *const u8,
-        _: usize,
-        changes: *const u8,
-        _: usize,
-        number: u32,
-        format: u32,
-        text: *mut u8,
-        room: usize,
-        written: *mut usize,
-    ) -> u32;
-    fn cedar_raw_share(place: *mut Place, other: *mut Place) -> u32;
-    fn cedar_raw_answer(place: *mut Place, lines: *const u8, _: usize, text: *mut u8, room: usize, written: *mut usize) -> u32;
-    fn cedar_raw_answer_with_entities(
-        place: *mut Place,
-        lines: *const u8,
-        _: usize,
-        text: *mut u8,
-        room: usize,
-        written: *mut usize,
-    ) -> u32;
-    fn cedar_raw_answer_line(place: *mut Place, line: *const u8, _: usize, text: *mut u8, room: usize, written: *mut usize) -> u32;
-    fn cedar_raw_decide(
-        place: *mut Place,
-        principal_type: *const u8,
-        _: usize,
-        principal_id: *const u8,
-        _: usize,
-        action_type: *const u8,
-        _: usize,
-        action_id: *const u8,
-        _: usize,
-        resource_type: *const u8,
-        _: usize,
-        resource_id: *const u8,
-        _: usize,
-        context: *const u8,
-        _: usize,
-        decided: *mut Decided,
-        text: *mut u8,
-        room: usize,
-        written: *mut usize,
-    ) -> u32;
-    fn cedar_raw_abi_version() -> u32;
-    fn cedar_raw_version(text: *mut u8, room: usize, written: *mut usize) -> u32;
+    fn cedar_abi_version() -> u32;
+    fn cedar_version(text: *mut Buffer) -> u32;
+    fn cedar_status_text(status: u32) -> *const c_char;
+    fn cedar_refusal_free(why: *mut Why);
+    fn cedar_validate_files(files: *const RawFiles, why: *mut Why, text: *mut Buffer) -> u32;
+    fn cedar_explain(files: *const RawFiles, format: u32, text: *mut Buffer) -> u32;
+    fn cedar_shared_new(shared: *mut *mut c_void) -> u32;
+    fn cedar_shared_retain(shared: *mut c_void);
+    fn cedar_shared_free(shared: *mut c_void);
+    fn cedar_shared_close(shared: *mut c_void);
+    fn cedar_shared_publish(shared: *mut c_void, files: *const RawFiles, why: *mut Why, text: *mut Buffer) -> u32;
+    fn cedar_shared_publish_entities(shared: *mut c_void, entities: Bytes, why: *mut Why, text: *mut Buffer) -> u32;
+    fn cedar_shared_publish_changes(shared: *mut c_void, changes: Bytes, why: *mut Why, text: *mut Buffer) -> u32;
+    fn cedar_shared_with_changes(shared: *mut c_void, changes: Bytes, other: *mut *mut c_void, why: *mut Why, text: *mut Buffer) -> u32;
+    fn cedar_shared_decide(shared: *mut c_void, request: *const RawRequest, decided: *mut Decided, text: *mut Buffer) -> u32;
+    fn cedar_shared_answer(shared: *mut c_void, lines: Bytes, text: *mut Buffer) -> u32;
+    fn cedar_shared_answer_with_entities(shared: *mut c_void, lines: Bytes, text: *mut Buffer) -> u32;
+    fn cedar_shared_answer_line(shared: *mut c_void, line: Bytes, text: *mut Buffer) -> u32;
+    fn cedar_shared_explain_line(shared: *mut c_void, line: Bytes, kind: u32, number: u32, format: u32, text: *mut Buffer) -> u32;
+    fn cedar_shared_explain_request(shared: *mut c_void, request: *const RawRequest, number: u32, format: u32, text: *mut Buffer) -> u32;
 }
 
-/// Makes a call that writes a text into the room of `text`, which grows until the text fits. Returns the status. The text is empty
-/// where the call wrote none.
-fn grown(text: &mut Vec<u8>, mut call: impl FnMut(*mut u8, usize, *mut usize) -> u32) -> u32 {
-    text.clear();
+/// Makes a call that writes a text, in a buffer that grows until the text fits. The buffer has no length, and room as its capacity.
+fn grown(text: &mut Vec<u8>, mut call: impl FnMut(*mut Buffer) -> u32) -> u32 {
     loop {
-        let (room, mut written) = (text.capacity(), 0);
-        let status = call(text.as_mut_ptr(), room, &mut written);
-        if written > room && matches!(status, ROOM | REFUSED | FAULTS) {
-            if text.try_reserve_exact(written).is_err() {
-                return MEMORY;
-            }
-            continue;
+        let mut buffer = Buffer { at: text.as_mut_ptr(), room: text.capacity(), written: 0 };
+        let status = call(&mut buffer);
+        if buffer.written <= text.capacity() {
+            // SAFETY: the library has written so many bytes to the front of the buffer.
+            unsafe { text.set_len(buffer.written) };
+            return status;
         }
-        if matches!(status, OK | REFUSED | FAULTS | NO_REQUEST) {
-            // SAFETY: the call has written the first `written` bytes, of at most `room`.
-            unsafe { text.set_len(written.min(room)) };
-        }
-        return status;
-    }
-}
-
-/// The settings of files, as the library takes them.
-fn settings(files: &Files) -> u32 {
-    u32::from(files.any_decimal)
-}
-
-/// A handle. One call at a time uses it, since each takes it by `&mut`.
-pub(crate) struct Handle {
-    place: Place,
-}
-
-// SAFETY: the library lets a handle move to another thread, also where it shares an engine with other handles.
-unsafe impl Send for Handle {}
-
-impl Handle {
-    /// A handle that leads nowhere. Fails with a status.
-    pub(crate) fn new() -> Result<Handle, u32> {
-        let mut place = Place { at: ptr::null_mut() };
-        // SAFETY: the address is that of a local variable.
-        match unsafe { cedar_raw_new(&mut place.at) } {
-            OK => Ok(Handle { place }),
-            status => Err(status),
+        if text.try_reserve_exact(buffer.written).is_err() {
+            return MEMORY;
         }
     }
+}
 
-    /// Has the handle lead to an engine of these files.
-    pub(crate) fn publish(&mut self, files: &Files, why: &mut Why, text: &mut Vec<u8>) -> u32 {
-        let place: *mut Place = &mut self.place;
-        grown(text, |at, room, written| {
-            // SAFETY: the handle is alive and used by this call alone. Each address has the length that is given with it, and none is null.
-            unsafe {
-                cedar_raw_publish(
-                    place,
-                    files.schema.as_ptr(),
-                    files.schema.len(),
-                    files.policies.as_ptr(),
-                    files.policies.len(),
-                    files.links.as_ptr(),
-                    files.links.len(),
-                    files.entities.as_ptr(),
-                    files.entities.len(),
-                    settings(files),
-                    why,
-                    at,
-                    room,
-                    written,
-                )
-            }
-        })
-    }
+/// What is asked with lines.
+#[derive(Clone, Copy)]
+pub(crate) enum Asks {
+    /// One line.
+    Line,
+    /// Lines.
+    Lines,
+    /// Lines that may bring entities.
+    LinesWithEntities,
+}
 
-    /// Has the handle lead to an engine of the same policies over these entities.
-    pub(crate) fn publish_entities(&mut self, entities: &[u8], why: &mut Why, text: &mut Vec<u8>) -> u32 {
-        let place: *mut Place = &mut self.place;
-        grown(text, |at, room, written| {
-            // SAFETY: as in `publish`.
-            unsafe { cedar_raw_publish_entities(place, entities.as_ptr(), entities.len(), why, at, room, written) }
-        })
-    }
+/// An owner of a `cedar_shared`. Clones own the same one.
+pub(crate) struct Shared(NonNull<c_void>);
 
-    /// Has the handle lead to an engine of the same policies over the entities after these changes.
-    pub(crate) fn publish_changes(&mut self, changes: &[u8], why: &mut Why, text: &mut Vec<u8>) -> u32 {
-        let place: *mut Place = &mut self.place;
-        grown(text, |at, room, written| {
-            // SAFETY: as in `publish`.
-            unsafe { cedar_raw_publish_changes(place, changes.as_ptr(), changes.len(), why, at, room, written) }
-        })
-    }
+// SAFETY: any number of threads may make the calls of a shared engine, and each may free what it owns.
+unsafe impl Send for Shared {}
+// SAFETY: as above.
+unsafe impl Sync for Shared {}
 
-    /// Has `other` lead to the engine of this handle.
-    pub(crate) fn share(&mut self, other: &mut Handle) -> u32 {
-        // SAFETY: both handles are alive, and differ, since both are borrowed as `&mut`.
-        unsafe { cedar_raw_share(&mut self.place, &mut other.place) }
-    }
-
-    /// Answers request lines.
-    pub(crate) fn answer(&mut self, lines: &[u8], text: &mut Vec<u8>) -> u32 {
-        let place: *mut Place = &mut self.place;
-        // SAFETY: as in `publish`.
-        grown(text, |at, room, written| unsafe { cedar_raw_answer(place, lines.as_ptr(), lines.len(), at, room, written) })
-    }
-
-    /// Answers request lines that may bring entities.
-    pub(crate) fn answer_with_entities(&mut self, lines: &[u8], text: &mut Vec<u8>) -> u32 {
-        let place: *mut Place = &mut self.place;
-        grown(text, |at, room, written| {
-            // SAFETY: as in `publish`.
-            unsafe { cedar_raw_answer_with_entities(place, lines.as_ptr(), lines.len(), at, room, written) }
-        })
-    }
-
-    /// Answers one request line.
-    pub(crate) fn answer_line(&mut self, line: &[u8], text: &mut Vec<u8>) -> u32 {
-        let place: *mut Place = &mut self.place;
-        // SAFETY: as in `publish`.
-        grown(text, |at, room, written| unsafe { cedar_raw_answer_line(place, line.as_ptr(), line.len(), at, room, written) })
-    }
-
-    /// Decides the request of these parts: three types with their ids, and the context. `text` without room is not written.
-    pub(crate) fn decide(&mut self, parts: &[&str; 7], decided: &mut Decided, text: &mut Vec<u8>) -> u32 {
-        let place: *mut Place = &mut self.place;
-        let [principal_type, principal_id, action_type, action_id, resource_type, resource_id, context] = parts;
-        grown(text, |at, room, written| {
-            // SAFETY: as in `publish`.
-            unsafe {
-                cedar_raw_decide(
-                    place,
-                    principal_type.as_ptr(),
-                    principal_type.len(),
-                    principal_id.as_ptr(),
-                    principal_id.len(),
-                    action_type.as_ptr(),
-                    action_type.len(),
-                    action_id.as_ptr(),
-                    action_id.len(),
-                    resource_type.as_ptr(),
-                    resource_type.len(),
-                    resource_id.as_ptr(),
-                    resource_id.len(),
-                    context.as_ptr(),
-                    context.len(),
-                    decided,
-                    at,
-                    room,
-                    written,
-                )
-            }
-        })
+impl Clone for Shared {
+    fn clone(&self) -> Shared {
+        // SAFETY: this owner is alive.
+        unsafe { cedar_shared_retain(self.0.as_ptr()) };
+        Shared(self.0)
     }
 }
 
-impl Drop for Handle {
+impl Drop for Shared {
     fn drop(&mut self) {
-        // SAFETY: the handle is alive, and nothing uses it from here on.
-        unsafe { cedar_raw_free(Place { at: self.place.at }) }
+        // SAFETY: this owner is alive, and nothing uses it from here on.
+        unsafe { cedar_shared_free(self.0.as_ptr()) }
+    }
+}
+
+impl Shared {
+    /// An engine to which nothing was published.
+    pub(crate) fn new() -> Result<Shared, Error> {
+        let mut at = ptr::null_mut();
+        // SAFETY: the address is that of a local variable.
+        let status = unsafe { cedar_shared_new(&mut at) };
+        NonNull::new(at).map(Shared).ok_or_else(|| Error::of(status))
+    }
+
+    // SAFETY of the calls below: the owner is alive, each address is that of a value which lives as long as the call, and the lengths are
+    // those of the slices.
+
+    pub(crate) fn publish(&self, files: &Files, why: &mut Why) -> u32 {
+        unsafe { cedar_shared_publish(self.0.as_ptr(), &files.into(), why, ptr::null_mut()) }
+    }
+
+    pub(crate) fn publish_entities(&self, entities: &[u8], why: &mut Why) -> u32 {
+        unsafe { cedar_shared_publish_entities(self.0.as_ptr(), entities.into(), why, ptr::null_mut()) }
+    }
+
+    pub(crate) fn publish_changes(&self, changes: &[u8], why: &mut Why) -> u32 {
+        unsafe { cedar_shared_publish_changes(self.0.as_ptr(), changes.into(), why, ptr::null_mut()) }
+    }
+
+    /// Another engine over changed entities; none with another status than `OK`.
+    pub(crate) fn with_changes(&self, changes: &[u8], why: &mut Why) -> (u32, Option<Shared>) {
+        let mut at = ptr::null_mut();
+        let status = unsafe { cedar_shared_with_changes(self.0.as_ptr(), changes.into(), &mut at, why, ptr::null_mut()) };
+        (status, NonNull::new(at).map(Shared))
+    }
+
+    /// Decides the request of these parts. A text without room is not written.
+    pub(crate) fn decide(&self, parts: &[&str; 7], text: &mut Vec<u8>) -> (u32, Decided) {
+        let (request, mut decided) = (parts.into(), Decided { size: std::mem::size_of::<Decided>(), allow: 0, refused: 0 });
+        let status = grown(text, |to| unsafe { cedar_shared_decide(self.0.as_ptr(), &request, &mut decided, to) });
+        (status, decided)
+    }
+
+    pub(crate) fn explain_request(&self, parts: &[&str; 7], number: u32, text: &mut Vec<u8>) -> u32 {
+        let request = parts.into();
+        grown(text, |to| unsafe { cedar_shared_explain_request(self.0.as_ptr(), &request, number, 0, to) })
+    }
+
+    pub(crate) fn explain_line(&self, line: &[u8], may_bring_entities: bool, text: &mut Vec<u8>) -> u32 {
+        let kind = may_bring_entities.into();
+        grown(text, |to| unsafe { cedar_shared_explain_line(self.0.as_ptr(), line.into(), kind, 0, 0, to) })
+    }
+
+    pub(crate) fn answer(&self, asks: Asks, lines: &[u8], text: &mut Vec<u8>) -> u32 {
+        let call = match asks {
+            Asks::Line => cedar_shared_answer_line,
+            Asks::Lines => cedar_shared_answer,
+            Asks::LinesWithEntities => cedar_shared_answer_with_entities,
+        };
+        grown(text, |to| unsafe { call(self.0.as_ptr(), lines.into(), to) })
+    }
+
+    pub(crate) fn close(&self) {
+        unsafe { cedar_shared_close(self.0.as_ptr()) }
     }
 }
 
 /// Validates the policies of files.
-pub(crate) fn validate(files: &Files, text: &mut Vec<u8>) -> u32 {
-    grown(text, |at, room, written| {
-        // SAFETY: each address has the length that is given with it, and none is null.
-        unsafe {
-            cedar_raw_validate(
-                files.schema.as_ptr(),
-                files.schema.len(),
-                files.policies.as_ptr(),
-                files.policies.len(),
-                files.links.as_ptr(),
-                files.links.len(),
-                settings(files),
-                at,
-                room,
-                written,
-            )
-        }
+pub(crate) fn validate(files: &Files, why: &mut Why, text: &mut Vec<u8>) -> u32 {
+    let files = files.into();
+    // SAFETY: as for the calls of `Shared`. What an earlier turn has said is freed.
+    grown(text, |to| unsafe {
+        cedar_refusal_free(why);
+        cedar_validate_files(&files, why, to)
     })
 }
 
-/// Explains why files are refused or have faults: in words (0), or as JSON lines (1).
-pub(crate) fn explain(files: &Files, format: u32, text: &mut Vec<u8>) -> u32 {
-    grown(text, |at, room, written| {
-        // SAFETY: as in `validate`.
-        unsafe {
-            cedar_raw_explain(
-                files.schema.as_ptr(),
-                files.schema.len(),
-                files.policies.as_ptr(),
-                files.policies.len(),
-                files.links.as_ptr(),
-                files.links.len(),
-                files.entities.as_ptr(),
-                files.entities.len(),
-                settings(files),
-                format,
-                at,
-                room,
-                written,
-            )
-        }
-    })
-}
-
-/// Explains why changes of entities are refused with a number: in words (0), or as JSON lines (1).
-pub(crate) fn explain_changes(schema: &[u8], changes: &[u8], number: u32, format: u32, text: &mut Vec<u8>) -> u32 {
-    grown(text, |at, room, written| {
-        // SAFETY: as in `validate`.
-        unsafe {
-            cedar_raw_explain_changes(
-                schema.as_ptr(),
-                schema.len(),
-                changes.as_ptr(),
-                changes.len(),
-                number,
-                format,
-                at,
-                room,
-                written,
-            )
-        }
-    })
+/// Explains in words why files are refused or have faults.
+pub(crate) fn explain(files: &Files, text: &mut Vec<u8>) -> u32 {
+    let files = files.into();
+    // SAFETY: as for the calls of `Shared`.
+    grown(text, |to| unsafe { cedar_explain(&files, 0, to) })
 }
 
 /// The version of the interface of the library.
 pub(crate) fn abi_version() -> u32 {
     // SAFETY: the call takes nothing.
-    unsafe { cedar_raw_abi_version() }
+    unsafe { cedar_abi_version() }
 }
 
 /// Writes the version of the engine.
 pub(crate) fn version(text: &mut Vec<u8>) -> u32 {
-    // SAFETY: as in `validate`.
-    grown(text, |at, room, written| unsafe { cedar_raw_version(at, room, written) })
+    // SAFETY: as for the calls of `Shared`.
+    grown(text, |to| unsafe { cedar_version(to) })
 }
 
-/// A handle that requests use, and the number of the version that it was shared at.
-pub(crate) struct Shared {
-    pub(crate) handle: Handle,
-    pub(crate) version: u64,
-}
-
-/// A place of a handle, on a cache line of its own. It owns the handle that it has.
-#[repr(align(64))]
-#[derive(Default)]
-pub(crate) struct Spot(AtomicPtr<Shared>);
-
-impl Spot {
-    /// Takes the handle out of the place.
-    pub(crate) fn take(&self) -> Option<Box<Shared>> {
-        if self.0.load(Ordering::Relaxed).is_null() {
-            return None;
-        }
-        let at = self.0.swap(ptr::null_mut(), Ordering::SeqCst);
-        // SAFETY: an address in a place is that of a box which `put` gave away, and the swap hands it to this caller alone.
-        (!at.is_null()).then(|| unsafe { Box::from_raw(at) })
-    }
-
-    /// Puts a handle into the place, or hands it back where the place has one.
-    pub(crate) fn put(&self, shared: Box<Shared>) -> Result<(), Box<Shared>> {
-        let at = Box::into_raw(shared);
-        match self.0.compare_exchange(ptr::null_mut(), at, Ordering::SeqCst, Ordering::Relaxed) {
-            Ok(_) => Ok(()),
-            // SAFETY: the place did not take the address, so the box is still that of this call.
-            Err(_) => Err(unsafe { Box::from_raw(at) }),
-        }
-    }
-}
-
-impl Drop for Spot {
-    fn drop(&mut self) {
-        drop(self.take());
-    }
+/// What a status means, in words.
+pub(crate) fn status_text(status: u32) -> &'static str {
+    // SAFETY: the library gives the address of a text that ends with a byte 0, and never frees it.
+    unsafe { CStr::from_ptr(cedar_status_text(status)) }.to_str().unwrap_or("")
 }

@@ -91,10 +91,12 @@ fn requests_are_answered_by_parts() {
             let request = Request::new(principal, action, resource).with_context(context);
             let decided = engine.decide(&request);
             count += 1;
-            match engine.is_authorized(&request) {
-                Err(Error::Request(number)) => {
-                    assert_eq!(format!("{{\"refused\":{number}}}"), wanted);
-                    assert_eq!(decided, Err(Error::Request(number)));
+            match engine.authorize(&request) {
+                Err(Error::Request(why)) => {
+                    assert_eq!(format!("{{\"refused\":{}}}", why.number), wanted);
+                    assert!(why.words.starts_with(&format!("error[{}]: ", why.number)), "{}", why.words);
+                    assert_eq!(why.words, engine.explain_line(line, false).unwrap());
+                    assert_eq!(decided, Err(Error::Request(why)));
                 }
                 response => {
                     let response = response.unwrap();
@@ -175,9 +177,9 @@ fn entities_are_swapped_alone() {
     let it = example("photos");
     let engine = it.engine();
     let asked = Request::new(Uid::new("User", "ann"), Uid::new("Action", "view"), Uid::new("Photo", "beach"));
-    assert_eq!(engine.is_authorized(&asked).unwrap().determining, ["shared-with-friends"]);
+    assert_eq!(engine.authorize(&asked).unwrap().determining, ["shared-with-friends"]);
     engine.publish_entities(NO_FRIENDS.as_bytes()).unwrap();
-    assert_eq!(written(&engine.is_authorized(&asked).unwrap()), r#"{"decision":"deny","determining":[],"erring":[]}"#);
+    assert_eq!(written(&engine.authorize(&asked).unwrap()), r#"{"decision":"deny","determining":[],"erring":[]}"#);
 
     let broken = fs::read(folder().join("photos/broken_entities.json")).unwrap();
     let why = refusal_of(engine.publish_entities(&broken));
@@ -190,7 +192,7 @@ fn entities_are_swapped_alone() {
     // The beach is not stored, and `private` reads an attribute of it.
     engine.clone().publish_entities(b"[]").unwrap();
     let wanted = r#"{"decision":"deny","determining":[],"erring":[{"error":"missing_entity","policy":"private"}]}"#;
-    assert_eq!(written(&engine.is_authorized(&asked).unwrap()), wanted);
+    assert_eq!(written(&engine.authorize(&asked).unwrap()), wanted);
     engine.close();
     assert_eq!(engine.publish_entities(&it.entities), Err(Error::Closed));
 }
@@ -224,7 +226,7 @@ fn an_answer_of_any_length_fits() {
     let policies: String =
         (0..400).map(|at| format!("@id(\"a long name of a policy, number {at}\") permit(principal, action, resource);")).collect();
     let engine = Engine::new(&Files { policies: policies.as_bytes(), ..it.files() }).unwrap();
-    assert_eq!(engine.is_authorized(&asked("bob", "read")).unwrap().determining.len(), 400);
+    assert_eq!(engine.authorize(&asked("bob", "read")).unwrap().determining.len(), 400);
     let line = engine.answer_line(it.requests.lines().next().unwrap()).unwrap();
     assert!(line.len() > 10_000 && line.ends_with('}'));
 }
@@ -238,7 +240,7 @@ fn closing_twice_is_safe() {
     engine.close();
     engine.close();
     assert_eq!(clone.decide(&asked("ann", "write")), Err(Error::Closed));
-    assert_eq!(clone.is_authorized(&asked("ann", "write")), Err(Error::Closed));
+    assert_eq!(clone.authorize(&asked("ann", "write")), Err(Error::Closed));
     assert_eq!(clone.answer_line(""), Err(Error::Closed));
     assert_eq!(clone.answer_with_entities(""), Err(Error::Closed));
     assert_eq!(clone.publish(&it.files()), Err(Error::Closed));
@@ -257,10 +259,35 @@ fn uids_are_parsed() {
 fn a_uid_that_is_not_one_is_refused() {
     let engine = example("notes").engine();
     let request = Request::new(Uid::new("no name", "ann"), Uid::new("Action", "write"), Uid::new("Notebook", "plans"));
-    assert_eq!(engine.decide(&request), Err(Error::Request(502)));
-    assert_eq!(engine.decide(&asked("ann", "write").with_context("[")), Err(Error::Request(501)));
-    assert_eq!(engine.decide(&asked("ann", "write").with_context("{\"n\":1}")), Err(Error::Request(506)));
-    assert_eq!(engine.decide(&asked("ann", "fly")), Err(Error::Request(510)));
+    assert_eq!(refused(engine.decide(&request)).0, 502);
+    assert_eq!(refused(engine.decide(&asked("ann", "write").with_context("["))).0, 501);
+    assert_eq!(refused(engine.decide(&asked("ann", "write").with_context("{\"n\":1}"))).0, 506);
+    let words = "error[510]: an action is not declared\n --> request\n   = action: Action::\"fly\" is not declared\n";
+    assert_eq!(refused(engine.decide(&asked("ann", "fly"))), (510, words.to_string()));
+    let error = engine.authorize(&asked("ann", "fly")).unwrap_err();
+    assert_eq!(error.to_string(), words.trim_end());
+    assert_eq!(refused(Err(error)), (510, words.to_string()));
+}
+
+/// The number and the words with which a request is refused.
+fn refused(result: Result<Decision, Error>) -> (u32, String) {
+    match result {
+        Err(Error::Request(why)) => (why.number, why.words),
+        other => panic!("{other:?} is not refused"),
+    }
+}
+
+#[test]
+fn a_refused_line_has_words() {
+    let engine = example("notes").engine();
+    let line =
+        |more: &str| format!(r#"{{"principal":"User::\"ann\"","action":"Action::\"write\"","resource":"Notebook::\"plans\""{more}}}"#);
+    assert_eq!(engine.explain_line(line(""), false).unwrap(), "");
+    let brings = line(r#","entities":[{"uid":{"type":"Ghost","id":"g"}}]"#);
+    assert!(engine.explain_line(&brings, false).unwrap().starts_with("error[502]: "));
+    assert!(engine.explain_line(&brings, true).unwrap().starts_with("error[503]: "));
+    engine.close();
+    assert_eq!(engine.explain_line(&brings, true), Err(Error::Closed));
 }
 
 #[test]
@@ -283,7 +310,7 @@ fn ask(engine: &Engine, begun: &AtomicU64, done: &AtomicU64, is_over: &AtomicBoo
     let mut count = 0;
     while !is_over.load(Ordering::SeqCst) {
         let first = done.load(Ordering::SeqCst);
-        let response = engine.is_authorized(&asked("ann", "write")).unwrap();
+        let response = engine.authorize(&asked("ann", "write")).unwrap();
         let last = begun.load(Ordering::SeqCst);
         let answered: u64 = response.determining[0].parse().unwrap();
         assert!((first..=last).any(|it| it % VERSIONS == answered), "{answered} is not in {first} to {last}");
@@ -361,7 +388,7 @@ fn changes_swap_while_requests_run() {
         |number| engine.publish_changes(&changes(number)).unwrap(),
         || {
             let other = engine.with_changes(br#"{"remove":[{"type":"User","id":"ann"}]}"#).unwrap();
-            assert!(other.is_authorized(&asked("ann", "write")).unwrap().determining.is_empty());
+            assert!(other.authorize(&asked("ann", "write")).unwrap().determining.is_empty());
             drop(engine.publish_changes(b"[]").unwrap_err());
         },
     );

@@ -2,6 +2,10 @@
 use Rattle.std.specs.Prelude.{◌≡◌, ℕ, List, [], Option, None, Some}
 use Rattle.cedar_ast.specs.PolicySetTree.{PolicySetTree}
 use Rattle.cedar_schema_spec.specs.SchemaTree.{SchemaTree}
+use Rattle.cedar_schema_spec.specs.Conformance.{Conforms}
+use Rattle.cedar_value.specs.declared.request.Request.{Request}
+use Rattle.cedar_conform.specs.Requests.{LineDenotes}
+use Rattle.cedar_auth_spec.specs.Headline.{IsAnsweredSoundlyWith}
 use Rattle.cedar_auth_spec.specs.Ready.{ReadyTree}
 use Rattle.cedar_check_spec.specs.Reports.{AreFaultsWith}
 use Rattle.cedar_check_spec.specs.declared.settings.Settings.{Settings}
@@ -56,13 +60,20 @@ pub record HaveFaults (settings : Settings) (holds : Holdings) (report : List �
   pub some : ¬ AreFaultsWith settings schema policies.policies []
   pub is_report : IsReportText settings schema policies.policies report
 
--- The new engine has the schema, the policies and the settings of the old one, and the entities that the bytes denote for the schema
--- (own; Cedar documentation, entities and context in JSON).
+-- The world of the engine conforms to its schema, and each request that a line denotes for the schema is answered soundly (own;
+-- cedar-spec, Lean: Cedar.Thm).
+pub record IsSound (r : ReadyTree) : Type 0 where
+  pub conforms : Conforms r.schema r.world
+  pub sound : (line : List ℕ) (q : Request) → LineDenotes r.schema line q → IsAnsweredSoundlyWith r.settings r.policies.policies q r.world
+
+-- The new engine has the schema, the policies and the settings of the old one, and the entities that the bytes denote for the schema. It
+-- is sound (own; Cedar documentation, entities and context in JSON).
 pub record IsOver (entities : List ℕ) (old new : ReadyTree) : Type 0 where
   pub schema : new.schema ≡ old.schema
   pub policies : new.policies ≡ old.policies
   pub settings : new.settings ≡ old.settings
   pub is_world : HoldsWorld old.schema (Some entities) new.world
+  pub is_sound : IsSound new
 
 -- The bytes denote no entities for the schema of the engine: this is why, and this is the line that says so (own).
 pub record AreRefusedOver (entities : List ℕ) (engine : ReadyTree) (refusal : Refusal) (line : List ℕ) : Type 0 where
@@ -72,12 +83,13 @@ pub record AreRefusedOver (entities : List ℕ) (engine : ReadyTree) (refusal : 
   pub is_line : IsRefusalLine Entities why line
 
 -- The new engine has the schema, the policies and the settings of the old one, and the entities that the changes hold for the schema
--- after the entities of the old one (own; Cedar documentation, entities and context in JSON).
+-- after the entities of the old one. It is sound (own; Cedar documentation, entities and context in JSON).
 pub record IsChanged (changes : List ℕ) (old new : ReadyTree) : Type 0 where
   pub schema : new.schema ≡ old.schema
   pub policies : new.policies ≡ old.policies
   pub settings : new.settings ≡ old.settings
   pub is_world : HoldChanges old.schema changes old.world new.world
+  pub is_sound : IsSound new
 
 -- The changes hold no entities for the schema and the entities of the engine: this is why, and this is the line that says so, which
 -- names the entities (own).

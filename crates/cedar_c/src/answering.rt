@@ -1,8 +1,9 @@
 //! Answers request lines.
-ghost use Rattle.std.specs.Prelude.{ℕ, List, ◌≡◌, ◌≢◌, [], ◌∷◌, drop, take};
+ghost use Rattle.std.specs.Prelude.{ℕ, List, ◌≡◌, ◌≢◌, ◌≤◌, [], ◌∷◌, drop, length, take};
 ghost use Rattle.base_lines.specs.AnswerText.{IsAnswerText};
 ghost use Rattle.cedar_auth.specs.AnswerLine.{AnswersLine};
 ghost use Rattle.cedar_auth.specs.AnswerLineWithEntities.{AnswersLineWithEntities};
+ghost use Rattle.cedar_files.specs.Authorization.{AreAnsweredSoundlyWithEntities};
 ghost use Rattle.cedar_c.specs.Buffers.{IsTooLong};
 ghost use Rattle.cedar_c.specs.Statuses.{IsOneOf};
 
@@ -26,6 +27,7 @@ fn give_answer(
 ) -> u32
     ensures ok { result ≡ 0 → AnswersLine ready.now line.now (take written.new text.new) }
     ensures rest { result ≡ 0 → drop written.new text.new ≡ drop written.new text.old }
+    ensures fits { result ≡ 0 → written.new ≤ length text.old }
     ensures room { result ≡ 6 → (answer : List ℕ) × AnswersLine ready.now line.now answer
         × IsTooLong answer text.old written.new }
     ensures untouched { result ≢ 0 → text.new ≡ text.old }
@@ -51,6 +53,7 @@ impl Engine {
         ensures same { self.new ≡ self.old }
         ensures ok { result ≡ 0 → IsAnswerText (AnswersLine self.old) lines.now (take written.new text.new) }
         ensures rest { result ≡ 0 → drop written.new text.new ≡ drop written.new text.old }
+        ensures fits { result ≡ 0 → written.new ≤ length text.old }
         ensures room { result ≡ 6 → (answer : List ℕ) × IsAnswerText (AnswersLine self.old) lines.now answer
             × IsTooLong answer text.old written.new }
         ensures untouched { result ≢ 0 → text.new ≡ text.old }
@@ -74,14 +77,18 @@ impl Engine {
         written: &mut usize,
     ) -> u32
         ensures same { self.new ≡ self.old }
+        ensures sound { AreAnsweredSoundlyWithEntities self.old }
         ensures ok { result ≡ 0 → IsAnswerText (AnswersLineWithEntities self.old) lines.now (take written.new text.new) }
         ensures rest { result ≡ 0 → drop written.new text.new ≡ drop written.new text.old }
+        ensures fits { result ≡ 0 → written.new ≤ length text.old }
         ensures room { result ≡ 6 → (answer : List ℕ) × IsAnswerText (AnswersLineWithEntities self.old) lines.now answer
             × IsTooLong answer text.old written.new }
         ensures untouched { result ≢ 0 → text.new ≡ text.old }
         ensures unwritten { result ≡ 1 → written.new ≡ written.old }
         ensures known { IsOneOf (0 ∷ 1 ∷ 6 ∷ []) result }
     {
+        // Each request that a line denotes is answered soundly.
+        self.ready.lines_with_entities_are_answered_soundly();
         let mut source = SliceSource::new(lines);
         let mut sink = VecSink::new(alloc);
         match serve_with_entities(alloc, &self.ready, &mut source, &mut sink) {
@@ -101,6 +108,7 @@ impl Engine {
         ensures same { self.new ≡ self.old }
         ensures ok { result ≡ 0 → AnswersLine self.old line.now (take written.new text.new) }
         ensures rest { result ≡ 0 → drop written.new text.new ≡ drop written.new text.old }
+        ensures fits { result ≡ 0 → written.new ≤ length text.old }
         ensures room { result ≡ 6 → (answer : List ℕ) × AnswersLine self.old line.now answer
             × IsTooLong answer text.old written.new }
         ensures untouched { result ≢ 0 → text.new ≡ text.old }

@@ -9,6 +9,7 @@ use crate::status::{OK, ROOM};
 pub(crate) fn give(text: &[u8], out: &mut [u8], written: &mut usize) -> u32
     ensures given { IsGiven text.now out.old out.new written.new }
     ensures ok { result ≡ 0 → length text.now ≤ length out.old }
+    ensures fits { result ≡ 0 → written.new ≤ length out.old }
     ensures room { result ≢ 0 → (result ≡ 6) × IsTooLong text.now out.old written.new }
     ensures too_long { result ≡ 6 → IsTooLong text.now out.old written.new }
 {

@@ -1,5 +1,5 @@
 //! Decides on requests in parts.
-ghost use Rattle.std.specs.Prelude.{ℕ, List, ◌≡◌, ◌≢◌, ◌⊎◌, ◌<◌, [], ◌∷◌, drop, length, take, IfErr, IfOk};
+ghost use Rattle.std.specs.Prelude.{ℕ, List, ◌≡◌, ◌≢◌, ◌⊎◌, ◌<◌, ◌≤◌, [], ◌∷◌, drop, length, take, IfErr, IfOk};
 ghost use Rattle.serde_json.specs.Written.{compact_text};
 ghost use Rattle.cedar_schema_spec.specs.Conformance.{Fits};
 ghost use Rattle.cedar_conform.specs.Parts.{PartsDenote};
@@ -56,6 +56,7 @@ fn give_response(
     ensures ok { result ≡ 0 → decided.new.allow ≡ decision_number (response_to ready.now found.now.request).decision }
     ensures told { result ≡ 0 → 0 < length text.old → take written.new text.new ≡ response_text ready.now found.now.request }
     ensures rest { result ≡ 0 → drop written.new text.new ≡ drop written.new text.old }
+    ensures fits { result ≡ 0 → 0 < length text.old → written.new ≤ length text.old }
     ensures room { result ≡ 6 → IsTooLong (response_text ready.now found.now.request) text.old written.new }
     ensures denied { result ≢ 0 → decided.new.allow ≡ decided.old.allow }
     ensures unrefused { decided.new.refused ≡ decided.old.refused }
@@ -97,6 +98,7 @@ fn give_fault(
     ensures refused { result ≡ 7 → decided.new.refused ≡ number_of fault.now }
     ensures told { result ≡ 7 → 0 < length text.old → take written.new text.new ≡ compact_text (refused_data (number_of fault.now)) }
     ensures rest { result ≡ 7 → drop written.new text.new ≡ drop written.new text.old }
+    ensures fits { result ≡ 7 → 0 < length text.old → written.new ≤ length text.old }
     ensures room { result ≡ 6 → IsTooLong (compact_text (refused_data (number_of fault.now))) text.old written.new }
     ensures denied { decided.new.allow ≡ decided.old.allow }
     ensures unrefused { result ≢ 7 → decided.new.refused ≡ decided.old.refused }
@@ -143,6 +145,7 @@ fn give_decision(
     ensures denied { result ≢ 0 → decided.new.allow ≡ decided.old.allow }
     ensures unrefused { result ≢ 7 → decided.new.refused ≡ decided.old.refused }
     ensures rest { (result ≡ 0) ⊎ (result ≡ 7) → drop written.new text.new ≡ drop written.new text.old }
+    ensures fits { (result ≡ 0) ⊎ (result ≡ 7) → 0 < length text.old → written.new ≤ length text.old }
     ensures untouched { result ≢ 0 → result ≢ 7 → text.new ≡ text.old }
     ensures unwritten { result ≡ 1 → written.new ≡ written.old }
     ensures unwanted { length text.old ≡ 0 → written.new ≡ written.old }
@@ -178,6 +181,7 @@ impl Engine {
         ensures denied { result ≢ 0 → decided.new.allow ≡ decided.old.allow }
         ensures unrefused { result ≢ 7 → decided.new.refused ≡ decided.old.refused }
         ensures rest { (result ≡ 0) ⊎ (result ≡ 7) → drop written.new text.new ≡ drop written.new text.old }
+        ensures fits { (result ≡ 0) ⊎ (result ≡ 7) → 0 < length text.old → written.new ≤ length text.old }
         ensures untouched { result ≢ 0 → result ≢ 7 → text.new ≡ text.old }
         ensures unwritten { result ≡ 1 → written.new ≡ written.old }
         ensures unwanted { length text.old ≡ 0 → written.new ≡ written.old }

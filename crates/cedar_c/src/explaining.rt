@@ -1,13 +1,20 @@
-//! Explains why texts make no engine, and why changes of entities are refused.
+//! Explains why texts make no engine, and why changes of entities and request lines are refused.
 ghost use Rattle.std.specs.Prelude.{◌<◌};
 ghost use Rattle.std.specs.Option.{MatchOption};
 ghost use Rattle.cedar_c.specs.Explaining.{IsFormat};
 
 use crate::texts::Texts;
+use cedar_auth::Ready;
 use cedar_check_spec::Settings;
 use cedar_files::FileNames;
-use cedar_files_diagnostics::{Format, explain_changes, explain_files};
+use cedar_files_diagnostics::{
+    Explanation, Format, explain_changes, explain_files, explain_request,
+    explain_request_with_entities,
+};
 use std::alloc::{AllocError, Global};
+
+/// What an explained request line is called.
+const REQUEST: &str = "request";
 
 /// The form of this number: 0 words for a person, 1 lines of JSON.
 pub(crate) fn format_of(number: u32) -> Option<Format>
@@ -47,5 +54,29 @@ pub(crate) fn explanation_of_changes(
     match u16::try_from(number) {
         Ok(number) => explain_changes(alloc, schema, changes, number, format),
         Err(_) => Ok(Vec::new(alloc)),
+    }
+}
+
+/// The explanation of a request line that is refused, of length 0 where it is not, or not with this number. Number 0 is for each.
+pub(crate) fn explanation_of_line(
+    alloc: Global,
+    ready: &Ready,
+    line: &[u8],
+    may_bring_entities: bool,
+    number: u32,
+    format: Format,
+) -> Result<Vec<u8>, AllocError> {
+    let found = if may_bring_entities {
+        explain_request_with_entities(alloc, ready, line, "")?
+    } else {
+        explain_request(alloc, ready.validated().schema(), line, "")?
+    };
+    match found {
+        Some(diagnostic) if number == 0 || number == u32::from(diagnostic.number) => {
+            let explanation = Explanation::of_one(alloc, REQUEST, diagnostic)?;
+            let text = explanation.to_text(alloc, format)?;
+            Ok(text.into_bytes())
+        }
+        _ => Ok(Vec::new(alloc)),
     }
 }

@@ -17,7 +17,7 @@ ghost use Rattle.cedar_c.specs.Statuses.{IsOneOf};
 ghost use Rattle.cedar_c.specs.Texts.{held};
 ghost use Rattle.cedar_c.specs.Validating.{HaveNoFaults, IsRefusedIn, IsReported};
 ghost use Rattle.cedar_check_spec.specs.declared.settings.Settings.{Settings as SettingsTree};
-ghost use Rattle.cedar_files.specs.Authorization.{HoldAll};
+ghost use Rattle.cedar_files.specs.Authorization.{AreAnsweredSoundlyWithEntities, HoldAll};
 
 mod answering;
 mod buffer;
@@ -42,7 +42,7 @@ use base_loose::Loose;
 use buffer::give;
 pub use crossing::handle_crosses;
 use decided::Decided;
-use explaining::{explanation, explanation_of_changes, format_of};
+use explaining::{explanation, explanation_of_changes, explanation_of_line, format_of};
 use handle::Handle;
 use new_handle::NewHandle;
 use parts::{RequestBytes, UidBytes};
@@ -217,6 +217,7 @@ pub extern "C" fn cedar_raw_validate(
         × IsReported chosen (held schema.now policies.now links.now []) told × IsTooLong told text.old written.new }
     ensures argument { result ≡ 4 → (chosen : SettingsTree) → ¬ AreSettings settings chosen }
     ensures rest { result ≢ 1 → result ≢ 4 → result ≢ 6 → drop written.new text.new ≡ drop written.new text.old }
+    ensures fits { result ≢ 1 → result ≢ 4 → result ≢ 6 → written.new ≤ length text.old }
     ensures untouched { result ≡ 6 → text.new ≡ text.old }
     ensures unwritten { IsOneOf (1 ∷ 4 ∷ []) result → (text.new ≡ text.old) × (written.new ≡ 0) }
     ensures known { IsOneOf (0 ∷ 1 ∷ 2 ∷ 3 ∷ 4 ∷ 6 ∷ []) result }
@@ -307,6 +308,48 @@ pub extern "C" fn cedar_raw_explain_changes(
     }
 }
 
+/// Explains to a person, or in JSON lines, why a request line is refused: kind 0, or one that may bring entities: kind 1. The text has
+/// length 0 where the line is not refused, or not with the number. Number 0 is for each.
+#[unsafe(no_mangle)]
+pub extern "C" fn cedar_raw_explain_line(
+    alloc: Global,
+    place: &mut Handle,
+    line: &[u8],
+    kind: u32,
+    number: u32,
+    format: u32,
+    text: &mut [u8],
+    written: &mut usize,
+) -> u32
+    ensures same { place.new.value ≡ place.old.value }
+    ensures rest { result ≡ 0 → drop written.new text.new ≡ drop written.new text.old }
+    ensures fits { result ≡ 0 → written.new ≤ length text.old }
+    ensures room { result ≡ 6 → length text.old < written.new }
+    ensures none { result ≡ 5 → place.old.value ≡ Empty }
+    ensures known_arguments { result ≢ 4 → (kind < 2) × (format < 2) }
+    ensures argument { result ≡ 4 → (1 < kind) ⊎ (1 < format) }
+    ensures untouched { result ≢ 0 → text.new ≡ text.old }
+    ensures unwritten { IsOneOf (1 ∷ 4 ∷ 5 ∷ []) result → written.new ≡ 0 }
+    ensures known { IsOneOf (0 ∷ 1 ∷ 4 ∷ 5 ∷ 6 ∷ []) result }
+{
+    *written = 0;
+    let Some(format) = format_of(format) else {
+        return ARGUMENT;
+    };
+    if kind > 1 {
+        return ARGUMENT;
+    }
+    match place.slot() {
+        Slot::Empty => NO_ENGINE,
+        Slot::Full(engine) => {
+            match explanation_of_line(alloc, &engine.ready, line, kind == 1, number, format) {
+                Ok(told) => give(&told, text, written),
+                Err(_) => MEMORY,
+            }
+        }
+    }
+}
+
 /// Has the other handle lead to the engine of this one. What the other led to before is freed. Policies are not copied, and this
 /// handle is as before.
 #[unsafe(no_mangle)]
@@ -342,6 +385,7 @@ pub extern "C" fn cedar_raw_answer(
     ensures same { place.new.value ≡ place.old.value }
     ensures ok { result ≡ 0 → AnswersLines place.old.value lines.now (take written.new text.new) }
     ensures rest { result ≡ 0 → drop written.new text.new ≡ drop written.new text.old }
+    ensures fits { result ≡ 0 → written.new ≤ length text.old }
     ensures room { result ≡ 6 → (answer : List ℕ) × AnswersLines place.old.value lines.now answer
         × IsTooLong answer text.old written.new }
     ensures untouched { result ≢ 0 → text.new ≡ text.old }
@@ -367,8 +411,10 @@ pub extern "C" fn cedar_raw_answer_with_entities(
     written: &mut usize,
 ) -> u32
     ensures same { place.new.value ≡ place.old.value }
+    ensures sound { result ≢ 5 → LeadsTo AreAnsweredSoundlyWithEntities place.old.value }
     ensures ok { result ≡ 0 → AnswersLinesWithEntities place.old.value lines.now (take written.new text.new) }
     ensures rest { result ≡ 0 → drop written.new text.new ≡ drop written.new text.old }
+    ensures fits { result ≡ 0 → written.new ≤ length text.old }
     ensures room { result ≡ 6 → (answer : List ℕ) × AnswersLinesWithEntities place.old.value lines.now answer
         × IsTooLong answer text.old written.new }
     ensures untouched { result ≢ 0 → text.new ≡ text.old }
@@ -395,6 +441,7 @@ pub extern "C" fn cedar_raw_answer_line(
     ensures same { place.new.value ≡ place.old.value }
     ensures ok { result ≡ 0 → AnswersOne place.old.value line.now (take written.new text.new) }
     ensures rest { result ≡ 0 → drop written.new text.new ≡ drop written.new text.old }
+    ensures fits { result ≡ 0 → written.new ≤ length text.old }
     ensures room { result ≡ 6 → (answer : List ℕ) × AnswersOne place.old.value line.now answer
         × IsTooLong answer text.old written.new }
     ensures untouched { result ≢ 0 → text.new ≡ text.old }
@@ -438,6 +485,7 @@ pub extern "C" fn cedar_raw_decide(
     ensures denied { result ≢ 0 → decision.new.allow ≡ 0 }
     ensures unrefused { result ≢ 7 → decision.new.refused ≡ 0 }
     ensures rest { (result ≡ 0) ⊎ (result ≡ 7) → drop written.new text.new ≡ drop written.new text.old }
+    ensures fits { (result ≡ 0) ⊎ (result ≡ 7) → written.new ≤ length text.old }
     ensures untouched { result ≢ 0 → result ≢ 7 → text.new ≡ text.old }
     ensures unwritten { IsOneOf (1 ∷ 5 ∷ []) result → written.new ≡ 0 }
     ensures unwanted { length text.old ≡ 0 → written.new ≡ 0 }

@@ -144,6 +144,9 @@ impl Engine {
         ensures others { IfErr result (λ unread. (unread ≢ Unread.Unnamed) × (unread ≢ Unread.Device)) }
     {
         let ready = read_over(alloc, &self.ready, entities)?;
+        // The world conforms to the schema, and each request that a line denotes is answered soundly.
+        ready.premises();
+        ready.lines_are_answered_soundly();
         match Engine::new(alloc, ready) {
             Ok(engine) => Ok(engine),
             Err(_) => Err(Unread::Memory),
@@ -182,6 +185,9 @@ impl Engine {
         ensures others { IfErr result (λ unread. (unread ≢ Unread.Unnamed) × (unread ≢ Unread.Device)) }
     {
         let ready = read_changed(alloc, &self.ready, changes)?;
+        // The world conforms to the schema, and each request that a line denotes is answered soundly.
+        ready.premises();
+        ready.lines_are_answered_soundly();
         match Engine::new(alloc, ready) {
             Ok(engine) => Ok(engine),
             Err(_) => Err(Unread::Memory),

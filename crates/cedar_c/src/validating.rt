@@ -1,5 +1,5 @@
 //! Reports on texts, in place of publishing them.
-ghost use Rattle.std.specs.Prelude.{List, ℕ, ◌≡◌, ◌≢◌, [], ◌∷◌, drop, take};
+ghost use Rattle.std.specs.Prelude.{List, ℕ, ◌≡◌, ◌≢◌, ◌≤◌, [], ◌∷◌, drop, length, take};
 ghost use Rattle.cedar_c.specs.Buffers.{IsTooLong};
 ghost use Rattle.cedar_c.specs.Publishing.{HaveFaults};
 ghost use Rattle.cedar_c.specs.Statuses.{IsOneOf};
@@ -35,6 +35,7 @@ pub(crate) fn report_on(
     ensures faults { result ≡ 3 → HaveFaults settings (held_by texts.now) (take written.new text.new) }
     ensures room { result ≡ 6 → (told : List ℕ) × IsReported settings (held_by texts.now) told × IsTooLong told text.old written.new }
     ensures rest { result ≢ 1 → result ≢ 6 → drop written.new text.new ≡ drop written.new text.old }
+    ensures fits { result ≢ 1 → result ≢ 6 → written.new ≤ length text.old }
     ensures untouched { result ≡ 6 → text.new ≡ text.old }
     ensures memory { result ≡ 1 → (text.new ≡ text.old) × (written.new ≡ written.old) }
     ensures known { IsOneOf (0 ∷ 1 ∷ 2 ∷ 3 ∷ 6 ∷ []) result }

@@ -1,8 +1,8 @@
 //! The subcommand `ask`.
-ghost use Rattle.std.specs.Prelude.{◌-◌, ◌<◌, ◌^◌, IfOk};
-ghost use Rattle.cedar_auth_spec.specs.Ready.{ReadyTree};
-ghost use Rattle.cedar_files.specs.Authorization.{HoldAll};
-ghost use Rattle.cedar_cli.specs.Asking.{DecidesLine};
+ghost use Rattle.std.specs.Prelude.{◌≡◌, ◌⊎◌, ◌-◌, ◌<◌, ◌^◌, MatchResult};
+ghost use Rattle.base_lines.specs.AnswerText.{IsAnswerText, Writes};
+ghost use Rattle.cedar_auth.specs.AnswerLine.{AnswersLine};
+ghost use Rattle.cedar_cli.specs.Asking.{DecidesLine, EndsUndecided, IsDecided, IsRefusedLine, IsUndecided};
 
 use crate::authorizing::answer;
 use base_lines::{Sink, SliceSource};
@@ -15,7 +15,8 @@ use std::alloc::Global;
 
 // What the policies decide of a line; or how the program ends where the line is refused or memory ran out.
 fn decision_of(alloc: Global, ready: &Ready, line: &[u8]) -> Result<Decision, End>
-    ensures { IfOk result (λ decision. DecidesLine ready.now line.now decision) }
+    ensures { MatchResult result (λ decision. DecidesLine ready.now line.now decision)
+        (λ end. ((end ≡ End.Refused) × IsRefusedLine ready.now line.now) ⊎ (end ≡ End.Memory)) }
 {
     match ready.read(alloc, line) {
         Ok(request) => match ready.answer(alloc, &request) {
@@ -35,7 +36,9 @@ fn answer_line<K: Sink>(
     sink: &mut K,
 ) -> Result<Decision, End>
     requires { K.failed sink.old < 2 ^ 64 - 1 }
-    ensures { IfOk result (λ decision. DecidesLine ready.now line.now decision) }
+    ensures { MatchResult result
+        (λ decision. DecidesLine ready.now line.now decision × Writes (K.written sink.old) (K.written sink.new) (IsAnswerText (AnswersLine ready.now) line.now))
+        (EndsUndecided ready.now line.now (K.failed sink.old < K.failed sink.new) (K.written sink.old) (K.written sink.new)) }
 {
     let mut source = SliceSource::new(line);
     match answer(alloc, ready, &mut source, sink) {
@@ -59,7 +62,9 @@ pub fn ask<F: Files, K: Sink>(
     settings: Settings,
 ) -> Result<Decision, End>
     requires { K.failed sink.old < 2 ^ 64 - 1 }
-    ensures { IfOk result (λ decision. (r : ReadyTree) × HoldAll settings (F.holds files.now) r × DecidesLine r line.now decision) }
+    ensures { MatchResult result
+        (IsDecided settings (F.holds files.now) line.now (K.written sink.old) (K.written sink.new))
+        (IsUndecided settings (F.holds files.now) line.now (K.failed sink.old < K.failed sink.new) (K.written sink.old) (K.written sink.new)) }
 {
     let ready = prepare(alloc, files, sink, settings)?;
     answer_line(alloc, &ready, line, sink)

@@ -1,17 +1,7 @@
 //! The subcommand `authorize`.
-ghost use Rattle.std.specs.Prelude.{◌≡◌, ◌⊎◌, ◌-◌, ◌<◌, ◌^◌, [], None, IfSome};
-ghost use Rattle.cedar_ast.specs.PolicySetTree.{PolicySetTree};
-ghost use Rattle.cedar_schema_spec.specs.SchemaTree.{SchemaTree};
-ghost use Rattle.cedar_check_spec.specs.Reports.{AreFaultsWith};
+ghost use Rattle.std.specs.Prelude.{◌≡◌, ◌⊎◌, ◌-◌, ◌<◌, ◌^◌};
 ghost use Rattle.cedar_auth.specs.AnswerLine.{AnswersLine};
-ghost use Rattle.cedar_auth_spec.specs.Ready.{ReadyTree};
-ghost use Rattle.base_lines.specs.AnswerText.{AnswersFirst, BeginsAnswers, IsAnswerText, Writes};
-ghost use Rattle.base_lines.specs.Lines.{lines_of};
-ghost use Rattle.cedar_files.specs.Authorization.{HoldAll, IsFirstRefused};
-ghost use Rattle.cedar_files.specs.ReportText.{IsReportText};
-ghost use Rattle.cedar_files.specs.Standing.{IsRefusalLine};
-ghost use Rattle.cedar_files.specs.Validation.{Hold};
-ghost use Rattle.cedar_cli.specs.Authorization.{Stands, StandsWhole};
+ghost use Rattle.cedar_cli.specs.Authorization.{Authorizes, EndsAnswering};
 
 use base_lines::{ServeFault, Sink, Source};
 use cedar_auth::{Ready, serve};
@@ -28,14 +18,8 @@ pub(crate) fn answer<S: Source, K: Sink>(
 ) -> End
     requires source_count { S.failed source.old < 2 ^ 64 - 1 }
     requires sink_count { K.failed sink.old < 2 ^ 64 - 1 }
-    ensures done { result ≡ End.Done → IfSome (S.left source.old) (λ input. Writes (K.written sink.old) (K.written sink.new)
-        (IsAnswerText (AnswersLine ready.now) input)) }
-    ensures device { result ≡ End.Device → (S.failed source.old < S.failed source.new) ⊎ (K.failed sink.old < K.failed sink.new) }
-    ensures stands { result ≡ End.Device → IfSome (S.left source.old) (λ input. Writes (K.written sink.old) (K.written sink.new)
-        (BeginsAnswers (AnswersLine ready.now) (lines_of input))) }
-    ensures stands_whole { result ≡ End.Memory → IfSome (S.left source.old) (λ input. Writes (K.written sink.old) (K.written sink.new)
-        (AnswersFirst (AnswersLine ready.now) (lines_of input))) }
-    ensures others { (result ≡ End.Refused → ⊥) × (result ≡ End.Faults → ⊥) × (result ≡ End.CommandLine → ⊥) }
+    ensures { EndsAnswering (AnswersLine ready.now) (S.left source.old)
+        ((S.failed source.old < S.failed source.new) ⊎ (K.failed sink.old < K.failed sink.new)) (K.written sink.old) (K.written sink.new) result }
 {
     match serve(alloc, ready, source, sink) {
         Ok(()) => End::Done,
@@ -77,25 +61,10 @@ pub fn authorize<F: Files, S: Source, K: Sink, O: Observer>(
 ) -> End
     requires source_count { S.failed source.old < 2 ^ 64 - 1 }
     requires sink_count { K.failed sink.old < 2 ^ 64 - 1 }
-
-    ensures done { result ≡ End.Done → (r : ReadyTree)
-        × HoldAll settings (F.holds files.now) r
-        × IfSome (S.left source.old) (λ input. Writes (K.written sink.old) (K.written sink.new) (IsAnswerText (AnswersLine r) input)) }
-    ensures faults { result ≡ End.Faults → (s : SchemaTree) × (set : PolicySetTree)
-        × Hold (F.holds files.now) s set × ¬ AreFaultsWith settings s set.policies []
-        × Writes (K.written sink.old) (K.written sink.new) (IsReportText settings s set.policies) }
-    ensures refused { result ≡ End.Refused → (role : Role) × (refusal : FileRefusal)
-        × IsFirstRefused settings (F.holds files.now) role refusal
-        × Writes (K.written sink.old) (K.written sink.new) (IsRefusalLine role refusal) }
+    ensures ends { Authorizes settings (F.holds files.now) (S.left source.old) (S.failed source.old < S.failed source.new)
+        (K.failed sink.old < K.failed sink.new) (K.written sink.old) (K.written sink.new) result }
     ensures unread { (result ≡ End.Refused) ⊎ (result ≡ End.Faults) → source.new ≡ source.old }
-    ensures unnamed { result ≡ End.CommandLine → IfSome (F.holds files.now Role.Schema) (λ held. held ≡ None)
-        ⊎ IfSome (F.holds files.now Role.Policies) (λ held. held ≡ None) ⊎ IfSome (F.holds files.now Role.Entities) (λ held. held ≡ None) }
     ensures untouched { result ≡ End.CommandLine → (source.new ≡ source.old) × (sink.new ≡ sink.old) }
-    ensures device { result ≡ End.Device → (F.holds files.now Role.Schema ≡ None) ⊎ (F.holds files.now Role.Policies ≡ None)
-        ⊎ (F.holds files.now Role.Links ≡ None) ⊎ (F.holds files.now Role.Entities ≡ None)
-        ⊎ (S.failed source.old < S.failed source.new) ⊎ (K.failed sink.old < K.failed sink.new) }
-    ensures stands { result ≡ End.Device → Stands settings (F.holds files.now) (S.left source.old) (K.written sink.old) (K.written sink.new) }
-    ensures stands_whole { result ≡ End.Memory → StandsWhole settings (F.holds files.now) (S.left source.old) (K.written sink.old) (K.written sink.new) }
 {
     let ready = match prepare(alloc, files, sink, settings) {
         Ok(ready) => ready,

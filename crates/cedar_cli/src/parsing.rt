@@ -1,12 +1,10 @@
 //! The subcommand `check-parse`.
-ghost use Rattle.std.specs.Prelude.{◌≡◌, ◌⊎◌, ◌-◌, ◌<◌, ◌^◌, ◌++◌, [], ◌∷◌, None, IfOk, IfSome, OnOk};
+ghost use Rattle.std.specs.Prelude.{◌≡◌, ◌⊎◌, ◌-◌, ◌<◌, ◌^◌, ◌++◌, [], ◌∷◌, IfOk, OnOk};
 ghost use Rattle.std.specs.Io.KnownBytes.{Keeps};
 ghost use Rattle.serde_json.specs.Written.{compact_text};
 ghost use Rattle.base_lines.specs.AnswerText.{Writes};
 ghost use Rattle.base_lines.specs.Lines.{line_feed};
-ghost use Rattle.cedar_ast.specs.PolicySetTree.{PolicySetTree};
-ghost use Rattle.cedar_cli.specs.Parsing.{IsCountsLine, counts_data};
-ghost use Rattle.cedar_files.specs.PolicyFile.{HoldsNoPolicies, HoldsPolicies};
+ghost use Rattle.cedar_cli.specs.Parsing.{BeginsCountsLine, ChecksParse, IsCountsLine, counts_data};
 ghost use Rattle.cedar_files.specs.Standing.{BeginsRefusal, IsRefusalLine};
 ghost use Rattle.cedar_files.specs.Private.Tokens.{data_tokens};
 
@@ -68,8 +66,9 @@ fn report_counts<K: Sink>(alloc: Global, policies: &PolicySet, sink: &mut K) -> 
     requires { K.failed sink.old < 2 ^ 64 - 1 }
     ensures done { result ≡ End.Done → Writes (K.written sink.old) (K.written sink.new) (IsCountsLine policies.now) }
     ensures device { result ≡ End.Device → K.failed sink.old < K.failed sink.new }
+    ensures stands { result ≡ End.Device → Writes (K.written sink.old) (K.written sink.new) (BeginsCountsLine policies.now) }
     ensures stands_whole { result ≡ End.Memory → Keeps (K.written sink.old) (K.written sink.new) }
-    ensures others { (result ≡ End.Refused → ⊥) × (result ≡ End.CommandLine → ⊥) }
+    ensures others { (result ≡ End.Refused → ⊥) × (result ≡ End.Faults → ⊥) × (result ≡ End.CommandLine → ⊥) }
 {
     let Ok(mut line) = counts_line(alloc, policies.count(), policies.template_count()) else {
         return End::Memory;
@@ -90,16 +89,8 @@ fn report_counts<K: Sink>(alloc: Global, policies: &PolicySet, sink: &mut K) -> 
 /// - `Memory`: memory ran out, which leaves nothing.
 pub fn check_parse<F: Files, K: Sink>(alloc: Global, files: &F, sink: &mut K) -> End
     requires { K.failed sink.old < 2 ^ 64 - 1 }
-    ensures done { result ≡ End.Done → (set : PolicySetTree)
-        × IfSome (F.holds files.now Role.Policies) (λ held. HoldsPolicies held set)
-        × Writes (K.written sink.old) (K.written sink.new) (IsCountsLine set) }
-    ensures refused { result ≡ End.Refused → (refusal : FileRefusal)
-        × IfSome (F.holds files.now Role.Policies) (λ held. HoldsNoPolicies held refusal)
-        × Writes (K.written sink.old) (K.written sink.new) (IsRefusalLine Role.Policies refusal) }
-    ensures unnamed { result ≡ End.CommandLine → IfSome (F.holds files.now Role.Policies) (λ held. held ≡ None) }
+    ensures ends { ChecksParse (F.holds files.now Role.Policies) (K.failed sink.old < K.failed sink.new) (K.written sink.old) (K.written sink.new) result }
     ensures untouched { result ≡ End.CommandLine → sink.new ≡ sink.old }
-    ensures device { result ≡ End.Device → (F.holds files.now Role.Policies ≡ None) ⊎ (K.failed sink.old < K.failed sink.new) }
-    ensures stands_whole { result ≡ End.Memory → Keeps (K.written sink.old) (K.written sink.new) }
 {
     let policies = match read_policies(alloc, files) {
         Ok(policies) => policies,

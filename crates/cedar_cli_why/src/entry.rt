@@ -4,7 +4,7 @@ use crate::ending::Ending;
 use crate::place_of_part::{Placed, place_part};
 use crate::section::{Section, section_of};
 use crate::words::{joined_words, words_of};
-use base_places::Place;
+use base_places::{Draft, Place};
 use cedar_ast::{Decision, Effect, Policy};
 use cedar_ast_expressions::{EvaluationError, Expr};
 use cedar_auth::Ready;
@@ -158,14 +158,15 @@ fn said_of(
     section: Section,
     joined: Joined,
 ) -> Result<Reason, AllocError> {
-    let mut says = String::new(alloc);
+    let mut says = Draft::new(alloc);
     if let Some(ended) = with_ending(alloc, ready, request, found.part)? {
-        let words = words_of(alloc, ready, request, ended.part, section, ended.ending)?;
-        says.push_str(words.as_str())?;
-        if !words.is_empty() {
-            says.push_str(joined_words(joined))?;
+        let words = words_of(alloc, ready, request, ended.part, section, ended.ending);
+        says.add_made(words);
+        if !says.as_str().is_empty() {
+            says.add(joined_words(joined));
         }
     }
+    let says = says.done()?;
     let at = if says.is_empty() { None } else { found.at };
     Ok(Reason { section, at, says })
 }

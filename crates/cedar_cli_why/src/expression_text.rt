@@ -1,8 +1,9 @@
 //! Parts of conditions, as policies write them.
 use crate::piece::{Piece, written};
 use crate::sign::{CHOICE, MEMBER, Sign, UNARY, is_comparison, negated_sign_of, sign_of_part};
-use crate::unary_text::{level_of_operand, level_of_unary, push_before};
+use crate::unary_text::{add_before, level_of_operand, level_of_unary};
 use crate::value_text::MOST_MEMBERS;
+use base_places::{Draft, DraftList};
 use cedar_ast_expressions::{Expr, ExprKind, UnaryOperator, Variable};
 use cedar_value::SharedText;
 use std::alloc::{AllocError, Global};
@@ -37,24 +38,21 @@ fn level_of(part: &Expr) -> u8 {
     }
 }
 
-/// Appends the beginning of a part, in brackets if its sides belong less close together than asked. The rest of it is put before the
+/// Adds the beginning of a part, in brackets if its sides belong less close together than asked. The rest of it is put before the
 /// rest.
 pub fn write_part<'e>(
-    text: &mut String,
-    rest: &mut Vec<Piece<'e>>,
+    text: &mut Draft,
+    rest: &mut DraftList<Piece<'e>>,
     part: &'e Expr,
     least: u8,
-) -> Result<(), AllocError> {
+) {
     if level_of(part) < least {
-        rest.push(Piece::Text(")"))?;
-        text.push('(')?;
+        text.add_char('(');
+        rest.add(Piece::Text(")"));
     }
     match part.kind() {
-        ExprKind::Literal(value) => {
-            rest.push(Piece::Value(value))?;
-            Ok(())
-        }
-        ExprKind::Variable(variable) => text.push_str(variable_name(*variable)),
+        ExprKind::Literal(value) => rest.add(Piece::Value(value)),
+        ExprKind::Variable(variable) => text.add(variable_name(*variable)),
         ExprKind::And(left, right) | ExprKind::Or(left, right) | ExprKind::Binary(_, left, right) =>
             { write_pair(rest, left, sign_of_part(part), right) }
         ExprKind::If(condition, first, second) => write_choice(rest, condition, first, second),
@@ -62,9 +60,9 @@ pub fn write_part<'e>(
             write_negated(rest, operand)
         }
         ExprKind::Unary(operator, operand) => {
-            rest.push(Piece::After(operator))?;
-            rest.push(Piece::Part(operand, level_of_operand(operator)))?;
-            push_before(text, operator)
+            add_before(text, operator);
+            rest.add(Piece::After(operator));
+            rest.add(Piece::Part(operand, level_of_operand(operator)));
         }
         ExprKind::Set(members) => write_members(text, rest, members),
         ExprKind::Record(entries) => write_entries(text, rest, entries.pairs()),
@@ -72,76 +70,65 @@ pub fn write_part<'e>(
 }
 
 // Two sides with a sign.
-fn write_pair<'e>(
-    rest: &mut Vec<Piece<'e>>,
-    left: &'e Expr,
-    sign: Sign,
-    right: &'e Expr,
-) -> Result<(), AllocError> {
-    rest.push(Piece::Text(sign.after))?;
-    rest.push(Piece::Part(right, sign.right))?;
-    rest.push(Piece::Text(sign.between))?;
-    rest.push(Piece::Part(left, sign.left))?;
-    Ok(())
+fn write_pair<'e>(rest: &mut DraftList<Piece<'e>>, left: &'e Expr, sign: Sign, right: &'e Expr) {
+    rest.add(Piece::Text(sign.after));
+    rest.add(Piece::Part(right, sign.right));
+    rest.add(Piece::Text(sign.between));
+    rest.add(Piece::Part(left, sign.left));
 }
 
 // The `!` of a comparison, as one comparison.
-fn write_negated<'e>(rest: &mut Vec<Piece<'e>>, comparison: &'e Expr) -> Result<(), AllocError> {
+fn write_negated<'e>(rest: &mut DraftList<Piece<'e>>, comparison: &'e Expr) {
     match (comparison.kind(), negated_sign_of(comparison)) {
         (ExprKind::Binary(_, left, right), Some(sign)) => write_pair(rest, left, sign, right),
-        _ => Ok(()),
+        _ => {}
     }
 }
 
 fn write_choice<'e>(
-    rest: &mut Vec<Piece<'e>>,
+    rest: &mut DraftList<Piece<'e>>,
     condition: &'e Expr,
     first: &'e Expr,
     second: &'e Expr,
-) -> Result<(), AllocError> {
-    rest.push(Piece::Part(second, CHOICE))?;
-    rest.push(Piece::Text(" else "))?;
-    rest.push(Piece::Part(first, CHOICE))?;
-    rest.push(Piece::Text(" then "))?;
-    rest.push(Piece::Part(condition, CHOICE))?;
-    rest.push(Piece::Text("if "))?;
-    Ok(())
+) {
+    rest.add(Piece::Part(second, CHOICE));
+    rest.add(Piece::Text(" else "));
+    rest.add(Piece::Part(first, CHOICE));
+    rest.add(Piece::Text(" then "));
+    rest.add(Piece::Part(condition, CHOICE));
+    rest.add(Piece::Text("if "));
 }
 
 // The members of a set, in brackets.
-fn write_members<'e>(
-    text: &mut String,
-    rest: &mut Vec<Piece<'e>>,
-    members: &'e [Expr],
-) -> Result<(), AllocError> {
-    rest.push(Piece::Text("]"))?;
+fn write_members<'e>(text: &mut Draft, rest: &mut DraftList<Piece<'e>>, members: &'e [Expr]) {
+    text.add_char('[');
+    rest.add(Piece::Text("]"));
     for place in (0..members.len().min(MOST_MEMBERS)).rev() {
         if let Some(member) = members.get(place) {
-            rest.push(Piece::Part(member, CHOICE))?;
+            rest.add(Piece::Part(member, CHOICE));
         }
         if place > 0 {
-            rest.push(Piece::Text(", "))?;
+            rest.add(Piece::Text(", "));
         }
     }
-    text.push('[')
 }
 
 // The entries of a record, in braces.
 fn write_entries<'e>(
-    text: &mut String,
-    rest: &mut Vec<Piece<'e>>,
+    text: &mut Draft,
+    rest: &mut DraftList<Piece<'e>>,
     pairs: &'e [(SharedText, Expr)],
-) -> Result<(), AllocError> {
-    rest.push(Piece::Text("}"))?;
+) {
+    text.add_char('{');
+    rest.add(Piece::Text("}"));
     for place in (0..pairs.len().min(MOST_MEMBERS)).rev() {
         if let Some(pair) = pairs.get(place) {
-            rest.push(Piece::Part(&pair.1, CHOICE))?;
-            rest.push(Piece::Text(": "))?;
-            rest.push(Piece::Key(pair.0.as_str()))?;
+            rest.add(Piece::Part(&pair.1, CHOICE));
+            rest.add(Piece::Text(": "));
+            rest.add(Piece::Key(pair.0.as_str()));
         }
         if place > 0 {
-            rest.push(Piece::Text(", "))?;
+            rest.add(Piece::Text(", "));
         }
     }
-    text.push('{')
 }

@@ -1,30 +1,29 @@
 //! The first line of an explanation: the decision, and what it is due to.
 use crate::shortened::shortened;
+use base_places::Draft;
 use cedar_ast::Decision;
 use cedar_auth::Response;
-use std::alloc::{AllocError, Global};
-use std::fmt::Write;
+use std::alloc::Global;
 
 /// How many ids are named at most.
 const MOST_NAMES: usize = 3;
 
-/// Appends the number of a line, the decision, the policies that determine it, and those that erred.
-pub fn push_heading(
-    alloc: Global,
-    line: &mut String,
-    number: usize,
-    response: &Response<'_>,
-) -> Result<(), AllocError> {
+/// Adds the number of a line, the decision, the policies that determine it, and those that erred.
+pub fn add_heading(alloc: Global, line: &mut Draft, number: usize, response: &Response<'_>) {
     let count = response.determining.len();
-    write!(line, "line {number}: ")?;
-    line.push_str(decision_words(response.decision, count))?;
-    push_names(alloc, line, &response.determining)?;
-    line.push_str(match count {
+    line.add("line ");
+    line.add_display(number);
+    line.add(": ");
+    line.add(decision_words(response.decision, count));
+    for (place, name) in response.determining.iter().enumerate() {
+        add_name(alloc, line, name, place, count);
+    }
+    line.add(match count {
         0 => "",
         1 => " is satisfied",
         _ => " are satisfied",
-    })?;
-    push_erring(alloc, line, response)
+    });
+    add_erring(alloc, line, response);
 }
 
 // The decision, up to the names of the policies that determine it.
@@ -38,60 +37,38 @@ fn decision_words(decision: Decision, count: usize) -> &'static str {
     }
 }
 
-// Appends the policies that erred, if there are any.
-fn push_erring(
-    alloc: Global,
-    line: &mut String,
-    response: &Response<'_>,
-) -> Result<(), AllocError> {
-    let mut names = Vec::new(alloc);
-    for erring in &response.erring {
-        names.push(erring.policy)?;
+// Adds the policies that erred, if there are any.
+fn add_erring(alloc: Global, line: &mut Draft, response: &Response<'_>) {
+    let count = response.erring.len();
+    if count == 0 {
+        return;
     }
-    match names.len() {
-        0 => Ok(()),
-        1 => {
-            line.push_str("; ")?;
-            push_names(alloc, line, &names)?;
-            line.push_str(" erred and was skipped")
-        }
-        _ => {
-            line.push_str("; ")?;
-            push_names(alloc, line, &names)?;
-            line.push_str(" erred and were skipped")
-        }
+    line.add("; ");
+    for (place, erring) in response.erring.iter().enumerate() {
+        add_name(alloc, line, erring.policy, place, count);
     }
+    line.add(if count == 1 {
+        " erred and was skipped"
+    } else {
+        " erred and were skipped"
+    });
 }
 
-// Appends the first names, and how many more there are.
-fn push_names(alloc: Global, line: &mut String, names: &[&str]) -> Result<(), AllocError> {
-    let count = names.len();
-    for (place, name) in names.iter().enumerate() {
-        if place < MOST_NAMES {
-            push_name(alloc, line, name, place, count)?;
-        }
+// Adds one of so many names, with what joins it to the earlier ones; or how many more there are, once three are named.
+fn add_name(alloc: Global, line: &mut Draft, name: &str, place: usize, count: usize) {
+    if place == MOST_NAMES {
+        line.add(" and ");
+        line.add_display(count.saturating_sub(MOST_NAMES));
+        line.add(" more");
     }
-    if count > MOST_NAMES {
-        let more = count - MOST_NAMES;
-        write!(line, " and {more} more")?;
+    if place >= MOST_NAMES {
+        return;
     }
-    Ok(())
-}
-
-// Appends a name, and before it what joins it to the earlier ones.
-fn push_name(
-    alloc: Global,
-    line: &mut String,
-    name: &str,
-    place: usize,
-    count: usize,
-) -> Result<(), AllocError> {
     if place > 0 {
         let is_last = place.saturating_add(1) == count;
-        line.push_str(if is_last { " and " } else { ", " })?;
+        line.add(if is_last { " and " } else { ", " });
     }
-    let short = shortened(alloc, name)?;
-    line.push('`')?;
-    line.push_str(short.as_str())?;
-    line.push('`')
+    line.add_char('`');
+    line.add_made(shortened(alloc, name));
+    line.add_char('`');
 }

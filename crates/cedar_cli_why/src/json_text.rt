@@ -1,14 +1,12 @@
 //! An explanation as JSON for programs.
 use crate::entries::Entries;
 use crate::entry::{Entry, Standing};
-use crate::request_text::{uid_of, unstored};
+use crate::request_text::{ENTITIES, is_stored, uid_of};
 use crate::words::error_name;
-use base_places::push_shown;
+use base_places::JsonDraft;
 use cedar_ast::{Decision, Effect};
-use cedar_ast_expressions::Variable;
 use cedar_auth::{Erring, Ready, Response};
 use cedar_value::{Request, Uid};
-use json::Writer;
 use std::alloc::{AllocError, Global};
 
 /// An explanation of the decision about a request: one JSON object, and a line feed. `text` is the policy text.
@@ -21,96 +19,74 @@ pub fn json_of(
     text: &str,
     number: usize,
 ) -> Result<String, AllocError> {
-    let missing = unstored(alloc, ready, request)?;
-    let mut writer = Writer::new(Vec::new(alloc));
-    writer.begin_object()?;
-    write_response(&mut writer, response)?;
-    writer.key("false_by_scope")?;
-    writer.u64(entries.out_of_scope as u64)?;
-    writer.key("line")?;
-    writer.u64(number as u64)?;
-    writer.key("not_stored")?;
-    write_missing(&mut writer, request, &missing)?;
-    writer.key("policies")?;
-    write_entries(alloc, &mut writer, entries, text)?;
-    writer.end_object()?;
-    line_of(alloc, writer.into_inner())
-}
-
-// What was written, as a line.
-fn line_of(alloc: Global, bytes: Vec<u8>) -> Result<String, AllocError> {
-    // A writer writes UTF-8.
-    let Ok(written) = str::from_utf8(&bytes) else {
-        return Err(AllocError);
-    };
-    let mut line = String::from_str(alloc, written)?;
+    let mut json = JsonDraft::new(alloc);
+    json.begin_object();
+    add_response(&mut json, response);
+    json.number_at("false_by_scope", entries.out_of_scope);
+    json.number_at("line", number);
+    add_unstored(&mut json, ready, request);
+    add_entries(alloc, &mut json, entries, text);
+    json.end_object();
+    let mut line = json.done()?;
     line.push('\n')?;
     Ok(line)
 }
 
 // `"decision":D,"determining":[ID, ..],"erring":[..]`, as in an answer line.
-fn write_response(writer: &mut Writer, response: &Response<'_>) -> Result<(), AllocError> {
-    writer.key("decision")?;
-    writer.string(match response.decision {
+fn add_response(json: &mut JsonDraft, response: &Response<'_>) {
+    json.key("decision");
+    json.string(match response.decision {
         Decision::Allow => "allow",
         Decision::Deny => "deny",
-    })?;
-    writer.key("determining")?;
-    writer.begin_array()?;
+    });
+    json.key("determining");
+    json.begin_array();
     for id in &response.determining {
-        writer.string(id)?;
+        json.string(id);
     }
-    writer.end_array()?;
-    writer.key("erring")?;
-    writer.begin_array()?;
+    json.end_array();
+    json.key("erring");
+    json.begin_array();
     for erring in &response.erring {
-        write_erring(writer, erring)?;
+        add_erring(json, erring);
     }
-    writer.end_array()
+    json.end_array();
 }
 
-fn write_erring(writer: &mut Writer, erring: &Erring<'_>) -> Result<(), AllocError> {
-    writer.begin_object()?;
-    writer.key("error")?;
-    writer.string(error_name(erring.error))?;
-    writer.key("policy")?;
-    writer.string(erring.policy)?;
-    writer.end_object()
+fn add_erring(json: &mut JsonDraft, erring: &Erring<'_>) {
+    json.begin_object();
+    json.string_at("error", error_name(erring.error));
+    json.string_at("policy", erring.policy);
+    json.end_object();
 }
 
-// The uids that are not stored.
-fn write_missing(
-    writer: &mut Writer,
-    request: &Request,
-    missing: &[Variable],
-) -> Result<(), AllocError> {
-    writer.begin_array()?;
-    for variable in missing {
-        write_uid(writer, uid_of(request, *variable))?;
+// `"not_stored":[UID, ..]`
+fn add_unstored(json: &mut JsonDraft, ready: &Ready, request: &Request) {
+    json.key("not_stored");
+    json.begin_array();
+    for variable in ENTITIES {
+        if !is_stored(ready, request, variable) {
+            add_uid(json, uid_of(request, variable));
+        }
     }
-    writer.end_array()
+    json.end_array();
 }
 
-fn write_uid(writer: &mut Writer, uid: &Uid) -> Result<(), AllocError> {
-    writer.begin_object()?;
-    writer.key("id")?;
-    writer.string(uid.id.as_str())?;
-    writer.key("type")?;
-    writer.string(uid.ty.as_str())?;
-    writer.end_object()
+fn add_uid(json: &mut JsonDraft, uid: &Uid) {
+    json.begin_object();
+    json.string_at("id", uid.id.as_str());
+    json.string_at("type", uid.ty.as_str());
+    json.end_object();
 }
 
-fn write_entries(
-    alloc: Global,
-    writer: &mut Writer,
-    entries: &Entries,
-    text: &str,
-) -> Result<(), AllocError> {
-    writer.begin_array()?;
+// `"policies":[..]`
+fn add_entries(alloc: Global, json: &mut JsonDraft, entries: &Entries, text: &str) {
+    json.key("policies");
+    json.begin_array();
     for entry in &entries.shown {
-        write_entry(alloc, writer, entry, text)?;
+        add_entry(alloc, json, entry, text);
     }
-    writer.end_array()
+    json.end_array();
 }
 
 // What a policy came to.
@@ -124,43 +100,27 @@ fn result_word(standing: Standing) -> &'static str {
     }
 }
 
-// `{"column":C,"effect":E,"line":L,"policy":ID,"result":R,"says":S}`. Without a place there is no column and no line.
-fn write_entry(
-    alloc: Global,
-    writer: &mut Writer,
-    entry: &Entry,
-    text: &str,
-) -> Result<(), AllocError> {
+// `{"column":C,"effect":E,"line":L,"policy":ID,"result":R,"says":S}`. Without a place there is no column and no line, and without
+// words no `says`.
+fn add_entry(alloc: Global, json: &mut JsonDraft, entry: &Entry, text: &str) {
     let place = entry.place(text);
-    writer.begin_object()?;
+    json.begin_object();
     if let Some(place) = place {
-        writer.key("column")?;
-        writer.u64(place.column.saturating_add(1) as u64)?;
+        json.number_at("column", place.column.saturating_add(1));
     }
-    writer.key("effect")?;
-    writer.string(match entry.effect {
+    json.key("effect");
+    json.string(match entry.effect {
         Effect::Permit => "permit",
         Effect::Forbid => "forbid",
-    })?;
+    });
     if let Some(place) = place {
-        writer.key("line")?;
-        writer.u64(place.line.saturating_add(1) as u64)?;
+        json.number_at("line", place.line.saturating_add(1));
     }
-    writer.key("policy")?;
-    writer.string(entry.id.as_str())?;
-    writer.key("result")?;
-    writer.string(result_word(entry.standing))?;
-    write_says(alloc, writer, entry.says.as_str())?;
-    writer.end_object()
-}
-
-// `"says":S`, unless nothing is said.
-fn write_says(alloc: Global, writer: &mut Writer, says: &str) -> Result<(), AllocError> {
-    if says.is_empty() {
-        return Ok(());
+    json.string_at("policy", entry.id.as_str());
+    json.string_at("result", result_word(entry.standing));
+    if !entry.says.is_empty() {
+        json.key("says");
+        json.shown(alloc, entry.says.as_str());
     }
-    let mut shown = String::new(alloc);
-    push_shown(&mut shown, says)?;
-    writer.key("says")?;
-    writer.string(shown.as_str())
+    json.end_object();
 }

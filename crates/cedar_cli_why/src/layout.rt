@@ -1,15 +1,14 @@
 //! An explanation as text for a person.
 use crate::entries::Entries;
 use crate::entry::{Entry, Standing};
-use crate::heading::push_heading;
-use crate::request_text::push_request;
+use crate::heading::add_heading;
+use crate::request_text::add_request;
 use crate::shortened::shortened;
-use base_places::push_shown;
+use base_places::Draft;
 use cedar_ast::Effect;
 use cedar_auth::{Ready, Response};
 use cedar_value::Request;
 use std::alloc::{AllocError, Global};
-use std::fmt::Write;
 
 /// How wide the widest word for what a policy came to is.
 const STATE_WIDTH: usize = 9;
@@ -35,24 +34,28 @@ pub fn text_of(
     number: usize,
     all: bool,
 ) -> Result<String, AllocError> {
-    let mut out = String::new(alloc);
-    let mut line = String::new(alloc);
-    push_heading(alloc, &mut line, number, response)?;
-    push_line(&mut out, line.as_str())?;
-    line.clear();
-    push_request(alloc, &mut line, ready, request)?;
-    push_line(&mut out, line.as_str())?;
-    push_entries(alloc, &mut out, entries, text)?;
+    let widths = widths_of(alloc, entries, text)?;
+    let mut out = Draft::new(alloc);
+    let mut line = Draft::new(alloc);
+    add_heading(alloc, &mut line, number, response);
+    add_line(&mut out, line);
+    let mut line = Draft::new(alloc);
+    add_request(alloc, &mut line, ready, request);
+    add_line(&mut out, line);
+    add_entries(alloc, &mut out, entries, text, widths);
     if !all {
-        push_count(alloc, &mut out, entries)?;
+        add_count(alloc, &mut out, entries);
     }
-    Ok(out)
+    out.done()
 }
 
-// Appends a line, without the spaces at its end.
-fn push_line(out: &mut String, line: &str) -> Result<(), AllocError> {
-    push_shown(out, line.trim_end())?;
-    out.push('\n')
+// Adds a line, without the spaces at its end.
+fn add_line(out: &mut Draft, line: Draft) {
+    if line.is_refused() {
+        out.refuse();
+    }
+    out.add_shown(line.as_str().trim_end());
+    out.add_char('\n');
 }
 
 // The order in which policies are shown.
@@ -66,33 +69,26 @@ fn rank_of(standing: Standing) -> u8 {
     }
 }
 
-// Appends a line for each policy.
-fn push_entries(
-    alloc: Global,
-    out: &mut String,
-    entries: &Entries,
-    text: &str,
-) -> Result<(), AllocError> {
-    let widths = widths_of(alloc, entries, text)?;
+// Adds a line for each policy.
+fn add_entries(alloc: Global, out: &mut Draft, entries: &Entries, text: &str, widths: Widths) {
     for rank in 0..RANKS {
         for entry in &entries.shown {
             if rank_of(entry.standing) == rank {
-                push_entry(alloc, out, entry, text, widths)?;
+                add_entry(alloc, out, entry, text, widths);
             }
         }
     }
-    Ok(())
 }
 
 // `LINE:COLUMN`, both from 1; or nothing if there is no place.
 fn place_text(alloc: Global, text: &str, entry: &Entry) -> Result<String, AllocError> {
-    let mut says = String::new(alloc);
+    let mut says = Draft::new(alloc);
     if let Some(place) = entry.place(text) {
-        let line = place.line.saturating_add(1);
-        let column = place.column.saturating_add(1);
-        write!(says, "{line}:{column}")?;
+        says.add_display(place.line.saturating_add(1));
+        says.add_char(':');
+        says.add_display(place.column.saturating_add(1));
     }
-    Ok(says)
+    says.done()
 }
 
 fn widths_of(alloc: Global, entries: &Entries, text: &str) -> Result<Widths, AllocError> {
@@ -106,13 +102,20 @@ fn widths_of(alloc: Global, entries: &Entries, text: &str) -> Result<Widths, All
     Ok(widths)
 }
 
-// Appends a text, and spaces up to a width.
-fn push_padded(line: &mut String, text: &str, width: usize) -> Result<(), AllocError> {
-    line.push_str(text)?;
+// Adds a text, and spaces up to a width.
+fn add_padded(line: &mut Draft, text: &str, width: usize) {
+    line.add(text);
     for _ in text.chars().count()..width {
-        line.push(' ')?;
+        line.add_char(' ');
     }
-    Ok(())
+}
+
+// Adds a text that was made, and spaces up to a width.
+fn add_made_padded(line: &mut Draft, made: Result<String, AllocError>, width: usize) {
+    match made {
+        Ok(text) => add_padded(line, text.as_str(), width),
+        Err(AllocError) => line.refuse(),
+    }
 }
 
 fn effect_word(effect: Effect) -> &'static str {
@@ -137,48 +140,40 @@ fn words_of(entry: &Entry) -> &str {
     }
 }
 
-// Appends the line of a policy.
-fn push_entry(
-    alloc: Global,
-    out: &mut String,
-    entry: &Entry,
-    text: &str,
-    widths: Widths,
-) -> Result<(), AllocError> {
-    let id = shortened(alloc, entry.id.as_str())?;
-    let place = place_text(alloc, text, entry)?;
-    let mut line = String::new(alloc);
-    line.push_str("  ")?;
-    push_padded(&mut line, id.as_str(), widths.id)?;
-    line.push_str("  ")?;
-    line.push_str(effect_word(entry.effect))?;
-    line.push_str("  ")?;
-    push_padded(&mut line, state_word(entry.standing), STATE_WIDTH)?;
-    line.push_str("   ")?;
+// Adds the line of a policy.
+fn add_entry(alloc: Global, out: &mut Draft, entry: &Entry, text: &str, widths: Widths) {
+    let mut line = Draft::new(alloc);
+    line.add("  ");
+    add_made_padded(&mut line, shortened(alloc, entry.id.as_str()), widths.id);
+    line.add("  ");
+    line.add(effect_word(entry.effect));
+    line.add("  ");
+    add_padded(&mut line, state_word(entry.standing), STATE_WIDTH);
+    line.add("   ");
     if widths.place > 0 {
-        push_padded(&mut line, place.as_str(), widths.place)?;
-        line.push_str("  ")?;
+        add_made_padded(&mut line, place_text(alloc, text, entry), widths.place);
+        line.add("  ");
     }
-    line.push_str(words_of(entry))?;
-    push_line(out, line.as_str())
+    line.add(words_of(entry));
+    add_line(out, line);
 }
 
-// Appends how many policies are false by their scopes.
-fn push_count(alloc: Global, out: &mut String, entries: &Entries) -> Result<(), AllocError> {
+// Adds how many policies are false by their scopes.
+fn add_count(alloc: Global, out: &mut Draft, entries: &Entries) {
     let count = entries.out_of_scope;
-    let more = if entries.shown.is_empty() {
-        ""
-    } else {
-        " more"
-    };
-    let mut line = String::new(alloc);
-    match count {
-        0 => return Ok(()),
-        1 => write!(line, "  1{more} is false by its scope (--all shows it)")?,
-        _ => write!(
-            line,
-            "  {count}{more} are false by their scopes (--all shows them)"
-        )?,
+    if count == 0 {
+        return;
     }
-    push_line(out, line.as_str())
+    let mut line = Draft::new(alloc);
+    line.add("  ");
+    line.add_display(count);
+    if !entries.shown.is_empty() {
+        line.add(" more");
+    }
+    line.add(if count == 1 {
+        " is false by its scope (--all shows it)"
+    } else {
+        " are false by their scopes (--all shows them)"
+    });
+    add_line(out, line);
 }

@@ -1,8 +1,9 @@
 //! Texts that are written piece by piece.
 use crate::expression_text::write_part;
 use crate::shortened::{is_full, shortened};
-use crate::unary_text::push_after;
-use crate::value_text::{push_key, write_value};
+use crate::unary_text::add_after;
+use crate::value_text::{add_key, write_value};
+use base_places::{Draft, DraftList};
 use cedar_ast_expressions::{Expr, UnaryOperator};
 use cedar_code::MOST_INSTRUCTIONS;
 use cedar_value::Value;
@@ -25,32 +26,32 @@ pub enum Piece<'e> {
 
 /// What a piece is written as, in at most 60 characters. It takes at most as many steps as a code has instructions.
 pub fn written(alloc: Global, piece: Piece<'_>) -> Result<String, AllocError> {
-    let mut text = String::new(alloc);
-    let mut rest = Vec::new(alloc);
-    rest.push(piece)?;
+    let mut text = Draft::new(alloc);
+    let mut rest = DraftList::new(alloc);
+    rest.add(piece);
     for _ in 0..MOST_INSTRUCTIONS {
-        if is_full(text.as_str()) {
+        if is_full(&text) {
             break;
         }
         let Some(next) = rest.pop() else {
             break;
         };
-        write_piece(&mut text, &mut rest, next)?;
+        write_piece(&mut text, &mut rest, next);
     }
+    if rest.is_refused() {
+        text.refuse();
+    }
+    let text = text.done()?;
     shortened(alloc, text.as_str())
 }
 
-// Appends a piece. What it is made of is put before the rest, the next piece last.
-fn write_piece<'e>(
-    text: &mut String,
-    rest: &mut Vec<Piece<'e>>,
-    piece: Piece<'e>,
-) -> Result<(), AllocError> {
+// Adds a piece. What it is made of is put before the rest, the next piece last.
+fn write_piece<'e>(text: &mut Draft, rest: &mut DraftList<Piece<'e>>, piece: Piece<'e>) {
     match piece {
-        Piece::Text(characters) => text.push_str(characters),
-        Piece::Key(key) => push_key(text, key),
+        Piece::Text(characters) => text.add(characters),
+        Piece::Key(key) => add_key(text, key),
         Piece::Value(value) => write_value(text, rest, value),
         Piece::Part(part, least) => write_part(text, rest, part, least),
-        Piece::After(operator) => push_after(text, operator),
+        Piece::After(operator) => add_after(text, operator),
     }
 }

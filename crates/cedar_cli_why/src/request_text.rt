@@ -1,9 +1,13 @@
 //! What is said of the entities of a request.
 use crate::value_text::uid_text;
+use base_places::Draft;
 use cedar_ast_expressions::Variable;
 use cedar_auth::Ready;
 use cedar_value::{Hierarchy, Request, Uid};
-use std::alloc::{AllocError, Global};
+use std::alloc::Global;
+
+/// The variables that are entities.
+pub const ENTITIES: [Variable; 3] = [Variable::Principal, Variable::Action, Variable::Resource];
 
 /// The uid that a request has for its principal, its action or its resource.
 pub fn uid_of(request: &Request, variable: Variable) -> &Uid {
@@ -14,19 +18,9 @@ pub fn uid_of(request: &Request, variable: Variable) -> &Uid {
     }
 }
 
-/// Those of principal, action and resource that are not stored.
-pub fn unstored(
-    alloc: Global,
-    ready: &Ready,
-    request: &Request,
-) -> Result<Vec<Variable>, AllocError> {
-    let mut found = Vec::new(alloc);
-    for variable in [Variable::Principal, Variable::Action, Variable::Resource] {
-        if !ready.store().has(uid_of(request, variable)) {
-            found.push(variable)?;
-        }
-    }
-    Ok(found)
+/// Whether the principal, the action or the resource of a request is stored.
+pub fn is_stored(ready: &Ready, request: &Request, variable: Variable) -> bool {
+    ready.store().has(uid_of(request, variable))
 }
 
 fn words_of(variable: Variable) -> &'static str {
@@ -37,37 +31,26 @@ fn words_of(variable: Variable) -> &'static str {
     }
 }
 
-/// Appends the entities of a request, and which of them are not stored.
-pub fn push_request(
-    alloc: Global,
-    line: &mut String,
-    ready: &Ready,
-    request: &Request,
-) -> Result<(), AllocError> {
-    let principal = uid_text(alloc, &request.principal)?;
-    let action = uid_text(alloc, &request.action)?;
-    let resource = uid_text(alloc, &request.resource)?;
-    line.push_str("  principal ")?;
-    line.push_str(principal.as_str())?;
-    line.push_str(", action ")?;
-    line.push_str(action.as_str())?;
-    line.push_str(", resource ")?;
-    line.push_str(resource.as_str())?;
-    line.push_str(": ")?;
-    let missing = unstored(alloc, ready, request)?;
-    push_unstored(line, &missing)
-}
-
-fn push_unstored(line: &mut String, missing: &[Variable]) -> Result<(), AllocError> {
-    for (place, variable) in missing.iter().enumerate() {
-        if place > 0 {
-            line.push_str(" and ")?;
+/// Adds the entities of a request, and which of them are not stored.
+pub fn add_request(alloc: Global, line: &mut Draft, ready: &Ready, request: &Request) {
+    line.add("  principal ");
+    line.add_made(uid_text(alloc, &request.principal));
+    line.add(", action ");
+    line.add_made(uid_text(alloc, &request.action));
+    line.add(", resource ");
+    line.add_made(uid_text(alloc, &request.resource));
+    line.add(": ");
+    let mut missing = 0usize;
+    for variable in ENTITIES {
+        if !is_stored(ready, request, variable) {
+            line.add(if missing == 0 { "" } else { " and " });
+            line.add(words_of(variable));
+            missing = missing.saturating_add(1);
         }
-        line.push_str(words_of(*variable))?;
     }
-    match missing.len() {
-        0 => line.push_str("all are stored"),
-        1 => line.push_str(" is not stored"),
-        _ => line.push_str(" are not stored"),
-    }
+    line.add(match missing {
+        0 => "all are stored",
+        1 => " is not stored",
+        _ => " are not stored",
+    });
 }

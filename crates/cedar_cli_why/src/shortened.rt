@@ -1,4 +1,5 @@
 //! Texts that are cut.
+use base_places::Draft;
 use std::alloc::{AllocError, Global};
 
 /// How many characters of a part, of a value or of an id are shown at most.
@@ -12,18 +13,16 @@ pub fn shortened(alloc: Global, text: &str) -> Result<String, AllocError> {
     if text.chars().count() <= MOST {
         return String::from_str(alloc, text);
     }
-    let mut short = String::new(alloc);
-    for (place, character) in text.chars().enumerate() {
-        if place >= MOST - 2 {
-            break;
-        }
-        short.push(character)?;
+    let mut short = Draft::new(alloc);
+    for character in text.chars().take(MOST - 2) {
+        short.add_char(character);
     }
-    short.push_str(CUT)?;
-    Ok(short)
+    short.add(CUT);
+    short.done()
 }
 
-/// Whether a text is cut by `shortened` wherever it ends: more than 60 characters are written already.
-pub fn is_full(text: &str) -> bool {
-    text.len() > 4 * MOST
+/// Whether nothing more need be added to a text: more than 60 characters are written already, so that `shortened` cuts it wherever it
+/// ends, or memory was refused.
+pub fn is_full(text: &Draft) -> bool {
+    text.is_refused() || text.as_str().len() > 4 * MOST
 }

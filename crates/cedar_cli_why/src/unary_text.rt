@@ -1,10 +1,10 @@
 //! How operators on one operand are written.
 use crate::shortened::is_full;
 use crate::sign::{CHOICE, MEMBER, RELATION, SUM, UNARY};
-use crate::value_text::{push_access, push_escaped, push_key};
+use crate::value_text::{add_access, add_escaped, add_key};
+use base_places::Draft;
 use cedar_ast_expressions::UnaryOperator;
 use cedar_ext::{Element, Pattern};
-use std::alloc::AllocError;
 
 /// How close an operator with its operand belongs together.
 pub fn level_of_unary(operator: &UnaryOperator) -> u8 {
@@ -25,50 +25,50 @@ pub fn level_of_operand(operator: &UnaryOperator) -> u8 {
     }
 }
 
-/// Appends what is written before the operand.
-pub fn push_before(text: &mut String, operator: &UnaryOperator) -> Result<(), AllocError> {
+/// Adds what is written before the operand.
+pub fn add_before(text: &mut Draft, operator: &UnaryOperator) {
     match operator {
-        UnaryOperator::Not => text.push('!'),
-        UnaryOperator::Negate => text.push('-'),
-        UnaryOperator::Decimal => text.push_str("decimal("),
-        _ => Ok(()),
+        UnaryOperator::Not => text.add_char('!'),
+        UnaryOperator::Negate => text.add_char('-'),
+        UnaryOperator::Decimal => text.add("decimal("),
+        _ => {}
     }
 }
 
-/// Appends what is written after the operand.
-pub fn push_after(text: &mut String, operator: &UnaryOperator) -> Result<(), AllocError> {
+/// Adds what is written after the operand.
+pub fn add_after(text: &mut Draft, operator: &UnaryOperator) {
     match operator {
-        UnaryOperator::Not | UnaryOperator::Negate => Ok(()),
+        UnaryOperator::Not | UnaryOperator::Negate => {}
         UnaryOperator::Has(key) => {
-            text.push_str(" has ")?;
-            push_key(text, key.as_str())
+            text.add(" has ");
+            add_key(text, key.as_str());
         }
-        UnaryOperator::Get(key) => push_access(text, key.as_str()),
+        UnaryOperator::Get(key) => add_access(text, key.as_str()),
         UnaryOperator::Like(pattern) => {
-            text.push_str(" like ")?;
-            push_pattern(text, pattern)
+            text.add(" like ");
+            add_pattern(text, pattern);
         }
         UnaryOperator::Is(name) => {
-            text.push_str(" is ")?;
-            text.push_str(name.as_str())
+            text.add(" is ");
+            text.add(name.as_str());
         }
-        UnaryOperator::Decimal => text.push(')'),
-        UnaryOperator::IsEmpty => text.push_str(".isEmpty()"),
+        UnaryOperator::Decimal => text.add_char(')'),
+        UnaryOperator::IsEmpty => text.add(".isEmpty()"),
     }
 }
 
-// Appends a pattern in quotes, or its beginning if it is long.
-fn push_pattern(text: &mut String, pattern: &Pattern) -> Result<(), AllocError> {
-    text.push('"')?;
+// Adds a pattern in quotes, or its beginning if it is long.
+fn add_pattern(text: &mut Draft, pattern: &Pattern) {
+    text.add_char('"');
     for element in pattern.elements() {
-        if is_full(text.as_str()) {
-            return Ok(());
+        if is_full(text) {
+            return;
         }
         match element {
-            Element::Star => text.push('*')?,
-            Element::Character('*') => text.push_str("\\*")?,
-            Element::Character(character) => push_escaped(text, *character)?,
+            Element::Star => text.add_char('*'),
+            Element::Character('*') => text.add("\\*"),
+            Element::Character(character) => add_escaped(text, *character),
         }
     }
-    text.push('"')
+    text.add_char('"');
 }

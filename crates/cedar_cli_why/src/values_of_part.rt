@@ -1,8 +1,9 @@
 //! What a part compares.
 use crate::evaluation::part_outcome;
 use crate::sign::{Sign, negated_sign_of, sign_of};
-use crate::unary_text::{push_after, push_before};
+use crate::unary_text::{add_after, add_before};
 use crate::value_text::{uid_text, value_text};
+use base_places::Draft;
 use cedar_ast_expressions::{Expr, ExprKind, UnaryOperator};
 use cedar_auth::Ready;
 use cedar_machine::Outcome;
@@ -61,11 +62,11 @@ fn pair_text(
     let (Some(first), Some(second)) = (first, second) else {
         return Ok(None);
     };
-    let mut text = first;
-    text.push_str(sign.between)?;
-    text.push_str(second.as_str())?;
-    text.push_str(sign.after)?;
-    Ok(Some(text))
+    let mut text = Draft::from_text(first);
+    text.add(sign.between);
+    text.add(second.as_str());
+    text.add(sign.after);
+    text.done().map(Some)
 }
 
 // The `!` of a comparison, between the values of its operands.
@@ -102,11 +103,11 @@ fn single_text(
     let Some(value) = value_of(alloc, ready, request, operand)? else {
         return Ok(None);
     };
-    let mut text = String::new(alloc);
-    push_before(&mut text, operator)?;
-    text.push_str(value.as_str())?;
-    push_after(&mut text, operator)?;
-    Ok(Some(text))
+    let mut text = Draft::new(alloc);
+    add_before(&mut text, operator);
+    text.add(value.as_str());
+    add_after(&mut text, operator);
+    text.done().map(Some)
 }
 
 fn reads_attributes(operator: &UnaryOperator) -> bool {
@@ -136,9 +137,10 @@ fn unstored_value(
 ) -> Result<Option<String>, AllocError> {
     match value.glance() {
         Glance::Uid(uid) if !ready.store().has(uid) => {
-            let mut text = uid_text(alloc, uid)?;
-            text.push_str(" is not stored")?;
-            Ok(Some(text))
+            let mut text = Draft::new(alloc);
+            text.add_made(uid_text(alloc, uid));
+            text.add(" is not stored");
+            text.done().map(Some)
         }
         _ => Ok(None),
     }

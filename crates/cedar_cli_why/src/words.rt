@@ -4,6 +4,7 @@ use crate::ending::Ending;
 use crate::expression_text::part_text;
 use crate::section::{Section, name_of};
 use crate::values_of_part::detail_of;
+use base_places::Draft;
 use cedar_ast_expressions::{BinaryOperator, EvaluationError, Expr, ExprKind, UnaryOperator};
 use cedar_auth::Ready;
 use cedar_value::Request;
@@ -59,25 +60,27 @@ fn truth_words(
     if let ExprKind::Literal(_) = part.kind() {
         return literal_words(alloc, shown.as_str(), truth);
     }
-    let mut words = String::from_str(alloc, shown.as_str())?;
-    words.push_str(if truth { " is true" } else { " is false" })?;
-    if let Some(detail) = detail_of(alloc, ready, request, part)? {
+    let detail = detail_of(alloc, ready, request, part)?;
+    let mut words = Draft::new(alloc);
+    words.add(shown.as_str());
+    words.add(if truth { " is true" } else { " is false" });
+    if let Some(detail) = detail {
         if detail.as_str() != shown.as_str() {
-            words.push_str(": ")?;
-            words.push_str(detail.as_str())?;
+            words.add(": ");
+            words.add(detail.as_str());
         }
     }
-    Ok(words)
+    words.done()
 }
 
 // A `true` that is written needs no word.
 fn literal_words(alloc: Global, shown: &str, truth: bool) -> Result<String, AllocError> {
-    let mut words = String::new(alloc);
+    let mut words = Draft::new(alloc);
     if !truth {
-        words.push_str(shown)?;
-        words.push_str(" is written here")?;
+        words.add(shown);
+        words.add(" is written here");
     }
-    Ok(words)
+    words.done()
 }
 
 // `PART: ERROR, DETAIL`
@@ -88,14 +91,16 @@ fn error_words(
     part: &Expr,
     error: EvaluationError,
 ) -> Result<String, AllocError> {
-    let mut words = part_text(alloc, part)?;
-    words.push_str(": ")?;
-    words.push_str(error_name(error))?;
-    if let Some(detail) = detail_of(alloc, ready, request, part)? {
-        words.push_str(", ")?;
-        words.push_str(detail.as_str())?;
+    let detail = detail_of(alloc, ready, request, part)?;
+    let mut words = Draft::new(alloc);
+    words.add_made(part_text(alloc, part));
+    words.add(": ");
+    words.add(error_name(error));
+    if let Some(detail) = detail {
+        words.add(", ");
+        words.add(detail.as_str());
     }
-    Ok(words)
+    words.done()
 }
 
 // What the principal, the action or the resource is not.
@@ -106,23 +111,22 @@ fn scope_words(
     part: &Expr,
     section: Section,
 ) -> Result<String, AllocError> {
-    let mut words = String::from_str(alloc, name_of(section))?;
+    let mut words = Draft::new(alloc);
+    words.add(name_of(section));
     match part.kind() {
         ExprKind::Binary(BinaryOperator::Equal, _, right) => {
-            let shown = part_text(alloc, right)?;
-            words.push_str(" is not ")?;
-            words.push_str(shown.as_str())?;
+            words.add(" is not ");
+            words.add_made(part_text(alloc, right));
         }
         ExprKind::Binary(BinaryOperator::In, _, right) => {
-            let shown = part_text(alloc, right)?;
-            words.push_str(" is not in ")?;
-            words.push_str(shown.as_str())?;
+            words.add(" is not in ");
+            words.add_made(part_text(alloc, right));
         }
         ExprKind::Unary(UnaryOperator::Is(name), _) => {
-            words.push_str(" is not a ")?;
-            words.push_str(name.as_str())?;
+            words.add(" is not a ");
+            words.add(name.as_str());
         }
         _ => return truth_words(alloc, ready, request, part, false),
     }
-    Ok(words)
+    words.done()
 }

@@ -1,7 +1,9 @@
+pub mod Ends
 pub mod EntitiesFiles
 pub mod Found
 pub mod Holding
 pub mod Links
+pub mod PolicyFiles
 pub mod Prefixes
 pub mod Telling
 pub mod Texts

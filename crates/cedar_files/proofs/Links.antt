@@ -2,13 +2,13 @@
 use Rattle.std.proofs.Common.{◌≡◌, ◌≢◌, ℕ, List, ◌∷◌, Result, Ok, Err, inl, inr, refl, sym, subst}
 use Rattle.std.specs.Prelude.{Contains, IfErr}
 use Rattle.cedar_ast.specs.LinkFault.{number_of}
-use Rattle.cedar_ast.specs.Linking.{HasExtraSlot, HasMissingSlot, IsLinked, IsTemplate}
+use Rattle.cedar_ast.specs.Linking.{HasExtraSlot, HasMissingSlot, IsTemplate}
 use Rattle.cedar_ast.specs.PolicySetTree.{PolicySetTree, ids_in}
 use Rattle.cedar_ast.specs.PolicyTree.{TemplateTree}
 use Rattle.cedar_ast.specs.declared.link.Link.{Link}
 use Rattle.cedar_ast.specs.declared.link_fault.LinkFault.{LinkFault}
 use Rattle.cedar_ast.specs.declared.link_fault.LinkFault.TheVariants.{OutOfMemory, DuplicateId, NoSuchTemplate, MissingSlot, ExtraSlot}
-use Rattle.cedar_files.specs.LinksFile.{AreLinked, HasLinkFault, HaveLinkFault}
+use Rattle.cedar_files.specs.LinksFile.{AreLinked, HasEntered, HasLinkFault, HaveLinkFault}
 
 -- ---- one link
 
@@ -43,13 +43,13 @@ link-refused set l template id (Err f) e d duplicate none missing extra = by_num
 -- ---- links in order
 
 -- what the links that are left make of the set is what all make of it, when one more is entered
-pub linked-next : (start now next : PolicySetTree) (all rest others : List Link) (l : Link) → rest ≡ l ∷ others → IsLinked now next l.template l.id l.slots
+pub linked-next : (start now next : PolicySetTree) (all rest others : List Link) (l : Link) → rest ≡ l ∷ others → HasEntered now l next
     → ((new : PolicySetTree) → AreLinked now rest new → AreLinked start all new)
     → (new : PolicySetTree) → AreLinked next others new → AreLinked start all new
 linked-next start now next all rest others l cut linked before new h =
     before new (subst (λ (ls : List Link). AreLinked now ls new) (sym cut) (next, linked, h))
 
-pub fault-next : (start now next : PolicySetTree) (all rest others : List Link) (l : Link) → rest ≡ l ∷ others → IsLinked now next l.template l.id l.slots
+pub fault-next : (start now next : PolicySetTree) (all rest others : List Link) (l : Link) → rest ≡ l ∷ others → HasEntered now l next
     → ((n : ℕ) → HaveLinkFault now rest n → HaveLinkFault start all n)
     → (n : ℕ) → HaveLinkFault next others n → HaveLinkFault start all n
 fault-next start now next all rest others l cut linked before n h =

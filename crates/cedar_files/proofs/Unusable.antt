@@ -1,5 +1,5 @@
 -- Lemmas on files that hold no policies that are ready.
-use Rattle.std.proofs.Common.{◌≡◌, None, Result, Ok, Err, inr, refl, sym, subst}
+use Rattle.std.proofs.Common.{◌≡◌, inr, refl, sym, subst}
 use Rattle.cedar_ast.specs.PolicySetTree.{PolicySetTree}
 use Rattle.cedar_schema_spec.specs.SchemaTree.{SchemaTree}
 use Rattle.cedar_check_spec.specs.declared.settings.Settings.{Settings}
@@ -18,7 +18,7 @@ use Rattle.cedar_files.specs.declared.reading.Unread.{Unread}
 use Rattle.cedar_files.specs.declared.reading.Unread.TheVariants as unread
 use Rattle.cedar_files.specs.declared.refusal.FileRefusal.{FileRefusal}
 use Rattle.cedar_files.specs.declared.unprepared.Unprepared.{Unprepared}
-use Rattle.cedar_files.specs.declared.unprepared.Unprepared.TheVariants.{Refused, Faults, Unnamed, Device, Memory}
+use Rattle.cedar_files.specs.declared.unprepared.Unprepared.TheVariants.{Refused, Unnamed, Device, Memory}
 use Rattle.cedar_files.proofs.Holding.{hold-back}
 
 -- what a refusal of a file is to all files

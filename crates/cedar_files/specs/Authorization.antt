@@ -1,11 +1,13 @@
 -- What the files hold for authorization, and which of them is refused first.
 use Rattle.std.specs.Prelude.{◌≡◌, ◌⊎◌, ℕ, List, None, IfSome}
+use Rattle.cedar_value.specs.World.{World}
 use Rattle.cedar_value.specs.declared.request.Request.{Request}
 use Rattle.cedar_ast.specs.PolicySetTree.{PolicySetTree}
 use Rattle.cedar_schema_spec.specs.Conformance.{Conforms}
 use Rattle.cedar_schema_spec.specs.SchemaTree.{SchemaTree}
 use Rattle.cedar_schema_spec.specs.WellFormed.{AreTypesApart}
 use Rattle.cedar_conform.specs.Requests.{LineDenotes}
+use Rattle.cedar_conform.specs.RequestsWithEntities.{LineDenotesWithEntities}
 use Rattle.cedar_check_spec.specs.declared.settings.Settings.{Settings}
 use Rattle.cedar_auth_spec.specs.Codes.{HasLongCode}
 use Rattle.cedar_auth_spec.specs.Headline.{IsAnsweredSoundlyWith}
@@ -30,6 +32,12 @@ pub record HoldAll (settings : Settings) (holds : Holdings) (r : ReadyTree) : Ty
   pub apart : AreTypesApart r.schema
   pub conforms : Conforms r.schema r.world
   pub sound : (line : List ℕ) (q : Request) → LineDenotes r.schema line q → IsAnsweredSoundlyWith settings r.policies.policies q r.world
+
+-- Each request that a line denotes is answered soundly over the world that the line denotes for it, with the entities that it brings (own;
+-- cedar-spec, Lean: Cedar.Thm).
+abbrev pub AreAnsweredSoundlyWithEntities : ReadyTree → Type 0
+AreAnsweredSoundlyWithEntities r =
+    (line : List ℕ) (q : Request) (w : World) → LineDenotesWithEntities r.schema r.world line q w → IsAnsweredSoundlyWith r.settings r.policies.policies q w
 
 -- The code of one of the policies, or of one that is linked, would have over 1,000,000 instructions. The policy file is then
 -- refused with 701, without a place (own).

@@ -1,6 +1,7 @@
 pub mod Authorization
 pub mod ChangesText
 pub mod Ending
+pub mod Ends
 pub mod EntitiesFile
 pub mod Faulty
 pub mod LinksFile

@@ -10,10 +10,15 @@ use Rattle.cedar_conform_values.specs.declared.conform_fault.ConformFault.{Confo
 use Rattle.cedar_conform_values.specs.declared.conform_fault.ConformFault.TheVariants.{OutOfMemory}
 use Rattle.cedar_files.specs.declared.refusal.FileRefusal.{FileRefusal}
 
+-- A set is another with this link entered last, under an id that no policy and no template has before (Cedar language reference,
+-- policy templates).
+abbrev pub HasEntered : PolicySetTree → Link → PolicySetTree → Type 0
+HasEntered old l new = ¬ Contains (ids_in old) l.id × IsLinked old new l.template l.id l.slots
+
 -- A set is another with these links entered, one after another in their order (Cedar language reference, policy templates).
 abbrev pub AreLinked : PolicySetTree → List Link → PolicySetTree → Type 0
 AreLinked old [] new = new ≡ old
-AreLinked old (l ∷ ls) new = (next : PolicySetTree) × IsLinked old next l.template l.id l.slots × AreLinked next ls new
+AreLinked old (l ∷ ls) new = (next : PolicySetTree) × HasEntered old l next × AreLinked next ls new
 
 -- Why a set takes no such link, as a number: 204, a policy or a template has the link's id; 210, no template has the id that it
 -- names; 211, it gives nothing for a slot of that template; 212, it gives a uid for a slot that the template does not have
@@ -29,7 +34,7 @@ HasLinkFault set l n =
 abbrev pub HaveLinkFault : PolicySetTree → List Link → ℕ → Type 0
 HaveLinkFault set [] n = ⊥
 HaveLinkFault set (l ∷ ls) n =
-    HasLinkFault set l n ⊎ ((next : PolicySetTree) × IsLinked set next l.template l.id l.slots × HaveLinkFault next ls n)
+    HasLinkFault set l n ⊎ ((next : PolicySetTree) × HasEntered set l next × HaveLinkFault next ls n)
 
 -- What the policies are with the links of the links file. Where the command line names no links file, they are those of the
 -- policy file (own).

@@ -15,11 +15,16 @@ IsPolicyFile bytes set = IsUtf8 bytes × IsPolicyText bytes set
 abbrev pub HoldsPolicies : Option (List ℕ) → PolicySetTree → Type 0
 HoldsPolicies held set = MatchOption held ⊥ (λ bytes. IsPolicyFile bytes set)
 
--- The bytes are UTF-8, and as a text they have a fault of this number and this place. It is never 1, since out of memory is not
--- a fault of a text (own).
-abbrev pub HasTextFault : List ℕ → FileRefusal → Type 0
-HasTextFault bytes refusal =
-    IsUtf8 bytes × ((fault : ParseFault) × HasFault bytes fault × (refusal.number ≡ number_of fault) × (refusal.number ≢ 1) × (refusal.offset ≡ offset_of fault))
+-- The bytes are UTF-8, and as a text they are that of no policies: they have a fault of this number and this place. It is never 1,
+-- since out of memory is not a fault of a text (own).
+pub record HasTextFault (bytes : List ℕ) (refusal : FileRefusal) : Type 0 where
+  pub is_text : IsUtf8 bytes
+  pub fault : ParseFault
+  pub has : HasFault bytes fault
+  pub number_is : refusal.number ≡ number_of fault
+  pub no_memory : refusal.number ≢ 1
+  pub offset_is : refusal.offset ≡ offset_of fault
+  pub no_policies : (set : PolicySetTree) → IsPolicyText bytes set → ⊥
 
 -- The command line names a policy file, and this is why it holds no policies: 105 where it is not UTF-8, or the number and the
 -- place of a fault that its text has (own).

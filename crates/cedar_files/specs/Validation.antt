@@ -1,17 +1,14 @@
 -- What validation writes, given what the files hold.
-use Rattle.std.specs.Prelude.{◌⊎◌, ℕ, List, ◌++◌, Option, IfSome}
-use Rattle.std.specs.Io.KnownBytes.{Keeps}
+use Rattle.std.specs.Prelude.{ℕ, List, ◌++◌, IfSome}
 use Rattle.cedar_ast.specs.PolicyTree.{PolicyTree}
 use Rattle.cedar_ast.specs.PolicySetTree.{PolicySetTree}
 use Rattle.cedar_schema_spec.specs.SchemaTree.{SchemaTree}
 use Rattle.cedar_check_spec.specs.declared.settings.Settings.{Settings}
-use Rattle.base_lines.specs.AnswerText.{Writes}
 use Rattle.cedar_files.specs.LinksFile.{HoldsLinked, HoldsNoLinks}
 use Rattle.cedar_files.specs.PolicyFile.{HoldsNoPolicies, HoldsPolicies}
 use Rattle.cedar_files.specs.SchemaFile.{HoldsNoSchema, HoldsSchema}
 use Rattle.cedar_files.specs.ReportText.{IsReportText}
 use Rattle.cedar_files.specs.Roles.{Holdings}
-use Rattle.cedar_files.specs.Standing.{BeginsRefusal}
 use Rattle.cedar_files.specs.declared.files.Role.{Role}
 use Rattle.cedar_files.specs.declared.files.Role.TheVariants.{Schema, Policies, Links}
 use Rattle.cedar_files.specs.declared.refusal.FileRefusal.{FileRefusal}
@@ -41,10 +38,3 @@ IsRefused holds _ refusal = ⊥
 -- The text is a beginning of a report on these policies for this schema under these settings (own).
 abbrev pub BeginsReport : Settings → SchemaTree → List PolicyTree → List ℕ → Type 0
 BeginsReport settings s ps text = (more : List ℕ) × IsReportText settings s ps (text ++ more)
-
--- Where a device failed: nothing was written, or a beginning of the report under these settings on what the files hold, or a
--- beginning of the line that refuses a file (own).
-abbrev pub ReportStands : Settings → Holdings → Option (List ℕ) → Option (List ℕ) → Type 0
-ReportStands settings holds old new = Keeps old new
-    ⊎ ((s : SchemaTree) × (set : PolicySetTree) × Hold holds s set × Writes old new (BeginsReport settings s set.policies))
-    ⊎ ((role : Role) × (refusal : FileRefusal) × IsRefused holds role refusal × Writes old new (BeginsRefusal role refusal))

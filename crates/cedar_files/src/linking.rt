@@ -1,8 +1,7 @@
 //! Reads the links from their file, and enters them after the policies.
 ghost use Rattle.std.specs.Prelude.{◌≡◌, ◌≢◌, None, Some, IfErr, IfSome, IsErrOf, OnOk};
 ghost use Rattle.cedar_ast.specs.LinkFault.{number_of};
-ghost use Rattle.cedar_ast.specs.Linking.{IsLinked};
-ghost use Rattle.cedar_files.specs.LinksFile.{AreLinked, HasLinkFault, HaveLinkFault, HoldsLinked, HoldsNoLinks};
+ghost use Rattle.cedar_files.specs.LinksFile.{AreLinked, HasEntered, HasLinkFault, HaveLinkFault, HoldsLinked, HoldsNoLinks};
 ghost use Rattle.cedar_files.specs.Unread.{IfRefused};
 
 use crate::files::{Files, Role};
@@ -14,7 +13,7 @@ use std::alloc::Global;
 
 // Enters a link as the last policy. A refusal leaves the set as it was.
 fn enter(policies: &mut PolicySet, link: &Link) -> Result<(), LinkFault>
-    ensures ok { OnOk result (IsLinked policies.old policies.new link.now.template link.now.id link.now.slots) }
+    ensures ok { OnOk result (HasEntered policies.old link.now policies.new) }
     ensures refused { IfErr result (λ fault. number_of fault ≢ 1 → HasLinkFault policies.old link.now (number_of fault)) }
 {
     policies.link(link.template.as_str(), link.id.as_str(), &link.slots)

@@ -1,16 +1,15 @@
 //! Reads all files of a command line, until policies are ready to answer, and writes why they are not.
-ghost use Rattle.std.specs.Prelude.{◌≡◌, ◌⊎◌, ◌-◌, ◌<◌, ◌^◌, [], None, IfErr, IfOk, IfSome, OnOk};
+ghost use Rattle.std.specs.Prelude.{◌≡◌, ◌⊎◌, ◌-◌, ◌<◌, ◌^◌, [], None, IfErr, IfOk, OnOk};
 ghost use Rattle.std.specs.Io.KnownBytes.{Keeps};
-ghost use Rattle.cedar_ast.specs.PolicySetTree.{PolicySetTree};
-ghost use Rattle.cedar_schema_spec.specs.SchemaTree.{SchemaTree};
 ghost use Rattle.cedar_check_spec.specs.Reports.{AreFaultsWith};
 ghost use Rattle.cedar_auth_spec.specs.Codes.{HasLongCode};
 ghost use Rattle.cedar_auth.specs.ValidationFaults.{HasFaultWith};
 ghost use Rattle.base_lines.specs.AnswerText.{Writes};
-ghost use Rattle.cedar_files.specs.Authorization.{HoldAll, IsFirstRefused};
+ghost use Rattle.cedar_files.specs.Authorization.{HoldAll};
+ghost use Rattle.cedar_files.specs.Ends.{EndsUnready};
 ghost use Rattle.cedar_files.specs.ReportText.{IsReportText};
 ghost use Rattle.cedar_files.specs.Standing.{BeginsRefusal, IsRefusalLine};
-ghost use Rattle.cedar_files.specs.Validation.{BeginsReport, Hold};
+ghost use Rattle.cedar_files.specs.Validation.{BeginsReport};
 
 use crate::ending::End;
 use crate::files::{Files, Role};
@@ -64,24 +63,8 @@ pub fn prepare<F: Files, K: Sink>(
     requires { K.failed sink.old < 2 ^ 64 - 1 }
     ensures held { IfOk result (λ ready. HoldAll settings (F.holds files.now) ready) }
     ensures untouched { OnOk result (sink.new ≡ sink.old) }
-    ensures faults { IfErr result (λ end. end ≡ End.Faults → (s : SchemaTree) × (set : PolicySetTree)
-        × Hold (F.holds files.now) s set × ¬ AreFaultsWith settings s set.policies []
-        × Writes (K.written sink.old) (K.written sink.new) (IsReportText settings s set.policies)) }
-    ensures refused { IfErr result (λ end. end ≡ End.Refused → (role : Role) × (refusal : FileRefusal)
-        × IsFirstRefused settings (F.holds files.now) role refusal
-        × Writes (K.written sink.old) (K.written sink.new) (IsRefusalLine role refusal)) }
-    ensures unnamed { IfErr result (λ end. end ≡ End.CommandLine → IfSome (F.holds files.now Role.Schema) (λ held. held ≡ None)
-        ⊎ IfSome (F.holds files.now Role.Policies) (λ held. held ≡ None) ⊎ IfSome (F.holds files.now Role.Entities) (λ held. held ≡ None)) }
+    ensures unready { IfErr result (EndsUnready settings (F.holds files.now) (K.failed sink.old < K.failed sink.new) (K.written sink.old) (K.written sink.new)) }
     ensures unwritten { IfErr result (λ end. end ≡ End.CommandLine → sink.new ≡ sink.old) }
-    ensures device { IfErr result (λ end. end ≡ End.Device → (F.holds files.now Role.Schema ≡ None) ⊎ (F.holds files.now Role.Policies ≡ None)
-        ⊎ (F.holds files.now Role.Links ≡ None) ⊎ (F.holds files.now Role.Entities ≡ None) ⊎ (K.failed sink.old < K.failed sink.new)) }
-    ensures stands { IfErr result (λ end. end ≡ End.Device → Keeps (K.written sink.old) (K.written sink.new)
-        ⊎ ((role : Role) × (refusal : FileRefusal) × IsFirstRefused settings (F.holds files.now) role refusal
-        × Writes (K.written sink.old) (K.written sink.new) (BeginsRefusal role refusal))
-        ⊎ ((s : SchemaTree) × (set : PolicySetTree) × Hold (F.holds files.now) s set
-        × Writes (K.written sink.old) (K.written sink.new) (BeginsReport settings s set.policies))) }
-    ensures stands_whole { IfErr result (λ end. end ≡ End.Memory → Keeps (K.written sink.old) (K.written sink.new)) }
-    ensures others { IfErr result (λ end. end ≡ End.Done → ⊥) }
 {
     match read_all(alloc, files, settings) {
         Ok(ready) => Ok(ready),

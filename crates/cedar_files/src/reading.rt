@@ -2,6 +2,7 @@
 ghost use Rattle.std.specs.Prelude.{◌≡◌, ◌≢◌, None, Some, IfOk, IfErr, IfSome, IsErrOf};
 ghost use Rattle.cedar_conform_values.specs.Numbers.{number_of};
 ghost use Rattle.cedar_conform_values.specs.declared.conform_fault.ConformFault.TheVariants.{OutOfMemory};
+ghost use Rattle.cedar_parser_tokens.specs.Faults.{number_of as text_fault_number, offset_of};
 ghost use Rattle.cedar_files.specs.ChangesText.{HoldChanges, HoldNoChanges};
 ghost use Rattle.cedar_files.specs.EntitiesFile.{HoldsNoWorld, HoldsWorld};
 ghost use Rattle.cedar_files.specs.PolicyFile.{HoldsNoPolicies, HoldsPolicies};
@@ -14,6 +15,7 @@ use cedar_ast::PolicySet;
 use cedar_auth::{NotReady, Ready, Validated};
 use cedar_conform_values::ConformFault;
 use cedar_parser::parse;
+use cedar_parser_tokens::ParseFault;
 use cedar_schema::{Schema, SchemaFault};
 use std::alloc::Global;
 use thiserror::Error;
@@ -95,14 +97,22 @@ pub fn read_policies<F: Files>(alloc: Global, files: &F) -> Result<PolicySet, Un
     };
     match parse(alloc, text) {
         Ok(policies) => Ok(policies),
-        Err(fault) => match fault.number() {
-            OUT_OF_MEMORY => Err(Unread::Memory),
-            number => {
-                let offset = fault.offset();
-                Err(Unread::Refused(FileRefusal { number, offset }))
-            }
-        },
+        Err(fault) => Err(refusal_of_text(&fault)),
     }
+}
+
+// Why a policy text is refused.
+fn refusal_of_text(fault: &ParseFault) -> Unread
+    ensures refused { IfRefused result (λ refusal. (text_fault_number fault.now ≢ 1)
+        × (refusal ≡ record { number = text_fault_number fault.now; offset = offset_of fault.now })) }
+    ensures others { (result ≢ Unread.Unnamed) × (result ≢ Unread.Device) }
+{
+    let number = fault.number();
+    if number == OUT_OF_MEMORY {
+        return Unread::Memory;
+    }
+    let offset = fault.offset();
+    Unread::Refused(FileRefusal { number, offset })
 }
 
 // Why entities or links are refused.

@@ -1,13 +1,11 @@
 //! The subcommand `validate`.
-ghost use Rattle.std.specs.Prelude.{◌≡◌, ◌≢◌, ◌⊎◌, ◌-◌, ◌<◌, ◌^◌, [], None, IfSome};
+ghost use Rattle.std.specs.Prelude.{◌≡◌, ◌≢◌, ◌⊎◌, ◌-◌, ◌<◌, ◌^◌, []};
 ghost use Rattle.std.specs.Io.KnownBytes.{Keeps};
-ghost use Rattle.cedar_ast.specs.PolicySetTree.{PolicySetTree};
 ghost use Rattle.cedar_schema_spec.specs.SchemaTree.{SchemaTree};
-ghost use Rattle.cedar_check_spec.specs.Reports.{AreFaultsWith};
 ghost use Rattle.base_lines.specs.AnswerText.{Writes};
+ghost use Rattle.cedar_files.specs.Ends.{Validates};
 ghost use Rattle.cedar_files.specs.ReportText.{IsReportText, Reports};
-ghost use Rattle.cedar_files.specs.Standing.{IsRefusalLine};
-ghost use Rattle.cedar_files.specs.Validation.{BeginsReport, Hold, IsRefused, ReportStands};
+ghost use Rattle.cedar_files.specs.Validation.{BeginsReport};
 
 use crate::ending::End;
 use crate::files::{Files, Role};
@@ -72,22 +70,8 @@ pub fn validate<F: Files, K: Sink>(
     settings: Settings,
 ) -> End
     requires { K.failed sink.old < 2 ^ 64 - 1 }
-    ensures done { result ≡ End.Done → (s : SchemaTree) × (set : PolicySetTree)
-        × Hold (F.holds files.now) s set × AreFaultsWith settings s set.policies []
-        × Writes (K.written sink.old) (K.written sink.new) (IsReportText settings s set.policies) }
-    ensures faults { result ≡ End.Faults → (s : SchemaTree) × (set : PolicySetTree)
-        × Hold (F.holds files.now) s set × ¬ AreFaultsWith settings s set.policies []
-        × Writes (K.written sink.old) (K.written sink.new) (IsReportText settings s set.policies) }
-    ensures refused { result ≡ End.Refused → (role : Role) × (refusal : FileRefusal)
-        × IsRefused (F.holds files.now) role refusal
-        × Writes (K.written sink.old) (K.written sink.new) (IsRefusalLine role refusal) }
-    ensures unnamed { result ≡ End.CommandLine → IfSome (F.holds files.now Role.Schema) (λ held. held ≡ None)
-        ⊎ IfSome (F.holds files.now Role.Policies) (λ held. held ≡ None) }
+    ensures ends { Validates settings (F.holds files.now) (K.failed sink.old < K.failed sink.new) (K.written sink.old) (K.written sink.new) result }
     ensures untouched { result ≡ End.CommandLine → sink.new ≡ sink.old }
-    ensures device { result ≡ End.Device → (F.holds files.now Role.Schema ≡ None) ⊎ (F.holds files.now Role.Policies ≡ None)
-        ⊎ (F.holds files.now Role.Links ≡ None) ⊎ (K.failed sink.old < K.failed sink.new) }
-    ensures stands { result ≡ End.Device → ReportStands settings (F.holds files.now) (K.written sink.old) (K.written sink.new) }
-    ensures stands_whole { result ≡ End.Memory → Keeps (K.written sink.old) (K.written sink.new) }
 {
     validate_keeping(alloc, files, sink, settings, &mut None)
 }
@@ -101,22 +85,8 @@ pub fn validate_keeping<F: Files, K: Sink>(
     kept: &mut Option<PolicySet>,
 ) -> End
     requires { K.failed sink.old < 2 ^ 64 - 1 }
-    ensures done { result ≡ End.Done → (s : SchemaTree) × (set : PolicySetTree)
-        × Hold (F.holds files.now) s set × AreFaultsWith settings s set.policies []
-        × Writes (K.written sink.old) (K.written sink.new) (IsReportText settings s set.policies) }
-    ensures faults { result ≡ End.Faults → (s : SchemaTree) × (set : PolicySetTree)
-        × Hold (F.holds files.now) s set × ¬ AreFaultsWith settings s set.policies []
-        × Writes (K.written sink.old) (K.written sink.new) (IsReportText settings s set.policies) }
-    ensures refused { result ≡ End.Refused → (role : Role) × (refusal : FileRefusal)
-        × IsRefused (F.holds files.now) role refusal
-        × Writes (K.written sink.old) (K.written sink.new) (IsRefusalLine role refusal) }
-    ensures unnamed { result ≡ End.CommandLine → IfSome (F.holds files.now Role.Schema) (λ held. held ≡ None)
-        ⊎ IfSome (F.holds files.now Role.Policies) (λ held. held ≡ None) }
+    ensures ends { Validates settings (F.holds files.now) (K.failed sink.old < K.failed sink.new) (K.written sink.old) (K.written sink.new) result }
     ensures untouched { result ≡ End.CommandLine → sink.new ≡ sink.old }
-    ensures device { result ≡ End.Device → (F.holds files.now Role.Schema ≡ None) ⊎ (F.holds files.now Role.Policies ≡ None)
-        ⊎ (F.holds files.now Role.Links ≡ None) ⊎ (K.failed sink.old < K.failed sink.new) }
-    ensures stands { result ≡ End.Device → ReportStands settings (F.holds files.now) (K.written sink.old) (K.written sink.new) }
-    ensures stands_whole { result ≡ End.Memory → Keeps (K.written sink.old) (K.written sink.new) }
 {
     match read_report(alloc, files, settings) {
         Ok((policies, report)) => {

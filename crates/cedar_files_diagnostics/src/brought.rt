@@ -1,17 +1,17 @@
 //! Request lines that bring entities, and are refused.
-use crate::data::{explain_request, push_fault};
+use crate::data::{add_entry, explain_request};
 use crate::diagnostic::Diagnostic;
-use crate::entities::text_of;
+use crate::diagnostic_draft::DiagnosticDraft;
+use crate::entities::{note_cycle, note_duplicate};
 use crate::words::words_of;
 use base_json::read_json;
 use cedar_auth::Ready;
 use cedar_conform::{RequestReader, read_request_with_entities};
-use cedar_conform_diagnostics::{RefusedEntry, refused_entry};
+use cedar_conform_diagnostics::refused_entry;
 use cedar_conform_values::ConformFault;
 use cedar_schema::Schema;
 use serde_json::Value;
 use std::alloc::{AllocError, Global};
-use std::fmt::Write;
 
 /// The key of the entities.
 const ENTITIES: &str = "entities";
@@ -86,45 +86,15 @@ fn fault_of(alloc: Global, ready: &Ready, line: &[u8]) -> Result<Option<ConformF
     }
 }
 
-// Adds which entry is refused, and why.
-fn push_entry(
-    alloc: Global,
-    diagnostic: &mut Diagnostic,
-    refused: &RefusedEntry,
-) -> Result<(), AllocError> {
-    let position = refused.position;
-    write!(diagnostic.part, ", entry {position} of entities (from 0)")?;
-    if let Some(uid) = &refused.uid {
-        diagnostic.part.push_str(", ")?;
-        diagnostic.part.push_str(uid.as_str())?;
-    }
-    push_fault(alloc, diagnostic, &refused.fault)
-}
-
 // Adds what entities are refused for as a whole, and what to do about it.
-fn push_whole(
-    alloc: Global,
-    diagnostic: &mut Diagnostic,
-    fault: &ConformFault,
-    hint: &str,
-) -> Result<(), AllocError> {
+fn add_whole(alloc: Global, diagnostic: &mut DiagnosticDraft, fault: &ConformFault, hint: &str) {
     match fault {
-        ConformFault::DuplicateEntity(uid) => {
-            let uid = text_of(alloc, uid)?;
-            let uid = uid.as_str();
-            let says = format!(in alloc; "two entities have the uid {uid}")?;
-            diagnostic.note(alloc, says.as_str())?;
-        }
-        ConformFault::Cycle(uid) => {
-            let uid = text_of(alloc, uid)?;
-            let uid = uid.as_str();
-            let says = format!(in alloc; "the entity {uid} is below itself")?;
-            diagnostic.note(alloc, says.as_str())?;
-        }
-        ConformFault::Shape => diagnostic.note(alloc, LIST_SAYS)?,
+        ConformFault::DuplicateEntity(uid) => note_duplicate(alloc, diagnostic, uid),
+        ConformFault::Cycle(uid) => note_cycle(alloc, diagnostic, uid),
+        ConformFault::Shape => diagnostic.note(&[LIST_SAYS]),
         _ => {}
     }
-    diagnostic.advise(alloc, hint)
+    diagnostic.advise(hint);
 }
 
 // What is explained of entities that are refused.
@@ -137,16 +107,22 @@ fn explain_entities(
 ) -> Result<Diagnostic, AllocError> {
     let number = fault.number();
     let (reason, hint) = words_of_entities(number).unwrap_or(("the entities are refused", ""));
-    let mut diagnostic = Diagnostic::error(alloc, number, reason);
-    diagnostic.part.push_str(part)?;
     let bytes = Vec::from_slice(alloc, entities.as_bytes())?;
-    match &refused_entry(alloc, schema, bytes)? {
+    let refused = refused_entry(alloc, schema, bytes)?;
+    let mut diagnostic = DiagnosticDraft::error(alloc, number, reason);
+    diagnostic.part.add(part);
+    match &refused {
         Some(refused) if refused.fault.number == number => {
-            push_entry(alloc, &mut diagnostic, refused)?;
+            add_entry(
+                &mut diagnostic,
+                ", entry ",
+                refused,
+                " of entities (from 0)",
+            );
         }
-        _ => push_whole(alloc, &mut diagnostic, fault, hint)?,
+        _ => add_whole(alloc, &mut diagnostic, fault, hint),
     }
-    Ok(diagnostic)
+    diagnostic.done()
 }
 
 // What is explained of a line that is refused for a fault.
@@ -165,8 +141,7 @@ fn explain_line(
         return Ok(Some(of_request));
     }
     let entities = parted.entities.as_str();
-    let of_entities = explain_entities(alloc, schema, entities, fault, part)?;
-    Ok(Some(of_entities))
+    explain_entities(alloc, schema, entities, fault, part).map(Some)
 }
 
 /// What is explained of a request line that may bring entities and is refused for what is ready; or none if it is not refused. `part`

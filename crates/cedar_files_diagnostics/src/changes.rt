@@ -1,6 +1,7 @@
 //! Changes of entities that are refused: the entry, its uid and the path of the attribute.
-use crate::data::push_fault;
-use crate::diagnostic::{Diagnostic, Explanation};
+use crate::data::add_entry;
+use crate::diagnostic::Explanation;
+use crate::diagnostic_draft::DiagnosticDraft;
 use crate::format::Format;
 use crate::json_text::explain_json;
 use crate::words::words_of;
@@ -9,7 +10,6 @@ use cedar_conform_diagnostics::{RefusedEntry, refused_entry};
 use cedar_schema::{Schema, SchemaFault};
 use serde_json::Value;
 use std::alloc::{AllocError, Global};
-use std::fmt::Write;
 
 /// What changes are called, which are in no file.
 const NAME: &str = "changes.json";
@@ -83,38 +83,15 @@ fn refused_upsert(
     refused
 }
 
-// Adds which entry is refused, and why.
-fn push_upsert(
+// The first entry that is upserted and refused; none if no entry is.
+fn refused_part(
     alloc: Global,
-    diagnostic: &mut Diagnostic,
-    refused: &RefusedEntry,
-) -> Result<(), AllocError> {
-    let position = refused.position;
-    write!(diagnostic.part, "upsert entry {position} (from 0)")?;
-    if let Some(uid) = &refused.uid {
-        diagnostic.part.push_str(", ")?;
-        diagnostic.part.push_str(uid.as_str())?;
-    }
-    push_fault(alloc, diagnostic, &refused.fault)
-}
-
-// Adds which entry is refused with the number, if one is.
-fn push_part(
-    alloc: Global,
-    diagnostic: &mut Diagnostic,
     schema: &[u8],
     changes: &[u8],
-) -> Result<(), AllocError> {
-    let refused = match upserts_of(alloc, changes)? {
-        Some(entries) => refused_upsert(alloc, schema, entries)?,
-        None => None,
-    };
-    match &refused {
-        Some(refused) if refused.fault.number == diagnostic.number => {
-            push_upsert(alloc, diagnostic, refused)
-        }
-        _ if diagnostic.number == SHAPE => diagnostic.note(alloc, KEYS_SAY),
-        _ => Ok(()),
+) -> Result<Option<RefusedEntry>, AllocError> {
+    match upserts_of(alloc, changes)? {
+        Some(entries) => refused_upsert(alloc, schema, entries),
+        None => Ok(None),
     }
 }
 
@@ -132,10 +109,17 @@ fn explained(
     let Some((reason, hint)) = words_of_changes(number) else {
         return Ok(None);
     };
-    let mut diagnostic = Diagnostic::error(alloc, number, reason);
-    diagnostic.advise(alloc, hint)?;
-    push_part(alloc, &mut diagnostic, schema, changes)?;
-    Ok(Some(Explanation::of_one(alloc, NAME, diagnostic)?))
+    let refused = refused_part(alloc, schema, changes)?;
+    let mut diagnostic = DiagnosticDraft::error(alloc, number, reason);
+    diagnostic.advise(hint);
+    match &refused {
+        Some(refused) if refused.fault.number == number => {
+            add_entry(&mut diagnostic, "upsert entry ", refused, " (from 0)");
+        }
+        _ if number == SHAPE => diagnostic.note(&[KEYS_SAY]),
+        _ => {}
+    }
+    diagnostic.alone(NAME).map(Some)
 }
 
 /// Explains in a form why changes of entities are refused with this number, for the schema of these bytes. They are called

@@ -1,7 +1,8 @@
 //! Faults of JSON data: of entities, links and request lines.
 use crate::diagnostic::Diagnostic;
+use crate::diagnostic_draft::DiagnosticDraft;
 use crate::words::words_of;
-use cedar_conform_diagnostics::{DataFault, refused_request};
+use cedar_conform_diagnostics::{DataFault, RefusedEntry, refused_request};
 use cedar_schema::Schema;
 use std::alloc::{AllocError, Global};
 
@@ -19,23 +20,34 @@ pub(crate) fn reason_of(number: u16) -> Option<&'static str> {
 }
 
 /// Adds the path and the words of a fault, and what to do about it, if one thing is likely.
-pub(crate) fn push_fault(
-    alloc: Global,
-    diagnostic: &mut Diagnostic,
-    fault: &DataFault,
-) -> Result<(), AllocError> {
+pub(crate) fn add_fault(diagnostic: &mut DiagnosticDraft, fault: &DataFault) {
     let path = fault.path.as_str();
     let says = fault.says.as_str();
-    let note = if path.is_empty() {
-        String::from_str(alloc, says)?
+    if path.is_empty() {
+        diagnostic.note(&[says]);
     } else {
-        format!(in alloc; "{path}: {says}")?
-    };
-    diagnostic.note(alloc, note.as_str())?;
-    if let Some(hint) = &fault.hint {
-        diagnostic.advise(alloc, hint.as_str())?;
+        diagnostic.note(&[path, ": ", says]);
     }
-    Ok(())
+    if let Some(hint) = &fault.hint {
+        diagnostic.advise(hint.as_str());
+    }
+}
+
+/// Adds which entry is refused, with what is said before and after its position, and why.
+pub(crate) fn add_entry(
+    diagnostic: &mut DiagnosticDraft,
+    before: &str,
+    refused: &RefusedEntry,
+    after: &str,
+) {
+    diagnostic.part.add(before);
+    diagnostic.part.add_display(refused.position);
+    diagnostic.part.add(after);
+    if let Some(uid) = &refused.uid {
+        diagnostic.part.add(", ");
+        diagnostic.part.add(uid.as_str());
+    }
+    add_fault(diagnostic, &refused.fault);
 }
 
 /// What is explained of a request line that is refused for a schema; or none if it is not refused. `part` says which line it is.
@@ -52,8 +64,8 @@ pub fn explain_request(
         NOT_JSON => "the line is not JSON",
         number => reason_of(number).unwrap_or("the line is refused"),
     };
-    let mut diagnostic = Diagnostic::error(alloc, fault.number, reason);
-    diagnostic.part.push_str(part)?;
-    push_fault(alloc, &mut diagnostic, &fault)?;
-    Ok(Some(diagnostic))
+    let mut diagnostic = DiagnosticDraft::error(alloc, fault.number, reason);
+    diagnostic.part.add(part);
+    add_fault(&mut diagnostic, &fault);
+    diagnostic.done().map(Some)
 }

@@ -43,48 +43,6 @@ pub struct Diagnostic {
     pub hint: Option<String>,
 }
 
-impl Diagnostic {
-    /// An error with a number and a reason, without a place. Takes no memory.
-    pub fn error(alloc: Global, number: u16, reason: &'static str) -> Self {
-        Diagnostic {
-            severity: Severity::Error,
-            number,
-            reason,
-            place: None,
-            part: String::new(alloc),
-            marks: Vec::new(alloc),
-            notes: Vec::new(alloc),
-            hint: None,
-        }
-    }
-
-    /// Marks a part of the text, after the marks that it has.
-    pub fn mark(
-        &mut self,
-        alloc: Global,
-        start: usize,
-        end: usize,
-        says: &str,
-    ) -> Result<(), AllocError> {
-        let says = String::from_str(alloc, says)?;
-        self.marks.push(Mark { start, end, says })?;
-        Ok(())
-    }
-
-    /// Adds a note, after the notes that it has.
-    pub fn note(&mut self, alloc: Global, says: &str) -> Result<(), AllocError> {
-        let says = String::from_str(alloc, says)?;
-        self.notes.push(says)?;
-        Ok(())
-    }
-
-    /// Says what to do, in place of what was said before.
-    pub fn advise(&mut self, alloc: Global, hint: &str) -> Result<(), AllocError> {
-        self.hint = Some(String::from_str(alloc, hint)?);
-        Ok(())
-    }
-}
-
 /// What is explained of a file.
 #[derive(Drop)]
 pub struct Explanation {

@@ -1,8 +1,6 @@
 //! Lines of a text, with marks under them.
 use crate::diagnostic::Mark;
-use base_places::{Place, line_before, line_from, push_shown};
-use std::alloc::AllocError;
-use std::fmt::Write;
+use base_places::{Draft, Place, line_before, line_from};
 
 // How many bytes of a line are shown before a place, and from it on, at the most.
 const MOST: usize = 80;
@@ -42,11 +40,10 @@ pub(crate) fn first_of(text: &str, most: usize) -> &str {
     ""
 }
 
-fn push_times(out: &mut String, sign: char, count: usize) -> Result<(), AllocError> {
+fn add_times(out: &mut Draft, sign: char, count: usize) {
     for _ in 0..count {
-        out.push(sign)?;
+        out.add_char(sign);
     }
-    Ok(())
 }
 
 // What is shown of the line around an offset: its number from 1, and where what is shown begins and ends, in bytes from 0.
@@ -73,40 +70,34 @@ impl Shown {
         self.start <= at && at <= self.end
     }
 
-    // Appends the line.
-    fn push_line(self, out: &mut String, text: &str) -> Result<(), AllocError> {
-        let line = self.line;
-        push_times(out, ' ', width_of(line))?;
-        out.push_str(" |\n")?;
-        write!(out, "{line} | ")?;
-        push_shown(out, text.get(self.start..self.end).unwrap_or(""))?;
-        out.push('\n')
+    // Adds the line.
+    fn add_line(self, out: &mut Draft, text: &str) {
+        add_times(out, ' ', width_of(self.line));
+        out.add(" |\n");
+        out.add_display(self.line);
+        out.add(" | ");
+        out.add_shown(text.get(self.start..self.end).unwrap_or(""));
+        out.add_char('\n');
     }
 
-    // Appends a mark under what is shown.
-    fn push_mark(
-        self,
-        out: &mut String,
-        text: &str,
-        mark: &Mark,
-        sign: char,
-    ) -> Result<(), AllocError> {
-        push_times(out, ' ', width_of(self.line))?;
-        out.push_str(" | ")?;
+    // Adds a mark under what is shown.
+    fn add_mark(self, out: &mut Draft, text: &str, mark: &Mark, sign: char) {
+        add_times(out, ' ', width_of(self.line));
+        out.add(" | ");
         let before = text.get(self.start..mark.start).unwrap_or("");
-        push_times(out, ' ', before.chars().count())?;
+        add_times(out, ' ', before.chars().count());
         let marked = text.get(mark.start..mark.end.min(self.end)).unwrap_or("");
-        push_times(out, sign, marked.chars().count().max(1))?;
+        add_times(out, sign, marked.chars().count().max(1));
         if !mark.says.is_empty() {
-            out.push(' ')?;
-            push_shown(out, mark.says.as_str())?;
+            out.add_char(' ');
+            out.add_shown(mark.says.as_str());
         }
-        out.push('\n')
+        out.add_char('\n');
     }
 }
 
-/// Appends the lines of a text that have marks, and under each what its marks say: the first mark as `^`, the others as `-`.
-pub(crate) fn push_marks(out: &mut String, text: &str, marks: &[Mark]) -> Result<(), AllocError> {
+/// Adds the lines of a text that have marks, and under each what its marks say: the first mark as `^`, the others as `-`.
+pub(crate) fn add_marks(out: &mut Draft, text: &str, marks: &[Mark]) {
     let mut last: Option<Shown> = None;
     for mark in marks {
         let (shown, is_there) = match last {
@@ -114,11 +105,10 @@ pub(crate) fn push_marks(out: &mut String, text: &str, marks: &[Mark]) -> Result
             _ => (Shown::around(text, mark.start), false),
         };
         if !is_there {
-            shown.push_line(out, text)?;
+            shown.add_line(out, text);
         }
         let sign = if last.is_none() { '^' } else { '-' };
-        shown.push_mark(out, text, mark, sign)?;
+        shown.add_mark(out, text, mark, sign);
         last = Some(shown);
     }
-    Ok(())
 }

@@ -27,14 +27,14 @@ pub fn explain_file<F: Files>(
     };
     let number = refused.refusal.number;
     let explained = match (refused.role, number) {
-        (Role::Policies, 701) => None,
-        (Role::Policies, _) => explain_policies(alloc, name, bytes)?,
-        (_, 301 | 501) => explain_json(alloc, name, number, bytes)?,
-        (Role::Schema, _) => explain_schema(alloc, name, number, &bytes)?,
-        (Role::Links, _) => explain_links(alloc, files, name, number, &bytes)?,
-        (Role::Entities, _) => explain_entities(alloc, files, name, number, bytes)?,
+        (Role::Policies, 701) => Ok(None),
+        (Role::Policies, _) => explain_policies(alloc, name, bytes),
+        (_, 301 | 501) => explain_json(alloc, name, number, bytes),
+        (Role::Schema, _) => explain_schema(alloc, name, number, &bytes),
+        (Role::Links, _) => explain_links(alloc, files, name, number, &bytes),
+        (Role::Entities, _) => explain_entities(alloc, files, name, number, bytes),
     };
-    match explained {
+    match explained? {
         Some(explained) => Ok(Some(explained)),
         None => explain_number(alloc, name, number),
     }

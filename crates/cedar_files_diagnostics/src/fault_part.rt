@@ -1,5 +1,5 @@
 //! The part of a condition for which a policy has a fault, and where it is written.
-use crate::diagnostic::Diagnostic;
+use crate::diagnostic_draft::DiagnosticDraft;
 use crate::own_statement::OwnStatement;
 use base_places::Place;
 use cedar_ast::{Link, Policy, PolicySet};
@@ -86,7 +86,7 @@ fn type_end(text: &str, start: usize, end: usize) -> usize {
 // Marks the part and its operands.
 fn mark_part(
     alloc: Global,
-    diagnostic: &mut Diagnostic,
+    diagnostic: &mut DiagnosticDraft,
     statement: OwnStatement<'_>,
     part: &RefusedPart,
     place: PartPlace,
@@ -99,31 +99,21 @@ fn mark_part(
         place.name.end
     };
     diagnostic.place = Some(Place::of(text.as_bytes(), start));
-    diagnostic.mark(alloc, start, end, part.says.as_str())?;
+    diagnostic.mark(start, end, part.says.as_str());
     for operand in &part.operands {
         if let Some(place) = statement.part(alloc, &operand.path)? {
-            diagnostic.mark(
-                alloc,
-                place.whole.start,
-                place.whole.end,
-                operand.says.as_str(),
-            )?;
+            diagnostic.mark(place.whole.start, place.whole.end, operand.says.as_str());
         }
     }
     Ok(())
 }
 
-// Marks the beginning of the statement, if the text has it.
-fn mark_statement(
-    alloc: Global,
-    diagnostic: &mut Diagnostic,
-    statement: OwnStatement<'_>,
-) -> Result<(), AllocError> {
+/// Marks the beginning of the statement, if the text has it.
+pub(crate) fn mark_statement(diagnostic: &mut DiagnosticDraft, statement: OwnStatement<'_>) {
     if let Some(at) = statement.start() {
         diagnostic.place = Some(Place::of(statement.text().as_bytes(), at));
-        diagnostic.mark(alloc, at, at, statement.says_of_beginning())?;
+        diagnostic.mark(at, at, statement.says_of_beginning());
     }
-    Ok(())
 }
 
 // The path of what is marked: that of the part, or of its first operand where the part is an `&&` between the sides of the scope and
@@ -137,35 +127,28 @@ fn marked_path(part: &RefusedPart) -> &[usize] {
 }
 
 /// Marks the part in its statement; or else the beginning of the statement, and says in a note what is wrong.
-pub(crate) fn push_place(
+pub(crate) fn add_place(
     alloc: Global,
-    diagnostic: &mut Diagnostic,
+    diagnostic: &mut DiagnosticDraft,
     statement: OwnStatement<'_>,
-    part: Option<&RefusedPart>,
+    part: &RefusedPart,
 ) -> Result<(), AllocError> {
-    let Some(part) = part else {
-        return mark_statement(alloc, diagnostic, statement);
-    };
     match statement.part(alloc, marked_path(part))? {
         Some(place) => mark_part(alloc, diagnostic, statement, part, place),
         None => {
-            mark_statement(alloc, diagnostic, statement)?;
-            diagnostic.note(alloc, part.says.as_str())
+            mark_statement(diagnostic, statement);
+            diagnostic.note(&[part.says.as_str()]);
+            Ok(())
         }
     }
 }
 
 /// Adds what else is said of the part, and what to do about it.
-pub(crate) fn push_words(
-    alloc: Global,
-    diagnostic: &mut Diagnostic,
-    part: &RefusedPart,
-) -> Result<(), AllocError> {
+pub(crate) fn add_words(diagnostic: &mut DiagnosticDraft, part: &RefusedPart) {
     for note in &part.notes {
-        diagnostic.note(alloc, note.as_str())?;
+        diagnostic.note(&[note.as_str()]);
     }
     if let Some(hint) = &part.hint {
-        diagnostic.advise(alloc, hint.as_str())?;
+        diagnostic.advise(hint.as_str());
     }
-    Ok(())
 }

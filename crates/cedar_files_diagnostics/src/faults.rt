@@ -1,12 +1,12 @@
 //! What is explained of policies that have faults.
 use crate::diagnostic::{Diagnostic, Explanation, Severity};
+use crate::diagnostic_draft::DiagnosticDraft;
 use crate::excerpt::first_of;
-use crate::fault_part::{Checked, push_place, push_words};
+use crate::fault_part::{Checked, add_place, add_words, mark_statement};
 use crate::own_statement::{MOST_OF_ID, OwnStatement};
 use crate::statement_places::StatementPlaces;
 use cedar_check::{Fault, Report};
 use std::alloc::{AllocError, Global};
-use std::fmt::Write;
 
 /// How many faults and warnings are explained at most.
 const MOST: usize = 20;
@@ -137,18 +137,24 @@ fn push_warning(
     if !has_room(explanation) {
         return Ok(());
     }
-    let mut diagnostic = Diagnostic::error(alloc, IMPOSSIBLE, "no request can satisfy this policy");
-    diagnostic.severity = Severity::Warning;
-    push_place(alloc, &mut diagnostic, statement, None)?;
-    let id = first_of(policy, MOST_OF_ID);
-    let says = format!(in alloc; "policy `{id}` is false in each environment of the schema")?;
-    diagnostic.note(alloc, says.as_str())?;
-    statement.push_link(alloc, &mut diagnostic)?;
-    diagnostic.advise(
+    let mut diagnostic = DiagnosticDraft::error(
         alloc,
+        IMPOSSIBLE,
+        "no request can satisfy this policy",
+    );
+    diagnostic.severity = Severity::Warning;
+    mark_statement(&mut diagnostic, statement);
+    let id = first_of(policy, MOST_OF_ID);
+    diagnostic.note(&[
+        "policy `",
+        id,
+        "` is false in each environment of the schema",
+    ]);
+    statement.note_link(&mut diagnostic);
+    diagnostic.advise(
         "compare the action and the types of its scope with `appliesTo` in the schema",
-    )?;
-    explanation.diagnostics.push(diagnostic)?;
+    );
+    explanation.diagnostics.push(diagnostic.done()?)?;
     Ok(())
 }
 
@@ -178,20 +184,23 @@ fn diagnostic_of<'s>(
     checked: Checked<'s>,
     group: Group<'s>,
 ) -> Result<Diagnostic, AllocError> {
-    let (reason, hint) = words_of(group.first.number());
-    let mut diagnostic = Diagnostic::error(alloc, group.first.number(), reason);
     let part = checked.part(alloc, group.first)?;
     let statement = OwnStatement::new(statements, checked, group.first.policy.as_str());
-    push_place(alloc, &mut diagnostic, statement, part.as_ref())?;
     let environments = checked.schema.environments().len();
-    let says = says_of_environments(alloc, group, environments)?;
-    diagnostic.note(alloc, says.as_str())?;
-    statement.push_link(alloc, &mut diagnostic)?;
+    let says = says_of_environments(alloc, group, environments);
+    let (reason, hint) = words_of(group.first.number());
+    let mut diagnostic = DiagnosticDraft::error(alloc, group.first.number(), reason);
     match &part {
-        Some(part) => push_words(alloc, &mut diagnostic, part)?,
-        None => diagnostic.advise(alloc, hint)?,
+        Some(part) => add_place(alloc, &mut diagnostic, statement, part)?,
+        None => mark_statement(&mut diagnostic, statement),
     }
-    Ok(diagnostic)
+    diagnostic.note_made(says);
+    statement.note_link(&mut diagnostic);
+    match &part {
+        Some(part) => add_words(&mut diagnostic, part),
+        None => diagnostic.advise(hint),
+    }
+    diagnostic.done()
 }
 
 // The policy and the environments of its faults.

@@ -94,6 +94,5 @@ fn over_text<F: Files>(
         }
     };
     let report = check_with(alloc, checked.schema, checked.policies, checked.settings)?;
-    let explained = explain_faults(alloc, name, text, checked, &report)?;
-    Ok(Some(explained))
+    explain_faults(alloc, name, text, checked, &report).map(Some)
 }

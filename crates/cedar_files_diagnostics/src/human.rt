@@ -1,9 +1,8 @@
 //! An explanation as a person reads it.
 use crate::diagnostic::{Diagnostic, Explanation, Severity};
-use crate::excerpt::push_marks;
-use base_places::push_shown;
+use crate::excerpt::add_marks;
+use base_places::Draft;
 use std::alloc::{AllocError, Global};
-use std::fmt::Write;
 
 fn word_of(severity: Severity) -> &'static str {
     match severity {
@@ -12,53 +11,51 @@ fn word_of(severity: Severity) -> &'static str {
     }
 }
 
-// Appends `error[NUMBER]: REASON` and the end of the line.
-fn push_heading(out: &mut String, diagnostic: &Diagnostic) -> Result<(), AllocError> {
-    let word = word_of(diagnostic.severity);
-    let number = diagnostic.number;
-    let reason = diagnostic.reason;
-    write!(out, "{word}[{number}]: {reason}\n")
+// Adds `error[NUMBER]: REASON` and the end of the line.
+fn add_heading(out: &mut Draft, diagnostic: &Diagnostic) {
+    out.add(word_of(diagnostic.severity));
+    out.add_char('[');
+    out.add_display(diagnostic.number);
+    out.add("]: ");
+    out.add(diagnostic.reason);
+    out.add_char('\n');
 }
 
-// Appends ` --> FILE:LINE:COLUMN: PART`, as far as there are these, and the end of the line. Lines and columns are from 1.
-fn push_place(out: &mut String, file: &str, diagnostic: &Diagnostic) -> Result<(), AllocError> {
-    out.push_str(" --> ")?;
-    push_shown(out, file)?;
+// Adds ` --> FILE:LINE:COLUMN: PART`, as far as there are these, and the end of the line. Lines and columns are from 1.
+fn add_place(out: &mut Draft, file: &str, diagnostic: &Diagnostic) {
+    out.add(" --> ");
+    out.add_shown(file);
     if let Some(place) = diagnostic.place {
-        let line = place.line.saturating_add(1);
-        let column = place.column.saturating_add(1);
-        write!(out, ":{line}:{column}")?;
+        out.add_char(':');
+        out.add_display(place.line.saturating_add(1));
+        out.add_char(':');
+        out.add_display(place.column.saturating_add(1));
     }
     if !diagnostic.part.is_empty() {
-        out.push_str(": ")?;
-        push_shown(out, diagnostic.part.as_str())?;
+        out.add(": ");
+        out.add_shown(diagnostic.part.as_str());
     }
-    out.push('\n')
+    out.add_char('\n');
 }
 
-// Appends `   = KIND: SAYS` and the end of the line.
-fn push_note(out: &mut String, kind: &str, says: &str) -> Result<(), AllocError> {
-    out.push_str("   = ")?;
-    out.push_str(kind)?;
-    push_shown(out, says)?;
-    out.push('\n')
+// Adds `   = KIND: SAYS` and the end of the line.
+fn add_note(out: &mut Draft, kind: &str, says: &str) {
+    out.add("   = ");
+    out.add(kind);
+    out.add_shown(says);
+    out.add_char('\n');
 }
 
-fn push_diagnostic(
-    out: &mut String,
-    explanation: &Explanation,
-    diagnostic: &Diagnostic,
-) -> Result<(), AllocError> {
-    push_heading(out, diagnostic)?;
-    push_place(out, explanation.file.as_str(), diagnostic)?;
-    push_marks(out, explanation.text.as_str(), &diagnostic.marks)?;
+fn add_diagnostic(out: &mut Draft, explanation: &Explanation, diagnostic: &Diagnostic) {
+    add_heading(out, diagnostic);
+    add_place(out, explanation.file.as_str(), diagnostic);
+    add_marks(out, explanation.text.as_str(), &diagnostic.marks);
     for note in &diagnostic.notes {
-        push_note(out, "", note.as_str())?;
+        add_note(out, "", note.as_str());
     }
     if let Some(hint) = &diagnostic.hint {
-        push_note(out, "hint: ", hint.as_str())?;
+        add_note(out, "hint: ", hint.as_str());
     }
-    Ok(())
 }
 
 impl Explanation {
@@ -69,14 +66,15 @@ impl Explanation {
     ///
     /// Fails only when out of memory.
     pub fn to_lines(&self, alloc: Global) -> Result<String, AllocError> {
-        let mut out = String::new(alloc);
+        let mut out = Draft::new(alloc);
         for diagnostic in &self.diagnostics {
-            push_diagnostic(&mut out, self, diagnostic)?;
+            add_diagnostic(&mut out, self, diagnostic);
         }
-        let more = self.more;
-        if more > 0 {
-            write!(out, "and {more} more\n")?;
+        if self.more > 0 {
+            out.add("and ");
+            out.add_display(self.more);
+            out.add(" more\n");
         }
-        Ok(out)
+        out.done()
     }
 }

@@ -3,7 +3,8 @@ ghost use Rattle.std.specs.Prelude.{◌≡◌, IfNone, IfOk, IfSome, IsSome, Non
 ghost use Rattle.std.specs.Str.{IsUtf8};
 ghost use Rattle.serde_json.specs.Read.{read as read_text};
 
-use crate::diagnostic::{Diagnostic, Explanation};
+use crate::diagnostic::Explanation;
+use crate::diagnostic_draft::DiagnosticDraft;
 use base_places::Place;
 use serde_json::Value;
 use std::alloc::{AllocError, Global};
@@ -50,24 +51,21 @@ pub fn explain_json(
     let Some(at) = json_offset(alloc, &bytes)? else {
         return Ok(None);
     };
-    let mut diagnostic = Diagnostic::error(alloc, number, "the file is not JSON");
+    let mut diagnostic = DiagnosticDraft::error(alloc, number, "the file is not JSON");
     diagnostic.place = Some(Place::of(&bytes, at));
     let text = match String::from_utf8(bytes) {
         Ok(text) => text,
         Err(fault) => {
             drop(fault.into_bytes());
-            diagnostic.advise(alloc, "save the file as UTF-8")?;
-            return Ok(Some(Explanation::of_one(alloc, file, diagnostic)?));
+            diagnostic.advise("save the file as UTF-8");
+            return diagnostic.alone(file).map(Some);
         }
     };
-    diagnostic.mark(alloc, at, at, "JSON cannot go on like this")?;
+    diagnostic.mark(at, at, "JSON cannot go on like this");
     if text.starts_with('\u{FEFF}') {
-        diagnostic.advise(
-            alloc,
-            "the file begins with a byte order mark: save it without one",
-        )?;
+        diagnostic.advise("the file begins with a byte order mark: save it without one");
     }
-    let mut explanation = Explanation::of_one(alloc, file, diagnostic)?;
+    let mut explanation = diagnostic.alone(file)?;
     explanation.text = text;
     Ok(Some(explanation))
 }

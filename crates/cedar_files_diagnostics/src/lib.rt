@@ -19,6 +19,7 @@ mod changes;
 mod counting_sink;
 mod data;
 mod diagnostic;
+mod diagnostic_draft;
 mod entities;
 mod excerpt;
 mod explain;

@@ -1,14 +1,14 @@
 //! Links files that are refused: the link, and the key.
 use crate::again::{links_of, policies_again};
-use crate::data::push_fault;
-use crate::diagnostic::{Diagnostic, Explanation};
+use crate::data::add_fault;
+use crate::diagnostic::Explanation;
+use crate::diagnostic_draft::DiagnosticDraft;
 use crate::item_place::item_place;
 use crate::words::words_of;
 use cedar_ast::{Link, LinkFault, PolicySet};
 use cedar_conform_diagnostics::refused_link;
 use cedar_files::Files;
 use std::alloc::{AllocError, Global};
-use std::fmt::Write;
 
 /// Enters links after policies, up to the first that is refused, and gives its position, from 0. None if all are entered.
 pub(crate) fn first_refused(
@@ -26,19 +26,17 @@ pub(crate) fn first_refused(
 }
 
 // Adds which item of the list is the link, and where it begins.
-fn push_position(
-    diagnostic: &mut Diagnostic,
-    bytes: &[u8],
-    position: usize,
-) -> Result<(), AllocError> {
+fn add_position(diagnostic: &mut DiagnosticDraft, bytes: &[u8], position: usize) {
     diagnostic.place = item_place(bytes, position);
-    write!(diagnostic.part, "link {position} (from 0)")
+    diagnostic.part.add("link ");
+    diagnostic.part.add_display(position);
+    diagnostic.part.add(" (from 0)");
 }
 
 // Adds the first link that the policies refuse.
-fn push_refused<F: Files>(
+fn add_refused<F: Files>(
     alloc: Global,
-    diagnostic: &mut Diagnostic,
+    diagnostic: &mut DiagnosticDraft,
     files: &F,
     links: &[Link],
     bytes: &[u8],
@@ -51,25 +49,24 @@ fn push_refused<F: Files>(
     let Some(position) = refused? else {
         return Ok(());
     };
-    push_position(diagnostic, bytes, position)?;
+    add_position(diagnostic, bytes, position);
     if let Some(link) = links.get(position) {
         let id = link.id.as_str();
         let template = link.template.as_str();
-        let says = format!(in alloc; "link `{id}` of template `{template}`")?;
-        diagnostic.note(alloc, says.as_str())?;
+        diagnostic.note(&["link `", id, "` of template `", template, "`"]);
     }
     Ok(())
 }
 
 // Adds the first link that is not written as one.
-fn push_malformed(
+fn add_malformed(
     alloc: Global,
-    diagnostic: &mut Diagnostic,
+    diagnostic: &mut DiagnosticDraft,
     bytes: &[u8],
 ) -> Result<(), AllocError> {
     if let Some(refused) = refused_link(alloc, bytes)? {
-        push_position(diagnostic, bytes, refused.position)?;
-        push_fault(alloc, diagnostic, &refused.fault)?;
+        add_position(diagnostic, bytes, refused.position);
+        add_fault(diagnostic, &refused.fault);
     }
     Ok(())
 }
@@ -85,11 +82,11 @@ pub fn explain_links<F: Files>(
     let Some((reason, hint)) = words_of(number) else {
         return Ok(None);
     };
-    let mut diagnostic = Diagnostic::error(alloc, number, reason);
-    diagnostic.advise(alloc, hint)?;
+    let mut diagnostic = DiagnosticDraft::error(alloc, number, reason);
+    diagnostic.advise(hint);
     match links_of(alloc, bytes)? {
-        Some(links) => push_refused(alloc, &mut diagnostic, files, &links, bytes)?,
-        None => push_malformed(alloc, &mut diagnostic, bytes)?,
+        Some(links) => add_refused(alloc, &mut diagnostic, files, &links, bytes)?,
+        None => add_malformed(alloc, &mut diagnostic, bytes)?,
     }
-    Ok(Some(Explanation::of_one(alloc, file, diagnostic)?))
+    diagnostic.alone(file).map(Some)
 }

@@ -1,11 +1,9 @@
 //! What is said beside explanations: of files that cannot be read, and of request lines that were refused.
 use crate::counting_sink::LineCounts;
 use crate::format::Format;
-use crate::json_lines::{push_value, put, shown};
-use base_places::push_shown;
-use serde_json::{Map, Value};
+use crate::json_lines::{add_line, add_shown};
+use base_places::{Draft, JsonDraft};
 use std::alloc::{AllocError, Global};
-use std::fmt::Write;
 
 /// The number of a request line that is not JSON.
 const NOT_JSON: usize = 501;
@@ -19,12 +17,14 @@ const ONE_LINE: &str =
 
 // A message as a JSON object of a line.
 fn json_line(alloc: Global, severity: &str, reason: &str) -> Result<String, AllocError> {
-    let mut object = Map::new(alloc);
-    put(alloc, &mut object, "reason", shown(alloc, reason)?)?;
-    put(alloc, &mut object, "severity", shown(alloc, severity)?)?;
-    let mut line = String::new(alloc);
-    push_value(alloc, &mut line, Value::Object(object))?;
-    Ok(line)
+    let mut json = JsonDraft::new(alloc);
+    json.begin_object();
+    add_shown(alloc, &mut json, "reason", reason);
+    add_shown(alloc, &mut json, "severity", severity);
+    json.end_object();
+    let mut line = Draft::new(alloc);
+    add_line(&mut line, json);
+    line.done()
 }
 
 /// Says that a refusal is not explained, since the files cannot be read again.
@@ -43,23 +43,25 @@ pub fn unreadable(
     file: &str,
     reason: &str,
 ) -> Result<String, AllocError> {
-    let mut line = String::new(alloc);
+    let mut line = Draft::new(alloc);
     match format {
         Format::Human => {
-            write!(line, "  {option} ")?;
-            push_shown(&mut line, file)?;
-            write!(line, ": {reason}\n")?;
+            line.add_all(&["  ", option, " "]);
+            line.add_shown(file);
+            line.add_all(&[": ", reason, "\n"]);
         }
         Format::Json => {
-            let mut object = Map::new(alloc);
-            put(alloc, &mut object, "file", shown(alloc, file)?)?;
-            put(alloc, &mut object, "option", shown(alloc, option)?)?;
-            put(alloc, &mut object, "reason", shown(alloc, reason)?)?;
-            put(alloc, &mut object, "severity", shown(alloc, "error")?)?;
-            push_value(alloc, &mut line, Value::Object(object))?;
+            let mut json = JsonDraft::new(alloc);
+            json.begin_object();
+            add_shown(alloc, &mut json, "file", file);
+            add_shown(alloc, &mut json, "option", option);
+            add_shown(alloc, &mut json, "reason", reason);
+            add_shown(alloc, &mut json, "severity", "error");
+            json.end_object();
+            add_line(&mut line, json);
         }
     }
-    Ok(line)
+    line.done()
 }
 
 /// Says how many policies no request can satisfy; nothing if there is none.
@@ -68,21 +70,15 @@ pub fn impossible_policies(
     format: Format,
     count: usize,
 ) -> Result<String, AllocError> {
-    let mut says = String::new(alloc);
     if count == 0 {
-        return Ok(says);
+        return Ok(String::new(alloc));
     }
-    if count == 1 {
-        write!(
-            says,
-            "no request can satisfy 1 policy (650): `cedar validate` says which"
-        )?;
-    } else {
-        write!(
-            says,
-            "no request can satisfy {count} policies (650): `cedar validate` says which"
-        )?;
-    }
+    let mut says = Draft::new(alloc);
+    says.add("no request can satisfy ");
+    says.add_display(count);
+    says.add(if count == 1 { " policy" } else { " policies" });
+    says.add(" (650): `cedar validate` says which");
+    let says = says.done()?;
     match format {
         Format::Human => format!(in alloc; "cedar: {says}\n"),
         Format::Json => json_line(alloc, "warning", says.as_str()),
@@ -95,31 +91,28 @@ pub fn refused_lines(
     format: Format,
     counts: LineCounts,
 ) -> Result<String, AllocError> {
-    let mut says = String::new(alloc);
     let Some(first) = counts.first else {
-        return Ok(says);
+        return Ok(String::new(alloc));
     };
     let refused = counts.refused;
     let lines = counts.lines;
     let line = first.line;
     let number = first.number;
+    let reason = format!(in alloc;
+        "{refused} of {lines} lines refused, the first is line {line} ({number})"
+    )?;
     if format == Format::Json {
-        let reason = format!(in alloc;
-            "{refused} of {lines} lines refused, the first is line {line} ({number})"
-        )?;
         return json_line(alloc, "note", reason.as_str());
     }
-    write!(
-        says,
-        "cedar: {refused} of {lines} lines refused, the first is line {line} ({number})\n"
-    )?;
+    let mut says = Draft::new(alloc);
+    says.add_all(&["cedar: ", reason.as_str(), "\n  hint: "]);
     if number == NOT_JSON {
-        write!(says, "  hint: {ONE_LINE}\n")?;
+        says.add(ONE_LINE);
     } else {
-        write!(
-            says,
-            "  hint: `cedar explain {number}`, or `--explain-lines` for each line\n"
-        )?;
+        says.add("`cedar explain ");
+        says.add_display(number);
+        says.add("`, or `--explain-lines` for each line");
     }
-    Ok(says)
+    says.add_char('\n');
+    says.done()
 }

@@ -1,5 +1,5 @@
 //! The statement in which a policy is written.
-use crate::diagnostic::Diagnostic;
+use crate::diagnostic_draft::DiagnosticDraft;
 use crate::excerpt::first_of;
 use crate::fault_part::Checked;
 use crate::statement_places::StatementPlaces;
@@ -67,17 +67,17 @@ impl<'s> OwnStatement<'s> {
     }
 
     /// Says from which template the policy is linked, if it is.
-    pub(crate) fn push_link(
-        self,
-        alloc: Global,
-        diagnostic: &mut Diagnostic,
-    ) -> Result<(), AllocError> {
-        let Some(template) = self.template else {
-            return Ok(());
-        };
-        let policy = first_of(self.policy, MOST_OF_ID);
-        let template = first_of(template, MOST_OF_ID);
-        let says = format!(in alloc; "policy `{policy}` is a link of template `{template}`")?;
-        diagnostic.note(alloc, says.as_str())
+    pub(crate) fn note_link(self, diagnostic: &mut DiagnosticDraft) {
+        if let Some(template) = self.template {
+            let policy = first_of(self.policy, MOST_OF_ID);
+            let template = first_of(template, MOST_OF_ID);
+            diagnostic.note(&[
+                "policy `",
+                policy,
+                "` is a link of template `",
+                template,
+                "`",
+            ]);
+        }
     }
 }

@@ -6,7 +6,8 @@ ghost use Rattle.cedar_parser.specs.PolicyText.{HasFault, IsPolicyText};
 ghost use Rattle.cedar_parser_tokens.specs.Faults.{offset_of};
 
 use crate::again::tokens_again;
-use crate::diagnostic::{Diagnostic, Explanation};
+use crate::diagnostic::Explanation;
+use crate::diagnostic_draft::DiagnosticDraft;
 use crate::policy_words::{hint_of, mark_of, reason_of};
 use crate::second_place::{SecondPlace, before_unexpected, second_place};
 use crate::token_words::{meant_by_character, meant_by_word, unexpected};
@@ -61,7 +62,7 @@ pub fn explain_policies(
         Ok(text) => explain_text(alloc, file, text),
         Err(fault) => {
             let bytes = fault.into_bytes();
-            Ok(Some(explain_bytes(alloc, file, &bytes)?))
+            explain_bytes(alloc, file, &bytes).map(Some)
         }
     }
 }
@@ -74,10 +75,8 @@ fn explain_text(
     let Some(found) = policy_place(alloc, text.as_str())? else {
         return Ok(None);
     };
-    let mut explanation = Explanation::new(alloc, file)?;
-    explanation
-        .diagnostics
-        .push(diagnostic_of(alloc, text.as_str(), found)?)?;
+    let diagnostic = diagnostic_of(alloc, text.as_str(), found)?;
+    let mut explanation = diagnostic.alone(file)?;
     explanation.text = text;
     Ok(Some(explanation))
 }
@@ -93,47 +92,49 @@ fn hint_for(text: &str, fault: ParseFault) -> Option<&'static str> {
 }
 
 // Marks the second place and adds the hint, as far as there are these.
-fn push_rest(
-    alloc: Global,
-    diagnostic: &mut Diagnostic,
+fn add_rest(
+    diagnostic: &mut DiagnosticDraft,
     second: Option<SecondPlace>,
     hint: Option<&'static str>,
-) -> Result<(), AllocError> {
+) {
     if let Some(second) = second {
-        diagnostic.mark(alloc, second.at, second.at, second.says)?;
+        diagnostic.mark(second.at, second.at, second.says);
     }
     if let Some(hint) = hint {
-        diagnostic.advise(alloc, hint)?;
+        diagnostic.advise(hint);
     }
-    Ok(())
 }
 
 // Marks the token at a place where it is not allowed, and what explains it. The text is cut into tokens once for all of this.
-fn push_unexpected(
+fn add_unexpected(
     alloc: Global,
-    diagnostic: &mut Diagnostic,
+    diagnostic: &mut DiagnosticDraft,
     text: &str,
     at: usize,
 ) -> Result<(), AllocError> {
     let found = tokens_again(alloc, text)?;
-    let says = unexpected(alloc, &found, at)?;
-    diagnostic.mark(alloc, at, at, says.as_str())?;
     let second = before_unexpected(alloc, &found, at)?;
-    push_rest(alloc, diagnostic, second, meant_by_word(&found, at))
+    diagnostic.mark_made(at, at, unexpected(alloc, &found, at));
+    add_rest(diagnostic, second, meant_by_word(&found, at));
+    Ok(())
 }
 
 // What is explained of a fault of a text.
-fn diagnostic_of(alloc: Global, text: &str, found: PolicyPlace) -> Result<Diagnostic, AllocError> {
+fn diagnostic_of(
+    alloc: Global,
+    text: &str,
+    found: PolicyPlace,
+) -> Result<DiagnosticDraft, AllocError> {
     let fault = found.fault;
-    let mut diagnostic = Diagnostic::error(alloc, fault.number(), reason_of(fault));
+    let mut diagnostic = DiagnosticDraft::error(alloc, fault.number(), reason_of(fault));
     diagnostic.place = Some(found.place);
     if let ParseFault::Syntax(at) = fault {
-        push_unexpected(alloc, &mut diagnostic, text, at)?;
+        add_unexpected(alloc, &mut diagnostic, text, at)?;
         return Ok(diagnostic);
     }
-    diagnostic.mark(alloc, found.offset, found.offset, mark_of(fault))?;
+    diagnostic.mark(found.offset, found.offset, mark_of(fault));
     let second = second_place(alloc, text, fault)?;
-    push_rest(alloc, &mut diagnostic, second, hint_for(text, fault))?;
+    add_rest(&mut diagnostic, second, hint_for(text, fault));
     Ok(diagnostic)
 }
 
@@ -143,11 +144,8 @@ fn explain_bytes(alloc: Global, file: &str, bytes: &[u8]) -> Result<Explanation,
         Ok(text) => text.len(),
         Err(fault) => fault.valid_up_to(),
     };
-    let mut diagnostic = Diagnostic::error(alloc, 105, "the policy file is not UTF-8");
+    let mut diagnostic = DiagnosticDraft::error(alloc, 105, "the policy file is not UTF-8");
     diagnostic.place = Some(Place::of(bytes, at));
-    diagnostic.advise(
-        alloc,
-        "save the file as UTF-8: the byte there is part of no character",
-    )?;
-    Explanation::of_one(alloc, file, diagnostic)
+    diagnostic.advise("save the file as UTF-8: the byte there is part of no character");
+    diagnostic.alone(file)
 }

@@ -1,5 +1,6 @@
 //! Schema files that are refused: the path of the part, and what to write instead.
-use crate::diagnostic::{Diagnostic, Explanation};
+use crate::diagnostic::Explanation;
+use crate::diagnostic_draft::DiagnosticDraft;
 use crate::words::words_of;
 use cedar_schema_diagnostics::refused_part;
 use std::alloc::{AllocError, Global};
@@ -14,14 +15,15 @@ pub fn explain_schema(
     let Some((reason, hint)) = words_of(number) else {
         return Ok(None);
     };
-    let mut diagnostic = Diagnostic::error(alloc, number, reason);
-    diagnostic.advise(alloc, hint)?;
-    if let Some(refused) = refused_part(alloc, bytes, number)? {
-        diagnostic.part.push_str(refused.path.as_str())?;
-        diagnostic.note(alloc, refused.says.as_str())?;
+    let refused = refused_part(alloc, bytes, number)?;
+    let mut diagnostic = DiagnosticDraft::error(alloc, number, reason);
+    diagnostic.advise(hint);
+    if let Some(refused) = &refused {
+        diagnostic.part.add(refused.path.as_str());
+        diagnostic.note(&[refused.says.as_str()]);
         if let Some(hint) = &refused.hint {
-            diagnostic.advise(alloc, hint.as_str())?;
+            diagnostic.advise(hint.as_str());
         }
     }
-    Ok(Some(Explanation::of_one(alloc, file, diagnostic)?))
+    diagnostic.alone(file).map(Some)
 }

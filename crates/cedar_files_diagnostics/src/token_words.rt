@@ -1,6 +1,6 @@
 //! Words for the text at a place that the grammar does not allow.
 use crate::excerpt::first_of;
-use base_places::push_shown;
+use base_places::Draft;
 use cedar_text::{Token, TokenKind};
 use std::alloc::{AllocError, Global};
 
@@ -14,21 +14,21 @@ fn token_at<'t>(found: &[Token<'t>], at: usize) -> Option<Token<'t>> {
 
 /// What the mark says: the token that begins at an offset of a text that has these tokens, or the end of the text.
 pub fn unexpected(alloc: Global, found: &[Token<'_>], at: usize) -> Result<String, AllocError> {
-    let mut says = String::new(alloc);
+    let mut says = Draft::new(alloc);
     match token_at(found, at) {
         Some(token) => {
-            says.push_str("unexpected `")?;
+            says.add("unexpected `");
             let line = token.text.lines().next().unwrap_or(token.text);
             let shown = first_of(line, MOST);
-            push_shown(&mut says, shown)?;
+            says.add_shown(shown);
             if shown.len() < token.text.len() {
-                says.push_str("..")?;
+                says.add("..");
             }
-            says.push('`')?;
+            says.add_char('`');
         }
-        None => says.push_str("unexpected end of the text")?,
+        None => says.add("unexpected end of the text"),
     }
-    Ok(says)
+    says.done()
 }
 
 /// What is likely meant by the word at an offset of a text that has these tokens, which the grammar does not allow; or none.

@@ -1,5 +1,6 @@
 //! Words for the refusals of schemas, entities and links, by their numbers.
-use crate::diagnostic::{Diagnostic, Explanation};
+use crate::diagnostic::Explanation;
+use crate::diagnostic_draft::DiagnosticDraft;
 use std::alloc::{AllocError, Global};
 
 /// Why a file is refused with a number, and what to do about it. The numbers of policy texts have words of their own.
@@ -115,7 +116,7 @@ pub fn explain_number(
     let Some((reason, hint)) = words_of(number) else {
         return Ok(None);
     };
-    let mut diagnostic = Diagnostic::error(alloc, number, reason);
-    diagnostic.advise(alloc, hint)?;
-    Ok(Some(Explanation::of_one(alloc, file, diagnostic)?))
+    let mut diagnostic = DiagnosticDraft::error(alloc, number, reason);
+    diagnostic.advise(hint);
+    diagnostic.alone(file).map(Some)
 }

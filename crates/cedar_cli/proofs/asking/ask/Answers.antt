@@ -1,9 +1,9 @@
-use Rattle.std.specs.Prelude.{Result, Ok, Err, IfOk}
+use Rattle.std.proofs.Common.{inr}
+use Rattle.cedar_cli.proofs.Undecided.{mapped}
 use Rattle.cedar_cli.proofs.asking.ask.Goals as goal
 
-mapped : {T E : Type 0} {P Q : T → Type 0} → ((x : T) → P x → Q x) → (r : Result T E) → IfOk r P → IfOk r Q
-mapped f (Ok x) p = f x p
-mapped f (Err e) p = p
-
 pub returns : goal.returns
-returns g c = mapped (λ d h. (c.in_ok-ready.ready, c.in_ok-ready.ensures.held, h)) c.answer_line.result c.answer_line.ensures
+returns g c =
+    let ready = c.in_ok-ready.ready in
+    let held = c.in_ok-ready.ensures.held in
+    mapped (λ d h. (ready, held, h.0, h.1)) (λ end h. inr (ready, held, h)) c.answer_line.result (rw c.in_ok-ready.ensures.untouched at c.answer_line.ensures)

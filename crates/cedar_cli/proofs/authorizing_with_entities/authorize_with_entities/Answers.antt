@@ -1,32 +1,10 @@
-use Rattle.std.proofs.Common.{inl, inr, subst}
-use Rattle.cedar_check_spec.specs.declared.settings.Settings.{Settings}
-use Rattle.cedar_auth_spec.specs.Headline.{IsAnsweredSoundlyWith}
+use Rattle.std.proofs.Common.{inr}
 use Rattle.cedar_cli.proofs.authorizing_with_entities.authorize_with_entities.Goals as goal
 
-pub returns-in-Err-clause-stands : goal.returns-in-Err-clause-stands
-returns-in-Err-clause-stands g c = λ h.
-    elim (c.in-Err.ensures.stands h) [
-      | inl kept ↦ inl kept
-      | inr told ↦ elim told [
-        | inl refused ↦ inr (inl refused)
-        | inr reported ↦ inr (inr (inl reported))
-      ]
-    ]
-
-pub returns-clause-done : goal.returns-clause-done
-returns-clause-done g c = λ h. (
+pub returns-clause-ends : goal.returns-clause-ends
+returns-clause-ends g c = inr (
   c.in-Ok.ready,
   c.in-Ok.ensures.held,
-  (λ line q w d. subst (λ (settings : Settings). IsAnsweredSoundlyWith settings c.in-Ok.ready.policies.policies q w) c.in-Ok.ensures.held.settings_are
-      (c.lines_with_entities_are_answered_soundly.ensures line q w d)),
-  rw c.in-Ok.ensures.untouched at c.answer_with_entities-end.ensures.done h,
+  c.lines_with_entities_are_answered_soundly.ensures,
+  rw c.in-Ok.ensures.untouched at c.answer_with_entities-end.ensures,
 )
-
-pub returns-clause-stands : goal.returns-clause-stands
-returns-clause-stands g c = λ h. inr (inr (inr (c.in-Ok.ready, c.in-Ok.ensures.held, rw c.in-Ok.ensures.untouched at c.answer_with_entities-end.ensures.stands h)))
-
-pub returns-clause-stands_whole : goal.returns-clause-stands_whole
-returns-clause-stands_whole g c = λ h. inr (c.in-Ok.ready, c.in-Ok.ensures.held, rw c.in-Ok.ensures.untouched at c.answer_with_entities-end.ensures.stands_whole h)
-
-pub returns-clause-device : goal.returns-clause-device
-returns-clause-device g c = λ h. inr (inr (inr (inr (rw c.in-Ok.ensures.untouched at c.answer_with_entities-end.ensures.device h))))

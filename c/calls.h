@@ -1,0 +1,38 @@
+/* calls.h: what the C files of the library share: the memory of heap.c, and publications. It is not for programs. */
+#ifndef CEDAR_CALLS_H
+#define CEDAR_CALLS_H
+#include "cedar.h"
+
+#include <stdbool.h>
+
+/* Memory, as heap.c describes it. */
+typedef struct cedar_tried {
+    bool ok;
+    void *at;
+} cedar_tried;
+cedar_tried rattle_alloc(size_t size, size_t alignment);
+void rattle_dealloc(void *at);
+
+/* What is published to a handle: files, entities, or changes of entities. `files` has the schema, by which a refusal is put in words, and
+ * what is published but changes. */
+typedef struct cedar_publication {
+    enum { CEDAR_ALL_FILES, CEDAR_NEW_ENTITIES, CEDAR_SOME_CHANGES } kind;
+    cedar_files files;
+    cedar_bytes changes;
+} cedar_publication;
+
+/* Whether bytes have an address, or no length. */
+static inline bool cedar_are_bytes(cedar_bytes bytes) { return bytes.at || bytes.length == 0; }
+
+/* Whether a buffer is null, or has an address, or no room. */
+static inline bool cedar_is_room(const cedar_buffer *text) { return !text || text->at || text->room == 0; }
+
+/* Whether files have a size that is known, and addresses. */
+bool cedar_are_files(const cedar_files *files);
+
+/* Whether a refusal is null, or has a size and wants that are known. */
+bool cedar_is_refusal(const cedar_refusal *refusal);
+
+/* Publishes to a handle, and says why what is published is refused. The arguments are right. */
+uint32_t cedar_publish_this(cedar_engine *engine, const cedar_publication *publication, cedar_refusal *refusal, cedar_buffer *text);
+#endif

@@ -185,16 +185,21 @@ static size_t put(char *to, const void *from, size_t length) {
     return length;
 }
 
-/* Writes bytes as a JSON string. */
+/* Writes bytes as a JSON string: those that need none without an escape, as many at a time as there are. */
 static size_t put_string(char *to, cedar_bytes text) {
     static const char DIGITS[] = "0123456789abcdef";
-    size_t at = put(to, "\"", 1);
+    const unsigned char *bytes = text.at;
+    size_t at = put(to, "\"", 1), plain = 0;
     for (size_t i = 0; i < text.length; i++) {
-        unsigned char byte = ((const unsigned char *)text.at)[i];
-        char escape[] = {'\\', 'u', '0', '0', DIGITS[byte >> 4], DIGITS[byte & 15]};
-        bool is_escaped = byte < 0x20 || byte == '"' || byte == '\\';
-        at += put(to ? to + at : NULL, is_escaped ? (const void *)escape : &byte, is_escaped ? sizeof escape : 1);
+        unsigned char byte = bytes[i];
+        if (byte < 0x20 || byte == '"' || byte == '\\') {
+            char escape[] = {'\\', 'u', '0', '0', DIGITS[byte >> 4], DIGITS[byte & 15]};
+            at += put(to ? to + at : NULL, bytes + plain, i - plain);
+            at += put(to ? to + at : NULL, escape, sizeof escape);
+            plain = i + 1;
+        }
     }
+    at += put(to ? to + at : NULL, text.length ? bytes + plain : NULL, text.length - plain);
     return at + put(to ? to + at : NULL, "\"", 1);
 }
 

@@ -18,9 +18,10 @@
  * Memory: a call reads its bytes only while it runs, and keeps none of them. No argument that is written overlaps another. Handles are
  * not copied. The library asks malloc, realloc and free for memory (c/heap.c). A call that returns CEDAR_MEMORY has changed nothing.
  *
- * Stack: 4 MiB for calls whose name has `explain` and for those that are to give words (cedar_refusal), 512 KiB for those that publish,
- * change, validate, share or free, 64 KiB for the other calls. Do not call from a signal handler, nor in the forked child of a process with
- * several threads. No call starts a thread or reads a file. Only those that publish to a cedar_shared wait: for one another. */
+ * Stack: 4 MiB for cedar_explain, cedar_explain_changes and those calls that are to give words (cedar_refusal), 512 KiB for those that
+ * publish, change, validate, share, free, or explain a request or a line, 64 KiB for the other calls. Do not call from a signal handler, nor
+ * in the forked child of a process with several threads. No call starts a thread or reads a file, and only calls over a cedar_shared wait, as
+ * is said there. */
 #ifndef CEDAR_H
 #define CEDAR_H
 #include <stddef.h>
@@ -142,7 +143,7 @@ const char *cedar_status_text(uint32_t status);
  * call has a handle of its own, and the handles are made by those who publish. Only where more calls run at once than ever before is a
  * handle made under a lock, which is held for nothing longer. At most 64 handles are kept.
  *
- * A call is answered by a version that was current while it ran. After a call that publishes has returned, the new version is current.
+ * Calls that publish wait for one another. A call is answered by a version that was current while it ran. After a call that publishes has returned, the new version is current.
  * The old one is freed with its last call, on the thread of that call. */
 uint32_t cedar_shared_new(cedar_shared **shared);
 

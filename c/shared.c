@@ -50,6 +50,7 @@ typedef struct handle {
     cedar_engine engine;
     version *version;
     uint64_t number;
+    bool is_seed; /* made by a publisher, and not used yet */
 } handle;
 
 /* A place, on a cache line of its own. */
@@ -161,7 +162,7 @@ static void version_release(version *it) {
 static handle *handle_new(cedar_shared *shared) {
     handle *made = block(sizeof *made);
     if (made) {
-        *made = (handle){{NULL}, NULL, NOTHING};
+        *made = (handle){.number = NOTHING};
         if (cedar_new(&made->engine) == CEDAR_OK) {
             retain(&shared->handles);
             return made;
@@ -179,9 +180,9 @@ static void handle_free(cedar_shared *shared, handle *it) {
     version_release(of);
 }
 
-/* Has a handle lead to a version. Nobody else uses the main handle of that version meanwhile. */
-static uint32_t lead(handle *it, version *to, uint64_t number) {
-    uint32_t status = cedar_share(&to->main, &it->engine);
+/* Has a handle lead to a version, to which an engine leads that nobody else uses meanwhile. */
+static uint32_t lead(handle *it, cedar_engine *from, version *to, uint64_t number) {
+    uint32_t status = cedar_share(from, &it->engine);
     if (status == CEDAR_OK) {
         retain(&to->count);
         it->version = to;
@@ -229,8 +230,9 @@ static uint32_t renewed(cedar_shared *shared, handle *it, handle **taken) {
         return CEDAR_MEMORY;
     }
     version *old = it->version;
+    it->is_seed = false;
     pthread_mutex_lock(&shared->lock);
-    uint32_t status = shared->current ? lead(it, shared->current, atomic_load(&shared->number)) : CEDAR_CLOSED;
+    uint32_t status = shared->current ? lead(it, &shared->current->main, shared->current, atomic_load(&shared->number)) : CEDAR_CLOSED;
     pthread_mutex_unlock(&shared->lock);
     if (status != CEDAR_OK) {
         handle_free(shared, it);
@@ -239,6 +241,22 @@ static uint32_t renewed(cedar_shared *shared, handle *it, handle **taken) {
     version_release(old);
     *taken = it;
     return CEDAR_OK;
+}
+
+/* A handle of this thread's own in place of one that a publisher has made, or that one without memory. What the proved part writes for a
+ * handle is then in memory that this thread has asked for, away from that of others: two threads that write to one cache line take twice the
+ * time. */
+static handle *of_seed(cedar_shared *shared, handle *seed) {
+    handle *own = handle_new(shared);
+    seed->is_seed = false;
+    if (!own || lead(own, &seed->engine, seed->version, seed->number) != CEDAR_OK) {
+        if (own) {
+            handle_free(shared, own);
+        }
+        return seed;
+    }
+    handle_free(shared, seed);
+    return own;
 }
 
 /* Takes a handle of a version that is current now. */
@@ -256,7 +274,7 @@ static uint32_t take(cedar_shared *shared, handle **taken) {
         it = picked(&side[(first + i) % PLACES]);
     }
     if (it && it->number == number) {
-        *taken = it;
+        *taken = it->is_seed ? of_seed(shared, it) : it;
         return CEDAR_OK;
     }
     return renewed(shared, it, taken);
@@ -292,7 +310,8 @@ static void fill(cedar_shared *shared, version *next, uint64_t number) {
         if (!it) {
             return;
         }
-        bool is_there = lead(it, next, number) == CEDAR_OK && is_put(&side[at], it);
+        it->is_seed = true;
+        bool is_there = lead(it, &next->main, next, number) == CEDAR_OK && is_put(&side[at], it);
         if (!is_there) {
             handle_free(shared, it);
         }

@@ -6,8 +6,7 @@ it changes fails there, and it is not where all of them are still proved. The pr
 proof failed; an edit of such a function is judged in a later check. One of text outside of functions is judged alone: over the modules
 that it changes, and if these are still proved, over the whole crate.
 
-The first check begins with what `rt check` has kept of the crate in this checkout, if it has, and each later one with what those before
-it have kept."""
+Each check begins with what those before it have kept of the crate in this checkout, and the first with what `rt check` has kept."""
 import os
 import re
 import shutil
@@ -31,6 +30,8 @@ LOST_NAME = re.compile(r'has no field|is not in scope|has no `|was not admitted'
 HEAD = re.compile(r'(?:unsafe )?impl(<.*?(?<!-)>)? (?:(.*) for )?(.*)')
 PARAMETER = re.compile(r'[<,] *(\w+)(?=[:,>])')
 WORD = re.compile(r"(?<!['\w])\w+(?!\w|::)")
+# The attribute that names the cycle of calls of a function.
+CYCLE = re.compile(r'\s*#\[cycle\((\w+)\)\]')
 # A check judges at most so many edits, so that what it finds is entered before long.
 MOST = 12
 PROVED, FAILED, LOST, WAITS = 'proved', 'failed', 'lost', 'waits'
@@ -67,14 +68,19 @@ class Check:
         goals += [goal[1] for goal in map(GOAL.search, rows) if goal]
         if goals:
             return FAILED, goals[0]
-        errors = [said for folder, said in IN_PROOF.findall(self.said) if is_name_of(folder.replace('/', '::'), function)]
+        errors = [said for folder, said in IN_PROOF.findall(self.said)
+                  if is_name_of(folder.replace('/', '::'), function) or os.path.basename(folder) == '+' + cycle_of(function)]
         if errors and 'not proved' in rows:
             return (LOST, '') if all(map(LOST_NAME.search, errors)) else (FAILED, 'proof')
         return WAITS, ''
 
     def failing(self):
         """The functions whose own proof failed, each with its goal."""
-        return [(name, goal[1]) for name, said in VERDICT.findall(self.said) for goal in [GOAL.search(said)] if goal]
+        errors = {}
+        for folder, said in IN_PROOF.findall(self.said):
+            errors.setdefault(folder.replace('/', '::'), []).append(said)
+        return [(name, goal[1]) for name, said in VERDICT.findall(self.said) for goal in [GOAL.search(said)] if goal] + \
+               [(name, 'proof') for name, said in errors.items() if not all(map(LOST_NAME.search, said))]
 
 
 def path_in(function):
@@ -108,6 +114,15 @@ def is_name_of(name, function):
     return ('::' + name).endswith('::' + name_of(function))
 
 
+def cycle_of(function):
+    """The name of the cycle of calls that a function is in, whose functions have one proof, or its own name."""
+    for line in reversed(function.file.text.split('\n')[:function.line - 1]):
+        found = CYCLE.match(line)
+        if found or not line.strip() or line.endswith(('{', '}')):
+            break
+    return found[1] if found else function.name
+
+
 def names_of(house, edits):
     """The names of the functions that edits change, as the prover writes them."""
     return sorted({name_of(it) for edit in edits for it in edit.changed(house) if it})
@@ -127,6 +142,15 @@ def check(crate, texts, only, kept):
         ran = subprocess.run([rattle(), 'check', *words(crate), *paths, '--incremental', kept], cwd=room, stdin=subprocess.DEVNULL,
                              stdout=subprocess.PIPE, stderr=subprocess.STDOUT, encoding='utf-8', errors='replace', check=False)
     return Check(ran.returncode, ran.stdout)
+
+
+def begun(crate):
+    """The folder of what checks of a crate with edits keep, in this checkout. It begins with what `rt check` has kept of the crate here."""
+    kept, own = (os.path.join(TOP, 'crates', crate, 'out', it) for it in ('edits', 'incremental'))
+    if not os.path.isdir(kept) and os.path.isdir(own):
+        shutil.copytree(own, kept, symlinks=True, copy_function=linked)
+    os.makedirs(kept, exist_ok=True)
+    return kept
 
 
 def linked(one, other):
@@ -153,11 +177,11 @@ def merged(edits):
 
 
 def batch_of(house, edits):
-    """The first edits of a list that change different functions, and no text outside of functions."""
+    """The first edits of a list that change different functions, of different cycles of calls, and no text outside of functions."""
     taken, batch = set(), []
     for edit in edits:
         its = edit.changed(house)
-        keys = {(it.file.file, it.label()) for it in its if it}
+        keys = {key for it in its if it for key in ((it.file.file, it.label()), (cycle_of(it),))}
         if None not in its and not keys & taken:
             taken |= keys
             batch.append(edit)
@@ -193,26 +217,23 @@ def alone(house, edit, kept):
 
 def tries(house, crate, edits):
     """Judges edits of a crate, and gives each verdict as it is found."""
-    own = os.path.join(TOP, 'crates', crate, 'out', 'incremental')
-    with tempfile.TemporaryDirectory(prefix='edits-') as kept:
-        if os.path.isdir(own):
-            shutil.copytree(own, kept, symlinks=True, copy_function=linked, dirs_exist_ok=True)
-        left, single = [it for it in edits if None not in it.changed(house)], [it for it in edits if None in it.changed(house)]
-        most = MOST
-        while left:
-            batch = batch_of(house, left)[:most]
-            found = check(crate, merged(batch), names_of(house, batch), kept)
-            verdicts = verdicts_of(house, batch, found)
-            yield from verdicts
-            done = [it.edit for it in verdicts]
-            # A check that says nothing of any edit is made again with half of them, and one edit of which it says nothing is judged alone.
-            if not done and len(batch) == 1:
-                done = batch
-                single += batch
-            most = MOST if done else len(batch) // 2
-            left = [it for it in left if it not in done]
-        for edit in single:
-            yield alone(house, edit, kept)
+    kept = begun(crate)
+    left, single = [it for it in edits if None not in it.changed(house)], [it for it in edits if None in it.changed(house)]
+    most = MOST
+    while left:
+        batch = batch_of(house, left)[:most]
+        found = check(crate, merged(batch), names_of(house, batch), kept)
+        verdicts = verdicts_of(house, batch, found)
+        yield from verdicts
+        done = [it.edit for it in verdicts]
+        # A check that says nothing of any edit is made again with half of them, and one edit of which it says nothing is judged alone.
+        if not done and len(batch) == 1:
+            done = batch
+            single += batch
+        most = MOST if done else len(batch) // 2
+        left = [it for it in left if it not in done]
+    for edit in single:
+        yield alone(house, edit, kept)
 
 
 def verdicts_of(house, batch, found):

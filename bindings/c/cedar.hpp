@@ -14,6 +14,8 @@
 #include <charconv>
 #include <cstddef>
 #include <cstdint>
+#include <functional>
+#include <initializer_list>
 #include <memory>
 #include <new>
 #include <optional>
@@ -87,13 +89,18 @@ public:
     std::string report, words;
 };
 
-/* A request is refused, so nothing was decided. `number` is one of docs/REFUSALS.md, `words` explains it to people. */
+/* A request is refused, so nothing was decided. `number` is one of docs/REFUSALS.md. `words` explains it to people: it makes the words when
+ * it is called, since that may take a thousand times as long as a decision. They are empty where the engine is closed, or where other files
+ * have been published by which the request is not refused with this number. */
 class RequestRefusal : public Error {
 public:
-    RequestRefusal(std::uint32_t refused, const std::string &why)
-        : Error(CEDAR_NO_REQUEST, why.empty() ? "cedar: the request is refused: " + std::to_string(refused) : why), number(refused), words(what()) {}
+    RequestRefusal(std::uint32_t refused, std::function<std::string()> explain)
+        : Error(CEDAR_NO_REQUEST, "cedar: the request is refused: " + std::to_string(refused)), number(refused), explain_(std::move(explain)) {}
+    std::string words() const { return explain_(); }
     std::uint32_t number;
-    std::string words;
+
+private:
+    std::function<std::string()> explain_;
 };
 
 /* The files of an engine, as texts. Without a file of links `links` is empty. */
@@ -143,6 +150,15 @@ inline cedar_files raw(const Files &files) {
 inline cedar_request raw(const Request &it) {
     return {sizeof(cedar_request), bytes(it.principal.type), bytes(it.principal.id), bytes(it.action.type),
             bytes(it.action.id),   bytes(it.resource.type),  bytes(it.resource.id),  bytes(it.context)};
+}
+
+/* Copies of the parts of a request. */
+inline std::vector<std::string> copies(const cedar_request &it) {
+    std::vector<std::string> parts;
+    for (cedar_bytes part : {it.principal_type, it.principal_id, it.action_type, it.action_id, it.resource_type, it.resource_id, it.context}) {
+        parts.push_back(part.length ? string(part) : std::string());
+    }
+    return parts;
 }
 
 /* Throws what a status means, unless it is CEDAR_OK. */
@@ -429,9 +445,16 @@ private:
         if (status != CEDAR_NO_REQUEST) {
             return detail::check(status);
         }
-        throw RequestRefusal(decision.refused, detail::text_of(1024, [&](cedar_buffer &buffer) {
-            return cedar_shared_explain_request(open(), &request, decision.refused, CEDAR_WORDS, &buffer);
-        }));
+        cedar_shared_retain(open());
+        std::shared_ptr<cedar_shared> shared(open(), Free());
+        throw RequestRefusal(decision.refused, [shared, number = decision.refused, parts = detail::copies(request)] {
+            cedar_request copy = detail::raw({{parts[0], parts[1]}, {parts[2], parts[3]}, {parts[4], parts[5]}, parts[6]});
+            std::string text;
+            detail::grown(text, 1024, [&](cedar_buffer &buffer) {
+                return cedar_shared_explain_request(shared.get(), &copy, number, CEDAR_WORDS, &buffer);
+            });
+            return text;
+        });
     }
 
     template <class Call> std::string answered(Call call, std::size_t room, std::string_view lines) const {

@@ -170,11 +170,11 @@ func TestByParts(t *testing.T) {
 			isAllowed, otherErr := engine.Decide(context.Background(), request)
 			got := written(response)
 			var refusal, other *RequestRefusal
-			if errors.As(err, &refusal) && errors.As(otherErr, &other) && *refusal == *other {
+			if errors.As(err, &refusal) && errors.As(otherErr, &other) && refusal.Number == other.Number && refusal.Words() == other.Words() {
 				got = fmt.Sprintf(`{"refused":%d}`, refusal.Number)
 				words, err := engine.ExplainLine([]byte(line))
-				if err != nil || words != refusal.Words || !strings.HasPrefix(words, fmt.Sprintf("error[%d]: ", refusal.Number)) {
-					t.Error(err, line, words, refusal.Words)
+				if err != nil || words != refusal.Words() || !strings.HasPrefix(words, fmt.Sprintf("error[%d]: ", refusal.Number)) {
+					t.Error(err, line, words, refusal.Words())
 				}
 			} else if err != nil || otherErr != nil {
 				t.Error(err, otherErr)
@@ -195,7 +195,7 @@ func TestWordsOfRequests(t *testing.T) {
 	_, err := engine.Decide(context.Background(), request)
 	var refusal *RequestRefusal
 	wanted := "error[510]: an action is not declared\n --> request\n   = action: Action::\"fly\" is not declared\n"
-	if !errors.As(err, &refusal) || refusal.Number != 510 || refusal.Words != wanted || err.Error() != strings.TrimSpace(wanted) {
+	if !errors.As(err, &refusal) || refusal.Number != 510 || refusal.Words() != wanted || err.Error() != strings.TrimSpace(wanted) {
 		t.Error(err)
 	}
 	line := `{"principal":"User::\"ann\"","action":"Action::\"write\"","resource":"Notebook::\"plans\""`
@@ -212,6 +212,9 @@ func TestWordsOfRequests(t *testing.T) {
 	engine.Close()
 	if _, err := engine.ExplainLine(brings); !errors.Is(err, ErrClosed) {
 		t.Error(err)
+	}
+	if refusal.Words() != "" || refusal.Error() != "bobbinjade: the request is refused: 510" {
+		t.Error(refusal)
 	}
 }
 

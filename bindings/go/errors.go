@@ -50,14 +50,26 @@ func (f *Faults) Error() string { return strings.TrimSpace(f.Words) }
 // RequestRefusal says that a request is refused, so nothing was decided.
 type RequestRefusal struct {
 	Number uint32 // of docs/REFUSALS.md
-	Words  string // the explanation for people, as the program prints it
+
+	engine  *Engine
+	request Request
+}
+
+// Words gives the explanation for people, as the program prints it. It is made when it is asked for, since it may take a thousand times as
+// long as a decision. It is empty where the engine is closed, or where other files have been published by which the request is not refused
+// with this number.
+func (r *RequestRefusal) Words() string {
+	if r.engine == nil {
+		return ""
+	}
+	return r.engine.wordsOf(&r.request, r.Number)
 }
 
 func (r *RequestRefusal) Error() string {
-	if r.Words == "" {
-		return fmt.Sprintf("bobbinjade: the request is refused: %d", r.Number)
+	if words := r.Words(); words != "" {
+		return strings.TrimSpace(words)
 	}
-	return strings.TrimSpace(r.Words)
+	return fmt.Sprintf("bobbinjade: the request is refused: %d", r.Number)
 }
 
 // LibraryError says that the library does not fit this package.

@@ -293,27 +293,25 @@ func (e *Engine) decided(request *Request, made []byte) (bool, []byte, error) {
 		case C.CEDAR_ROOM:
 			made = make([]byte, 0, gives.written)
 		case C.CEDAR_NO_REQUEST:
-			words, err := e.wordsOf(request, gives.refused)
-			if err != nil {
-				return false, nil, err
-			}
-			return false, nil, &RequestRefusal{Number: uint32(gives.refused), Words: words}
+			refusal := &RequestRefusal{Number: uint32(gives.refused), engine: e, request: *request}
+			refusal.request.Context = append([]byte(nil), request.Context...)
+			return false, nil, refusal
 		default:
 			return false, nil, failed(gives.status)
 		}
 	}
 }
 
-// wordsOf says why a request is refused with a number.
-func (e *Engine) wordsOf(request *Request, number C.uint32_t) (string, error) {
+// wordsOf says why a request is refused with a number; nothing where the engine does not say it.
+func (e *Engine) wordsOf(request *Request, number uint32) string {
 	made := make([]byte, 0, 1024)
 	for {
 		at, size := room(made)
 		gives := C.explain_request(e.shared, request.Principal.Type, request.Principal.ID, request.Action.Type, request.Action.ID,
-			request.Resource.Type, request.Resource.ID, text(request.Context), number, at, size)
+			request.Resource.Type, request.Resource.ID, text(request.Context), C.uint32_t(number), at, size)
 		runtime.KeepAlive(e)
 		if gives.status != C.CEDAR_ROOM {
-			return string(made[:gives.written]), failed(gives.status)
+			return string(made[:gives.written])
 		}
 		made = make([]byte, 0, gives.written)
 	}

@@ -1,6 +1,9 @@
+//go:build !race
+
 package main
 
-// Tests of the memory of the process, which has none of that of its clients.
+// Tests of the memory of the process, which has none of that of its clients. The process is built without the race detector, so that a run
+// with it would only repeat them.
 
 import (
 	"fmt"
@@ -15,6 +18,7 @@ import (
 	"sync/atomic"
 	"syscall"
 	"testing"
+	"time"
 )
 
 // memory gives a size of the process in bytes, of /proc/PID/status: VmRSS is what is resident, and VmHWM the most that was.
@@ -69,7 +73,9 @@ func startedOverMany(t *testing.T, words ...string) (*process, *process) {
 		words = append(words, "--"+name, filepath.Join(folder, name))
 	}
 	admin := filepath.Join(folder, "admin")
-	it := started(t, filepath.Join(folder, "socket"), append(words, "--admin", "unix:"+admin)...)
+	// On a busy machine the largest requests take their time.
+	it := started(t, filepath.Join(folder, "socket"), append(words, "--admin", "unix:"+admin, "--max-time", "10m")...)
+	it.client.Timeout = 10 * time.Minute
 	return it, it.at(admin)
 }
 
@@ -83,6 +89,7 @@ func memberOf(name, group string) string {
 func (p *process) at(socket string) *process {
 	other := *p
 	other.client = clientOf(socket)
+	other.client.Timeout = p.client.Timeout
 	return &other
 }
 
@@ -178,11 +185,6 @@ func repeated(size int, make func(at int) string) string {
 		}
 		text.WriteString("," + next)
 	}
-}
-
-// ofSchema gives files to validate with members of a schema, and no policies.
-func ofSchema(members string) string {
-	return `{"policies":"","links":[],"schema":{"":{` + members + `}}}`
 }
 
 // largestRequests are of the listener for requests.

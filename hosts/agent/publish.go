@@ -48,7 +48,7 @@ func (a *agent) patch(w http.ResponseWriter, r *http.Request) {
 	}
 }
 
-// compact frees what is kept of changes, where that is much. What fails here has changed nothing, and is tried again after the next change.
+// compact frees what is kept of changes, where that is much. What fails here has changed nothing.
 func (a *agent) compact() {
 	took, err := a.store.compact()
 	switch {

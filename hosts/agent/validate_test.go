@@ -34,6 +34,11 @@ func wideFiles(count int) string {
 	return fmt.Sprintf(`{"schema":{"":{"entityTypes":{"U":{}},"actions":{%s}}},"policies":"%s","links":[]}`, actions.String()[1:], policies)
 }
 
+// ofSchema gives files to validate with members of a schema, and no policies.
+func ofSchema(members string) string {
+	return `{"policies":"","links":[],"schema":{"":{` + members + `}}}`
+}
+
 // A report that could be too large is not begun.
 func TestReportsAreBounded(t *testing.T) {
 	it := serveExample(t, "notes", "--public-validate", "--max-report", "200000")

@@ -177,7 +177,8 @@ func (s *store) change(source string, changes []byte, tags []string) (*version, 
 const mostKept = 1 << 20
 
 // compact writes the entities anew where much is kept of changes, so that nothing is kept of entities that came and went. Answers, the number
-// and the digests of the version stay. It gives the time that it took, or 0 where little is kept.
+// and the digests of the version stay. It gives the time that it took, or 0 where little is kept. Where it fails, it is tried again when as
+// much more is kept.
 func (s *store) compact() (time.Duration, error) {
 	s.lock.Lock()
 	defer s.lock.Unlock()
@@ -185,6 +186,7 @@ func (s *store) compact() (time.Duration, error) {
 	if s.kept < mostKept+len(old.files.Entities)/2 {
 		return 0, nil
 	}
+	s.kept = 0
 	text, err := s.changed.over(old.files.Entities)
 	if err != nil {
 		return 0, err

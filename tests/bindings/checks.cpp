@@ -199,7 +199,7 @@ static void check_requests() {
     CHECK(refusal && refusal->number == 501);
     refusal = thrown<cedar::RequestRefusal>([&] { engine.authorize(asked("ann", "fly")); });
     const std::string words = "error[510]: an action is not declared\n --> request\n   = action: Action::\"fly\" is not declared\n";
-    CHECK(refusal && refusal->number == 510 && refusal->words == words && refusal->what() == words);
+    CHECK(refusal && refusal->number == 510 && refusal->words() == words && std::string(refusal->what()) == "cedar: the request is refused: 510");
     const std::string line = R"({"principal":"User::\"ann\"","action":"Action::\"write\"","resource":"Notebook::\"plans\"")";
     const std::string brings = line + R"(,"entities":[{"uid":{"type":"Ghost","id":"g"}}]})";
     CHECK(engine.explain_line(line + "}").empty() && engine.explain_line(brings).rfind("error[502]: ", 0) == 0);

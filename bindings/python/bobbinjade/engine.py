@@ -170,7 +170,7 @@ class Engine:
                 if status == OK:
                     return Response(scratch.decision.allow == 1, scratch.text())
                 if status != ROOM:
-                    raise self._undecided(status, scratch)
+                    raise self._undecided(status, scratch, (principal, action, resource, context))
                 scratch.grow(scratch.buffer.written)
         finally:
             _give(scratch, context)
@@ -182,7 +182,7 @@ class Engine:
             status = DECIDE(self._shared, scratch.request_at, scratch.decision_at, None)
             if status == OK:
                 return scratch.decision.allow == 1
-            raise self._undecided(status, scratch)
+            raise self._undecided(status, scratch, (principal, action, resource, context))
         finally:
             _give(scratch, context)
 
@@ -227,13 +227,20 @@ class Engine:
         given = bytes_of(lines)
         return written(256 + given.length, lambda room: call(self._shared, given, room))
 
-    def _undecided(self, status: int, scratch: Scratch) -> Exception:
+    def _undecided(self, status: int, scratch: Scratch, asked: tuple[Uid, Uid, Uid, Context]) -> Exception:
         """The error where a request is not decided."""
         if status != NO_REQUEST:
             return failed(status)
         number = scratch.decision.refused
-        words = written(1024, lambda room: LIBRARY.cedar_shared_explain_request(self._shared, scratch.request_at, ctypes.c_uint32(number), WORDS, room))
-        return RequestRefused(number, words)
+        return RequestRefused(number, explain=lambda: self._words_of(ctypes.c_uint32(number), asked))
+
+    def _words_of(self, number: ctypes.c_uint32, asked: tuple[Uid, Uid, Uid, Context]) -> str:
+        """Why a request is refused with a number."""
+        scratch = _asked(*asked)
+        try:
+            return written(1024, lambda room: LIBRARY.cedar_shared_explain_request(self._shared, scratch.request_at, number, WORDS, room))
+        finally:
+            _give(scratch, asked[3])
 
 
 _POOL = Scratch.POOL

@@ -1,6 +1,7 @@
 """Why a call fails. A failure is never a decision."""
 from __future__ import annotations
 
+from collections.abc import Callable
 from typing import Any, Optional
 
 FILES = {1: 'schema', 2: 'policies', 3: 'links', 4: 'entities'}
@@ -54,12 +55,27 @@ class Faults(Error):
 
 
 class RequestRefused(Error, ValueError):
-    """A request is refused, so nothing was decided. `number` is one of docs/REFUSALS.md; `words` explains it to people."""
+    """A request is refused, so nothing was decided. `number` is one of docs/REFUSALS.md."""
 
-    def __init__(self, number: int, words: str = '') -> None:
-        super().__init__(words.rstrip('\n') or 'the request is refused: %d' % number)
+    def __init__(self, number: int, words: str = '', explain: Optional[Callable[[], str]] = None) -> None:
+        super().__init__(number)
         self.number = number
-        self.words = words
+        self._words, self._explain = words, explain
+
+    @property
+    def words(self) -> str:
+        """The explanation for people. It is made when it is asked for, since it may take a thousand times as long as a decision; empty where
+        the engine is closed, or where other files have been published by which the request is not refused with this number."""
+        explain, self._explain = self._explain, None
+        if explain:
+            try:
+                self._words = explain()
+            except Error:
+                self._words = ''
+        return self._words
+
+    def __str__(self) -> str:
+        return self.words.rstrip('\n') or 'the request is refused: %d' % self.number
 
     def __reduce__(self) -> tuple[Any, ...]:
-        return type(self), (self.number, self.words), _notes(self)
+        return type(self), (self.number, self.words), {it: value for it, value in _notes(self).items() if it not in ('_words', '_explain')}

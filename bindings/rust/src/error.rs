@@ -1,7 +1,7 @@
 //! Why a call fails.
 use std::fmt;
 
-use crate::raw;
+use crate::{raw, Engine};
 
 /// One of the files of an engine.
 #[derive(Clone, Copy, Debug, PartialEq, Eq)]
@@ -43,14 +43,31 @@ pub struct Faults {
 }
 
 /// Why a request is refused.
-#[derive(Clone, Debug, PartialEq, Eq)]
+#[derive(Clone, Debug)]
 #[non_exhaustive]
 pub struct RequestRefusal {
     /// The number of docs/REFUSALS.md.
     pub number: u32,
-    /// The explanation for people, as the program prints it.
-    pub words: String,
+    pub(crate) engine: Engine,
+    pub(crate) parts: [String; 7],
 }
+
+impl RequestRefusal {
+    /// The explanation for people, as the program prints it. It is made when it is asked for, since it may take a thousand times as long as
+    /// a decision. It is empty where the engine is closed, where memory runs out, or where other files have been published by which the
+    /// request is not refused with this number.
+    pub fn words(&self) -> String {
+        self.engine.words_of(self).unwrap_or_default()
+    }
+}
+
+impl PartialEq for RequestRefusal {
+    fn eq(&self, other: &RequestRefusal) -> bool {
+        self.number == other.number && self.parts == other.parts
+    }
+}
+
+impl Eq for RequestRefusal {}
 
 /// Why a call fails. It is never a decision.
 #[derive(Clone, Debug, PartialEq, Eq)]
@@ -87,8 +104,10 @@ impl fmt::Display for Error {
             Error::Memory => to.write_str("out of memory"),
             Error::Refused(refusal) => to.write_str(refusal.words.trim_end()),
             Error::Faults(faults) => to.write_str(faults.words.trim_end()),
-            Error::Request(refusal) if refusal.words.is_empty() => write!(to, "the request is refused: {}", refusal.number),
-            Error::Request(refusal) => to.write_str(refusal.words.trim_end()),
+            Error::Request(refusal) => match refusal.words().trim_end() {
+                "" => write!(to, "the request is refused: {}", refusal.number),
+                words => to.write_str(words),
+            },
             Error::Closed => to.write_str("the engine is closed"),
             Error::Library(status) => write!(to, "the library does not fit this crate: status {status}, {}", raw::status_text(*status)),
         }

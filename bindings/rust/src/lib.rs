@@ -336,15 +336,20 @@ impl Engine {
         match self.shared.decide(&request.parts(), text) {
             (raw::OK, decided) if decided.allow == 1 => Ok(Decision::Allow),
             (raw::OK, _) => Ok(Decision::Deny),
-            (raw::NO_REQUEST, decided) => Err(self.refused(request, decided.refused)?),
+            (raw::NO_REQUEST, decided) => Err(self.refused(request, decided.refused)),
             (status, _) => Err(Error::of(status)),
         }
     }
 
     /// The error for a request that is refused with a number.
-    fn refused(&self, request: &Request, number: u32) -> Result<Error, Error> {
-        let words = written(1024, |text| self.shared.explain_request(&request.parts(), number, text))?;
-        Ok(Error::Request(Box::new(RequestRefusal { number, words })))
+    fn refused(&self, request: &Request, number: u32) -> Error {
+        Error::Request(Box::new(RequestRefusal { number, engine: self.clone(), parts: request.parts().map(String::from) }))
+    }
+
+    /// Why a request is refused, in words.
+    fn words_of(&self, refusal: &RequestRefusal) -> Result<String, Error> {
+        let parts: [&str; 7] = std::array::from_fn(|at| refusal.parts[at].as_str());
+        written(1024, |text| self.shared.explain_request(&parts, refusal.number, text))
     }
 }
 

@@ -94,8 +94,8 @@ fn requests_are_answered_by_parts() {
             match engine.authorize(&request) {
                 Err(Error::Request(why)) => {
                     assert_eq!(format!("{{\"refused\":{}}}", why.number), wanted);
-                    assert!(why.words.starts_with(&format!("error[{}]: ", why.number)), "{}", why.words);
-                    assert_eq!(why.words, engine.explain_line(line, false).unwrap());
+                    assert!(why.words().starts_with(&format!("error[{}]: ", why.number)), "{}", why.words());
+                    assert_eq!(why.words(), engine.explain_line(line, false).unwrap());
                     assert_eq!(decided, Err(Error::Request(why)));
                 }
                 response => {
@@ -266,13 +266,15 @@ fn a_uid_that_is_not_one_is_refused() {
     assert_eq!(refused(engine.decide(&asked("ann", "fly"))), (510, words.to_string()));
     let error = engine.authorize(&asked("ann", "fly")).unwrap_err();
     assert_eq!(error.to_string(), words.trim_end());
-    assert_eq!(refused(Err(error)), (510, words.to_string()));
+    engine.close();
+    assert_eq!(error.to_string(), "the request is refused: 510");
+    assert_eq!(refused(Err(error)), (510, String::new()));
 }
 
 /// The number and the words with which a request is refused.
 fn refused(result: Result<Decision, Error>) -> (u32, String) {
     match result {
-        Err(Error::Request(why)) => (why.number, why.words),
+        Err(Error::Request(why)) => (why.number, why.words()),
         other => panic!("{other:?} is not refused"),
     }
 }

@@ -45,10 +45,10 @@ pub record IsDecided (r : ReadyTree) (p : PartsTree) (allow : ℕ) (text : List 
   pub is_text : text ≡ response_text r request
 
 -- The parts are refused with this number: 502 where a type or an id is not UTF-8, or the number of a fault that they have for the
--- schema. Out of memory is not such a fault (own; Cedar documentation, validation).
+-- schema, where they denote no request. Out of memory is not such a fault (own; Cedar documentation, validation).
 pub data ArePartsRefused (r : ReadyTree) (p : PartsTree) : ℕ → Type 0 where
   not_texts : ¬ AreTexts p → ArePartsRefused r p 502
-  by_fault : {fault : ConformFault} → fault ≢ OutOfMemory → PartsHaveFault r.schema p fault → ArePartsRefused r p (number_of fault)
+  by_fault : {fault : ConformFault} → fault ≢ OutOfMemory → PartsHaveFault r.schema p fault → ((q : Request) → ¬ PartsDenote r.schema p q) → ArePartsRefused r p (number_of fault)
 
 -- The text answers the parts: it is the response to the request that they denote, or their refusal (own).
 pub data AnswersParts (r : ReadyTree) (p : PartsTree) : List ℕ → Type 0 where

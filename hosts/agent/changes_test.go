@@ -162,8 +162,10 @@ func TestChangesOfManySizes(t *testing.T) {
 		}
 		it.isAnswered(friend)
 	}
-	if len(it.store.changed) != len(users) {
-		t.Error(len(it.store.changed))
+	// Whether they are kept as changes or were written anew.
+	text := it.call("GET", "/v1/entities", "", "", it.admin).body
+	if got := strings.Count(text, `{"uid":{"type":"User","id":"u`); got != len(users) {
+		t.Error(got)
 	}
 }
 

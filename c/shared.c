@@ -43,7 +43,6 @@ typedef struct version {
     cedar_engine main;
     schema *schema;
     cedar_shared *shared;
-    struct version *parent; /* that of the engine from which this one was changed, or null */
 } version;
 
 typedef struct handle {
@@ -65,11 +64,13 @@ struct cedar_shared {
     _Atomic(uint64_t) number;    /* of the current version */
     pthread_mutex_t publishers;  /* held while a version is made of another, and while it is made current */
     pthread_mutex_t lock;        /* of `current`, and of its main handle; the number changes with them */
-    pthread_mutex_t freeing;     /* held while a version is freed */
     version *current;
     uint64_t last; /* the number of the last version, of publishers */
     place places[2][PLACES];
 };
+
+/* Held while a version is freed: versions of different engines share entities, too. */
+static pthread_mutex_t freeing = PTHREAD_MUTEX_INITIALIZER;
 
 /* The place at which this thread looks first. */
 static size_t home(void) {
@@ -103,7 +104,6 @@ static void shared_release(cedar_shared *shared) {
     if (is_last(&shared->count)) {
         pthread_mutex_destroy(&shared->publishers);
         pthread_mutex_destroy(&shared->lock);
-        pthread_mutex_destroy(&shared->freeing);
         rattle_dealloc(shared);
     }
 }
@@ -145,16 +145,14 @@ static version *version_new(cedar_shared *shared) {
 }
 
 static void version_release(version *it) {
-    while (it && is_last(&it->count)) {
+    if (it && is_last(&it->count)) {
         cedar_shared *shared = it->shared;
-        version *parent = it->parent;
-        pthread_mutex_lock(&shared->freeing);
+        pthread_mutex_lock(&freeing);
         cedar_free(&it->main);
-        pthread_mutex_unlock(&shared->freeing);
+        pthread_mutex_unlock(&freeing);
         schema_release(it->schema);
         rattle_dealloc(it);
         shared_release(shared);
-        it = parent;
     }
 }
 
@@ -345,11 +343,7 @@ static uint32_t follow(cedar_shared *shared, version *next) {
         : atomic_load(&shared->number) == CLOSED ? CEDAR_CLOSED : CEDAR_NO_ENGINE;
     if (status == CEDAR_OK) {
         next->schema = current->schema;
-        next->parent = next->shared == shared ? current->parent : current;
         retain(&current->schema->count);
-        if (next->parent) {
-            retain(&next->parent->count);
-        }
     }
     pthread_mutex_unlock(&shared->lock);
     return status;
@@ -411,7 +405,6 @@ uint32_t cedar_shared_new(cedar_shared **shared) {
     atomic_init(&made->count, 1);
     pthread_mutex_init(&made->publishers, NULL);
     pthread_mutex_init(&made->lock, NULL);
-    pthread_mutex_init(&made->freeing, NULL);
     return CEDAR_OK;
 }
 

@@ -10,39 +10,39 @@ static char nowhere;
 static const void *at_of(cedar_bytes bytes) { return bytes.at ? bytes.at : &nowhere; }
 
 /* A text of the library, which grows until what a call writes fits. One byte more than its room is there. */
-typedef struct told {
+typedef struct growing_text {
     char *at;
     size_t room, written;
-} told;
+} growing_text;
 
 /* A text without room that is to get some: what most refusals need. */
-static const told NONE = {NULL, 0, 2048};
+static const growing_text NONE = {NULL, 0, 2048};
 
-static void told_free(told *it) {
+static void growing_text_free(growing_text *it) {
     if (it->at) {
         rattle_dealloc(it->at);
     }
-    *it = (told){NULL, 0, 0};
+    *it = (growing_text){NULL, 0, 0};
 }
 
 /* Gives a text the room that a call needs. Returns whether the call is to be made once more; without memory the status says so. */
-static bool grows(told *it, uint32_t *status) {
+static bool grows(growing_text *it, uint32_t *status) {
     if (it->written <= it->room) {
         return false;
     }
     size_t room = it->written;
-    told_free(it);
+    growing_text_free(it);
     cedar_tried tried = rattle_alloc(room + 1, 1);
     if (!tried.ok) {
         *status = CEDAR_MEMORY;
         return false;
     }
-    *it = (told){tried.at, room, 0};
+    *it = (growing_text){tried.at, room, 0};
     return true;
 }
 
 /* The text as bytes that the caller frees, with a byte 0 after them. */
-static cedar_bytes bytes_of(told *it) {
+static cedar_bytes bytes_of(growing_text *it) {
     if (it->at) {
         it->at[it->written] = 0;
     }
@@ -64,9 +64,9 @@ void cedar_refusal_free(cedar_refusal *refusal) {
     if (!has_words(refusal)) {
         return;
     }
-    told text = {(char *)refusal->text.at, 0, 0}, words = {(char *)refusal->words.at, 0, 0};
-    told_free(&text);
-    told_free(&words);
+    growing_text text = {(char *)refusal->text.at, 0, 0}, words = {(char *)refusal->words.at, 0, 0};
+    growing_text_free(&text);
+    growing_text_free(&words);
     refusal->text = refusal->words = (cedar_bytes){NULL, 0};
 }
 
@@ -84,7 +84,7 @@ static void say_why(uint32_t status, cedar_refusal *refusal, const cedar_raw_ref
 }
 
 /* Publishes, with a text that fits or not. */
-static uint32_t publish(cedar_engine *engine, const cedar_publication *it, cedar_raw_refusal *why, told *text) {
+static uint32_t publish(cedar_engine *engine, const cedar_publication *it, cedar_raw_refusal *why, growing_text *text) {
     const cedar_files *files = &it->files;
     void *at = text->at ? text->at : &nowhere;
     switch (it->kind) {
@@ -100,7 +100,7 @@ static uint32_t publish(cedar_engine *engine, const cedar_publication *it, cedar
 }
 
 /* Explains what is refused with a number, in a text of the library. */
-static uint32_t explain(const cedar_publication *it, uint32_t number, uint32_t format, told *text) {
+static uint32_t explain(const cedar_publication *it, uint32_t number, uint32_t format, growing_text *text) {
     uint32_t status = CEDAR_OK;
     while (grows(text, &status)) {
         cedar_buffer room = {text->at, text->room, 0};
@@ -112,7 +112,7 @@ static uint32_t explain(const cedar_publication *it, uint32_t number, uint32_t f
 }
 
 /* The line that an explanation in JSON names first, or 0. The keys of an object ascend, so that of the place is before those of the marks. */
-static uint64_t line_of(const told *text) {
+static uint64_t line_of(const growing_text *text) {
     static const char KEY[] = "\"line\":";
     const char *found = text->at ? strstr(text->at, KEY) : NULL;
     if (!found || memchr(text->at, '\n', (size_t)(found - text->at))) {
@@ -124,21 +124,21 @@ static uint64_t line_of(const told *text) {
 
 /* Adds the words of what is refused or has faults, and the line. */
 static uint32_t add_words(const cedar_publication *it, cedar_refusal *refusal) {
-    told words = NONE, json = NONE;
+    growing_text words = NONE, json = NONE;
     uint32_t status = explain(it, refusal->number, CEDAR_WORDS, &words);
     if (status == CEDAR_OK && refusal->number) {
         status = explain(it, refusal->number, CEDAR_JSON, &json);
         bytes_of(&json);
         refusal->line = line_of(&json);
     }
-    told_free(&json);
+    growing_text_free(&json);
     refusal->words = bytes_of(&words);
     return status;
 }
 
 /* Publishes with a text of the library, and adds the words where what is published is refused. */
 static uint32_t publish_with_words(cedar_engine *engine, const cedar_publication *it, cedar_refusal *refusal, cedar_buffer *text) {
-    told own = NONE;
+    growing_text own = NONE;
     cedar_raw_refusal why = {0, 0, CEDAR_NO_OFFSET};
     uint32_t status = CEDAR_OK;
     while (grows(&own, &status)) {
@@ -146,7 +146,7 @@ static uint32_t publish_with_words(cedar_engine *engine, const cedar_publication
     }
     say_why(status, refusal, &why);
     if (status != CEDAR_REFUSED && status != CEDAR_FAULTS) {
-        told_free(&own);
+        growing_text_free(&own);
         return status;
     }
     refusal->text = bytes_of(&own);
@@ -172,7 +172,7 @@ uint32_t cedar_publish_this(cedar_engine *engine, const cedar_publication *it, c
     if (has_words(refusal) && refusal->wants == CEDAR_WANTS_WORDS && it->files.size) {
         return publish_with_words(engine, it, refusal, text);
     }
-    told room = {text ? text->at : NULL, text ? text->room : 0, 0};
+    growing_text room = {text ? text->at : NULL, text ? text->room : 0, 0};
     cedar_raw_refusal why = {0, 0, CEDAR_NO_OFFSET};
     uint32_t status = publish(engine, it, &why, &room);
     say_why(status, refusal, &why);

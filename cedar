@@ -6,13 +6,13 @@ set -eu
 top=$(cd "$(dirname "$0")" && pwd)
 why=$(mktemp)
 trap 'rm -f "$why"' EXIT
-if program=$("$top/tools/released" 2> "$why") || program=$("$top/tools/current"); then
+if program=$("$top/tools/gate/built.py" 2> "$why"); then
   rm -f "$why"
   exec "$program" "$@"
 fi
 
 # Before anything is built, a command line or a file that the program would refuse is refused.
-"$top/tools/command_line" "$@" || exit $?
+"$top/tools/running/command_line" "$@" || exit $?
 cat "$why" >&2
 if ! command -v rt > /dev/null; then
   echo "cedar: to build it, the toolchain's command rt has to be on the path" >&2

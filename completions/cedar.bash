@@ -1,4 +1,4 @@
-# Completions of `cedar` for bash 4 and later. tools/completions wrote this from the help of the program: do not change it here.
+# Completions of `cedar` for bash 4 and later. tools/documents/completions wrote this from the help of the program: do not change it here.
 
 # The subcommands.
 _cedar_subcommands='validate authorize why ask check-parse explain help'

@@ -1,4 +1,4 @@
-# Completions of `cedar` for fish 3 and later. tools/completions wrote this from the help of the program: do not change it here.
+# Completions of `cedar` for fish 3 and later. tools/documents/completions wrote this from the help of the program: do not change it here.
 
 # Whether this is the subcommand that was typed. Without one, it is empty.
 function __cedar_runs -a subcommand

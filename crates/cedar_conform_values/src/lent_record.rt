@@ -18,11 +18,12 @@ use cedar_schema_types::{Attribute, RecordType, Type, TypeKind};
 use cedar_value::{Record, SharedText, Value};
 use std::alloc::Global;
 
-/// How many members are looked through for each attribute. A longer object becomes a tree, in which they are found faster.
-pub const MOST_MEMBERS: usize = 32;
+/// How many members are looked through for each attribute. A longer object becomes a tree, which takes as long at this length and less
+/// beyond it.
+pub const MOST_MEMBERS: usize = 1_000;
 
-/// The record of the type that an object denotes, with the rules of [`read_value`]. An object of up to 32 members is read without a JSON
-/// tree of it.
+/// The record of the type that an object denotes, with the rules of [`read_value`]. An object of up to 1,000 members is read without a
+/// JSON tree of it.
 ///
 /// # Errors
 ///

@@ -7,7 +7,7 @@ use std::alloc::{AllocError, Global};
 use std::cmp::Ordering;
 use std::marker::Model;
 
-/// How many names are kept at most. Other names are read anew each time.
+/// How many names are kept at most. The next name that is read removes all of them, so that made-up names keep no others out for long.
 const MOST_NAMES: usize = 256;
 
 /// Names that were read, in ascending order, so that the next uid shares the name of its type and takes no memory for it. Each
@@ -58,8 +58,8 @@ impl Names {
                 Ok(Some(name))
             }
             Err(place) => {
-                *guess = place;
-                self.read_new(alloc, text, place)
+                *guess = self.make_room(place);
+                self.read_new(alloc, text, *guess)
             }
         }
     }
@@ -105,9 +105,19 @@ impl Names {
         let Some(name) = Name::read(alloc, text)? else {
             return Ok(None);
         };
-        if self.names.len() < MOST_NAMES {
-            self.names.insert(place, name.try_clone(alloc)?)?;
-        }
+        self.names.insert(place, name.try_clone(alloc)?)?;
         Ok(Some(name))
+    }
+
+    // Where the next name goes that would come at the place: there, or first after all have been removed.
+    fn make_room(&mut self, place: usize) -> usize
+        requires { place ≤ length self.old }
+        ensures { result ≤ length self.new }
+    {
+        if self.names.len() < MOST_NAMES {
+            return place;
+        }
+        self.names.clear();
+        0
     }
 }

@@ -1,23 +1,20 @@
 -- The world after a call of more changes.
 --     told_after, entry_after, parents_after      what it says of a uid
 --     links_kept, links_changed      what a store keeps after the call
-use Rattle.std.proofs.Common.{◌≡◌, ℕ, inl, inr, ⊎_elim, ◌⊎◌, List, Bool, true, false, not, ◌&&◌, ◌||◌, Option, Some, None, is_some, refl, sym, ap, subst, ◌∙◌, Contains, IsTrue}
-use Rattle.std.specs.BTreeSet.{BTreeSet, contains}
+use Rattle.std.proofs.Common.{◌≡◌, ◌↔◌, ℕ, inl, inr, ⊎_elim, ◌⊎◌, List, Bool, true, false, not, ◌&&◌, ◌||◌, Option, Some, None, is_some, refl, sym, ap, subst, ◌∙◌, Contains, IsTrue}
 use Rattle.std.specs.List.{list_any}
-use Rattle.indexmap.specs.IndexMap.{IndexMap, get}
 use Rattle.base_reach.specs.Closure.{one_link}
-use Rattle.base_reach.proofs.Chains.{first_link, chain_among}
+use Rattle.base_reach.proofs.Chains.{chain_among}
 use Rattle.base_reach.proofs.Listed.{either_true, nowhere, or_left, or_right}
 use Rattle.cedar_value.specs.Datum.{same_uid}
-use Rattle.cedar_value.specs.Order.{uid_cmp}
 use Rattle.cedar_value.specs.World.{EntityTree, World, Below, entry_of, parents_of, has_entity}
 use Rattle.cedar_value.specs.declared.uid.Uid.{Uid}
 use Rattle.cedar_store.specs.Changes.{changed, is_changed, IsThereInChanges}
 use Rattle.cedar_store.specs.Entities.{uids_of}
 use Rattle.cedar_store.specs.Private.Based.{BaseTree, IsMarked}
-use Rattle.cedar_store.specs.Private.Called.{AreApart, AreMarkedToo, AreSettledAnew, DoLinksStay, IsAfterCall, IsCycleThere, IsLinked}
+use Rattle.cedar_store.specs.Private.Called.{AreMarkedToo, AreSettledAnew, DoLinksStay, IsAfterCall, IsCycleThere, IsLinked}
 use Rattle.cedar_store.specs.Private.Changing.{AreChangesDistinct, ChangeTree, EachChange, IsChangeOfUid, change_of, upsert_in}
-use Rattle.cedar_store.specs.Private.Kept.{AreAncestors, in_row, number_in}
+use Rattle.cedar_store.specs.Private.Kept.{in_row, number_in}
 use Rattle.cedar_store.specs.Private.Overlaid.{AreMarked, AreParentsKnown, IsNumbered, IsOverlaid, IsSettled, world_over}
 use Rattle.cedar_store.specs.declared.store_fault.StoreFault.{StoreFault}
 use Rattle.cedar_store.specs.declared.store_fault.StoreFault.TheVariants.{OutOfMemory, DuplicateEntity, Cycle}
@@ -38,10 +35,6 @@ named_entry : (o : Option ChangeTree) (e : Option EntityTree) → IsTrue (is_som
 named_entry None e there = cc
 named_entry (Some c) e there = refl
 
-no_both : (b : Bool) → b ≡ true → b ≡ false → ⊥
-no_both true t f = cc
-no_both false t f = cc
-
 first_or_second : (a c : Bool) → (a && not c) ≡ false → (a ≡ false) ⊎ (c ≡ true)
 first_or_second true true h = inr refl
 first_or_second true false h = cc
@@ -51,10 +44,6 @@ not_second : (a c : Bool) → (a && not c) ≡ true → c ≡ true → ⊥
 not_second true true h t = cc
 not_second true false h t = cc
 not_second false c h t = cc
-
-some_entry : (o : Option EntityTree) (p : Uid) → Contains (parents_in o) p → (e : EntityTree) × (o ≡ Some e)
-some_entry None p m = absurd (nowhere p m)
-some_entry (Some e) p m = (e, refl)
 
 -- ---- entities and parents after the call
 
@@ -76,10 +65,6 @@ module _ (w : World) (old new : List ChangeTree) (removed : List Uid) (upserted 
   pub parents_called : (u : Uid) → is_changed removed upserted u ≡ true → parents_of (world_over w new) u ≡ parents_of upserted u
   parents_called u is = ap parents_in (entry_after u ∙ entry_named (world_over w old) removed upserted u is)
 
-  -- what the call names and has a parent is upserted
-  pub parent_upserted : (u p : Uid) → is_changed removed upserted u ≡ true → Contains (parents_of (world_over w new) u) p → (e : EntityTree) × (entry_of upserted u ≡ Some e)
-  parent_upserted u p is m = some_entry (entry_of upserted u) p (subst (λ o. Contains (parents_in o) p) (entry_after u ∙ entry_named (world_over w old) removed upserted u is) m)
-
   pub below_after : (u v : Uid) → Below (world_over w new) u v → Below (changed (world_over w old) removed upserted) u v
   below_after u v chain = chain_among (λ x y m. subst (λ o. Contains (parents_in o) y) (entry_after x) m) chain
 
@@ -90,50 +75,50 @@ module _ (w : World) (old new : List ChangeTree) (removed : List Uid) (upserted 
 
 -- ---- what something is below is known
 
-module _ {S : Type 0} (b : BaseTree) (cs : List ChangeTree) (sets : IndexMap Uid (BTreeSet Uid) S) (distinct : AreChangesDistinct cs) (named : EachChange IsChangeOfUid cs) (numbered : (u v : Uid) → Below b.world u v → IsNumbered b v) (known : AreParentsKnown b cs sets) where
-  parent_case : (z p : Uid) (o : Option ChangeTree) (e : Option EntityTree) → change_of cs z ≡ o → upsert_in o ≡ e → Contains (parents_of (world_over b.world cs) z) p → IsLinked b sets p
+module _ (b : BaseTree) (cs : List ChangeTree) (part : World) (distinct : AreChangesDistinct cs) (named : EachChange IsChangeOfUid cs) (numbered : (u v : Uid) → Below b.world u v → IsNumbered b v) (known : AreParentsKnown b cs part) where
+  parent_case : (z p : Uid) (o : Option ChangeTree) (e : Option EntityTree) → change_of cs z ≡ o → upsert_in o ≡ e → Contains (parents_of (world_over b.world cs) z) p → IsLinked b part p
   parent_case z p None e is entity m = inr (numbered z p (one_link (subst (λ ps. Contains ps p) (parents_unnamed b.world cs distinct named z is) m)))
   parent_case z p (Some c) None is entity m = absurd (nowhere p (subst (λ ps. Contains ps p) (parents_named b.world cs distinct named z c is ∙ ap parents_in entity) m))
   parent_case z p (Some c) (Some e) is entity m =
       known z p e (ap upsert_in is ∙ entity) (subst (λ ps. Contains ps p) (parents_named b.world cs distinct named z c is ∙ ap parents_in entity) m)
 
-  pub high_linked : (u v : Uid) → Below (world_over b.world cs) u v → IsLinked b sets v
+  pub high_linked : (u v : Uid) → Below (world_over b.world cs) u v → IsLinked b part v
   high_linked u v chain = let l = last_link chain in parent_case l.0 v (change_of cs l.0) (upsert_in (change_of cs l.0)) refl refl l.1
 
 -- ---- the call leaves alone what anything else is below
 
-module _ {S : Type 0} (b : BaseTree) (old new : List ChangeTree) (removed : List Uid) (upserted : World) (marks marks_new : List ℕ) (sets : IndexMap Uid (BTreeSet Uid) S)
+module _ (b : BaseTree) (old new : List ChangeTree) (removed : List Uid) (upserted : World) (marks marks_new : List ℕ) (part : World)
     (distinct : AreChangesDistinct old) (named : EachChange IsChangeOfUid old) (distinct_new : AreChangesDistinct new) (named_new : EachChange IsChangeOfUid new)
-    (numbered : (u v : Uid) → Below b.world u v → IsNumbered b v) (after : IsAfterCall old removed upserted new) (kept : IsOverlaid b old marks sets) where
+    (numbered : (u v : Uid) → Below b.world u v → IsNumbered b v) (after : IsAfterCall old removed upserted new) (kept : IsOverlaid b old marks part) where
   abbrev is_named : Uid → Bool
   is_named = is_changed removed upserted
 
-  known_by : (sets_new : IndexMap Uid (BTreeSet Uid) S) (u p : Uid) (e : EntityTree) (t : Bool) → is_named u ≡ t → ((p : Uid) → IsLinked b sets p → IsLinked b sets_new p) → (entry_of upserted u ≡ Some e → IsLinked b sets_new p)
-      → upsert_in (change_of new u) ≡ Some e → Contains e.parents p → IsLinked b sets_new p
-  known_by sets_new u p e true is keeps here entity m = here (sym (after.upserts u is) ∙ entity)
-  known_by sets_new u p e false is keeps here entity m = keeps p (kept.parents u p e (ap upsert_in (sym (after.kept u is)) ∙ entity) m)
+  known_by : (part_new : World) (u p : Uid) (e : EntityTree) (t : Bool) → is_named u ≡ t → ((p : Uid) → IsLinked b part p → IsLinked b part_new p) → (entry_of upserted u ≡ Some e → IsLinked b part_new p)
+      → upsert_in (change_of new u) ≡ Some e → Contains e.parents p → IsLinked b part_new p
+  known_by part_new u p e true is keeps here entity m = here (sym (after.upserts u is) ∙ entity)
+  known_by part_new u p e false is keeps here entity m = keeps p (kept.parents u p e (ap upsert_in (sym (after.kept u is)) ∙ entity) m)
 
   kept_parents : (u : Uid) → is_named u ≡ false → parents_of (world_over b.world new) u ≡ parents_of (world_over b.world old) u
   kept_parents = parents_kept b.world old new removed upserted distinct named distinct_new named_new after
 
-  module _ (same_marks : (u : Uid) → in_row b.keys marks_new u ≡ in_row b.keys marks u) (stay : DoLinksStay b old sets removed upserted) where
-    known_still : AreParentsKnown b new sets
-    known_still u p e entity m = known_by sets u p e (is_named u) refl (λ q l. l) (λ is. stay.known u p e is m) entity m
+  module _ (same_marks : (u : Uid) → in_row b.keys marks_new u ≡ in_row b.keys marks u) (stay : DoLinksStay b old part removed upserted) where
+    known_still : AreParentsKnown b new part
+    known_still u p e entity m = known_by part u p e (is_named u) refl (λ q l. l) (λ is. stay.known u p e is m) entity m
 
     -- what something is below keeps its parents
-    linked_by : (u : Uid) (t : Bool) → is_named u ≡ t → IsLinked b sets u → parents_of (world_over b.world new) u ≡ parents_of (world_over b.world old) u
+    linked_by : (u : Uid) (t : Bool) → is_named u ≡ t → IsLinked b part u → parents_of (world_over b.world new) u ≡ parents_of (world_over b.world old) u
     linked_by u true is linked = parents_called b.world old new removed upserted distinct named distinct_new named_new after u is ∙ stay.same u is linked
     linked_by u false is linked = kept_parents u is
 
-    linked_same : (u : Uid) → IsLinked b sets u → parents_of (world_over b.world new) u ≡ parents_of (world_over b.world old) u
+    linked_same : (u : Uid) → IsLinked b part u → parents_of (world_over b.world new) u ≡ parents_of (world_over b.world old) u
     linked_same u linked = linked_by u (is_named u) refl linked
 
     abbrev is_known : Uid → Bool
-    is_known u = is_some (get same_uid sets u) || is_some (number_in b.keys u)
+    is_known u = has_entity part u || is_some (number_in b.keys u)
 
-    known_linked : (u : Uid) → IsLinked b sets u → is_known u ≡ true
-    known_linked u (inl settled) = or_left (is_some (get same_uid sets u)) (is_some (number_in b.keys u)) settled
-    known_linked u (inr number) = or_right (is_some (get same_uid sets u)) (is_some (number_in b.keys u)) number
+    known_linked : (u : Uid) → IsLinked b part u → is_known u ≡ true
+    known_linked u (inl settled) = or_left (has_entity part u) (is_some (number_in b.keys u)) settled
+    known_linked u (inr number) = or_right (has_entity part u) (is_some (number_in b.keys u)) number
 
     -- what the call names and nothing is below
     abbrev is_moved : Uid → Bool
@@ -141,41 +126,42 @@ module _ {S : Type 0} (b : BaseTree) (old new : List ChangeTree) (removed : List
 
     same_links : (u : Uid) → is_moved u ≡ false → parents_of (world_over b.world new) u ≡ parents_of (world_over b.world old) u
     same_links u h =
-        ⊎_elim (λ is. kept_parents u is) (λ is. linked_same u (either_true (is_some (get same_uid sets u)) (is_some (number_in b.keys u)) is)) (first_or_second (is_named u) (is_known u) h)
+        ⊎_elim (λ is. kept_parents u is) (λ is. linked_same u (either_true (has_entity part u) (is_some (number_in b.keys u)) is)) (first_or_second (is_named u) (is_known u) h)
 
     none_high_new : (c x : Uid) → Below (world_over b.world new) x c → is_moved c ≡ true → ⊥
-    none_high_new c x chain is = not_second (is_named c) (is_known c) is (known_linked c (high_linked b new sets distinct_new named_new numbered known_still x c chain))
+    none_high_new c x chain is = not_second (is_named c) (is_known c) is (known_linked c (high_linked b new part distinct_new named_new numbered known_still x c chain))
 
     none_high_old : (c x : Uid) → Below (world_over b.world old) x c → is_moved c ≡ true → ⊥
-    none_high_old c x chain is = not_second (is_named c) (is_known c) is (known_linked c (high_linked b old sets distinct named numbered kept.parents x c chain))
+    none_high_old c x chain is = not_second (is_named c) (is_known c) is (known_linked c (high_linked b old part distinct named numbered kept.parents x c chain))
 
-    settled_by : (u : Uid) (s : BTreeSet Uid) (t : Bool) → is_moved u ≡ t → get same_uid sets u ≡ Some s → AreAncestors (world_over b.world new) u (contains uid_cmp s)
-    settled_by u s true is found = absurd (not_second (is_named u) (is_known u) is (known_linked u (inl (ap is_some found))))
-    settled_by u s false is found = λ v. (let told = kept.settled u s found v in (
-      λ t. chain_stays (world_over b.world new) (world_over b.world old) is_moved (λ x h. sym (same_links x h)) u v is none_high_old (told.0 t),
-      λ chain. told.1 (chain_stays (world_over b.world old) (world_over b.world new) is_moved same_links u v is none_high_new chain),
-    ))
+    settled_by : (u v : Uid) (t : Bool) → is_moved u ≡ t → IsSettled part u → Below part u v ↔ Below (world_over b.world new) u v
+    settled_by u v true is there = absurd (not_second (is_named u) (is_known u) is (known_linked u (inl there)))
+    settled_by u v false is there =
+        let told = kept.settled u v there in (
+          λ chain. chain_stays (world_over b.world new) (world_over b.world old) is_moved (λ x h. sym (same_links x h)) u v is none_high_old (told.0 chain),
+          λ chain. told.1 (chain_stays (world_over b.world old) (world_over b.world new) is_moved same_links u v is none_high_new chain),
+        )
 
     marked_still : (p : Uid) → IsMarked b marks_new p → IsMarked b marks p
     marked_still p (inl here) = inl (sym (same_marks p) ∙ here)
     marked_still p (inr (x, here, chain)) = inr (x, sym (same_marks x) ∙ here, chain)
 
-    pub links_kept : IsOverlaid b new marks_new sets
+    pub links_kept : IsOverlaid b new marks_new part
     links_kept = record {
       acyclic = λ u chain. (let c = cycle_named (world_over b.world old) (world_over b.world new) is_moved same_links kept.acyclic u chain in none_high_new c.0 c.0 c.2 c.1);
       marked = λ u number. ⊎_elim (λ there. inl (same_marks u ∙ there)) (λ same. inr (linked_same u (inr number) ∙ same)) (kept.marked u number);
-      settled = λ u s found. settled_by u s (is_moved u) refl found;
+      settled = λ u v there. settled_by u v (is_moved u) refl there;
       parents = known_still;
       below_marked = λ p number marked. kept.below_marked p number (marked_still p marked);
     }
 
-  -- ---- the sets are made anew
+  -- ---- the part is made anew
 
-  module _ (sets_new : IndexMap Uid (BTreeSet Uid) S) (too : AreMarkedToo b removed upserted marks marks_new) (anew : AreSettledAnew b new marks_new sets (uids_of upserted) sets_new) (apart : AreApart sets_new (uids_of upserted))
+  module _ (part_new : World) (too : AreMarkedToo b removed upserted marks marks_new) (anew : AreSettledAnew b new marks_new part (uids_of upserted) part_new)
       (listed : (u : Uid) (e : EntityTree) → entry_of upserted u ≡ Some e → Contains (uids_of upserted) u) where
-    linked_still : (p : Uid) → IsLinked b sets p → IsLinked b sets_new p
-    linked_still p (inl settled) = inl (anew.kept p settled)
-    linked_still p (inr number) = inr number
+    linked_still : ((p : Uid) → IsSettled part p → IsLinked b part_new p) → (p : Uid) → IsLinked b part p → IsLinked b part_new p
+    linked_still keeps p (inl settled) = keeps p settled
+    linked_still keeps p (inr number) = inr number
 
     upserted_parent : (u p : Uid) (e : EntityTree) → entry_of upserted u ≡ Some e → Contains e.parents p → Contains (parents_of (world_over b.world new) u) p
     upserted_parent u p e is m =
@@ -189,8 +175,8 @@ module _ {S : Type 0} (b : BaseTree) (old new : List ChangeTree) (removed : List
             or_there true c h = refl
             or_there false c h = h
 
-    known_anew : AreParentsKnown b new sets_new
-    known_anew u p e entity m = known_by sets_new u p e (is_named u) refl linked_still (λ is. anew.parents u p (listed u e is) (upserted_parent u p e is m)) entity m
+    known_anew : AreParentsKnown b new part_new
+    known_anew u p e entity m = ⊎_elim (λ h. known_by part_new u p e (is_named u) refl (linked_still h.0) (λ is. h.1 u p (listed u e is) (upserted_parent u p e is m)) entity m) (λ known. known u p e entity m) anew.known
 
     marked_by : (u : Uid) (t : Bool) → is_named u ≡ t → IsNumbered b u → IsTrue (in_row b.keys marks_new u) ⊎ (parents_of (world_over b.world new) u ≡ parents_of b.world u)
     marked_by u true is number = inl (too.named u is number)
@@ -199,21 +185,14 @@ module _ {S : Type 0} (b : BaseTree) (old new : List ChangeTree) (removed : List
     marked_anew : AreMarked b new marks_new
     marked_anew u number = marked_by u (is_named u) refl number
 
-    settled_here : (c x : Uid) → is_named c ≡ true → Below (world_over b.world new) x c → IsSettled sets_new c
+    settled_here : (c x : Uid) → is_named c ≡ true → Below (world_over b.world new) x c → IsSettled part_new c
     settled_here c x is chain =
-        ⊎_elim (λ settled. settled) (λ number. anew.below_marked c number (inl (too.named c is number))) (high_linked b new sets_new distinct_new named_new numbered known_anew x c chain)
-
-    found_in : (c : Uid) (o : Option (BTreeSet Uid)) → get same_uid sets_new c ≡ o → IsTrue (is_some o) → Contains (uids_of upserted) c → Below (world_over b.world new) c c → ⊥
-    found_in c None is there m chain = cc
-    found_in c (Some s) is there m chain = no_both (contains uid_cmp s c) ((anew.settled c s is c).1 chain) (apart c s m is)
+        ⊎_elim (λ settled. settled) (λ number. anew.below_marked c number (inl (too.named c is number))) (high_linked b new part_new distinct_new named_new numbered known_anew x c chain)
 
     none_cyclic : (c : Uid) → is_named c ≡ true → Below (world_over b.world new) c c → ⊥
-    none_cyclic c is chain =
-        let first = first_link chain in
-        let entity = parent_upserted b.world old new removed upserted distinct named distinct_new named_new after c first.0 is first.1 in
-        found_in c (get same_uid sets_new c) refl (settled_here c c is chain) (listed c entity.0 entity.1) chain
+    none_cyclic c is chain = anew.acyclic c ((anew.settled c c (settled_here c c is chain)).1 chain)
 
-    pub links_changed : IsOverlaid b new marks_new sets_new
+    pub links_changed : IsOverlaid b new marks_new part_new
     links_changed = record {
       acyclic = λ u chain. (let c = cycle_named (world_over b.world old) (world_over b.world new) is_named kept_parents kept.acyclic u chain in none_cyclic c.0 c.1 c.2);
       marked = marked_anew;

@@ -1,14 +1,13 @@
--- The uids whose sets are to be made.
-use Rattle.std.proofs.Common.{◌≡◌, inl, inr, Bool, true, false, List, Bor, is_some, refl, sym, ◌∙◌, Contains}
-use Rattle.std.specs.BTreeSet.{BTreeSet}
-use Rattle.indexmap.specs.IndexMap.{IndexMap}
+-- The uids above which the part is made.
+use Rattle.std.proofs.Common.{◌≡◌, inl, inr, Bool, true, false, List, Bor, Option, None, Some, is_some, refl, sym, subst, ◌∙◌, Contains}
 use Rattle.base_reach.specs.Private.Lent.{lent}
-use Rattle.cedar_value.specs.World.{World, parents_of}
+use Rattle.cedar_value.specs.World.{EntityTree, World, entry_of, parents_of}
 use Rattle.cedar_value.specs.declared.uid.Uid.{Uid}
 use Rattle.cedar_store.specs.Private.Based.{BaseTree}
 use Rattle.cedar_store.specs.Private.Called.{IsLinked}
 use Rattle.cedar_store.specs.Private.Kept.{number_in}
 use Rattle.cedar_store.specs.Private.Overlaid.{IsNumbered, IsSettled}
+use Rattle.cedar_store.proofs.ChangedLemmas.{entry_in}
 use Rattle.cedar_store.proofs.EachMore.{Each}
 use Rattle.cedar_store.proofs.Marked.{Keeps}
 
@@ -25,9 +24,21 @@ AreParentsDue b w due u = Each (IsDue b due) (parents_of w u)
 pub still_parents_due : (b : BaseTree) (w : World) (old new : List (Bor Uid)) (us : List Uid) → Keeps old new → Each (AreParentsDue b w old) us → Each (AreParentsDue b w new) us
 still_parents_due b w old new us keeps each u m = still_due b old new (parents_of w u) keeps (each u m)
 
-pub numbered_or_not : {S : Type 0} (b : BaseTree) (sets : IndexMap Uid (BTreeSet Uid) S) (p : Uid) → (¬ IsNumbered b p → IsSettled sets p) → IsLinked b sets p
-numbered_or_not b sets p settled = by (is_some (number_in b.keys p)) refl
+pub numbered_or_not : (b : BaseTree) (part : World) (p : Uid) → (¬ IsNumbered b p → IsSettled part p) → IsLinked b part p
+numbered_or_not b part p settled = by (is_some (number_in b.keys p)) refl
   where
-    by : (t : Bool) → is_some (number_in b.keys p) ≡ t → IsLinked b sets p
+    by : (t : Bool) → is_some (number_in b.keys p) ≡ t → IsLinked b part p
     by true is = inr is
     by false is = inl (settled (λ there. absurd (let both : true ≡ false = sym there ∙ is in cc)))
+
+-- ---- what a part has
+
+pub still_due_entities : (b : BaseTree) (old new : List (Bor Uid)) (part : World) → Keeps old new → Each (λ (e : EntityTree). IsDue b old e.uid) part → Each (λ (e : EntityTree). IsDue b new e.uid) part
+still_due_entities b old new part keeps each e m none = keeps e.uid (each e m none)
+
+pub settled_due : (b : BaseTree) (due : List (Bor Uid)) (part : World) → Each (λ (e : EntityTree). IsDue b due e.uid) part → (p : Uid) → IsSettled part p → ¬ IsNumbered b p → Contains (lent due) p
+settled_due b due part each p there none = by (entry_of part p) refl there
+  where
+    by : (o : Option EntityTree) → entry_of part p ≡ o → is_some o ≡ true → Contains (lent due) p
+    by None is t = cc
+    by (Some e) is t = let found = entry_in part p e is in subst (Contains (lent due)) found.1 (each e found.0 (λ number. none (subst (IsNumbered b) found.1 number)))

@@ -1,20 +1,11 @@
 -- Lists that gain uids, each once.
-use Rattle.std.proofs.Common.{◌≡◌, ◌≢◌, ◌↔◌, ℕ, ◌+◌, ◌-◌, ◌<◌, ◌≤◌, ◌⊎◌, inl, inr, ⊎_elim, List, [], ◌∷◌, ◌++◌, length, take, drop, get_or, Bor, suc, Decides, AllPairs, Contains, IsTrue, true, is_eq, is_ok, Ok, Err, Result, OnOk, length-drop, refl, sym, ap, subst, ◌∙◌, arith}
-use Rattle.std.specs.BTreeSet.{BTreeSet, IsOrdered, contains}
-use Rattle.std.specs.Ordering.{eq_by_cmp}
-use Rattle.std.proofs.lemmas.Map.Keys.{IsDistinct-from_sorted}
-use Rattle.std.proofs.lemmas.Map.Made.{AllPairs-from_IsDistinct}
-use Rattle.std.proofs.Math.ListN.{get_or-append}
-use Rattle.std.proofs.Math.Seq.{get_or-append_seam}
+use Rattle.std.proofs.Common.{◌≡◌, ◌≢◌, ◌↔◌, ℕ, ◌+◌, ◌-◌, ◌<◌, ◌≤◌, ◌⊎◌, inl, inr, ⊎_elim, List, [], ◌∷◌, ◌++◌, length, take, drop, get_or, Bor, AllPairs, Contains, true, is_ok, Ok, Err, Result, OnOk, length-drop, refl, sym, ap, subst, ◌∙◌, arith}
 use Rattle.std.proofs.lemmas.List.{drop-append-le, drop-take, drop_all, map-append, length-append, take-append-drop, take-append-le, take_all, take_more}
 use Rattle.std.proofs.lemmas.List.Elements.{Contains-append_left, Contains-get_or, Contains-push, Contains-push_cases}
 use Rattle.std.proofs.lemmas.List.Quantifiers.{all_pairs_push}
 use Rattle.base_reach.specs.Private.Lent.{lent}
-use Rattle.base_reach.proofs.Listed.{any_at, any_found, left_of, nowhere}
+use Rattle.base_reach.proofs.Listed.{left_of, nowhere}
 use Rattle.base_reach.proofs.Searching.{lent-push}
-use Rattle.cedar_value.specs.Order.{uid_cmp}
-use Rattle.cedar_value.specs.Private.Equality.{same_uid-Decides}
-use Rattle.cedar_value.specs.Private.Laws.{uid_ties}
 use Rattle.cedar_value.specs.World.{World, Below}
 use Rattle.cedar_value.specs.declared.uid.Uid.{Uid}
 use Rattle.cedar_store.specs.Ancestors.{AddsAncestors}
@@ -98,25 +89,7 @@ still_known begun end old now P u order whole kept gathers apart m =
     sym (drop-take begun (end - begun) now) ∙ ap (λ k. drop begun (take k now)) reach ∙ ap (drop begun) (kept.0 ∙ take_all end old room) in
     subst (λ l. Contains (lent l) u) (sym front) (⊎_elim (λ before. before) (λ p. absurd (apart p)) ((gathers.told u).0 m))
 
--- ---- what sets and lists tell
-
-uid_tied : (a b : Uid) → Decides (eq_by_cmp uid_cmp a b) (a ≡ b)
-uid_tied a b = (λ h. (same_uid-Decides a b).0 (uid_ties a b ∙ h), λ is. sym (uid_ties a b) ∙ (same_uid-Decides a b).1 is)
-
--- each key of a set comes once
-pub not_seen : (s : BTreeSet Uid) (seen rest : List Uid) (u : Uid) → IsOrdered uid_cmp s → seen ++ u ∷ rest ≡ s.keys → ¬ Contains seen u
-not_seen s seen rest u ordered is (k, within, at) =
-    let all : AllPairs (λ v w. v ≢ w) (seen ++ u ∷ rest) = subst (AllPairs (λ v w. v ≢ w)) (sym is) (AllPairs-from_IsDistinct uid_tied s.keys (IsDistinct-from_sorted uid_cmp s.keys ordered)) in
-    let size : length (seen ++ u ∷ rest) ≡ length seen + suc (length rest) = length-append seen (u ∷ rest) in
-    all k (length seen) u within (omega arith) (get_or-append seen (u ∷ rest) u k within ∙ at ∙ sym (get_or-append_seam seen u rest u))
-
-pub set_told : (s : BTreeSet Uid) (v : Uid) → Contains s.keys v ↔ IsTrue (contains uid_cmp s v)
-set_told s v = (
-  λ m. any_at (λ k. is_eq (uid_cmp v k)) s.keys v m (sym (uid_ties v v) ∙ (same_uid-Decides v v).1 refl),
-  λ h. (let found = any_found (λ k. is_eq (uid_cmp v k)) s.keys h in
-      let same : v ≡ found.0 = (same_uid-Decides v found.0).0 (uid_ties v found.0 ∙ found.2) in
-      subst (Contains s.keys) (sym same) found.1),
-)
+-- ---- what lists tell
 
 pub told_push : (seen : List Uid) (u v : Uid) → Contains (seen ++ u ∷ []) v ↔ (Contains seen v ⊎ (u ≡ v))
 told_push seen u v = (
@@ -157,4 +130,12 @@ AddsAncestors-added w low old new P above adds = record {
   appended = adds.appended;
   once = adds.once;
   above = λ v. (λ m. (above v).0 ((adds.told v).0 m), λ b. (adds.told v).1 ((above v).1 b));
+}
+
+pub AddsAncestors-as : (w x : World) (low : Uid) (old new : List (Bor Uid)) → ((v : Uid) → Below w low v ↔ Below x low v) → AddsAncestors w low old new → AddsAncestors x low old new
+AddsAncestors-as w x low old new same adds = record {
+  added = adds.added;
+  appended = adds.appended;
+  once = adds.once;
+  above = λ v. (λ m. (same v).0 ((adds.above v).0 m), λ b. (adds.above v).1 ((same v).1 b));
 }

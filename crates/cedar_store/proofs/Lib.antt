@@ -1,13 +1,13 @@
 pub mod Above
 pub mod AboveNear
 pub mod AfterCall
-pub mod Apart
 pub mod Branches
 pub mod ChangedLemmas
 pub mod ChangesCrossing
 pub mod ChangesTold
 pub mod CutChains
 pub mod Due
+pub mod DueChanges
 pub mod EachMore
 pub mod Gathered
 pub mod Inserted
@@ -22,9 +22,9 @@ pub mod NoChanges
 pub mod Numbered
 pub mod OnceEach
 pub mod Overlaid
+pub mod Parts
 pub mod Places
 pub mod PlainRows
 pub mod SameEntities
-pub mod SetsMore
 pub mod Staying
 pub mod UpsertedFaults

@@ -4,15 +4,13 @@
 --     below_apart      what keeps its parents, as all that it is below does, is below what it was
 --     below_parents      an entity is below its direct parents and what they are below
 --     world_over-none      the world over no changes
-use Rattle.std.proofs.Common.{◌≡◌, ◌↔◌, ℕ, ◌⊎◌, inl, inr, ⊎_elim, List, [], ◌∷◌, filter, Bool, true, false, Option, Some, None, unwrap_or, is_some, option_copied, Bor, refl, sym, ap, subst, ◌∙◌, Contains, IsTrue}
-use Rattle.std.specs.BTreeSet.{BTreeSet}
+use Rattle.std.proofs.Common.{◌≡◌, ◌↔◌, ℕ, ◌⊎◌, inl, inr, ⊎_elim, List, [], ◌∷◌, filter, Bool, true, false, Option, Some, None, unwrap_or, is_some, refl, sym, ap, subst, ◌∙◌, Contains, IsTrue}
 use Rattle.std.specs.Option.{option_map}
 use Rattle.std.proofs.lemmas.List.{append-nil}
-use Rattle.indexmap.specs.IndexMap.{IndexMap, get}
 use Rattle.base_reach.specs.Closure.{one_link, more_links}
 use Rattle.base_reach.proofs.Listed.{nowhere}
-use Rattle.cedar_value.specs.Datum.{Datum, same_uid, uid}
-use Rattle.cedar_value.specs.World.{EntityTree, World, Below, entry_of, parents_of}
+use Rattle.cedar_value.specs.Datum.{Datum, uid}
+use Rattle.cedar_value.specs.World.{EntityTree, World, Below, entry_of, has_entity, parents_of}
 use Rattle.cedar_value.specs.declared.uid.Uid.{Uid}
 use Rattle.cedar_store.specs.Private.Based.{BaseTree}
 use Rattle.cedar_store.specs.Private.Changing.{AreChangesDistinct, ChangeTree, EachChange, IsChangeOfUid, change_of, removed_of, upserted_of, upsert_in}
@@ -80,24 +78,23 @@ module _ (w : World) (cs : List ChangeTree) where
 
 -- ---- what a store keeps
 
--- a look-up that finds no set
-pub open_set : {S : Type 0} (sets : IndexMap Uid (BTreeSet Uid) S) (u : Uid) (r : Option (Bor (BTreeSet Uid))) → option_copied r ≡ get same_uid sets u → r ≡ None → ¬ IsSettled sets u
-open_set sets u r read none there = let nothing : is_some (get same_uid sets u) ≡ false = ap is_some (sym read ∙ ap option_copied none) in cc
+pub unsettled : (part : World) (u : Uid) (t : Bool) → t ≡ has_entity part u → t ≡ false → ¬ IsSettled part u
+unsettled part u t is none there = let both : true ≡ false = sym there ∙ sym is ∙ none in cc
 
-module _ {S : Type 0} (b : BaseTree) (cs : List ChangeTree) (marks : List ℕ) (sets : IndexMap Uid (BTreeSet Uid) S) (distinct : AreChangesDistinct cs) (named : EachChange IsChangeOfUid cs)
-    (numbered : (u v : Uid) → Below b.world u v → IsNumbered b v) (kept : IsOverlaid b cs marks sets) where
+module _ (b : BaseTree) (cs : List ChangeTree) (marks : List ℕ) (part : World) (distinct : AreChangesDistinct cs) (named : EachChange IsChangeOfUid cs)
+    (numbered : (u v : Uid) → Below b.world u v → IsNumbered b v) (kept : IsOverlaid b cs marks part) where
   -- a row that has no mark in common is right
   pub row_apart : (u : Uid) → change_of cs u ≡ None → ((x : Uid) → IsTrue (in_row b.keys marks x) → ¬ Below b.world u x) → IsApart b.world cs u
   row_apart u none right = (parents_unnamed b.world cs distinct named u none, λ x c. ⊎_elim (λ there. absurd (right x there c)) (λ same. same) (kept.marked x (numbered u x c)))
 
-  parent_case : (z p : Uid) (o : Option ChangeTree) (e : Option EntityTree) → change_of cs z ≡ o → upsert_in o ≡ e → Contains (parents_of (world_over b.world cs) z) p → IsSettled sets p ⊎ IsNumbered b p
+  parent_case : (z p : Uid) (o : Option ChangeTree) (e : Option EntityTree) → change_of cs z ≡ o → upsert_in o ≡ e → Contains (parents_of (world_over b.world cs) z) p → IsSettled part p ⊎ IsNumbered b p
   parent_case z p None e is entity m = inr (numbered z p (one_link (subst (λ ps. Contains ps p) (parents_unnamed b.world cs distinct named z is) m)))
   parent_case z p (Some c) None is entity m = absurd (nowhere p (subst (λ ps. Contains ps p) (parents_named b.world cs distinct named z c is ∙ ap parents_in entity) m))
   parent_case z p (Some c) (Some e) is entity m =
       kept.parents z p e (ap upsert_in is ∙ entity) (subst (λ ps. Contains ps p) (parents_named b.world cs distinct named z c is ∙ ap parents_in entity) m)
 
-  -- a direct parent after the changes whose set is not kept
-  pub parent_apart : (z p : Uid) → Contains (parents_of (world_over b.world cs) z) p → ¬ IsSettled sets p → IsApart b.world cs p
+  -- a direct parent after the changes that the part lacks
+  pub parent_apart : (z p : Uid) → Contains (parents_of (world_over b.world cs) z) p → ¬ IsSettled part p → IsApart b.world cs p
   parent_apart z p m unsettled =
       let number : IsNumbered b p = ⊎_elim (λ settled. absurd (unsettled settled)) (λ n. n) (parent_case z p (change_of cs z) (upsert_in (change_of cs z)) refl refl m) in (
         ⊎_elim (λ there. absurd (unsettled (kept.below_marked p number (inl there)))) (λ same. same) (kept.marked p number),

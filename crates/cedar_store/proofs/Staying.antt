@@ -1,7 +1,5 @@
 -- A call that leaves alone what anything else is below.
 use Rattle.std.proofs.Common.{◌≡◌, ⊎_elim, Bool, true, false, List, subst}
-use Rattle.std.specs.BTreeSet.{BTreeSet}
-use Rattle.indexmap.specs.IndexMap.{IndexMap}
 use Rattle.cedar_value.specs.World.{EntityTree, World}
 use Rattle.cedar_value.specs.declared.uid.Uid.{Uid}
 use Rattle.cedar_store.specs.Private.Based.{BaseTree}
@@ -11,13 +9,13 @@ use Rattle.cedar_store.proofs.ChangedLemmas.{entry_in}
 use Rattle.cedar_store.proofs.EachMore.{Each}
 use Rattle.cedar_store.proofs.MarkedToo.{named_cases}
 
-abbrev pub DoesEntityStay : {S : Type 0} → BaseTree → List ChangeTree → IndexMap Uid (BTreeSet Uid) S → World → EntityTree → Type 0
-DoesEntityStay b cs sets upserted e = DoParentsStay b cs sets upserted e.uid × Each (IsLinked b sets) e.parents
+abbrev pub DoesEntityStay : BaseTree → List ChangeTree → World → World → EntityTree → Type 0
+DoesEntityStay b cs part upserted e = DoParentsStay b cs part upserted e.uid × Each (IsLinked b part) e.parents
 
-pub links_stay : {S : Type 0} (b : BaseTree) (cs : List ChangeTree) (sets : IndexMap Uid (BTreeSet Uid) S) (removed : List Uid) (upserted : World) → Each (DoParentsStay b cs sets upserted) removed → Each (DoesEntityStay b cs sets upserted) upserted
-    → DoLinksStay b cs sets removed upserted
-links_stay b cs sets removed upserted gone there = record {
-  same = λ u is. ⊎_elim (λ m. gone u m) (λ h. subst (DoParentsStay b cs sets upserted) h.2 (there h.0 h.1).0) (named_cases removed upserted u is);
+pub links_stay : (b : BaseTree) (cs : List ChangeTree) (part : World) (removed : List Uid) (upserted : World) → Each (DoParentsStay b cs part upserted) removed → Each (DoesEntityStay b cs part upserted) upserted
+    → DoLinksStay b cs part removed upserted
+links_stay b cs part removed upserted gone there = record {
+  same = λ u is. ⊎_elim (λ m. gone u m) (λ h. subst (DoParentsStay b cs part upserted) h.2 (there h.0 h.1).0) (named_cases removed upserted u is);
   known = λ u p e at m. (there e (entry_in upserted u e at).0).1 p m;
 }
 

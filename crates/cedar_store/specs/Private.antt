@@ -10,3 +10,4 @@ pub mod Gathered
 pub mod Hashed
 pub mod Kept
 pub mod Overlaid
+pub mod Parts

@@ -103,6 +103,13 @@ impl Base {
         self.table.hashing()
     }
 
+    /// The entities, in the order in which they were handed in.
+    pub(crate) fn entities(&self) -> &[Entity]
+        ensures { result.now ≡ self.now.world }
+    {
+        self.table.entities()
+    }
+
     /// The direct parents of an entity, and none of a uid that is not there.
     pub(crate) fn parents(&self, uid: &Uid) -> &[Uid]
         ensures { result.now ≡ parents_of self.now.world uid.now }

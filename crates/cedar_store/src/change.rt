@@ -1,9 +1,15 @@
 //! Changes of entities.
-ghost use Rattle.std.specs.Prelude.{◌≡◌};
+ghost use Rattle.std.specs.Prelude.{◌≡◌, Contains, OnOk};
+ghost use Rattle.base_reach.specs.Private.Lent.{lent};
 ghost use Rattle.cedar_value.specs.Datum.{same_uid};
+ghost use Rattle.cedar_value.specs.declared.uid.Uid.{Uid as Uids};
+ghost use Rattle.cedar_store.specs.Private.Parts.{HasParentsDue};
 
+use crate::base::Base;
 use crate::entity::Entity;
+use crate::settling::push_unnumbered;
 use cedar_value::Uid;
+use std::alloc::AllocError;
 use std::marker::Model;
 
 /// What changes say of a uid: the entity that is upserted, or that the uid is removed. The uid of the entity is this uid.
@@ -34,6 +40,21 @@ impl Change {
         ensures { result.now ≡ self.now.uid }
     {
         &self.uid
+    }
+
+    /// Appends each parent of the entity that is upserted, if one is, but for those with a number.
+    pub(crate) fn push_parents<'s>(
+        &'s self,
+        base: &Base,
+        due: &mut Vec<&'s Uid>,
+    ) -> Result<(), AllocError>
+        ensures kept { OnOk result ((p : Uids) → Contains (lent due.old.items) p → Contains (lent due.new.items) p) }
+        ensures parents { OnOk result (HasParentsDue base.now (lent due.new.items) self.now) }
+    {
+        match &self.entity {
+            Some(entity) => push_unnumbered(base, &entity.parents, due),
+            None => Ok(()),
+        }
     }
 
     /// Whether this is the change of the uid.

@@ -1,9 +1,12 @@
 //! The changes of a world, by their uids.
-ghost use Rattle.std.specs.Prelude.{◌≡◌, ◌↔◌, [], IfOk, IsTrue, Some, if◌then◌else◌, option_copied};
+ghost use Rattle.std.specs.Prelude.{◌≡◌, ◌↔◌, [], Contains, IfOk, IsTrue, OnOk, Some, if◌then◌else◌, option_copied};
+ghost use Rattle.base_reach.specs.Private.Lent.{lent};
 ghost use Rattle.cedar_value.specs.Datum.{same_uid};
 ghost use Rattle.cedar_value.specs.declared.uid.Uid as uids;
 ghost use Rattle.cedar_store.specs.Private.Changing.{AreChangesDistinct, EachChange, IsChangeOfUid, change_of};
+ghost use Rattle.cedar_store.specs.Private.Parts.{HasParentsDue};
 
+use crate::base::Base;
 use crate::change::Change;
 use crate::change_hash::hash_of;
 use crate::change_tree::ForkTree;
@@ -12,6 +15,9 @@ use cedar_value::Uid;
 use std::alloc::{AllocError, Global};
 use std::marker::Model;
 use std::sync::Arc;
+
+// No memory holds a deeper tree.
+const MOST_DEPTH: u32 = 62;
 
 /// The changes of a world, each found by its uid. A new version shares with the old one all that is not on the way to what
 /// changes. Contracts see the list of the changes.
@@ -84,6 +90,23 @@ impl ChangeMap {
             hashing: self.hashing,
             root,
         })
+    }
+
+    /// Appends each parent of the entities that the changes upsert, but for those with a number.
+    pub(crate) fn push_parents<'s>(
+        &'s self,
+        base: &Base,
+        due: &mut Vec<&'s Uid>,
+    ) -> Result<(), AllocError>
+        ensures kept { OnOk result ((p : uids.Uid) → Contains (lent due.old.items) p → Contains (lent due.new.items) p) }
+        ensures parents { OnOk result (EachChange (HasParentsDue base.now (lent due.new.items)) self.now) }
+    {
+        self.root.push_parents(base, due)
+    }
+
+    /// Two to the depth of the tree: at most one more than there are changes.
+    pub(crate) fn least_len(&self) -> usize {
+        1_usize << self.root.depth().min(MOST_DEPTH)
     }
 
     /// The same changes for one more holder. Takes no memory.

@@ -1,9 +1,13 @@
 //! The tree of changes.
-ghost use Rattle.std.specs.Prelude.{◌≡◌, IfOk, option_copied};
+ghost use Rattle.std.specs.Prelude.{◌≡◌, Contains, IfOk, OnOk, option_copied};
+ghost use Rattle.base_reach.specs.Private.Lent.{lent};
+ghost use Rattle.cedar_value.specs.declared.uid.Uid.{Uid as Uids};
+ghost use Rattle.cedar_store.specs.Private.Parts.{HasParentsDue};
 ghost use Rattle.cedar_store.specs.Private.Branches as branches;
-ghost use Rattle.cedar_store.specs.Private.Branches.{descent, grow, put, three_left, three_middle, three_right, two_left, two_right};
+ghost use Rattle.cedar_store.specs.Private.Branches.{EachKeyed, descent, grow, keyed_in, put, three_left, three_middle, three_right, two_left, two_right};
 ghost use Rattle.cedar_store.specs.Private.Forks.{branches_of, grown_of, keyed_of};
 
+use crate::base::Base;
 use crate::change::Change;
 use crate::keyed_change::KeyedChange;
 use cedar_value::Uid;
@@ -84,6 +88,41 @@ impl ForkTree {
                     Ordering::Greater => fork.right.find(hash, uid),
                 },
             },
+        }
+    }
+
+    /// Appends each parent of the entities that the changes upsert, but for those with a number.
+    pub(crate) fn push_parents<'s>(
+        &'s self,
+        base: &Base,
+        due: &mut Vec<&'s Uid>,
+    ) -> Result<(), AllocError>
+        ensures kept { OnOk result ((p : Uids) → Contains (lent due.old.items) p → Contains (lent due.new.items) p) }
+        ensures parents { OnOk result (EachKeyed (λ k. HasParentsDue base.now (lent due.new.items) k.change) (keyed_in (branches_of self.now))) }
+    {
+        match self {
+            ForkTree::Leaf => Ok(()),
+            ForkTree::Two(fork) => {
+                fork.left.push_parents(base, due)?;
+                fork.keyed.change.push_parents(base, due)?;
+                fork.right.push_parents(base, due)
+            }
+            ForkTree::Three(fork) => {
+                fork.left.push_parents(base, due)?;
+                fork.first.change.push_parents(base, due)?;
+                fork.middle.push_parents(base, due)?;
+                fork.second.change.push_parents(base, due)?;
+                fork.right.push_parents(base, due)
+            }
+        }
+    }
+
+    /// How many forks there are on the way to the left.
+    pub(crate) fn depth(&self) -> u32 {
+        match self {
+            ForkTree::Leaf => 0,
+            ForkTree::Two(fork) => fork.left.depth().saturating_add(1),
+            ForkTree::Three(fork) => fork.left.depth().saturating_add(1),
         }
     }
 

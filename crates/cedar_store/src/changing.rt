@@ -7,15 +7,14 @@ ghost use Rattle.cedar_store.specs.Private.Overlaid.{IsOverlaid, world_over};
 ghost use Rattle.cedar_value.specs.World.{entry_of};
 ghost use Rattle.cedar_value.specs.declared.uid.Uid.{Uid as Uids};
 
+use crate::base::Base;
 use crate::call_marks::{copied, marked_too};
 use crate::change_map::ChangeMap;
 use crate::changed_links::ChangedLinks;
-use crate::cycles::refuse_cycles;
 use crate::entity_table::EntityTable;
 use crate::links_stay::do_links_stay;
 use crate::more_changes::with_more;
 use crate::overlay::Overlay;
-use crate::settled::Settled;
 use crate::settling::settled_anew;
 use crate::store_fault::StoreFault;
 use base_search::Row;
@@ -28,13 +27,13 @@ use std::sync::Arc;
 pub(crate) struct Kept {
     pub(crate) changes: ChangeMap,
     pub(crate) marks: Row,
-    pub(crate) settled: Arc<Settled, Global>,
+    pub(crate) settled: Arc<Base, Global>,
 }
 
 /// What a store keeps after more changes.
 ///
-/// Where each uid that the call names and something is below keeps its parents, only the marks are copied, and the sets are shared.
-/// Else each set is made anew: all links above its uid are followed.
+/// Where each uid that the call names and something is below keeps its parents, only the marks are copied, and the part that is kept
+/// apart is shared. Else the part is made anew: all its links are followed, each once.
 ///
 /// # Errors
 ///
@@ -42,13 +41,13 @@ pub(crate) struct Kept {
 pub(crate) fn changed(
     alloc: Global,
     overlay: &Overlay<'_>,
-    settled: &Arc<Settled, Global>,
+    settled: &Arc<Base, Global>,
     removed: &[Uid],
     upserted: EntityTable,
 ) -> Result<Kept, StoreFault>
-    requires overlaid { IsOverlaid overlay.now.base.now overlay.now.changes.now overlay.now.marks.now overlay.now.settled.now }
+    requires overlaid { IsOverlaid overlay.now.base.now overlay.now.changes.now overlay.now.marks.now overlay.now.settled.now.world }
     requires same { settled.now.value ≡ overlay.now.settled.now }
-    ensures overlaid { IfOk result (λ k. IsOverlaid overlay.now.base.now k.changes k.marks k.settled.value) }
+    ensures overlaid { IfOk result (λ k. IsOverlaid overlay.now.base.now k.changes k.marks k.settled.value.world) }
     ensures entries { IfOk result (λ k. (u : Uids) → entry_of (world_over overlay.now.base.now.world k.changes) u
         ≡ entry_of (changed_world (world_over overlay.now.base.now.world overlay.now.changes.now) removed.now upserted) u) }
     ensures refused { IfErr result (IsThereInChanges (world_over overlay.now.base.now.world overlay.now.changes.now) removed.now upserted) }
@@ -68,14 +67,14 @@ pub(crate) fn changed(
 fn with_links_kept(
     alloc: Global,
     overlay: &Overlay<'_>,
-    settled: &Arc<Settled, Global>,
+    settled: &Arc<Base, Global>,
     removed: &[Uid],
     upserted: EntityTable,
 ) -> Result<Kept, StoreFault>
-    requires overlaid { IsOverlaid overlay.now.base.now overlay.now.changes.now overlay.now.marks.now overlay.now.settled.now }
+    requires overlaid { IsOverlaid overlay.now.base.now overlay.now.changes.now overlay.now.marks.now overlay.now.settled.now.world }
     requires same { settled.now.value ≡ overlay.now.settled.now }
-    requires stay { DoLinksStay overlay.now.base.now overlay.now.changes.now overlay.now.settled.now removed.now upserted }
-    ensures overlaid { IfOk result (λ k. IsOverlaid overlay.now.base.now k.changes k.marks k.settled.value) }
+    requires stay { DoLinksStay overlay.now.base.now overlay.now.changes.now overlay.now.settled.now.world removed.now upserted }
+    ensures overlaid { IfOk result (λ k. IsOverlaid overlay.now.base.now k.changes k.marks k.settled.value.world) }
     ensures entries { IfOk result (λ k. (u : Uids) → entry_of (world_over overlay.now.base.now.world k.changes) u
         ≡ entry_of (changed_world (world_over overlay.now.base.now.world overlay.now.changes.now) removed.now upserted) u) }
     ensures refused { IfErr result (IsThereInChanges (world_over overlay.now.base.now.world overlay.now.changes.now) removed.now upserted) }
@@ -95,15 +94,15 @@ fn with_links_kept(
     })
 }
 
-// What a store keeps after changes, with all sets made anew.
+// What a store keeps after changes, with the part that is kept apart made anew.
 fn with_links_changed(
     alloc: Global,
     overlay: &Overlay<'_>,
     removed: &[Uid],
     upserted: EntityTable,
 ) -> Result<Kept, StoreFault>
-    requires overlaid { IsOverlaid overlay.now.base.now overlay.now.changes.now overlay.now.marks.now overlay.now.settled.now }
-    ensures overlaid { IfOk result (λ k. IsOverlaid overlay.now.base.now k.changes k.marks k.settled.value) }
+    requires overlaid { IsOverlaid overlay.now.base.now overlay.now.changes.now overlay.now.marks.now overlay.now.settled.now.world }
+    ensures overlaid { IfOk result (λ k. IsOverlaid overlay.now.base.now k.changes k.marks k.settled.value.world) }
     ensures entries { IfOk result (λ k. (u : Uids) → entry_of (world_over overlay.now.base.now.world k.changes) u
         ≡ entry_of (changed_world (world_over overlay.now.base.now.world overlay.now.changes.now) removed.now upserted) u) }
     ensures refused { IfErr result (IsThereInChanges (world_over overlay.now.base.now.world overlay.now.changes.now) removed.now upserted) }
@@ -113,6 +112,7 @@ fn with_links_changed(
     overlay.changes.facts();
     let marks = marked_too(alloc, overlay.base, overlay.marks, removed, &upserted)?;
     let uids = copied_uids(alloc, &upserted)?;
+    let hashing = upserted.hashing();
     let changes = with_more(alloc, overlay.changes, removed, upserted)?;
     // No two of the new changes have one uid.
     changes.facts();
@@ -120,9 +120,8 @@ fn with_links_changed(
         base: overlay.base,
         changes: &changes,
     };
-    let sets = settled_anew(alloc, &links, &marks, overlay.settled, &uids)?;
-    refuse_cycles(alloc, &links, &sets, &uids)?;
-    let settled = Arc::new(alloc, sets)?;
+    let part = settled_anew(alloc, &links, &marks, overlay.settled, &uids, hashing)?;
+    let settled = Arc::new(alloc, part)?;
     Ok(Kept {
         changes,
         marks,

@@ -1,9 +1,7 @@
 //! Lists that gain uids, each once.
-ghost use Rattle.std.specs.Prelude.{◌≡◌, ◌≤◌, ◌↔◌, ◌-◌, ℕ, Contains, IsTrue, OnErr, OnOk, drop, length, take};
-ghost use Rattle.std.specs.BTreeSet.{contains};
+ghost use Rattle.std.specs.Prelude.{◌≡◌, ◌≤◌, ◌↔◌, ◌-◌, ℕ, Contains, IsTrue, OnOk, drop, length, take};
 ghost use Rattle.base_reach.specs.Private.Lent.{lent};
-ghost use Rattle.cedar_value.specs.Order.{uid_cmp};
-ghost use Rattle.cedar_store.specs.Private.Gathered.{Adds, Gathers, KeepsFirst};
+ghost use Rattle.cedar_store.specs.Private.Gathered.{Gathers, KeepsFirst};
 ghost use Rattle.cedar_store.specs.Private.Kept.{in_row};
 
 use crate::numbers::Numbers;
@@ -11,7 +9,6 @@ use base_bits::next_bit;
 use base_search::Row;
 use cedar_value::Uid;
 use std::alloc::AllocError;
-use std::collections::BTreeSet;
 
 /// Appends the uid, unless the list has it from `begun` to `end`. It is not among those after `end`, unless it is there too.
 pub(crate) fn gather<'s>(
@@ -44,24 +41,6 @@ fn is_among(uids: &[&Uid], uid: &Uid) -> bool
     false
 }
 
-/// Appends each uid of the set, unless it is one of those that were appended since the list had the length `begun`. It compares each
-/// with those that were appended before this call.
-pub(crate) fn gather_set<'s>(
-    found: &mut Vec<&'s Uid>,
-    begun: usize,
-    uids: &'s BTreeSet<Uid>,
-) -> Result<(), AllocError>
-    requires { begun ≤ length found.old.items }
-    ensures kept { KeepsFirst begun found.old.items found.new.items }
-    ensures gathers { OnOk result (Gathers begun found.old.items found.new.items (λ v. IsTrue (contains uid_cmp uids.now v))) }
-{
-    let end = found.len();
-    for uid in uids {
-        gather(found, begun, end, uid)?;
-    }
-    Ok(())
-}
-
 /// Appends each uid whose number's bit the row has, unless it is one of those that were appended since the list had the length
 /// `begun`. It compares each with those that were appended before this call.
 pub(crate) fn gather_members<'s>(
@@ -83,22 +62,6 @@ pub(crate) fn gather_members<'s>(
         };
         gather(found, begun, end, uid)?;
         next = number + 1;
-    }
-    Ok(())
-}
-
-/// Appends each uid of the set, once. When out of memory, the list is as it was.
-pub(crate) fn push_set<'s>(
-    uids: &'s BTreeSet<Uid>,
-    found: &mut Vec<&'s Uid>,
-) -> Result<(), AllocError>
-    ensures adds { OnOk result (Adds found.old.items found.new.items (λ v. IsTrue (contains uid_cmp uids.now v))) }
-    ensures refused { OnErr result (found.new.items ≡ found.old.items) }
-{
-    let begun = found.len();
-    if gather_set(found, begun, uids).is_err() {
-        found.truncate(begun);
-        return Err(AllocError);
     }
     Ok(())
 }

@@ -6,19 +6,18 @@ ghost use Rattle.cedar_store.specs.Private.Called.{DoLinksStay, DoParentsStay, I
 use crate::base::Base;
 use crate::changed_links::ChangedLinks;
 use crate::entity_table::EntityTable;
-use crate::settled::Settled;
 use base_reach::Links;
-use cedar_value::Uid;
+use cedar_value::{Hierarchy, Uid};
 
 /// Whether each uid that the call names and something is below keeps its parents, in their order, and each parent of the entities
-/// that it upserts has a set or a number. Looks up each of these uids, and takes no memory.
+/// that it upserts has a number or is in the part that is kept apart. Looks up each of these uids, and takes no memory.
 pub(crate) fn do_links_stay(
     links: &ChangedLinks<'_>,
-    settled: &Settled,
+    settled: &Base,
     removed: &[Uid],
     upserted: &EntityTable,
 ) -> bool
-    ensures { IsTrue result → DoLinksStay links.now.base.now links.now.changes.now settled.now removed.now upserted.now }
+    ensures { IsTrue result → DoLinksStay links.now.base.now links.now.changes.now settled.now.world removed.now upserted.now }
 {
     for uid in removed {
         if !do_parents_stay(links, settled, upserted, uid) {
@@ -38,18 +37,18 @@ pub(crate) fn do_links_stay(
 // Whether nothing is below a uid that the call names, or the uid keeps its parents, in their order.
 fn do_parents_stay(
     links: &ChangedLinks<'_>,
-    settled: &Settled,
+    settled: &Base,
     upserted: &EntityTable,
     uid: &Uid,
 ) -> bool
-    ensures { IsTrue result → DoParentsStay links.now.base.now links.now.changes.now settled.now upserted.now uid.now }
+    ensures { IsTrue result → DoParentsStay links.now.base.now links.now.changes.now settled.now.world upserted.now uid.now }
 {
     !is_linked(links.base, settled, uid) || upserted.links(uid) == links.links(uid)
 }
 
-// Whether each uid has a number or a set.
-fn are_linked(base: &Base, settled: &Settled, uids: &[Uid]) -> bool
-    ensures { IsTrue result → (p : Uids) → Contains uids.now p → IsLinked base.now settled.now p }
+// Whether each uid has a number or is in the part that is kept apart.
+fn are_linked(base: &Base, settled: &Base, uids: &[Uid]) -> bool
+    ensures { IsTrue result → (p : Uids) → Contains uids.now p → IsLinked base.now settled.now.world p }
 {
     for uid in uids {
         if !is_linked(base, settled, uid) {
@@ -59,9 +58,9 @@ fn are_linked(base: &Base, settled: &Settled, uids: &[Uid]) -> bool
     true
 }
 
-// Whether the uid has a number or a set.
-fn is_linked(base: &Base, settled: &Settled, uid: &Uid) -> bool
-    ensures { IsTrue result ↔ IsLinked base.now settled.now uid.now }
+// Whether the uid has a number or is in the part that is kept apart.
+fn is_linked(base: &Base, settled: &Base, uid: &Uid) -> bool
+    ensures { IsTrue result ↔ IsLinked base.now settled.now.world uid.now }
 {
-    settled.contains_key(uid) || base.is_numbered(uid)
+    settled.has(uid) || base.is_numbered(uid)
 }

@@ -9,23 +9,22 @@ ghost use Rattle.cedar_store.specs.Private.Overlaid.{IsOverlaid, world_over};
 
 use crate::base::Base;
 use crate::change_map::ChangeMap;
-use crate::gathering::{gather, gather_set, push_set};
-use crate::settled::{Settled, has_any};
+use crate::gathering::gather;
 use base_search::Row;
 use cedar_value::{Glance, Hierarchy, Record, Uid, ValueSet};
 use std::alloc::AllocError;
 
 /// The entities that were read whole, and the changes over them.
 ///
-/// What an entity is below is found without memory and in one step up: `settled` has the set of what each parent is below whose row of
-/// bits the changes have made wrong, and the row is right for each other parent. `marks` has the number of each uid that
-/// changes gave other parents: a row that has none of them in common is right.
+/// What an entity is below is found without memory and in one step up: `settled` is the part of the world above each parent whose row
+/// of bits the changes have made wrong, with rows of its own, and the row is right for each other parent. `marks` has the number of
+/// each uid that changes gave other parents: a row that has none of them in common is right.
 #[derive(Clone, Copy)]
 pub(crate) struct Overlay<'s> {
     pub(crate) base: &'s Base,
     pub(crate) changes: &'s ChangeMap,
     pub(crate) marks: &'s Row,
-    pub(crate) settled: &'s Settled,
+    pub(crate) settled: &'s Base,
 }
 
 impl<'s> Overlay<'s> {
@@ -56,11 +55,11 @@ impl<'s> Overlay<'s> {
 
     /// Whether the one is below the other.
     pub(crate) fn is_below(&self, low: &Uid, high: &Uid) -> bool
-        requires { IsOverlaid self.now.base.now self.now.changes.now self.now.marks.now self.now.settled.now }
+        requires { IsOverlaid self.now.base.now self.now.changes.now self.now.marks.now self.now.settled.now.world }
         ensures { IsTrue result ↔ Below (world_over self.now.base.now.world self.now.changes.now) low.now high.now }
     {
-        if let Some(above) = self.settled.get(low) {
-            return above.contains(high);
+        if self.settled.has(low) {
+            return self.settled.is_below(low, high);
         }
         match self.changed_parents(low) {
             Some(parents) => self.lead_to(parents, high),
@@ -70,12 +69,12 @@ impl<'s> Overlay<'s> {
 
     /// Whether the entity is below some uid of the set.
     pub(crate) fn is_below_any(&self, low: &Uid, highs: &ValueSet) -> bool
-        requires { IsOverlaid self.now.base.now self.now.changes.now self.now.marks.now self.now.settled.now }
+        requires { IsOverlaid self.now.base.now self.now.changes.now self.now.marks.now self.now.settled.now.world }
         ensures { IsTrue result
             ↔ ((v : Uids) × Contains highs.now (uid_datum v) × Below (world_over self.now.base.now.world self.now.changes.now) low.now v) }
     {
-        if let Some(above) = self.settled.get(low) {
-            return has_any(above, highs);
+        if self.settled.has(low) {
+            return self.settled.is_below_any(low, highs);
         }
         match self.changed_parents(low) {
             Some(parents) => self.lead_to_any(parents, highs),
@@ -88,12 +87,12 @@ impl<'s> Overlay<'s> {
     /// Where changes name the entity, or something that it may be below, each uid above a parent is compared with those above the
     /// parents before it. So with more parents than one, time grows with the square of the number of uids that are appended.
     pub(crate) fn ancestors(&self, low: &Uid, found: &mut Vec<&'s Uid>) -> Result<(), AllocError>
-        requires { IsOverlaid self.now.base.now self.now.changes.now self.now.marks.now self.now.settled.now }
+        requires { IsOverlaid self.now.base.now self.now.changes.now self.now.marks.now self.now.settled.now.world }
         ensures adds { OnOk result (AddsAncestors (world_over self.now.base.now.world self.now.changes.now) low.now found.old.items found.new.items) }
         ensures refused { OnErr result (found.new.items ≡ found.old.items) }
     {
-        if let Some(above) = self.settled.get(low) {
-            return push_set(above, found);
+        if self.settled.has(low) {
+            return self.settled.ancestors(low, found);
         }
         match self.changed_parents(low) {
             Some(parents) => self.push_above(parents, found),
@@ -104,7 +103,7 @@ impl<'s> Overlay<'s> {
     // The direct parents of an entity where changes name it, or something that it may be below. None where all that it is below is as
     // it was before the changes.
     fn changed_parents(&self, low: &Uid) -> Option<&'s [Uid]>
-        requires { IsOverlaid self.now.base.now self.now.changes.now self.now.marks.now self.now.settled.now }
+        requires { IsOverlaid self.now.base.now self.now.changes.now self.now.marks.now self.now.settled.now.world }
         ensures { MatchOption result
             ((v : Uids) → Below (world_over self.now.base.now.world self.now.changes.now) low.now v ↔ Below self.now.base.now.world low.now v)
             (λ ps. ps.now ≡ parents_of (world_over self.now.base.now.world self.now.changes.now) low.now) }
@@ -128,7 +127,7 @@ impl<'s> Overlay<'s> {
 
     // Whether one of the direct parents of some entity is the uid, or is below it.
     fn lead_to(&self, parents: &[Uid], high: &Uid) -> bool
-        requires overlaid { IsOverlaid self.now.base.now self.now.changes.now self.now.marks.now self.now.settled.now }
+        requires overlaid { IsOverlaid self.now.base.now self.now.changes.now self.now.marks.now self.now.settled.now.world }
         requires parents { (p : Uids) → Contains parents.now p
             → (z : Uids) × Contains (parents_of (world_over self.now.base.now.world self.now.changes.now) z) p }
         ensures { IsTrue result ↔ ((p : Uids) × Contains parents.now p
@@ -144,21 +143,21 @@ impl<'s> Overlay<'s> {
 
     // Whether a direct parent of some entity is below the uid.
     fn is_parent_below(&self, parent: &Uid, high: &Uid) -> bool
-        requires overlaid { IsOverlaid self.now.base.now self.now.changes.now self.now.marks.now self.now.settled.now }
+        requires overlaid { IsOverlaid self.now.base.now self.now.changes.now self.now.marks.now self.now.settled.now.world }
         requires parent { (z : Uids) × Contains (parents_of (world_over self.now.base.now.world self.now.changes.now) z) parent.now }
         ensures { IsTrue result ↔ Below (world_over self.now.base.now.world self.now.changes.now) parent.now high.now }
     {
         self.base.facts();
         self.changes.facts();
-        match self.settled.get(parent) {
-            Some(above) => above.contains(high),
-            None => self.base.is_below(parent, high),
+        if self.settled.has(parent) {
+            return self.settled.is_below(parent, high);
         }
+        self.base.is_below(parent, high)
     }
 
     // Whether one of the direct parents of some entity is a uid of the set, or is below one.
     fn lead_to_any(&self, parents: &[Uid], highs: &ValueSet) -> bool
-        requires overlaid { IsOverlaid self.now.base.now self.now.changes.now self.now.marks.now self.now.settled.now }
+        requires overlaid { IsOverlaid self.now.base.now self.now.changes.now self.now.marks.now self.now.settled.now.world }
         requires parents { (p : Uids) → Contains parents.now p
             → (z : Uids) × Contains (parents_of (world_over self.now.base.now.world self.now.changes.now) z) p }
         ensures { IsTrue result ↔ ((p : Uids) × Contains parents.now p × (v : Uids) × Contains highs.now (uid_datum v)
@@ -174,22 +173,22 @@ impl<'s> Overlay<'s> {
 
     // Whether a direct parent of some entity is below some uid of the set.
     fn is_parent_below_any(&self, parent: &Uid, highs: &ValueSet) -> bool
-        requires overlaid { IsOverlaid self.now.base.now self.now.changes.now self.now.marks.now self.now.settled.now }
+        requires overlaid { IsOverlaid self.now.base.now self.now.changes.now self.now.marks.now self.now.settled.now.world }
         requires parent { (z : Uids) × Contains (parents_of (world_over self.now.base.now.world self.now.changes.now) z) parent.now }
         ensures { IsTrue result ↔ ((v : Uids) × Contains highs.now (uid_datum v)
             × Below (world_over self.now.base.now.world self.now.changes.now) parent.now v) }
     {
         self.base.facts();
         self.changes.facts();
-        match self.settled.get(parent) {
-            Some(above) => has_any(above, highs),
-            None => self.base.is_below_any(parent, highs),
+        if self.settled.has(parent) {
+            return self.settled.is_below_any(parent, highs);
         }
+        self.base.is_below_any(parent, highs)
     }
 
     // Appends each of the direct parents of some entity, and what these are below, once. When out of memory, the list is as it was.
     fn push_above(&self, parents: &'s [Uid], found: &mut Vec<&'s Uid>) -> Result<(), AllocError>
-        requires overlaid { IsOverlaid self.now.base.now self.now.changes.now self.now.marks.now self.now.settled.now }
+        requires overlaid { IsOverlaid self.now.base.now self.now.changes.now self.now.marks.now self.now.settled.now.world }
         requires parents { (p : Uids) → Contains parents.now p
             → (z : Uids) × Contains (parents_of (world_over self.now.base.now.world self.now.changes.now) z) p }
         ensures adds { OnOk result (Adds found.old.items found.new.items (λ v. (p : Uids) × Contains parents.now p
@@ -212,7 +211,7 @@ impl<'s> Overlay<'s> {
         found: &mut Vec<&'s Uid>,
         begun: usize,
     ) -> Result<(), AllocError>
-        requires overlaid { IsOverlaid self.now.base.now self.now.changes.now self.now.marks.now self.now.settled.now }
+        requires overlaid { IsOverlaid self.now.base.now self.now.changes.now self.now.marks.now self.now.settled.now.world }
         requires parents { (p : Uids) → Contains parents.now p
             → (z : Uids) × Contains (parents_of (world_over self.now.base.now.world self.now.changes.now) z) p }
         requires begun { begun ≤ length found.old.items }
@@ -235,7 +234,7 @@ impl<'s> Overlay<'s> {
         found: &mut Vec<&'s Uid>,
         begun: usize,
     ) -> Result<(), AllocError>
-        requires overlaid { IsOverlaid self.now.base.now self.now.changes.now self.now.marks.now self.now.settled.now }
+        requires overlaid { IsOverlaid self.now.base.now self.now.changes.now self.now.marks.now self.now.settled.now.world }
         requires parent { (z : Uids) × Contains (parents_of (world_over self.now.base.now.world self.now.changes.now) z) parent.now }
         requires begun { begun ≤ length found.old.items }
         ensures kept { KeepsFirst begun found.old.items found.new.items }
@@ -244,9 +243,9 @@ impl<'s> Overlay<'s> {
     {
         self.base.facts();
         self.changes.facts();
-        match self.settled.get(parent) {
-            Some(above) => gather_set(found, begun, above),
-            None => self.base.gather_ancestors(parent, found, begun),
+        if self.settled.has(parent) {
+            return self.settled.gather_ancestors(parent, found, begun);
         }
+        self.base.gather_ancestors(parent, found, begun)
     }
 }

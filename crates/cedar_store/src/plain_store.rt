@@ -10,7 +10,7 @@ ghost use Rattle.cedar_store.specs.Private.Kept.{AreAncestors};
 use crate::entity::Entity;
 use crate::entity_table::EntityTable;
 use crate::plain_ancestors::all_ancestors;
-use crate::settled::has_any;
+use crate::plain_sets::has_any;
 use crate::store_fault::StoreFault;
 use cedar_value::{Hierarchy, Record, Uid, ValueSet};
 use std::alloc::Global;

@@ -1,45 +1,75 @@
-//! The sets of what uids are below, made anew after more changes.
-ghost use Rattle.std.specs.Prelude.{◌≡◌, Contains, IfOk, OnOk};
+//! The part of the world that is kept apart, made anew after more changes.
+ghost use Rattle.std.specs.Prelude.{◌≡◌, Contains, IfErr, IfOk, OnOk};
 ghost use Rattle.base_reach.specs.Private.Lent.{lent};
 ghost use Rattle.cedar_value.specs.World.{parents_of};
 ghost use Rattle.cedar_value.specs.declared.uid.Uid.{Uid as Uids};
-ghost use Rattle.cedar_store.specs.Private.Called.{AreSettledAnew};
-ghost use Rattle.cedar_store.specs.Private.Overlaid.{AreSettled, IsNumbered, IsSettled, world_over};
+ghost use Rattle.cedar_store.specs.Private.Called.{AreSettledAnew, IsCycleThere};
+ghost use Rattle.cedar_store.specs.Private.Overlaid.{IsNumbered, IsSettled, world_over};
+ghost use Rattle.cedar_store.specs.Private.Parts.{AreKnownDue};
 
 use crate::base::Base;
 use crate::changed_links::ChangedLinks;
-use crate::settled::Settled;
-use base_reach::{Links, closure_from};
+use crate::part::part_above;
+use crate::store_fault::StoreFault;
+use crate::uid_hashing::UidHashing;
+use base_reach::Links;
 use base_search::Row;
 use cedar_value::Uid;
-use indexmap::IndexMap;
 use std::alloc::{AllocError, Global};
 
-/// The sets of all uids that had one, of the parents of these entities that have no number, and of the uids with a number that
-/// are marked or below a uid that is marked. All links above each of them are followed.
+/// The part of the world above the parents without a number of all entities that are upserted, of which these are new, and the uids with a number that are marked or below a uid that is marked. All links above each of them are followed once.
+///
+/// # Errors
+///
+/// 402 where a uid of the part is below itself, and 1 when out of memory.
 pub(crate) fn settled_anew<'s>(
     alloc: Global,
     links: &'s ChangedLinks<'s>,
     marks: &Row,
-    old: &'s Settled,
+    old: &'s Base,
     uids: &[Uid],
-) -> Result<Settled, AllocError>
-    ensures { IfOk result (λ new. AreSettledAnew links.now.base.now links.now.changes.now marks.now old.now uids.now new) }
+    hashing: UidHashing,
+) -> Result<Base, StoreFault>
+    ensures settled { IfOk result (λ new. AreSettledAnew links.now.base.now links.now.changes.now marks.now old.now.world uids.now new.world) }
+    ensures refused { IfErr result (IsCycleThere (world_over links.now.base.now.world links.now.changes.now)) }
 {
     let mut due = Vec::new(alloc);
-    push_settled(old, &mut due)?;
-    push_parents(links, uids, &mut due)?;
+    push_known(links, old, uids, &mut due)?;
     links.base.push_marked(marks, &mut due)?;
-    Ok(sets_of(alloc, links, &due)?)
+    let part = part_above(alloc, links, &due, hashing)?;
+    let settled = Base::build(alloc, part)?;
+    // Nothing of it is below itself.
+    settled.facts();
+    Ok(settled)
 }
 
-// Appends each uid that has a set.
-fn push_settled<'s>(sets: &'s Settled, due: &mut Vec<&'s Uid>) -> Result<(), AllocError>
-    ensures kept { OnOk result ((p : Uids) → Contains (lent due.old.items) p → Contains (lent due.new.items) p) }
-    ensures settled { OnOk result ((p : Uids) → IsSettled sets.now p → Contains (lent due.new.items) p) }
+// Appends the uids without a number that the part has to have: those of the old part and the parents of these entities. Once the old
+// part has grown large beside the changes, these are gone through in its place: what only removed entities named is then forgotten.
+fn push_known<'s>(
+    links: &'s ChangedLinks<'_>,
+    old: &'s Base,
+    uids: &[Uid],
+    due: &mut Vec<&'s Uid>,
+) -> Result<(), AllocError>
+    ensures { OnOk result (AreKnownDue links.now.base.now links.now.changes.now old.now.world uids.now (lent due.new.items)) }
 {
-    for uid in sets.keys() {
-        due.push(uid)?;
+    if old.entities().len() >= links.changes.least_len() / 2 {
+        links.changes.push_parents(links.base, due)
+    } else {
+        push_settled(links.base, old, due)?;
+        push_parents(links, uids, due)
+    }
+}
+
+// Appends each uid of the part that has no number.
+fn push_settled<'s>(base: &Base, part: &'s Base, due: &mut Vec<&'s Uid>) -> Result<(), AllocError>
+    ensures kept { OnOk result ((p : Uids) → Contains (lent due.old.items) p → Contains (lent due.new.items) p) }
+    ensures settled { OnOk result ((p : Uids) → IsSettled part.now.world p → ¬ IsNumbered base.now p → Contains (lent due.new.items) p) }
+{
+    for entity in part.entities() {
+        if !base.is_numbered(&entity.uid) {
+            due.push(&entity.uid)?;
+        }
     }
     Ok(())
 }
@@ -61,8 +91,8 @@ fn push_parents<'s>(
     Ok(())
 }
 
-// Appends each of the uids that has no number.
-fn push_unnumbered<'s>(
+/// Appends each of the uids that has no number.
+pub(crate) fn push_unnumbered<'s>(
     base: &Base,
     uids: &'s [Uid],
     due: &mut Vec<&'s Uid>,
@@ -76,19 +106,4 @@ fn push_unnumbered<'s>(
         }
     }
     Ok(())
-}
-
-// The sets of these uids, of which some may be repeated.
-fn sets_of(alloc: Global, links: &ChangedLinks<'_>, due: &[&Uid]) -> Result<Settled, AllocError>
-    ensures settled { IfOk result (λ sets. AreSettled (world_over links.now.base.now.world links.now.changes.now) sets) }
-    ensures all { IfOk result (λ sets. (p : Uids) → Contains (lent due.now) p → IsSettled sets p) }
-{
-    let mut sets = IndexMap::with_hasher(alloc, links.base.hashing());
-    for uid in due {
-        if !sets.contains_key(*uid) {
-            let above = closure_from(alloc, links, *uid)?;
-            sets.insert(uid.try_clone(alloc)?, above)?;
-        }
-    }
-    Ok(sets)
 }

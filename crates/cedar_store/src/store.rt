@@ -16,11 +16,9 @@ use crate::descendant::Descendant;
 use crate::entity::Entity;
 use crate::entity_table::EntityTable;
 use crate::overlay::Overlay;
-use crate::settled::Settled;
 use crate::store_fault::StoreFault;
 use base_search::Row;
 use cedar_value::{Hierarchy, Record, Uid, ValueSet};
-use indexmap::IndexMap;
 use std::alloc::{AllocError, Global};
 use std::marker::Model;
 use std::sync::Arc;
@@ -33,7 +31,7 @@ pub struct Store {
     base: Arc<Base, Global>,
     changes: ChangeMap,
     marks: Row,
-    settled: Arc<Settled, Global>,
+    settled: Arc<Base, Global>,
 }
 
 impl Model for Store {
@@ -48,7 +46,7 @@ impl Model for Store {
 
     ghost view = { λ s. world_over s.base.value.world s.changes };
 
-    ghost invariant = { λ s. IsOverlaid s.base.value s.changes s.marks s.settled.value };
+    ghost invariant = { λ s. IsOverlaid s.base.value s.changes s.marks s.settled.value.world };
 }
 
 impl Store {
@@ -74,11 +72,12 @@ impl Store {
         // Nothing is below itself.
         base.facts();
         let hashing = base.hashing();
+        let nothing = Base::build(alloc, Vec::new(alloc))?;
         Ok(Store {
             base: Arc::new(alloc, base)?,
             changes: ChangeMap::new(hashing),
             marks: Row::new(alloc),
-            settled: Arc::new(alloc, IndexMap::with_hasher(alloc, hashing))?,
+            settled: Arc::new(alloc, nothing)?,
         })
     }
 
@@ -172,7 +171,7 @@ impl Store {
     // The entities that were read whole, and the changes over them.
     fn overlay(&self) -> Overlay<'_>
         ensures world { world_over result.base.now.world result.changes.now ≡ self.now }
-        ensures overlaid { IsOverlaid result.base.now result.changes.now result.marks.now result.settled.now }
+        ensures overlaid { IsOverlaid result.base.now result.changes.now result.marks.now result.settled.now.world }
     {
         Overlay {
             base: &self.base,

@@ -6,26 +6,26 @@ use Rattle.cedar_store.proofs.Staying.{DoesEntityStay, links_stay}
 use Rattle.cedar_store.proofs.links_stay.do_links_stay.Goals as goal
 
 pub loop-uid-init : goal.loop-uid-init
-loop-uid-init c = each_none (DoParentsStay c.args.links.now.base.now c.args.links.now.changes.now c.args.settled.now c.args.upserted.now) c.args.removed.now
+loop-uid-init c = each_none (DoParentsStay c.args.links.now.base.now c.args.links.now.changes.now c.args.settled.now.world c.args.upserted.now) c.args.removed.now
 
 pub loop-uid-preserved : goal.loop-uid-preserved
 loop-uid-preserved c =
-    each_more (DoParentsStay c.args.links.now.base.now c.args.links.now.changes.now c.args.settled.now c.args.upserted.now) c.args.removed.now c.loop-uid.uid-index c.uid-item.result c.loop-uid-test.true c.uid-item.is c.loop-uid.invariant
+    each_more (DoParentsStay c.args.links.now.base.now c.args.links.now.changes.now c.args.settled.now.world c.args.upserted.now) c.args.removed.now c.loop-uid.uid-index c.uid-item.result c.loop-uid-test.true c.uid-item.is c.loop-uid.invariant
     (c.do_parents_stay.ensures c.if-not-do_parents_stay.false)
 
 pub loop-entity-init : goal.loop-entity-init
 loop-entity-init c =
     let b = c.args.links.now.base.now in
     let cs = c.args.links.now.changes.now in (
-      each_all (DoParentsStay b cs c.args.settled.now c.args.upserted.now) c.args.removed.now c.loop-uid.uid-index c.loop-uid-test.false c.loop-uid.invariant,
-      each_none (DoesEntityStay b cs c.args.settled.now c.args.upserted.now) c.args.upserted.now,
+      each_all (DoParentsStay b cs c.args.settled.now.world c.args.upserted.now) c.args.removed.now c.loop-uid.uid-index c.loop-uid-test.false c.loop-uid.invariant,
+      each_none (DoesEntityStay b cs c.args.settled.now.world c.args.upserted.now) c.args.upserted.now,
     )
 
 pub loop-entity-preserved : goal.loop-entity-preserved
 loop-entity-preserved c =
     let b = c.args.links.now.base.now in
     let cs = c.args.links.now.changes.now in
-    let sets = c.args.settled.now in
+    let sets = c.args.settled.now.world in
     let w = c.args.upserted.now in
     let i = c.loop-entity.entity-index in
     let e = c.entity-item.result in
@@ -42,4 +42,4 @@ returns c =
     let cs = c.args.links.now.changes.now in
     let w = c.args.upserted.now in
     let past : length w ≤ c.loop-entity.entity-index = subst (λ (es : World). length es ≤ c.loop-entity.entity-index) c.entities-entity-items.ensures c.loop-entity-test.false in
-    λ t. links_stay b cs c.args.settled.now c.args.removed.now w c.loop-entity.invariant.0 (each_all (DoesEntityStay b cs c.args.settled.now w) w c.loop-entity.entity-index past c.loop-entity.invariant.1)
+    λ t. links_stay b cs c.args.settled.now.world c.args.removed.now w c.loop-entity.invariant.0 (each_all (DoesEntityStay b cs c.args.settled.now.world w) w c.loop-entity.entity-index past c.loop-entity.invariant.1)

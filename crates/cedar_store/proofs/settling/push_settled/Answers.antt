@@ -1,32 +1,37 @@
-use Rattle.std.proofs.Common.{◌≡◌, Bor, map, List, Contains, sym, subst, ◌∙◌, inl, inr}
-use Rattle.std.proofs.lemmas.List.Elements.{Contains-push_cases}
-use Rattle.std.proofs.lemmas.Map.Iter.{iter_end}
-use Rattle.std.proofs.lemmas.Map.Views.{hash_map_contains_key_iff}
-use Rattle.std.specs.Map.Iter.{deref}
-use Rattle.base_reach.proofs.Listed.{from_mapped}
+use Rattle.std.proofs.Common.{◌≡◌, ◌<◌, ◌≤◌, Contains, length, get_or, sym, ap, subst, ◌∙◌, take}
 use Rattle.base_reach.specs.Private.Lent.{lent}
-use Rattle.indexmap.specs.IndexMap.{keys}
-use Rattle.cedar_value.specs.Private.Equality.{same_uid-Decides, uid_equivalence}
-use Rattle.cedar_value.specs.declared.uid.Uid.{Uid}
+use Rattle.cedar_value.specs.World.{EntityTree, World}
+use Rattle.cedar_store.specs.Private.Overlaid.{IsNumbered}
+use Rattle.cedar_store.proofs.Due.{IsDue, settled_due, still_due_entities}
+use Rattle.cedar_store.proofs.EachMore.{each_none, each_more, each_all}
 use Rattle.cedar_store.proofs.Marked.{Keeps, pushed_keeps, pushed_there}
+use Rattle.cedar_store.proofs.settling.push_settled.Goals.{then-not-is_numbered+in_ok-push, else-not-is_numbered}
 use Rattle.cedar_store.proofs.settling.push_settled.Goals as goal
 
-pub loop-uid-preserved : goal.loop-uid-preserved
-loop-uid-preserved c =
-    let old = c.loop-uid.due.items in
-    let new = c.push.new.self.items in
-    let u = c.in-Some.uid in
-    let keeps : Keeps old new = pushed_keeps old new u c.in_ok-push.ensures.items in (
-      λ p m. keeps p (c.loop-uid.invariant.0 p m),
-      λ x m. elim (Contains-push_cases c.loop-uid.yielded u x m) [
-        | inl before ↦ keeps x.now (c.loop-uid.invariant.1 x before)
-        | inr now ↦ subst (λ (y : Bor Uid). Contains (lent new) y.now) now (pushed_there old new u c.in_ok-push.ensures.items)
-      ],
-    )
+pub loop-entity-init : goal.loop-entity-init
+loop-entity-init c = (λ p m. m, each_none (λ (e : EntityTree). IsDue c.args.base.now c.args.due.now.items e.uid) c.args.part.now.world)
+
+pub loop-entity-preserved : goal.loop-entity-preserved
+loop-entity-preserved c =
+    let b = c.args.base.now in
+    let es = c.args.part.now.world in
+    let i = c.loop-entity.entity-index in
+    let e = c.entity-item.result in
+    let old = c.loop-entity.due.items in
+    let same = c.entities-entity-items.ensures in
+    let within : i < length es = subst (λ (xs : World). i < length xs) same c.loop-entity-test.true in
+    let is : e ≡ get_or es i e = subst (λ (xs : World). e ≡ get_or xs i e) same c.entity-item.is in
+    let named = ap (λ (x : EntityTree). x.uid) c.entity.view_is in
+    elim c.if-not-is_numbered.branch [
+      | then-not-is_numbered+in_ok-push w ↦ (let new = w.push.new.self.items in
+          let keeps : Keeps old new = pushed_keeps old new _ w.in_ok-push.ensures.items in
+          rw (w.due-is) (λ p m. keeps p (c.loop-entity.invariant.0 p m), each_more (λ (x : EntityTree). IsDue b new x.uid) es i e within is (still_due_entities b old new (take i es) keeps c.loop-entity.invariant.1) (λ none. subst (Contains (lent new)) named (pushed_there old new _ w.in_ok-push.ensures.items))))
+      | else-not-is_numbered w ↦
+          rw (w.due-is) (c.loop-entity.invariant.0, each_more (λ (x : EntityTree). IsDue b old x.uid) es i e within is c.loop-entity.invariant.1 (λ none. absurd (none (subst (IsNumbered b) named (sym c.is_numbered.ensures ∙ w.if-not-is_numbered.false)))))
+    ]
 
 pub returns-clause-settled : goal.returns-clause-settled
 returns-clause-settled c =
-    let all : map deref c.loop-uid.yielded ≡ keys c.args.sets.now = (iter_end deref (keys c.args.sets.now) c.loop-uid.yielded c.into_iter-uid-iterator.result c.loop-uid.uid-iterator c.next.new.self c.next.result (c.into_iter-uid-iterator.ensures.into_iter_gives ∙ c.keys-uid-items.ensures.rest) c.loop-uid.yielded_by c.in-None.is c.next.ensures.steps).0 in
-    λ p there. (let key = (hash_map_contains_key_iff uid_equivalence (λ x y. (same_uid-Decides x y).0) c.args.sets.now p).0 there in
-    let found = from_mapped deref c.loop-uid.yielded p (subst (λ (us : List Uid). Contains us p) (sym all) key) in
-    subst (Contains (lent c.loop-uid.due.items)) found.2 (c.loop-uid.invariant.1 found.0 found.1))
+    let es = c.args.part.now.world in
+    let past : length es ≤ c.loop-entity.entity-index = subst (λ (xs : World). length xs ≤ c.loop-entity.entity-index) c.entities-entity-items.ensures c.loop-entity-test.false in
+    settled_due c.args.base.now c.loop-entity.due.items es (each_all (λ (e : EntityTree). IsDue c.args.base.now c.loop-entity.due.items e.uid) es c.loop-entity.entity-index past c.loop-entity.invariant.1)

@@ -8,8 +8,8 @@ use Rattle.cedar_conform_values.proofs.names.Names.read_new.Goals as goal
 inserted : (xs : List (List ℕ)) (i : ℕ) (x : List ℕ) → All IsName xs → IsName x → All IsName (take i xs ++ x ∷ drop i xs)
 inserted xs i x h p = All-append IsName (take i xs) (x ∷ drop i xs) (All-take IsName i xs h) (All-cons IsName x (drop i xs) p (All-drop IsName i xs h))
 
-pub invariant_of-self-in_ok-insert : goal.invariant_of-self-in_ok-insert
-invariant_of-self-in_ok-insert c =
+pub invariant_of-self-2 : goal.invariant_of-self-2
+invariant_of-self-2 c =
     let text = c.args.text.now in
     let same : c.in-Some.name ≡ text = subst (λ (o : Option (List ℕ)). IfSome o (λ n. n ≡ text)) c.in-Some.is c.in_ok-name.ensures.path in
     let named : IsName text = c.in_ok-name.ensures.given.0 (subst IsSome (sym c.in-Some.is) refl) in

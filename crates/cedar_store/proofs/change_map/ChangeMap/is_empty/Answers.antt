@@ -1,4 +1,4 @@
-use Rattle.std.proofs.Common.{◌≡◌, List, [], ◌++◌, ◌∷◌, refl, ◌∙◌}
+use Rattle.std.proofs.Common.{◌≡◌, [], ◌++◌, ◌∷◌, refl}
 use Rattle.cedar_store.specs.Private.Branches.{changes_in, keyed_in}
 use Rattle.cedar_store.specs.Private.Forks.{branches_of, keyed_of}
 use Rattle.cedar_store.specs.declared.change_tree.ForkTree.{ForkTree, Leaf, Two', Three'}

@@ -22,8 +22,6 @@ static uint32_t given(uint32_t status, cedar_buffer *text, size_t written) {
     return status;
 }
 
-static bool is_handle(const cedar_engine *engine) { return engine && engine->at; }
-
 static bool is_request(const cedar_request *it) {
     return it && it->size == sizeof *it && cedar_are_bytes(it->principal_type) && cedar_are_bytes(it->principal_id)
         && cedar_are_bytes(it->action_type) && cedar_are_bytes(it->action_id) && cedar_are_bytes(it->resource_type)
@@ -53,43 +51,47 @@ uint32_t cedar_new(cedar_engine *engine) {
         return CEDAR_ARGUMENT;
     }
     engine->at = NULL;
-    return cedar_raw_new(&engine->at);
+    return cedar_handle_new(engine);
 }
 
 void cedar_free(cedar_engine *engine) {
-    if (is_handle(engine)) {
-        cedar_raw_free(*engine);
+    if (engine) {
+        cedar_handle_free(engine);
         engine->at = NULL;
     }
 }
 
 uint32_t cedar_share(cedar_engine *engine, cedar_engine *other) {
-    bool are_two = is_handle(engine) && is_handle(other) && engine->at != other->at;
-    return are_two ? cedar_raw_share(engine, other) : CEDAR_ARGUMENT;
+    cedar_engine *handle = cedar_handle_of(engine), *second = cedar_handle_of(other);
+    bool are_two = handle && second && handle->at != second->at;
+    return are_two ? cedar_raw_share(handle, second) : CEDAR_ARGUMENT;
 }
 
 uint32_t cedar_publish(cedar_engine *engine, const cedar_files *files, cedar_refusal *refusal, cedar_buffer *text) {
-    if (!is_handle(engine) || !cedar_are_files(files) || !cedar_is_refusal(refusal) || !cedar_is_room(text)) {
+    cedar_engine *handle = cedar_handle_of(engine);
+    if (!handle || !cedar_are_files(files) || !cedar_is_refusal(refusal) || !cedar_is_room(text)) {
         return given(CEDAR_ARGUMENT, text, 0);
     }
     cedar_publication publication = {CEDAR_ALL_FILES, *files, {NULL, 0}};
-    return cedar_publish_this(engine, &publication, refusal, text);
+    return cedar_publish_this(handle, &publication, refusal, text);
 }
 
 uint32_t cedar_publish_entities(cedar_engine *engine, cedar_bytes entities, cedar_refusal *refusal, cedar_buffer *text) {
-    if (!is_handle(engine) || !cedar_are_bytes(entities) || !cedar_is_refusal(refusal) || !cedar_is_room(text)) {
+    cedar_engine *handle = cedar_handle_of(engine);
+    if (!handle || !cedar_are_bytes(entities) || !cedar_is_refusal(refusal) || !cedar_is_room(text)) {
         return given(CEDAR_ARGUMENT, text, 0);
     }
     cedar_publication publication = {.kind = CEDAR_NEW_ENTITIES, .files = {.entities = entities}};
-    return cedar_publish_this(engine, &publication, refusal, text);
+    return cedar_publish_this(handle, &publication, refusal, text);
 }
 
 uint32_t cedar_publish_changes(cedar_engine *engine, cedar_bytes changes, cedar_refusal *refusal, cedar_buffer *text) {
-    if (!is_handle(engine) || !cedar_are_bytes(changes) || !cedar_is_refusal(refusal) || !cedar_is_room(text)) {
+    cedar_engine *handle = cedar_handle_of(engine);
+    if (!handle || !cedar_are_bytes(changes) || !cedar_is_refusal(refusal) || !cedar_is_room(text)) {
         return given(CEDAR_ARGUMENT, text, 0);
     }
     cedar_publication publication = {.kind = CEDAR_SOME_CHANGES, .changes = changes};
-    return cedar_publish_this(engine, &publication, refusal, text);
+    return cedar_publish_this(handle, &publication, refusal, text);
 }
 
 uint32_t cedar_validate(const cedar_files *files, cedar_buffer *text) {
@@ -124,11 +126,12 @@ uint32_t cedar_explain_changes(cedar_bytes schema, cedar_bytes changes, uint32_t
 }
 
 uint32_t cedar_explain_line(cedar_engine *engine, cedar_bytes line, uint32_t kind, uint32_t number, uint32_t format, cedar_buffer *text) {
-    if (!is_handle(engine) || !cedar_are_bytes(line) || !cedar_is_room(text)) {
+    cedar_engine *handle = cedar_handle_of(engine);
+    if (!handle || !cedar_are_bytes(line) || !cedar_is_room(text)) {
         return given(CEDAR_ARGUMENT, text, 0);
     }
     cedar_buffer room = room_of(text);
-    uint32_t status = cedar_raw_explain_line(engine, at_of(line), line.length, kind, number, format, room.at, room.room, &room.written);
+    uint32_t status = cedar_raw_explain_line(handle, at_of(line), line.length, kind, number, format, room.at, room.room, &room.written);
     return given(status, text, room.written);
 }
 
@@ -136,11 +139,12 @@ uint32_t cedar_explain_line(cedar_engine *engine, cedar_bytes line, uint32_t kin
 typedef uint32_t answering(cedar_engine *engine, const void *lines, size_t length, void *text, size_t room, size_t *written);
 
 static uint32_t answer(answering *call, cedar_engine *engine, cedar_bytes lines, cedar_buffer *text) {
-    if (!is_handle(engine) || !cedar_are_bytes(lines) || !cedar_is_room(text)) {
+    cedar_engine *handle = cedar_handle_of(engine);
+    if (!handle || !cedar_are_bytes(lines) || !cedar_is_room(text)) {
         return given(CEDAR_ARGUMENT, text, 0);
     }
     cedar_buffer room = room_of(text);
-    uint32_t status = call(engine, at_of(lines), lines.length, room.at, room.room, &room.written);
+    uint32_t status = call(handle, at_of(lines), lines.length, room.at, room.room, &room.written);
     return given(status, text, room.written);
 }
 
@@ -166,9 +170,10 @@ uint32_t cedar_decide(cedar_engine *engine, const cedar_request *request, cedar_
     bool has_decision = decision && decision->size == sizeof *decision;
     cedar_raw_decision raw = {0, 0};
     cedar_buffer room = room_of(text);
+    cedar_engine *handle = cedar_handle_of(engine);
     uint32_t status = CEDAR_ARGUMENT;
-    if (has_decision && is_handle(engine) && is_request(request) && cedar_is_room(text)) {
-        status = decide(engine, request, &raw, &room);
+    if (has_decision && handle && is_request(request) && cedar_is_room(text)) {
+        status = decide(handle, request, &raw, &room);
     }
     if (has_decision) {
         decision->allow = status == CEDAR_OK && raw.allow == 1;
@@ -222,7 +227,8 @@ static size_t put_line(char *to, const cedar_request *it) {
 }
 
 uint32_t cedar_explain_request(cedar_engine *engine, const cedar_request *request, uint32_t number, uint32_t format, cedar_buffer *text) {
-    if (!is_handle(engine) || !is_request(request) || !cedar_is_room(text)) {
+    cedar_engine *handle = cedar_handle_of(engine);
+    if (!handle || !is_request(request) || !cedar_is_room(text)) {
         return given(CEDAR_ARGUMENT, text, 0);
     }
     size_t length = put_line(NULL, request);

@@ -1,4 +1,4 @@
-/* calls.h: what the C files of the library share: the memory of heap.c, and publications. It is not for programs. */
+/* calls.h: what the C files of the library share: the memory of heap.c, handles, and publications. It is not for programs. */
 #ifndef CEDAR_CALLS_H
 #define CEDAR_CALLS_H
 #include "cedar.h"
@@ -12,6 +12,21 @@ typedef struct cedar_tried {
 } cedar_tried;
 cedar_tried rattle_alloc(size_t size, size_t alignment);
 void rattle_dealloc(void *at);
+
+/* The handle of the proved part that has a mark, which is what a cedar_engine of cedar_new has; null where the handle was freed. */
+cedar_engine *cedar_marked(uintptr_t mark);
+
+/* The handle of the proved part to which a cedar_engine leads; null where it leads nowhere, or is a copy of one that was freed. */
+static inline cedar_engine *cedar_handle_of(cedar_engine *engine) {
+    uintptr_t mark = engine ? (uintptr_t)engine->at : 0;
+    return mark & 1 ? cedar_marked(mark) : mark ? engine : NULL;
+}
+
+/* Makes a handle, to which an engine then leads. */
+uint32_t cedar_handle_new(cedar_engine *engine);
+
+/* Frees the handle to which an engine leads. Where it leads to none, nothing happens. */
+void cedar_handle_free(cedar_engine *engine);
 
 /* What is published to a handle: files, entities, or changes of entities. `files` has the schema, by which a refusal is put in words, and
  * what is published but changes. */

@@ -15,8 +15,11 @@
  * Arguments: a call checks them, and returns CEDAR_ARGUMENT where a handle, a struct or an address is null that may not be, where bytes or
  * a buffer have a length without an address, and where the size of a struct is not known. It has done nothing then.
  *
- * Memory: a call reads its bytes only while it runs, and keeps none of them. No argument that is written overlaps another. Handles are
- * not copied. The library asks malloc, realloc and free for memory (c/heap.c). A call that returns CEDAR_MEMORY has changed nothing.
+ * Memory: a call reads its bytes only while it runs, and keeps none of them. No argument that is written overlaps another. The
+ * library asks malloc, realloc and free for memory (c/heap.c). A call that returns CEDAR_MEMORY has changed nothing.
+ *
+ * Copies: a copy of a cedar_engine is the same handle. Once cedar_free was called for one of them, the others return CEDAR_ARGUMENT, and
+ * cedar_free leaves them alone.
  *
  * Stack: 4 MiB for cedar_explain, cedar_explain_changes and those calls that are to give words (cedar_refusal), 512 KiB for those that
  * publish, change, validate, share, free, or explain a request or a line, 64 KiB for the other calls. Do not call from a signal handler, nor
@@ -81,7 +84,7 @@ typedef struct cedar_buffer {
     size_t written;
 } cedar_buffer;
 
-/* A handle. Only cedar_new sets it, and only cedar_free sets it to null. */
+/* A handle. Only cedar_new sets it, and only cedar_free sets it to null. What `at` has is not an address. */
 typedef struct cedar_engine {
     void *at;
 } cedar_engine;
@@ -185,7 +188,7 @@ uint32_t cedar_shared_explain_request(cedar_shared *shared, const cedar_request 
 /* Makes a handle that leads nowhere. With another status than CEDAR_OK the handle is null. */
 uint32_t cedar_new(cedar_engine *engine);
 
-/* Frees a handle and sets it to null. A handle that is null is left alone, so freeing twice is safe. */
+/* Frees a handle and sets it to null. A handle that is null is left alone, and so is a copy of one that was freed: freeing twice is safe. */
 void cedar_free(cedar_engine *engine);
 
 /* Reads and validates the files, and has the handle lead to an engine of them. With another status than CEDAR_OK the handle leads where
@@ -252,7 +255,8 @@ uint32_t cedar_answer_line(cedar_engine *engine, cedar_bytes line, cedar_buffer 
 uint32_t cedar_decide(cedar_engine *engine, const cedar_request *request, cedar_decision *decision, cedar_buffer *text);
 
 /* The calls of the proved part, which the library exports, too. They check nothing: no address may be null, and each is of so many bytes as
- * are given with it. Programs of earlier versions make them, and they stay. */
+ * are given with it. They take handles of cedar_raw_new, which all calls take, and not those of cedar_new. Programs of earlier versions make
+ * them, and they stay. */
 typedef struct cedar_raw_refusal {
     uint32_t file, number;
     uint64_t offset;

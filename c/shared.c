@@ -136,7 +136,7 @@ static version *version_new(cedar_shared *shared) {
     *made = (version){.shared = shared};
     atomic_init(&made->count, 1);
     UNCHECKED(&made->count);
-    if (cedar_new(&made->main) != CEDAR_OK) {
+    if (cedar_raw_new(&made->main.at) != CEDAR_OK) {
         rattle_dealloc(made);
         return NULL;
     }
@@ -161,7 +161,7 @@ static handle *handle_new(cedar_shared *shared) {
     handle *made = block(sizeof *made);
     if (made) {
         *made = (handle){.number = NOTHING};
-        if (cedar_new(&made->engine) == CEDAR_OK) {
+        if (cedar_raw_new(&made->engine.at) == CEDAR_OK) {
             retain(&shared->handles);
             return made;
         }

@@ -48,7 +48,7 @@ func answered(t *testing.T, folder string, anyDecimal, bringsEntities bool) (int
 	return 0, string(text)
 }
 
-// TestCases answers the cases of answers, in the folder that BOBBINJADE_CASES names, which tools/binding_cases.py has written.
+// TestCases answers the cases of answers, in the folder that BOBBINJADE_CASES names, which tools/running/binding_cases.py has written.
 func TestCases(t *testing.T) {
 	root := os.Getenv("BOBBINJADE_CASES")
 	if root == "" {

@@ -6,6 +6,8 @@ import (
 	"net/http"
 	"sync/atomic"
 	"time"
+
+	"bobbinjade"
 )
 
 // agent answers the calls of both listeners. Any number of goroutines may use it.
@@ -21,6 +23,7 @@ type agent struct {
 	mapping    *mapping // nil where the path for ext_authz is off
 	namesIDs   bool     // whether the answer to ext_authz has a header with the ids of policies
 	one, lines question // how one request is answered, and request lines
+	words      phraser
 	limits     limits
 	validating chan struct{} // a place for each validation that runs
 	isPublic   bool          // whether all may validate
@@ -34,11 +37,11 @@ type agent struct {
 func newAgent(settings *config, log *logger) (*agent, error) {
 	it := &agent{metrics: newMetrics(), log: log, limits: settings.limits, validating: make(chan struct{}, settings.limits.validations)}
 	it.isPublic, it.profiles, log.isDebug = settings.isPublic, settings.hasProfiles, settings.isDebug
-	it.one, it.lines = oneRequest, requestLines
+	it.one, it.lines, it.words.phrase = oneRequest, requestLines, (*bobbinjade.Engine).ExplainLine
 	if settings.hasEntities {
-		it.one, it.lines = oneWithEntities, linesWithEntities
+		it.one, it.lines, it.words.phrase = oneWithEntities, linesWithEntities, wordsWithEntities
 	}
-	it.namesIDs = settings.namesIDs
+	it.namesIDs, it.words.isOff = settings.namesIDs, settings.hasNoWords
 	it.reloader = newReloader(it, settings)
 	var err error
 	if it.mapping, err = readMapping(settings.extAuthz); err != nil {

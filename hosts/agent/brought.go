@@ -21,6 +21,13 @@ func linesWithEntities(engine *bobbinjade.Engine, text, lines []byte) ([]byte, e
 	return engine.AppendAnswerWithEntities(text, lines)
 }
 
+// wordsWithEntities says in words why a request that may bring entities is refused.
+func wordsWithEntities(engine *bobbinjade.Engine, request []byte) (string, error) {
+	bringing <- struct{}{}
+	defer func() { <-bringing }()
+	return engine.ExplainLineWithEntities(request)
+}
+
 // oneWithEntities answers one request, which may bring its entities. The library takes lines. A line feed is between the tokens of JSON,
 // where a tab means the same, or in a string, where both are refused.
 func oneWithEntities(engine *bobbinjade.Engine, text, request []byte) ([]byte, error) {

@@ -34,6 +34,7 @@ type config struct {
 	decisionsOmit             string
 	omitted                   omittedKeys // of decisionsOmit
 	namesIDs                  bool        // whether an answer to ext_authz names policies
+	hasNoWords                bool        // whether a refused request is answered with its number alone
 	hasEntities               bool        // whether requests may bring entities
 	isPublic                  bool        // whether /v1/validate is on the listener for requests, too
 	doesReplace               bool        // whether a file that has changed replaces what calls have published
@@ -88,6 +89,9 @@ func parseConfig(words []string) (*config, error) {
 	if settings.hasEntities && !isGiven(flags, "max-line") {
 		settings.limits.line = lineWithEntities
 	}
+	if err := refuseEmpty(flags); err != nil {
+		return nil, err
+	}
 	return settings, settings.check()
 }
 
@@ -112,6 +116,7 @@ func flagsOf(settings *config) *flag.FlagSet {
 	flags.StringVar(&settings.extAuthz, "ext-authz", "", "the mapping `FILE` for Envoy's ext_authz; without it the path is off")
 	flags.BoolVar(&settings.namesIDs, "ext-authz-policies", false, "say in a header of ext_authz which policies determine the answer")
 	flags.BoolVar(&settings.hasEntities, "entities-in-requests", false, "a request may bring entities, which hold for it alone")
+	flags.BoolVar(&settings.hasNoWords, "no-words", false, "answer a refused request with its number alone")
 	flags.BoolVar(&settings.isPublic, "public-validate", false, "serve /v1/validate on --listen, too, for policies according to the current schema")
 	flags.StringVar(&settings.decisionLog, "decision-log", "", "append each request and its answer to this `FILE`; without it none is logged")
 	flags.Int64Var(&settings.decisionsMost, "decisions-max", 0, "at so many `BYTES` begin a new decision log, the old one is FILE.1; 0 is no limit")

@@ -26,6 +26,19 @@ func (c *config) declareAccess(flags *flag.FlagSet) {
 	flags.StringVar(&c.tls.clientAuthority, "tls-client-ca", "", "a client needs a certificate of an authority in this `FILE`, PEM")
 }
 
+// The flags that say who may call. Without them all who can connect may.
+var restricting = []string{"admin-token", "admin-users", "tls-client-ca"}
+
+// refuseEmpty refuses such a flag with an empty value, for example that of a variable that a script has not set.
+func refuseEmpty(flags *flag.FlagSet) error {
+	for _, name := range restricting {
+		if isGiven(flags, name) && flags.Lookup(name).Value.String() == "" {
+			return fmt.Errorf("--%s is empty: leave it out, or say who may call", name)
+		}
+	}
+	return nil
+}
+
 // checkAdmin finds what is wrong with who may call.
 func (c *config) checkAdmin() error {
 	isSocket, isAdminSocket := strings.HasPrefix(c.listen, unixPrefix), strings.HasPrefix(c.admin, unixPrefix)

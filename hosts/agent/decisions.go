@@ -4,7 +4,6 @@ package main
 // has the program answer these requests anew, and compares.
 
 import (
-	"bufio"
 	"bytes"
 	"crypto/rand"
 	"encoding/hex"
@@ -21,14 +20,18 @@ import (
 type decisionLog struct {
 	lock    sync.Mutex
 	file    *os.File
-	buffer  *bufio.Writer
-	size    int64 // of the file, with what is in the buffer
-	most    int64 // that the file may have, or 0
+	lines   []byte // those that wait to be written
+	size    int64  // of the file, with these lines
+	most    int64  // that the file may have, or 0
 	omitted omittedKeys
 	run     string        // what the ids of this process begin with
 	last    atomic.Uint64 // the number of the last id
 	failed  atomic.Uint64 // the writes that failed
+	fault   error         // of the last one
 }
+
+// Lines are written when so many bytes of them wait.
+const waitingLines = 64 << 10
 
 // A decided names what is logged of a request of HTTP.
 type decided struct {
@@ -59,7 +62,7 @@ func (d *decisionLog) begin(path string) error {
 	if d.file != nil {
 		_ = d.file.Close()
 	}
-	d.file, d.size, d.buffer = file, 0, bufio.NewWriterSize(file, 64<<10)
+	d.file, d.size = file, 0
 	if found, err := file.Stat(); err == nil && found.Mode().IsRegular() {
 		d.size = found.Size()
 	}
@@ -110,9 +113,7 @@ func (d *decisionLog) add(v *version, requests, answers []byte, of *decided) {
 		line = appendQuoted(line, loggedRequest(request, answer))
 		line = append(append(line, omitted...), `,"answer":`...)
 		line = append(appendQuoted(line, string(answer)), "}\n"...)
-		if err := d.write(line); err != nil {
-			d.fail()
-		}
+		d.fail(d.write(line))
 	}
 }
 
@@ -121,7 +122,7 @@ func (d *decisionLog) add(v *version, requests, answers []byte, of *decided) {
 func (d *decisionLog) write(line []byte) error {
 	if d.most > 0 && d.size > 0 && d.size+int64(len(line)) > d.most {
 		path := d.file.Name()
-		if err := d.buffer.Flush(); err != nil {
+		if err := d.writeLines(); err != nil {
 			return err
 		}
 		// Another program may have renamed it before.
@@ -133,8 +134,34 @@ func (d *decisionLog) write(line []byte) error {
 		}
 	}
 	d.size += int64(len(line))
-	_, err := d.buffer.Write(line)
+	d.lines = append(d.lines, line...)
+	if len(d.lines) < waitingLines {
+		return nil
+	}
+	return d.writeLines()
+}
+
+// writeLines writes the lines that wait. Those that cannot be written are lost. What was written of the first of them is taken away again: the
+// next line would be joined to it. The lock is held.
+func (d *decisionLog) writeLines() error {
+	if len(d.lines) == 0 {
+		return nil
+	}
+	count, err := d.file.Write(d.lines)
+	if err != nil {
+		whole := bytes.LastIndexByte(d.lines[:count], '\n') + 1
+		d.size -= int64(len(d.lines) - whole)
+		d.cut(int64(count - whole))
+	}
+	d.lines = d.lines[:0]
 	return err
+}
+
+// cut takes the last bytes of the file away.
+func (d *decisionLog) cut(count int64) {
+	if found, err := d.file.Stat(); err == nil && count > 0 && found.Size() >= count {
+		_ = d.file.Truncate(found.Size() - count)
+	}
 }
 
 // loggedRequest gives a request as one line that is answered in the same way. A line that is not JSON, and so is refused with 501, may be
@@ -154,9 +181,7 @@ func (d *decisionLog) reopen() {
 	d.flush()
 	d.lock.Lock()
 	defer d.lock.Unlock()
-	if err := d.begin(d.file.Name()); err != nil {
-		d.failed.Add(1)
-	}
+	d.fail(d.begin(d.file.Name()))
 }
 
 // reopenIfMoved opens the file anew where its path no longer leads to it, since another program has renamed or removed it.
@@ -181,22 +206,22 @@ func openToAppend(path string) (*os.File, error) {
 	return os.OpenFile(path, os.O_APPEND|os.O_CREATE|os.O_WRONLY, 0o600)
 }
 
-// fail counts a write that failed, and begins a new buffer, since one that failed once would fail for ever.
-func (d *decisionLog) fail() {
-	d.failed.Add(1)
-	d.buffer.Reset(d.file)
+// fail counts a write that failed. The lock is held.
+func (d *decisionLog) fail(err error) {
+	if err != nil {
+		d.failed.Add(1)
+		d.fault = err
+	}
 }
 
-// flush writes what is in the buffer.
+// flush writes the lines that wait.
 func (d *decisionLog) flush() {
 	if d == nil {
 		return
 	}
 	d.lock.Lock()
 	defer d.lock.Unlock()
-	if err := d.buffer.Flush(); err != nil {
-		d.fail()
-	}
+	d.fail(d.writeLines())
 }
 
 // failures gives the number of writes that failed.
@@ -207,7 +232,19 @@ func (d *decisionLog) failures() uint64 {
 	return d.failed.Load()
 }
 
-// close writes what is in the buffer, and closes the file.
+// lastFault gives why the last write failed that was not given before; it is nil where there is none.
+func (d *decisionLog) lastFault() error {
+	if d == nil {
+		return nil
+	}
+	d.lock.Lock()
+	defer d.lock.Unlock()
+	fault := d.fault
+	d.fault = nil
+	return fault
+}
+
+// close writes the lines that wait, and closes the file.
 func (d *decisionLog) close() {
 	if d != nil {
 		d.flush()

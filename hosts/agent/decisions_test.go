@@ -6,8 +6,10 @@ import (
 	"math/rand"
 	"os"
 	"os/exec"
+	"os/signal"
 	"path/filepath"
 	"strings"
+	"syscall"
 	"testing"
 )
 
@@ -345,5 +347,50 @@ func TestQuotedStrings(t *testing.T) {
 	}
 	if got := string(appendQuoted([]byte("x"), "a\xffb\xe2\x82")); got != "x\"a\ufffdb\ufffd\ufffd\"" {
 		t.Errorf("%q", got)
+	}
+}
+
+// limitFiles has files of this process end at so many bytes, as a disk that is full does, until the test ends or the limit is taken away.
+func limitFiles(t *testing.T, most uint64) (takeAway func()) {
+	t.Helper()
+	var old syscall.Rlimit
+	if err := syscall.Getrlimit(syscall.RLIMIT_FSIZE, &old); err != nil {
+		t.Skip(err)
+	}
+	signal.Ignore(syscall.SIGXFSZ)
+	takeAway = func() { _ = syscall.Setrlimit(syscall.RLIMIT_FSIZE, &old) }
+	t.Cleanup(func() { takeAway(); signal.Reset(syscall.SIGXFSZ) })
+	if err := syscall.Setrlimit(syscall.RLIMIT_FSIZE, &syscall.Rlimit{Cur: most, Max: old.Max}); err != nil {
+		t.Skip(err)
+	}
+	return takeAway
+}
+
+// Where a disk is full for a while decisions are lost, but the log has whole lines, and standard error says so.
+func TestADiskThatIsFullForAWhile(t *testing.T) {
+	path := filepath.Join(t.TempDir(), "decisions.jsonl")
+	it := serveExample(t, "notes", "--decision-log", path)
+	takeAway := limitFiles(t, 1000)
+	for turn := 0; turn < 10; turn++ {
+		if got := it.ask(line("ann", "write")); got.status != 200 || got.body != allowedAnswer {
+			t.Error(got)
+		}
+		it.decisions.flush()
+	}
+	takeAway()
+	eventually(t, "the log says it", func() bool {
+		return strings.Contains(it.log.String(), `"event":"decision_log","failures":`) && strings.Contains(it.log.String(), "file too large")
+	})
+	it.ask(line("ann", "write"))
+	it.decisions.flush()
+	text, err := os.ReadFile(path)
+	lines := strings.Split(strings.TrimSuffix(string(text), "\n"), "\n")
+	if err != nil || it.decisions.failures() == 0 || len(lines) < 3 || len(lines) > 10 || it.decisions.size != int64(len(text)) {
+		t.Error(err, it.decisions.failures(), len(lines), it.decisions.size, len(text))
+	}
+	for _, one := range lines {
+		if !json.Valid([]byte(one)) {
+			t.Error(one)
+		}
 	}
 }

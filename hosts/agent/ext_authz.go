@@ -194,7 +194,7 @@ func (a *agent) extAuthz(w http.ResponseWriter, r *http.Request) {
 		a.fail(w, http.StatusBadRequest, "mapping", noDecisionWords)
 		return
 	}
-	what := a.decide(w, it)
+	what, _ := a.decide(w, it)
 	said, isOne := authzAnswers[what]
 	if !isOne {
 		return

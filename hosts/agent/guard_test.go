@@ -47,7 +47,7 @@ func TestTheToken(t *testing.T) {
 		}
 	}
 	for _, call := range []string{"GET /v1/entities", "GET /v1/version", "GET /metrics", "GET /debug/pprof/", "PATCH /v1/entities", "POST /v1/reload",
-		"POST /v1/validate", "GET /none"} {
+		"POST /v1/validate", "POST /v1/why", "GET /none"} {
 		method, path, _ := strings.Cut(call, " ")
 		if got := it.call(method, path, "", "", it.admin); got.status != 401 || got.header.Get("WWW-Authenticate") != "Bearer" {
 			t.Error(call, got)
@@ -95,6 +95,19 @@ func TestTheTokenIsReadAgain(t *testing.T) {
 	}
 }
 
+// A flag that says who may call is not empty: that of a variable that is not set would let all call.
+func TestEmptyFlagsOfAccess(t *testing.T) {
+	files := []string{"--schema", "s", "--policies", "p", "--entities", "e", "--admin", "unix:a"}
+	for _, name := range restricting {
+		if _, err := parseConfig(append(files, "--"+name, "")); err == nil || !strings.Contains(err.Error(), "--"+name+" is empty") {
+			t.Error(name, err)
+		}
+		if _, err := parseConfig(append(files, "--config", configFile(t, `{"`+name+`": ""}`))); err == nil || !strings.Contains(err.Error(), "--"+name+" is empty") {
+			t.Error(name, err)
+		}
+	}
+}
+
 // A file that all may read, and a token that can be guessed, are refused at the start.
 func TestTokensThatAreRefused(t *testing.T) {
 	_, files := copied(t, "notes")
@@ -138,7 +151,10 @@ func TestTheUsersOfTheSocket(t *testing.T) {
 	for users, wanted := range map[string]int{own: 200, other: 403, other + "," + own: 200, "": 200} {
 		folder, files := copied(t, "notes")
 		socket := filepath.Join(folder, "admin")
-		words := append(files, "--admin", "unix:"+socket, "--admin-users", users)
+		words := append(files, "--admin", "unix:"+socket)
+		if users != "" {
+			words = append(words, "--admin-users", users)
+		}
 		started(t, filepath.Join(folder, "socket"), words...)
 		if got := over(t, socket, "PUT", "/v1/policies", permitAll); got != wanted {
 			t.Error(users, got)

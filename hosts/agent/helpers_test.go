@@ -14,6 +14,7 @@ import (
 	"os"
 	"os/exec"
 	"path/filepath"
+	"regexp"
 	"strings"
 	"sync"
 	"testing"
@@ -157,7 +158,11 @@ type reply struct {
 	status int
 	body   string
 	header http.Header
+	words  string // of a refused request, which are then not in the body; only ask sets them
 }
+
+// addedWords are the words that are added to the number of a refusal.
+var addedWords = regexp.MustCompile(`^({"refused":\d+),"words":("(?:[^"\\]|\\.)*")}\n$`)
 
 // call makes a call of the listener for requests, or of that for publishing where the address is given.
 func (s *served) call(method, path, mediaType, body string, addresses ...string) reply {
@@ -195,13 +200,17 @@ func (s *served) send(request *http.Request) reply {
 	if err != nil {
 		s.t.Error(request.Method, request.URL.Path, err)
 	}
-	return reply{answer.StatusCode, string(text), answer.Header}
+	return reply{status: answer.StatusCode, body: string(text), header: answer.Header}
 }
 
 // ask makes a single request.
 func (s *served) ask(line string) reply {
 	s.t.Helper()
-	return s.call("POST", "/v1/authorize", "application/json", line)
+	got := s.call("POST", "/v1/authorize", "application/json", line)
+	if found := addedWords.FindStringSubmatch(got.body); found != nil {
+		got.body, got.words = found[1]+"}\n", decoded[string](s.t, found[2])
+	}
+	return got
 }
 
 // askLines sends request lines.

@@ -404,9 +404,12 @@ func TestAnAnswerOfAnotherForm(t *testing.T) {
 	for _, text := range []string{"", "x", `{"decision":"Allow","determining":[],"erring":[]}`} {
 		it.one = func(_ *bobbinjade.Engine, to, _ []byte) ([]byte, error) { return append(to, text...), nil }
 		recorder := &recorded{header: http.Header{}}
-		it.answerOne(recorder, takeRoom())
+		it.answerOne(recorder, nil, takeRoom())
 		if recorder.status != 500 || strings.Contains(recorder.body, "decision") {
 			t.Error(text, recorder)
+		}
+		if got := it.why(line("ann", "write")); got.status != 500 || strings.Contains(got.body, "decision") {
+			t.Error(text, got)
 		}
 	}
 }

@@ -59,6 +59,11 @@ func (a *agent) failEngine(w http.ResponseWriter, err error) {
 	}
 }
 
+// failAnswer answers for an answer line that cannot be passed on.
+func (a *agent) failAnswer(w http.ResponseWriter) {
+	a.fail(w, http.StatusInternalServerError, "answer", "the answer has another form than those that are known")
+}
+
 // failMethod answers for a method that a path does not have.
 func (a *agent) failMethod(w http.ResponseWriter, allow string) {
 	w.Header().Set("Allow", allow)

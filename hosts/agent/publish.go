@@ -167,9 +167,7 @@ func (a *agent) failPublish(w http.ResponseWriter, r *http.Request, err error) {
 	}
 	a.metrics.failed("files_refused")
 	if wantsWords(r) {
-		w.Header()["Content-Type"] = plainType
-		w.WriteHeader(http.StatusUnprocessableEntity)
-		_, _ = w.Write([]byte(it.Words))
+		writeWords(w, http.StatusUnprocessableEntity, it.Words)
 		return
 	}
 	writeJSON(w, http.StatusUnprocessableEntity, it)

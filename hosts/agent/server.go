@@ -129,6 +129,9 @@ func (a *agent) writeLogs(stopped <-chan struct{}) {
 			a.decisions.flush()
 		case <-counted.C:
 			a.decisions.reopenIfMoved()
+			if err := a.decisions.lastFault(); err != nil {
+				a.log.event("error", "decision_log", number("failures", a.decisions.failures()), text("error", err.Error()))
+			}
 			a.log.flush()
 			if a.hasFreed.Swap(false) {
 				trimEngine()
@@ -205,6 +208,8 @@ func (a *agent) serveAdmin(w http.ResponseWriter, r *http.Request) {
 		writeProfile(w, r)
 	case path == "/v1/reload":
 		a.reload(w, r)
+	case path == "/v1/why":
+		a.serveWhy(w, r)
 	case path == validatePath && a.limits.validations > 0:
 		a.serveValidate(w, r, true)
 	case !isOne:

@@ -105,6 +105,27 @@ func (s *served) value(name string) float64 {
 	return 0
 }
 
+// The alerts that docs/PRODUCTION.md and README.md name are of metrics that are there.
+func TestAlertsNameMetrics(t *testing.T) {
+	it := serveExample(t, "notes", "--decision-log", filepath.Join(t.TempDir(), "decisions.jsonl"))
+	metrics := it.get("/metrics").body
+	for _, path := range []string{"../../docs/PRODUCTION.md", "README.md"} {
+		text, err := os.ReadFile(path)
+		if err != nil {
+			t.Fatal(err)
+		}
+		names := regexp.MustCompile(`cedar_agent_\w+`).FindAllString(string(text), -1)
+		if len(names) < 4 {
+			t.Error(path, names)
+		}
+		for _, name := range names {
+			if !strings.Contains(metrics, "# TYPE "+name+" ") {
+				t.Error(path, name)
+			}
+		}
+	}
+}
+
 // What alerts need: when the last version was published, and whether files that changed are refused.
 func TestMetricsOfPublications(t *testing.T) {
 	it := serveExample(t, "notes")

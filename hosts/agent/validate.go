@@ -117,9 +117,7 @@ func (a *agent) explain(w http.ResponseWriter, files bobbinjade.Files) {
 		a.failEngine(w, err)
 		return
 	}
-	w.Header()["Content-Type"] = plainType
-	w.WriteHeader(http.StatusUnprocessableEntity)
-	_, _ = w.Write([]byte(words))
+	writeWords(w, http.StatusUnprocessableEntity, words)
 }
 
 // wantsWords says whether a client wants words for people.

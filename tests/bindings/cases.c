@@ -1,4 +1,4 @@
-/* Answers the cases of answers, in the folder that BOBBINJADE_CASES names, which tools/binding_cases.py has written.
+/* Answers the cases of answers, in the folder that BOBBINJADE_CASES names, which tools/running/binding_cases.py has written.
  *
  * Its file `list` has a line for each case: the folder of the case, the wanted status, and 1 or 0 for whether any-decimal is on and for
  * whether lines bring entities. The wanted text is wanted.jsonl: the answers, or what the program prints of files that are refused. */

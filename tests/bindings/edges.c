@@ -65,6 +65,61 @@ static void check_empty_handle(void) {
     cedar_free(&other);
 }
 
+/* Whether all calls over a handle return CEDAR_ARGUMENT. */
+static void check_freed(cedar_engine *copy, cedar_engine *other) {
+    cedar_decision decision = {sizeof decision, 7, 7};
+    cedar_request request = asked("write");
+    char room[] = "####";
+    cedar_buffer text = {room, 4, 9};
+    CHECK(cedar_publish(copy, &files, NULL, &text) == CEDAR_ARGUMENT && text.written == 0);
+    CHECK(cedar_publish_entities(copy, files.entities, NULL, NULL) == CEDAR_ARGUMENT);
+    CHECK(cedar_publish_changes(copy, bytes_of("{}"), NULL, NULL) == CEDAR_ARGUMENT);
+    CHECK(cedar_answer(copy, lines, &text) == CEDAR_ARGUMENT && cedar_answer_line(copy, lines, &text) == CEDAR_ARGUMENT);
+    CHECK(cedar_answer_with_entities(copy, lines, &text) == CEDAR_ARGUMENT);
+    CHECK(cedar_decide(copy, &request, &decision, &text) == CEDAR_ARGUMENT && decision.allow == 0 && decision.refused == 0);
+    CHECK(cedar_explain_line(copy, lines, CEDAR_LINE, 0, CEDAR_WORDS, &text) == CEDAR_ARGUMENT);
+    CHECK(cedar_explain_request(copy, &request, 0, CEDAR_WORDS, &text) == CEDAR_ARGUMENT && strcmp(room, "####") == 0);
+    CHECK(cedar_share(copy, other) == CEDAR_ARGUMENT && cedar_share(other, copy) == CEDAR_ARGUMENT);
+}
+
+/* A copy of a handle is the same handle. Once it was freed it leads nowhere, also where a later handle has its place. */
+static void check_copies(void) {
+    enum { LATER = 3000 };
+    static cedar_engine later[LATER];
+    cedar_engine engine, copy, bare = {NULL};
+    CHECK(cedar_new(&engine) == CEDAR_OK && cedar_publish(&engine, &files, NULL, NULL) == CEDAR_OK);
+    copy = engine;
+    CHECK(answers_are_right(&copy) && answers_are_right(&engine) && cedar_share(&engine, &copy) == CEDAR_ARGUMENT);
+    CHECK(cedar_new(&later[0]) == CEDAR_OK && cedar_share(&copy, &later[0]) == CEDAR_OK);
+    cedar_free(&engine);
+    check_freed(&copy, &later[0]);
+    for (int i = 1; i < LATER; i++) {
+        CHECK(cedar_new(&later[i]) == CEDAR_OK);
+    }
+    CHECK(cedar_share(&later[0], &later[1]) == CEDAR_OK && cedar_share(&later[0], &later[LATER - 1]) == CEDAR_OK);
+    check_freed(&copy, &later[0]);
+    cedar_free(&copy);
+    CHECK(!copy.at && answers_are_right(&later[0]) && answers_are_right(&later[1]) && answers_are_right(&later[LATER - 1]));
+    for (int i = 0; i < LATER; i++) {
+        copy = later[i];
+        cedar_free(&later[i]);
+        cedar_free(&copy);
+        CHECK(!later[i].at && !copy.at);
+    }
+    /* Numbers that the library has not given lead nowhere. */
+    for (uintptr_t mark = 1; mark; mark <<= 1) {
+        copy.at = (void *)(mark | 1);
+        check_freed(&copy, &engine);
+        cedar_free(&copy);
+    }
+    /* A handle of the calls that check nothing is taken by those that check. */
+    CHECK(cedar_raw_new(&bare.at) == CEDAR_OK && cedar_publish(&bare, &files, NULL, NULL) == CEDAR_OK && answers_are_right(&bare));
+    CHECK(cedar_new(&engine) == CEDAR_OK && cedar_share(&bare, &engine) == CEDAR_OK);
+    cedar_free(&bare);
+    CHECK(!bare.at && answers_are_right(&engine));
+    cedar_free(&engine);
+}
+
 static void check_arguments(void) {
     cedar_engine engine;
     cedar_decision decision = {sizeof decision, 7, 7};
@@ -513,6 +568,7 @@ int main(int count, char **words) {
     answers = content(words[1], "answers.jsonl");
     check_null();
     check_empty_handle();
+    check_copies();
     check_arguments();
     check_empty_bytes();
     check_no_address();

@@ -79,7 +79,7 @@ def uid_of(uid: Uid) -> library.Uid:
     if isinstance(uid, str):
         found = UID.fullmatch(uid)
         if not found:
-            raise RequestRefused(502, '%r is not such as User::"ann"; an id with a quote or a backslash needs a pair (type, id)' % uid)
+            raise RequestRefused(502, '%r is not a uid such as User::"ann"; an id with a quote or a backslash needs a pair (type, id)' % uid)
         parts = found.groups()
     else:
         parts = tuple(uid)

@@ -1,4 +1,4 @@
-"""The binding over the cases of answers, in the folder that BOBBINJADE_CASES names, which tools/binding_cases.py has written."""
+"""The binding over the cases of answers, in the folder that BOBBINJADE_CASES names, which tools/running/binding_cases.py has written."""
 import os
 import sys
 import unittest

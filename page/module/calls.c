@@ -1,4 +1,4 @@
-/* calls.c: one call at a time, and none after a call that has trapped. tools/page has each export of the library begin and end so. */
+/* calls.c: one call at a time, and none after a call that has trapped. tools/gate/page has each export of the library begin and end so. */
 static int is_inside;
 
 void begin_call(void);

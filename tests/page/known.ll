@@ -1,4 +1,4 @@
-; A module of the form that tools/page_module.py knows: a function of the library, its export, and a function from outside.
+; A module of the form that tools/gate/page_module.py knows: a function of the library, its export, and a function from outside.
 source_filename = "rattle"
 target datalayout = "e-m:e-p270:32:32-p271:32:32-p272:64:64-i64:64-i128:128-f80:128-n8:16:32:64-S128"
 target triple = "x86_64-unknown-linux-gnu"

@@ -1,4 +1,4 @@
-// What a reader does with the playground, for tools/page_test, which evaluates this in the page.
+// What a reader does with the playground, for tools/running/page_test, which evaluates this in the page.
 const reader = {
   // Chooses an example.
   choose(name) {

@@ -1,4 +1,4 @@
-/* What the native library says of rows of texts, which tools/page_test compares with the module of the playground.
+/* What the native library says of rows of texts, which tools/running/page_test compares with the module of the playground.
  *
  * A row of the standard input is a number of settings and five texts: schema, policies, links, entities and request lines. Numbers have
  * four bytes, the lowest first, and a text comes after its length. For each call there is a line `CALL STATUS TEXT`, and a row ends with

@@ -1,4 +1,4 @@
-// What the module of the playground says of rows of texts, in the form of tests/page/rows.c. tools/page_test evaluates this after
+// What the module of the playground says of rows of texts, in the form of tests/page/rows.c. tools/running/page_test evaluates this after
 // page/engine.js, in an empty page.
 
 let engine = null;

@@ -1,4 +1,4 @@
-/* Tests of page/module/: its allocator and its arithmetic, compiled for this machine. tools/page_test has the names of WebAssembly, of the
+/* Tests of page/module/: its allocator and its arithmetic, compiled for this machine. tools/running/page_test has the names of WebAssembly, of the
  * C library and of compiler-rt lead here, so that the results can be compared with those of the processor. */
 #include <stdint.h>
 #include <stdio.h>

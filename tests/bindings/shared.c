@@ -8,6 +8,7 @@
 
 #include <pthread.h>
 #include <stdatomic.h>
+#include <time.h>
 
 #define THREADS 8
 
@@ -179,10 +180,19 @@ static int turn_is_right(long turn) {
     return is_right && decided >= 0 && (before != begun || decided == (before % 2 == 0));
 }
 
+/* ThreadSanitizer keeps a lock for each atomic, and who writes waits for as long as anyone reads. Threads that never pause would keep a
+ * publisher, or who closes the engine, waiting for ever. */
+static void pause_under_tools(void) {
+#ifdef __SANITIZE_THREAD__
+    nanosleep(&(struct timespec){0, 200000}, NULL);
+#endif
+}
+
 static void *asks(void *none) {
     long turn = 0;
     do {
         *(turn_is_right(turn) ? &right : &wrong) += 1;
+        pause_under_tools();
     } while (turn++ == 0 || !is_over);
     return none;
 }
@@ -220,6 +230,7 @@ static void *asks_until_closed(void *none) {
     int decided;
     while ((decided = is_allowed(engine, "write")) >= 0) {
         right += decided == 1;
+        pause_under_tools();
     }
     cedar_request request = asked("write");
     cedar_decision decision = {sizeof decision, 7, 7};

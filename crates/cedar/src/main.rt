@@ -40,7 +40,7 @@ fn refuse_words(rt: &HostRuntime, error: &io::Error) -> io::Result<End> {
     if error.kind() == io::ErrorKind::OutOfMemory {
         return Ok(End::Memory);
     }
-    rt.eprintln("error: a word of the command line is not UTF-8")?;
+    rt.eprintln("error: an argument is not valid UTF-8")?;
     Ok(End::CommandLine)
 }
 

@@ -173,7 +173,7 @@ fn run_explain(rt: &HostRuntime, words: &Words<'_>) -> u8 {
         },
         Ok(None) => {
             // Where standard error is gone, the line is lost.
-            let _ = rt.eprintln("error: there is no such number: docs/REFUSALS.md has them all");
+            let _ = rt.eprintln("error: unknown number: docs/REFUSALS.md lists them all");
             End::CommandLine
         }
         Err(_) => End::Memory,

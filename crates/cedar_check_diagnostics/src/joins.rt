@@ -11,11 +11,11 @@ use std::alloc::AllocError;
 pub(crate) fn joined_words(spot: Spot<'_>, words: &mut Words) -> Result<(), AllocError> {
     match spot.part.kind() {
         ExprKind::If(_, _, _) => {
-            words.says.add("the two branches have no type in common");
+            words.says.add("the two branches have different types");
             of_two(spot, words, 1, 2)
         }
         ExprKind::Set(members) => {
-            words.says.add("the members have no type in common");
+            words.says.add("the members have different types");
             of_members(spot, words, members)
         }
         ExprKind::Binary(operator, _, _) => {
@@ -23,7 +23,7 @@ pub(crate) fn joined_words(spot: Spot<'_>, words: &mut Words) -> Result<(), Allo
             of_two(spot, words, 0, 1)
         }
         _ => {
-            words.says.add("the types have no type in common");
+            words.says.add("the types differ");
             Ok(())
         }
     }
@@ -32,11 +32,11 @@ pub(crate) fn joined_words(spot: Spot<'_>, words: &mut Words) -> Result<(), Allo
 // What is said of an operator on two operands.
 fn says_of(operator: BinaryOperator) -> &'static str {
     match operator {
-        BinaryOperator::Contains => "the set has members of another type",
+        BinaryOperator::Contains => "the members of the set have a different type",
         BinaryOperator::ContainsAll | BinaryOperator::ContainsAny => {
             "the two sets have members of different types"
         }
-        _ => "the two sides have no type in common",
+        _ => "cannot compare values of different types",
     }
 }
 
@@ -71,15 +71,13 @@ fn advise(words: &mut Words, left: &LentType<'_>, right: &LentType<'_>) {
     let one = kind_of(left);
     let two = kind_of(right);
     if one == Kind::Record && two == Kind::Record {
-        words
-            .note
-            .add("two records need the same attributes, each of one type");
+        words.note.add("two records must have the same attributes, each with the same type");
     } else if one == Kind::Entity && two == Kind::String {
         add_entity(&mut words.hint, left);
     } else if one == Kind::String && two == Kind::Entity {
         add_entity(&mut words.hint, right);
     } else if is_beside_decimal(one, two) || is_beside_decimal(two, one) {
-        words.hint.add("a decimal is written `decimal(\"1.5\")`");
+        words.hint.add("write a decimal as `decimal(\"1.5\")`");
     }
 }
 
@@ -91,6 +89,6 @@ fn is_beside_decimal(one: Kind, two: Kind) -> bool {
 // Adds how an entity of a type is written.
 fn add_entity(hint: &mut Draft, ty: &LentType<'_>) {
     if let Some(name) = entity_of(ty) {
-        hint.add_all(&["an entity is written `", name.as_str(), "::\"id\"`"]);
+        hint.add_all(&["write an entity as `", name.as_str(), "::\"id\"`"]);
     }
 }

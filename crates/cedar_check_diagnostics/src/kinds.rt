@@ -1,4 +1,4 @@
-//! Operands of another kind than their operator takes.
+//! Operands of the wrong type.
 use crate::spot::Spot;
 use crate::type_words::{Kind, add_type, kind_of};
 use crate::words::Words;
@@ -6,7 +6,7 @@ use cedar_ast_expressions::{BinaryOperator, Expr, ExprKind, UnaryOperator};
 use cedar_check_operators::LentType;
 use std::alloc::AllocError;
 
-/// What is said of operands of another kind than their operator takes.
+/// What is said of operands of the wrong type.
 pub(crate) fn operand_words(spot: Spot<'_>, words: &mut Words) -> Result<(), AllocError> {
     match spot.part.kind() {
         ExprKind::And(_, _) => {
@@ -42,7 +42,7 @@ pub(crate) fn operand_words(spot: Spot<'_>, words: &mut Words) -> Result<(), All
 
 /// What is said of a condition that has a type, which is not Boolean.
 pub(crate) fn other_condition(words: &mut Words, ty: &LentType<'_>) {
-    words.says.add("a condition is a Boolean, and this is ");
+    words.says.add("a condition must be a Boolean, not ");
     add_type(&mut words.says, ty);
 }
 
@@ -138,7 +138,7 @@ fn advice_of(operator: BinaryOperator, left: Kind, right: Kind) -> Option<&'stat
                 left,
                 right,
                 Kind::Decimal,
-                "decimals compare with `.lessThan(..)` and its kin",
+                "compare decimals with `.lessThan(..)`, `.lessThanOrEqual(..)`, `.greaterThan(..)` or `.greaterThanOrEqual(..)`",
             )
         }
         BinaryOperator::Add | BinaryOperator::Subtract | BinaryOperator::Multiply => {
@@ -182,7 +182,7 @@ fn advice_of_in(left: Kind, right: Kind) -> Option<&'static str> {
             left,
             right,
             Kind::String,
-            "an entity is written `Type::\"id\"`",
+            "write an entity as `Type::\"id\"`",
         )
     }
 }
@@ -190,8 +190,8 @@ fn advice_of_in(left: Kind, right: Kind) -> Option<&'static str> {
 // What to do about operands of a comparison of decimals.
 fn advice_of_decimals(left: Kind, right: Kind) -> Option<&'static str> {
     if left == Kind::Long && right == Kind::Long {
-        Some("Longs compare with `<`, `<=`, `>` and `>=`")
+        Some("compare Longs with `<`, `<=`, `>` or `>=`")
     } else {
-        Some("a decimal is written `decimal(\"1.5\")`")
+        Some("write a decimal as `decimal(\"1.5\")`")
     }
 }

@@ -124,8 +124,8 @@ fn words_of_action(spot: Spot<'_>, words: &mut Words, uid: &Uid) {
     }
     add_more(&mut words.note, count);
     if let Some(meant) = nearest.name() {
-        words.hint.add("is `");
+        words.hint.add("did you mean `");
         add_uid(&mut words.hint, meant);
-        words.hint.add("` meant?");
+        words.hint.add("`?");
     }
 }

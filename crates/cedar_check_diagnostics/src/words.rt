@@ -36,7 +36,7 @@ impl Words {
 
     /// Hints that this name is meant.
     pub(crate) fn hint_at(&mut self, meant: &str) {
-        self.hint.add_all(&["is `", meant, "` meant?"]);
+        self.hint.add_all(&["did you mean `", meant, "`?"]);
     }
 }
 

@@ -2,7 +2,7 @@
 
 /// Of the program.
 pub(crate) const ABOUT: &str =
-    "Validates policies of the Cedar language, and answers authorization requests by them";
+    "Validates policies of the Cedar language, and answers authorization requests with them";
 
 /// After the program's options.
 pub(crate) const EXAMPLE: &str = "\
@@ -13,7 +13,7 @@ Examples:
 Statuses:
   0  the work was done, whatever was decided or warned of
   1  a file or a device failed, or memory ran out
-  2  a file was refused; a line on standard output says which, where and by which number
+  2  a file was refused; a line on standard output says which, where and with which number
   3  the policies have faults; the report on standard output says which
   4  the command line was refused
   5  ask: the request is denied";
@@ -40,13 +40,13 @@ Its last line counts both:
 Statuses:
   0  the policies have no fault, whatever was warned of
   1  a file or a device failed, or memory ran out
-  2  a file was refused; a line on standard output says which, where and by which number
+  2  a file was refused; a line on standard output says which, where and with which number
   3  the policies have faults, or warnings with --deny-warnings
   4  the command line was refused";
 
 /// Of `authorize`.
 pub(crate) const AUTHORIZE: &str =
-    "Answers each request line of standard input by a line on standard output";
+    "Answers each request line of standard input with a line on standard output";
 
 /// After the options of `authorize`.
 pub(crate) const AUTHORIZE_EXAMPLE: &str = "\
@@ -59,7 +59,7 @@ A request line:
 Its answer names the policies that determine the decision, and those that erred:
   {\"decision\":\"allow\",\"determining\":[\"policy0\"],\"erring\":[]}
 
-A line that is no request by the schema is answered by {\"refused\":502}, or another number that says why (501 to 511).
+A line that is not a valid request for the schema gets {\"refused\":502}, or another number that says why (501 to 511).
 
 With --entities-in-lines a line may bring entities, in the form of the entities file. For this line they replace those of the
 file with their uids:
@@ -70,7 +70,7 @@ Policies with faults answer nothing: the report on them is written instead, as v
 Statuses:
   0  each line was answered, whatever was decided or refused
   1  a file or a device failed, or memory ran out
-  2  a file was refused; a line on standard output says which, where and by which number
+  2  a file was refused; a line on standard output says which, where and with which number
   3  the policies have faults; the report on standard output says which
   4  the command line was refused";
 
@@ -88,7 +88,7 @@ decided.
 Statuses:
   0  each line was explained, whatever was decided or refused
   1  a file or a device failed, or memory ran out
-  2  a file was refused; a line on standard output says which, where and by which number
+  2  a file was refused; a line on standard output says which, where and with which number
   3  the policies have faults; the report on standard output says which
   4  the command line was refused";
 
@@ -104,7 +104,7 @@ Example:
 Statuses:
   0  the request is allowed
   1  a file or a device failed, or memory ran out
-  2  a file or the request was refused; a line on standard output says by which number
+  2  a file or the request was refused; a line on standard output says with which number
   3  the policies have faults; the report on standard output says which
   4  the command line was refused
   5  the request is denied";
@@ -124,7 +124,7 @@ Its line counts the policies and the templates:
 Statuses:
   0  the file holds policies
   1  a file or a device failed, or memory ran out
-  2  the file was refused; a line on standard output says where and by which number
+  2  the file was refused; a line on standard output says where and with which number
   4  the command line was refused";
 
 /// Of `explain`.

@@ -1,4 +1,4 @@
-//! The rows of docs/REFUSALS.md, `Answered by calls`. tools/refusals writes this file.
+//! The rows of docs/REFUSALS.md, `Answered by calls`. tools/documents/refusals writes this file.
 use crate::row::Row;
 
 /// Refusals of a call of a library.

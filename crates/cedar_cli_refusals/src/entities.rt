@@ -1,4 +1,4 @@
-//! The rows of docs/REFUSALS.md, `Entities`. tools/refusals writes this file.
+//! The rows of docs/REFUSALS.md, `Entities`. tools/documents/refusals writes this file.
 use crate::row::Row;
 
 /// Refusals of the entities file.
@@ -13,7 +13,7 @@ pub(crate) const ROWS: [Row; 15] = [
     Row {
         number: 402,
         refused: "the entities file",
-        when: "an entity is below itself",
+        when: "an entity is its own ancestor",
         example: "`[{\"uid\":{\"type\":\"Group\",\"id\":\"a\"},\"parents\":[{\"type\":\"Group\",\"id\":\"b\"}]},{\"uid\":{\"type\":\"Group\",\"id\":\"b\"},\"parents\":[{\"type\":\"Group\",\"id\":\"a\"}]}]`",
         remedy: "break the circle of parents",
     },
@@ -69,7 +69,7 @@ pub(crate) const ROWS: [Row; 15] = [
     Row {
         number: 504,
         refused: "the entities file",
-        when: "an attribute has another type than in the schema",
+        when: "an attribute has the wrong type",
         example: "`[{\"uid\":{\"type\":\"User\",\"id\":\"ann\"},\"attrs\":{\"age\":null}}]`",
         remedy: "write a value of that type; leave out an optional attribute that has no value",
     },

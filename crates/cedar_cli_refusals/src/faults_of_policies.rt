@@ -1,4 +1,4 @@
-//! The rows of docs/REFUSALS.md, `Faults of policies`. tools/refusals writes this file.
+//! The rows of docs/REFUSALS.md, `Faults of policies`. tools/documents/refusals writes this file.
 use crate::row::Row;
 
 /// Refusals of a policy.
@@ -27,7 +27,7 @@ pub(crate) const ROWS: [Row; 8] = [
     Row {
         number: 604,
         refused: "a policy",
-        when: "two types that must join do not: the sides of `==`, the branches of `if`, the members of a set",
+        when: "mismatched types: the sides of `==`, the branches of `if`, the members of a set",
         example: "`permit(principal, action, resource) when { [1, \"a\"].contains(1) };`",
         remedy: "use values of one type",
     },
@@ -57,6 +57,6 @@ pub(crate) const ROWS: [Row; 8] = [
         refused: "a policy",
         when: "a warning: no request can satisfy the policy",
         example: "`forbid(principal, action == Action::\"read\", resource);`, an action that applies to nothing",
-        remedy: "remove the policy, or correct it",
+        remedy: "correct the policy, or remove it: a `forbid` that no request can satisfy forbids nothing",
     },
 ];

@@ -1,4 +1,4 @@
-//! The rows of docs/REFUSALS.md, `Memory`. tools/refusals writes this file.
+//! The rows of docs/REFUSALS.md, `Memory`. tools/documents/refusals writes this file.
 use crate::row::Row;
 
 /// Refusals of the program.

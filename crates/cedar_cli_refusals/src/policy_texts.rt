@@ -1,4 +1,4 @@
-//! The rows of docs/REFUSALS.md, `Policy texts`. tools/refusals writes this file.
+//! The rows of docs/REFUSALS.md, `Policy texts`. tools/documents/refusals writes this file.
 use crate::row::Row;
 
 /// Refusals of the policy file.
@@ -6,7 +6,7 @@ pub(crate) const ROWS: [Row; 20] = [
     Row {
         number: 101,
         refused: "the policy file",
-        when: "a character does not belong to the language",
+        when: "unexpected character",
         example: "`permit(principal, action, resource) when { 1 % 2 };` at 45",
         remedy: "remove the character; at 0 it is often a byte order mark",
     },
@@ -55,7 +55,7 @@ pub(crate) const ROWS: [Row; 20] = [
     Row {
         number: 201,
         refused: "the policy file",
-        when: "the text breaks the grammar at the offset; at the end of the text the offset is its length",
+        when: "a syntax error at the offset; at the end of the text the offset is its length",
         example: "`permit(principal, action, resource)` at 35",
         remedy: "look at what is before the offset, and compare with `docs/GRAMMAR.md`; here the `;` is missing",
     },
@@ -76,7 +76,7 @@ pub(crate) const ROWS: [Row; 20] = [
     Row {
         number: 202,
         refused: "the policy file",
-        when: "a condition is higher than 2,000 nodes",
+        when: "a condition is nested deeper than 2,000 nodes",
         example: "`permit(principal, action, resource) when { true` 1,997 times ` && true` ` };` at 0, its statement",
         remedy: "group a long chain with brackets, or split the policy",
     },

@@ -1,4 +1,4 @@
-//! The rows of docs/REFUSALS.md, `Request lines`. tools/refusals writes this file.
+//! The rows of docs/REFUSALS.md, `Request lines`. tools/documents/refusals writes this file.
 use crate::row::Row;
 
 /// Refusals of a request line.
@@ -41,7 +41,7 @@ pub(crate) const ROWS: [Row; 11] = [
     Row {
         number: 504,
         refused: "a request line",
-        when: "the context is not an object, or has an attribute of another type",
+        when: "the context is not an object, or has an attribute of the wrong type",
         example: "`{\"principal\":\"User::\\\"ann\\\"\",\"action\":\"Action::\\\"view\\\"\",\"resource\":\"Doc::\\\"d\\\"\",\"context\":{\"n\":\"1\"}}`",
         remedy: "write a value of the type that the schema has for the context of the action",
     },

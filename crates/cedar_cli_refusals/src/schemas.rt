@@ -1,4 +1,4 @@
-//! The rows of docs/REFUSALS.md, `Schemas`. tools/refusals writes this file.
+//! The rows of docs/REFUSALS.md, `Schemas`. tools/documents/refusals writes this file.
 use crate::row::Row;
 
 /// Refusals of the schema file.
@@ -20,7 +20,7 @@ pub(crate) const ROWS: [Row; 10] = [
     Row {
         number: 302,
         refused: "the schema file",
-        when: "the JSON has the wrong form: an unknown key, a wrong kind, a key or a name that is not an identifier or path, a shape or context that is not a record",
+        when: "the JSON has the wrong form: an unknown key, a value of the wrong JSON type, a key or a name that is not an identifier or path, a shape or context that is not a record",
         example: "`{\"\":{\"entityTypes\":{\"A\":{\"x\":1}}}}`",
         remedy: "compare with `docs/SCHEMA.md`",
     },
@@ -34,14 +34,14 @@ pub(crate) const ROWS: [Row; 10] = [
     Row {
         number: 304,
         refused: "the schema file",
-        when: "a common type leads back to itself",
+        when: "a common type refers to itself",
         example: "`{\"\":{\"commonTypes\":{\"A\":{\"type\":\"B\"},\"B\":{\"type\":\"A\"}}}}`",
         remedy: "break the circle of common types",
     },
     Row {
         number: 305,
         refused: "the schema file",
-        when: "an action is below itself",
+        when: "an action is a member of itself, directly or through others",
         example: "`{\"\":{\"actions\":{\"a\":{\"memberOf\":[{\"id\":\"b\"}]},\"b\":{\"memberOf\":[{\"id\":\"a\"}]}}}}`",
         remedy: "break the circle of `memberOf`",
     },

@@ -31,7 +31,7 @@ fn is_one_of(key: &str, known: &[&str]) -> bool {
 /// The words for a key that is not known.
 pub(crate) fn unknown_key_words(words: &mut Words, key: &str, known: &[&'static str], says: &str) {
     add_key(&mut words.path, key);
-    words.says.add(says);
+    words.says.add_all(&["unknown key; ", says]);
     words.hint_at(meant_of(key, known));
 }
 
@@ -50,7 +50,7 @@ fn value_words(words: &mut Words, entry: &Json, key: &str) -> bool {
             add_key(&mut words.path, key);
             words
                 .says
-                .add("tags are not supported: an empty object is wanted");
+                .add("tags are not supported: expected an empty object");
             true
         }
         Some(_) => false,
@@ -61,7 +61,7 @@ fn value_words(words: &mut Words, entry: &Json, key: &str) -> bool {
 fn uid_key_words(alloc: Global, words: &mut Words, entry: &Json) -> Result<bool, AllocError> {
     let Some(found) = entry.get("uid") else {
         words.path.add("uid");
-        words.says.add("missing; each entry has a uid");
+        words.says.add("missing; each entry needs a uid");
         words
             .hint
             .add("write \"uid\":{\"type\":\"T\",\"id\":\"x\"}");
@@ -101,7 +101,7 @@ fn parents_words(alloc: Global, words: &mut Words, entry: &Json) -> Result<bool,
     Ok(false)
 }
 
-/// The words for an entry of another shape than the format allows, in the order in which the reader looks at its parts.
+/// The words for an entry of the wrong form, in the order in which the reader looks at its parts.
 pub(crate) fn shape_words(
     alloc: Global,
     words: &mut Words,
@@ -123,6 +123,6 @@ pub(crate) fn shape_words(
     {
         return Ok(());
     }
-    words.says.add("the entry has another shape");
+    words.says.add("the entry has the wrong form");
     Ok(())
 }

@@ -94,7 +94,7 @@ fn parent_words(
     words.says.add_all(&[
         "an entity of type `",
         own.as_str(),
-        "` may not be in one of type `",
+        "` may not have a parent of type `",
         parent.as_str(),
         "`",
     ]);
@@ -110,7 +110,7 @@ fn add_allowed(hint: &mut Draft, schema: &Schema, own: &Name, known: &BTreeSet<N
     for name in known.iter() {
         if listed < MOST_TYPES && schema.type_descends(own, name) {
             hint.add(if listed == 0 {
-                "it may be in one of type `"
+                "its parents may be of type `"
             } else {
                 "`, `"
             });

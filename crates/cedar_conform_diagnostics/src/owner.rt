@@ -46,9 +46,9 @@ impl Owner<'_> {
     pub(crate) fn say_missing(self, says: &mut Draft, attributes: &[Attribute]) {
         says.add("missing; ");
         self.add_wanting(says);
-        says.add(" wants ");
+        says.add(" needs ");
         add_names(says, attributes, "", Some(true));
-        add_names(says, attributes, ", and perhaps ", Some(false));
+        add_names(says, attributes, ", and optionally ", Some(false));
     }
 
     /// Says of an attribute that is not declared which attributes are.

@@ -40,17 +40,17 @@ pub(crate) fn line_words(alloc: Global, words: &mut Words, line: &[u8]) -> Resul
     match Json::from_slice(alloc, line) {
         Ok(json) => {
             drop(json);
-            words.says.add("the line is not JSON");
+            words.says.add("the line is not valid JSON");
         }
         Err(error) if error.is_memory() => return Err(AllocError),
         Err(error) if error.is_eof() => {
-            words.says.add("the line ends before its JSON does");
+            words.says.add("invalid JSON: unexpected end of input");
             words.hint.add(
                 "a request is one line: `jq -c .` writes an object of several lines as one",
             );
         }
         Err(error) => {
-            words.says.add("JSON cannot go on like this at column ");
+            words.says.add("invalid JSON at column ");
             words.says.add_display(error.column());
         }
     }
@@ -102,7 +102,7 @@ fn uids_of(alloc: Global, request: &Json) -> Result<Option<RequestUids>, AllocEr
     }))
 }
 
-// The words for a request of another shape, 502.
+// The words for a request of the wrong form, 502.
 fn shape_words(alloc: Global, words: &mut Words, request: &Json) -> Result<(), AllocError> {
     let Some(members) = request.as_object() else {
         words.want("an object", request);
@@ -116,7 +116,9 @@ fn shape_words(alloc: Global, words: &mut Words, request: &Json) -> Result<(), A
     for key in UID_KEYS {
         let Some(found) = request.get(key) else {
             words.path.add(key);
-            words.says.add("missing; a request has the keys principal, action and resource");
+            words
+                .says
+                .add("missing; a request needs principal, action and resource");
             return Ok(());
         };
         if !is_uid(alloc, found)? {
@@ -124,7 +126,7 @@ fn shape_words(alloc: Global, words: &mut Words, request: &Json) -> Result<(), A
             return uid_words(alloc, words, found);
         }
     }
-    words.says.add("the request has another shape");
+    words.says.add("the request has the wrong form");
     Ok(())
 }
 
@@ -212,7 +214,7 @@ fn say_applies(says: &mut Draft, action: &Uid, names: &BTreeSet<Name>, role: &st
     }
     says.add_all(&[" applies to ", role, " of type "]);
     add_types(says, names);
-    says.add_all(&[", and here is one of type `", found.as_str(), "`"]);
+    says.add_all(&[", not to one of type `", found.as_str(), "`"]);
 }
 
 // Adds the names of types, at most ten.

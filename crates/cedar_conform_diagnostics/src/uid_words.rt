@@ -73,7 +73,7 @@ fn text_words(words: &mut Words, json: &Json, key: &str) -> bool {
 fn members_words(words: &mut Words, json: &Json, members: &Map<String, Json>) {
     if let Some(key) = further_key(members) {
         add_key(&mut words.path, key);
-        words.says.add(UID_KEYS);
+        words.says.add_all(&["unknown key; ", UID_KEYS]);
         return;
     }
     if text_words(words, json, "type") || text_words(words, json, "id") {
@@ -83,9 +83,8 @@ fn members_words(words: &mut Words, json: &Json, members: &Map<String, Json>) {
     add_key(&mut words.path, "type");
     words
         .says
-        .add("a type is identifiers with `::` between them, and ");
+        .add("expected identifiers with `::` between them, found ");
     add_beginning(&mut words.says, text);
-    words.says.add(" is not");
 }
 
 /// The words for a JSON that is not a uid as an object, from its path on.
@@ -126,12 +125,11 @@ fn without_quotes(alloc: Global, text: &str) -> Result<Option<(&str, &str)>, All
 
 // The words for a string that is not a uid.
 fn string_words(alloc: Global, words: &mut Words, text: &str) -> Result<(), AllocError> {
-    words.says.add("a uid is wanted, and ");
+    words.says.add("expected a uid, found the string ");
     add_beginning(&mut words.says, text);
-    words.says.add(" is not one");
     match without_quotes(alloc, text)? {
         Some((ty, id)) => {
-            words.hint.add("the id of a uid is in quotes: write \"");
+            words.hint.add("write the id of a uid in quotes: \"");
             add_inner(&mut words.hint, ty);
             words.hint.add("::\\\"");
             add_inner(&mut words.hint, id);

@@ -28,8 +28,8 @@ pub(crate) fn action_words(words: &mut Words, schema: &Schema, uid: &Uid) {
     add_uid(&mut words.says, uid);
     words.says.add(" is not declared");
     if let Some(meant) = meant_action(schema, uid) {
-        words.hint.add("is ");
+        words.hint.add("did you mean ");
         add_uid(&mut words.hint, meant);
-        words.hint.add(" meant?");
+        words.hint.add_char('?');
     }
 }

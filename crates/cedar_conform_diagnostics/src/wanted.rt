@@ -54,7 +54,7 @@ fn add_no_long(out: &mut Draft, json: &Json) {
     match json {
         Json::Number(number) => {
             out.add_display(number);
-            out.add(" is not an integer of 64 bits");
+            out.add(", which is not a 64-bit integer");
         }
         _ => add_found(out, json),
     }
@@ -79,8 +79,8 @@ fn decimal_text(json: &Json) -> Option<&str> {
 fn add_no_decimal(out: &mut Draft, json: &Json) {
     match decimal_text(json) {
         Some(text) => {
+            out.add("the string ");
             add_beginning(out, text);
-            out.add(" is not one");
         }
         None => add_found(out, json),
     }
@@ -90,7 +90,7 @@ fn add_no_decimal(out: &mut Draft, json: &Json) {
 fn add_no_entity(alloc: Global, out: &mut Draft, json: &Json) -> Result<(), AllocError> {
     match uid_of_object(alloc, json)? {
         Some(uid) => {
-            out.add("here is one");
+            out.add("one");
             add_of_type(out, &uid.ty);
         }
         None => add_found(out, json),
@@ -98,15 +98,16 @@ fn add_no_entity(alloc: Global, out: &mut Draft, json: &Json) -> Result<(), Allo
     Ok(())
 }
 
-/// Says of a JSON that is refused as a value of a type what is wanted, and what is there.
+/// Says of a JSON that is refused as a value of a type what is expected, and what is found.
 pub(crate) fn say_value(
     alloc: Global,
     says: &mut Draft,
     ty: &Type,
     json: &Json,
 ) -> Result<(), AllocError> {
+    says.add("expected ");
     add_wanted(says, ty);
-    says.add(" is wanted, and ");
+    says.add(", found ");
     match ty.kind() {
         TypeKind::Entity(_) => return add_no_entity(alloc, says, json),
         TypeKind::Long => add_no_long(says, json),
@@ -157,11 +158,13 @@ fn fixed_hint(ty: &Type, json: &Json) -> Option<&'static str> {
             "Cedar has no null: leave out an optional attribute that has no value",
         ),
         (TypeKind::Decimal, Json::Number(_)) => Some(
-            "write a string of digits, a point, one to four digits, for example \"9.5\"",
+            "write a string of digits, a point and one to four digits, for example \"9.5\"",
         ),
-        (TypeKind::Decimal, _) => Some("digits, a point, one to four digits, for example \"9.5\""),
-        (TypeKind::Set(_), _) => Some("a set is written as a list"),
-        (TypeKind::Record(_), _) => Some("a record is written as an object"),
+        (TypeKind::Decimal, _) => Some(
+            "write digits, a point and one to four digits, for example \"9.5\"",
+        ),
+        (TypeKind::Set(_), _) => Some("write a set as a list"),
+        (TypeKind::Record(_), _) => Some("write a record as an object"),
         (_, Json::String(text)) => unquoted_hint(ty, text.as_str()),
         _ => None,
     }

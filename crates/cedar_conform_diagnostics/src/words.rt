@@ -28,16 +28,16 @@ impl Words {
         }
     }
 
-    /// Says that another kind of JSON is wanted.
+    /// Says which kind of JSON is expected, and which is found.
     pub(crate) fn want(&mut self, wanted: &str, json: &Json) {
-        self.says.add_all(&[wanted, " is wanted, and "]);
+        self.says.add_all(&["expected ", wanted, ", found "]);
         add_found(&mut self.says, json);
     }
 
-    /// Hints that another word is meant, if one is.
+    /// Hints which other word may be meant, if one may.
     pub(crate) fn hint_at(&mut self, meant: Option<&str>) {
         if let Some(word) = meant {
-            self.hint.add_all(&["is `", word, "` meant?"]);
+            self.hint.add_all(&["did you mean `", word, "`?"]);
         }
     }
 

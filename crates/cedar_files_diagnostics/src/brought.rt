@@ -17,22 +17,22 @@ use std::alloc::{AllocError, Global};
 const ENTITIES: &str = "entities";
 
 /// What is said where the value at the key is not a list of entries.
-const LIST_SAYS: &str = "entities: a list of entries is wanted";
+const LIST_SAYS: &str = "entities: expected a list of entries";
 
 // Why entities of a line are refused with a number, and what to do about it.
 fn words_of_entities(number: u16) -> Option<(&'static str, &'static str)> {
     let words = match number {
         401 => (
-            "the line brings two entities with one uid",
+            "the line brings two entities with the same uid",
             "write each uid once in `entities`",
         ),
         402 => (
-            "an entity would be below itself with the entities of the line",
+            "the entities of the line would make an entity its own ancestor",
             "remove one parent of the circle",
         ),
         502 => (
-            "a part of the entities has another shape than the format allows",
-            "docs/DATA.md has the keys of each part",
+            "a part of the entities has the wrong form",
+            "docs/DATA.md lists the keys of each part",
         ),
         508 => (
             "the entities of the line would change an action",

@@ -22,22 +22,22 @@ const SHAPE: u16 = 502;
 
 /// What is said where changes have another shape, and no entry has.
 const KEYS_SAY: &str =
-    "changes are an object with the keys upsert, a list of entries, and remove, a list of uid objects";
+    "changes must be an object with the keys upsert, a list of entries, and remove, a list of uid objects";
 
 // Why changes are refused with a number, and what to do about it.
 fn words_of_changes(number: u16) -> Option<(&'static str, &'static str)> {
     let words = match number {
         401 => (
-            "the changes have one uid twice",
+            "the changes have the same uid twice",
             "write each uid once in `upsert`, and once in `remove`",
         ),
         402 => (
-            "an entity would be below itself after the changes",
+            "the changes would make an entity its own ancestor",
             "remove one parent of the circle",
         ),
         502 => (
-            "a part of the changes has another shape than the format allows",
-            "docs/DATA.md has the keys of each part",
+            "a part of the changes has the wrong form",
+            "docs/DATA.md lists the keys of each part",
         ),
         508 => (
             "the changes would change an action",

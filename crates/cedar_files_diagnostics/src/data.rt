@@ -9,6 +9,9 @@ use std::alloc::{AllocError, Global};
 /// The number of a line that is not JSON.
 const NOT_JSON: u16 = 501;
 
+/// The number of a line that is JSON of the wrong form.
+const WRONG_FORM: u16 = 502;
+
 /// Why data is refused with a number, in words.
 pub(crate) fn reason_of(number: u16) -> Option<&'static str> {
     let reason = match number {
@@ -61,7 +64,8 @@ pub fn explain_request(
         return Ok(None);
     };
     let reason = match fault.number {
-        NOT_JSON => "the line is not JSON",
+        NOT_JSON => "the line is not valid JSON",
+        WRONG_FORM => "the request has the wrong form",
         number => reason_of(number).unwrap_or("the line is refused"),
     };
     let mut diagnostic = DiagnosticDraft::error(alloc, fault.number, reason);

@@ -43,7 +43,13 @@ pub(crate) fn note_duplicate(alloc: Global, diagnostic: &mut DiagnosticDraft, ui
 
 /// Adds that an entity is below itself.
 pub(crate) fn note_cycle(alloc: Global, diagnostic: &mut DiagnosticDraft, uid: &Uid) {
-    note_uid(alloc, diagnostic, "the entity ", uid, " is below itself");
+    note_uid(
+        alloc,
+        diagnostic,
+        "the entity ",
+        uid,
+        " is its own ancestor",
+    );
 }
 
 // Adds the two entries of a uid that is written twice.

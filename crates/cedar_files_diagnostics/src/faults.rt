@@ -25,7 +25,7 @@ fn words_of(number: u16) -> (&'static str, &'static str) {
             "check the name and its namespace against the schema",
         ),
         602 => (
-            "an optional attribute is read without its guard",
+            "an optional attribute is read without a guard",
             "write `x has a && x.a ..`",
         ),
         603 => (
@@ -33,19 +33,19 @@ fn words_of(number: u16) -> (&'static str, &'static str) {
             "check the name against the type's shape in the schema",
         ),
         604 => (
-            "two types have no type in common",
-            "the sides of `==`, the branches of an `if` and the members of a set need one type",
+            "mismatched types",
+            "the sides of `==`, the branches of an `if` and the members of a set must have one type",
         ),
         605 => (
             "an empty set has no type",
-            "`x.isEmpty()` asks whether a set is empty",
+            "`x.isEmpty()` tests whether a set is empty",
         ),
         606 => (
-            "an operand is of another kind",
-            "docs/TYPING.md has the kinds of operands; decimals compare with `.lessThan(..)`",
+            "an operand has the wrong type",
+            "docs/TYPING.md lists the types of operands; compare decimals with `.lessThan(..)`",
         ),
         _ => (
-            "`decimal` needs a string literal of a decimal",
+            "`decimal` needs a string literal that is a valid decimal",
             "write digits, a point and one to four digits, for example `decimal(\"1.5\")`",
         ),
     }
@@ -152,7 +152,7 @@ fn push_warning(
     ]);
     statement.note_link(&mut diagnostic);
     diagnostic.advise(
-        "compare the action and the types of its scope with `appliesTo` in the schema",
+        "compare its scope with `appliesTo` in the schema, and each name after `has` with the attributes there",
     );
     explanation.diagnostics.push(diagnostic.done()?)?;
     Ok(())

@@ -51,7 +51,7 @@ pub fn explain_json(
     let Some(at) = json_offset(alloc, &bytes)? else {
         return Ok(None);
     };
-    let mut diagnostic = DiagnosticDraft::error(alloc, number, "the file is not JSON");
+    let mut diagnostic = DiagnosticDraft::error(alloc, number, "the file is not valid JSON");
     diagnostic.place = Some(Place::of(&bytes, at));
     let text = match String::from_utf8(bytes) {
         Ok(text) => text,
@@ -61,7 +61,12 @@ pub fn explain_json(
             return diagnostic.alone(file).map(Some);
         }
     };
-    diagnostic.mark(at, at, "JSON cannot go on like this");
+    let says = if at < text.len() {
+        "invalid JSON here"
+    } else {
+        "invalid JSON: unexpected end of input"
+    };
+    diagnostic.mark(at, at, says);
     if text.starts_with('\u{FEFF}') {
         diagnostic.advise("the file begins with a byte order mark: save it without one");
     }

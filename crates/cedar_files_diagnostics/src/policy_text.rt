@@ -146,6 +146,6 @@ fn explain_bytes(alloc: Global, file: &str, bytes: &[u8]) -> Result<Explanation,
     };
     let mut diagnostic = DiagnosticDraft::error(alloc, 105, "the policy file is not UTF-8");
     diagnostic.place = Some(Place::of(bytes, at));
-    diagnostic.advise("save the file as UTF-8: the byte there is part of no character");
+    diagnostic.advise("save the file as UTF-8: the byte here is not valid UTF-8");
     diagnostic.alone(file)
 }

@@ -9,15 +9,15 @@ pub fn reason_of(fault: ParseFault) -> &'static str {
         ParseFault::Text(fault) => reason_of_text(fault),
         ParseFault::NumberTooLarge(_) => "a number is above 9223372036854775807",
         ParseFault::EscapedStar(_) => "the escape `\\*` is outside a pattern of `like`",
-        ParseFault::Syntax(_) => "a policy text cannot go on like this",
+        ParseFault::Syntax(_) => "the policy text has a syntax error",
         ParseFault::TooDeep(_) => "more than 100 brackets and `if`s are open",
-        ParseFault::TooHigh(_) => "a condition is nested higher than 2,000 nodes",
-        ParseFault::DuplicateKey(_) => "a record has a key twice",
-        ParseFault::DuplicateId(_) => "two statements have one id",
-        ParseFault::UnknownFunction(_) => "an unknown function or method",
-        ParseFault::Arity(_) => "a wrong number of arguments",
-        ParseFault::SlotMisplaced(_) => "a slot is where no slot may be",
-        ParseFault::DuplicateAnnotation(_) => "a statement has an annotation twice",
+        ParseFault::TooHigh(_) => "a condition is nested deeper than 2,000 nodes",
+        ParseFault::DuplicateKey(_) => "a record has the same key twice",
+        ParseFault::DuplicateId(_) => "two statements have the same id",
+        ParseFault::UnknownFunction(_) => "unknown function or method",
+        ParseFault::Arity(_) => "wrong number of arguments",
+        ParseFault::SlotMisplaced(_) => "a slot is not allowed here",
+        ParseFault::DuplicateAnnotation(_) => "a statement has the same annotation twice",
         ParseFault::TooLarge(_) => "a condition has more than 100,000 nodes",
     }
 }
@@ -25,9 +25,9 @@ pub fn reason_of(fault: ParseFault) -> &'static str {
 fn reason_of_text(fault: TextFault) -> &'static str {
     match fault {
         TextFault::OutOfMemory => "out of memory",
-        TextFault::BadCharacter(_) => "no token begins with this character",
+        TextFault::BadCharacter(_) => "unexpected character",
         TextFault::UnclosedString(_) => "a string is not closed",
-        TextFault::BadEscape(_) => "an unknown escape in a string",
+        TextFault::BadEscape(_) => "unknown escape in a string",
         TextFault::NumberTooLarge(_) => "a number is above 9223372036854775808",
     }
 }
@@ -35,15 +35,17 @@ fn reason_of_text(fault: TextFault) -> &'static str {
 /// What the mark at the place of the fault says.
 pub fn mark_of(fault: ParseFault) -> &'static str {
     match fault {
-        ParseFault::Text(TextFault::UnclosedString(_)) => "the string that begins here has no end",
-        ParseFault::Text(TextFault::BadEscape(_)) => "this escape",
+        ParseFault::Text(TextFault::UnclosedString(_)) =>
+            "the string that begins here is not closed",
+        ParseFault::Text(TextFault::BadEscape(_)) => "unknown escape",
         ParseFault::Text(TextFault::NumberTooLarge(_)) | ParseFault::NumberTooLarge(_) => {
-            "this number"
+            "this number is too large"
         }
         ParseFault::TooHigh(_) | ParseFault::TooLarge(_) => "in the statement that begins here",
-        ParseFault::DuplicateKey(_) => "this key is in the record already",
-        ParseFault::DuplicateId(_) => "an earlier statement has the id of the one that begins here",
-        ParseFault::DuplicateAnnotation(_) => "this annotation",
+        ParseFault::DuplicateKey(_) => "this key is already in the record",
+        ParseFault::DuplicateId(_) =>
+            "an earlier statement has the same id as the one that begins here",
+        ParseFault::DuplicateAnnotation(_) => "this annotation is repeated",
         ParseFault::TooDeep(_) => "the bracket or `if` that is one too many",
         _ => "",
     }
@@ -53,7 +55,7 @@ pub fn mark_of(fault: ParseFault) -> &'static str {
 pub fn hint_of(fault: ParseFault) -> Option<&'static str> {
     match fault {
         ParseFault::Text(TextFault::UnclosedString(_)) => Some(
-            "a string may go on over the end of a line: if this one is closed, a `\"` may be missing in a line above",
+            "a string may contain line ends: if this one is closed, a `\"` may be missing in a line above",
         ),
         ParseFault::Text(TextFault::BadEscape(_)) => {
             Some("the escapes are \\n \\r \\t \\\\ \\0 \\' \\\" \\xHH and \\u{H..}")
@@ -61,11 +63,11 @@ pub fn hint_of(fault: ParseFault) -> Option<&'static str> {
         ParseFault::EscapedStar(_) => Some("write `*` without a backslash"),
         ParseFault::DuplicateId(_) => Some("give each policy an `@id` of its own"),
         ParseFault::SlotMisplaced(_) => {
-            Some("`?principal` and `?resource` may be in the scope of their own variable alone")
+            Some("`?principal` and `?resource` are allowed only in the scope of their own variable")
         }
         ParseFault::Arity(_) => Some("`isEmpty` takes no argument, all others take one"),
         ParseFault::UnknownFunction(_) => Some(
-            "IP addresses, dates, durations and entity tags are left out; docs/GRAMMAR.md has the functions and methods",
+            "docs/GRAMMAR.md lists the functions and methods; those of IP addresses, dates, durations and entity tags are not supported",
         ),
         ParseFault::TooDeep(_) | ParseFault::TooHigh(_) | ParseFault::TooLarge(_) => {
             Some("split the policy into several")

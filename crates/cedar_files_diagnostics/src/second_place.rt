@@ -44,7 +44,7 @@ fn long_string(found: &[Token<'_>]) -> Option<SecondPlace> {
         && token.text.contains('\n'))?;
     Some(SecondPlace {
         at: long.start(),
-        says: "this string goes on over the end of its line: is its `\"` missing?",
+        says: "this string continues on the next line: is its `\"` missing?",
     })
 }
 

@@ -26,7 +26,7 @@ pub fn unexpected(alloc: Global, found: &[Token<'_>], at: usize) -> Result<Strin
             }
             says.add_char('`');
         }
-        None => says.add("unexpected end of the text"),
+        None => says.add("unexpected end of input"),
     }
     says.done()
 }
@@ -38,9 +38,9 @@ pub fn meant_by_word(found: &[Token<'_>], at: usize) -> Option<&'static str> {
         return None;
     }
     match token.text {
-        "and" => Some("`&&` is Cedar's and"),
-        "or" => Some("`||` is Cedar's or"),
-        "not" => Some("`!` is Cedar's not"),
+        "and" => Some("write `&&` instead of `and`"),
+        "or" => Some("write `||` instead of `or`"),
+        "not" => Some("write `!` instead of `not`"),
         "allow" | "deny" => Some("a policy begins with `permit` or `forbid`"),
         _ => None,
     }
@@ -50,10 +50,10 @@ pub fn meant_by_word(found: &[Token<'_>], at: usize) -> Option<&'static str> {
 pub fn meant_by_character(rest: &str) -> Option<&'static str> {
     match rest.chars().next() {
         Some('\u{FEFF}') => Some("the file begins with a byte order mark: save it without one"),
-        Some('&') => Some("`&&` is Cedar's and"),
-        Some('|') => Some("`||` is Cedar's or"),
-        Some('=') => Some("`==` compares"),
-        Some('\'') => Some("strings are in double quotes"),
+        Some('&') => Some("write `&&` for a logical and"),
+        Some('|') => Some("write `||` for a logical or"),
+        Some('=') => Some("write `==` to compare"),
+        Some('\'') => Some("write strings in double quotes"),
         _ => None,
     }
 }

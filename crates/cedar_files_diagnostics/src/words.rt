@@ -7,12 +7,12 @@ use std::alloc::{AllocError, Global};
 pub fn words_of(number: u16) -> Option<(&'static str, &'static str)> {
     let words = match number {
         204 => (
-            "two policies have one id",
+            "two policies have the same id",
             "give each link an id that no other policy has",
         ),
         210 => (
-            "a link names a template that is not there",
-            "`template_id` is the id of a statement with a slot",
+            "a link names a template that does not exist",
+            "`template_id` is the id of a policy with a slot in its scope",
         ),
         211 => (
             "a link gives no uid for a slot of its template",
@@ -22,21 +22,21 @@ pub fn words_of(number: u16) -> Option<(&'static str, &'static str)> {
             "a link gives a uid for a slot that its template does not have",
             "remove it from `args`",
         ),
-        301 => ("the schema is not JSON", "the file has to be JSON"),
+        301 => ("the schema is not valid JSON", "the file has to be JSON"),
         302 => (
-            "a part of the schema has another shape than the format allows",
-            "docs/SCHEMA.md has the keys of each part; tools/from_cedar turns what `cedar translate-schema` writes into this form",
+            "a part of the schema has the wrong form",
+            "docs/SCHEMA.md lists the keys of each part; tools/from_cedar converts what `cedar translate-schema` writes",
         ),
         303 => (
             "the schema names a type or an action that it does not declare",
             "check the name and its namespace",
         ),
         304 => (
-            "a common type leads back to itself",
-            "a common type may not contain itself",
+            "a common type refers to itself",
+            "break the circle of common types",
         ),
         305 => (
-            "an action is in itself",
+            "an action is a member of itself",
             "remove one `memberOf` of the circle",
         ),
         306 => (
@@ -44,14 +44,17 @@ pub fn words_of(number: u16) -> Option<(&'static str, &'static str)> {
             "`__cedar`, `Action` as an entity type and the names of built-in types are reserved",
         ),
         307 => (
-            "a record is open",
-            "`additionalAttributes` may be false alone",
+            "`additionalAttributes` is true",
+            "remove `additionalAttributes`, and declare each attribute",
         ),
         308 => (
-            "an action applies to an unspecified principal or resource",
-            "name the types in `principalTypes` and `resourceTypes`",
+            "`appliesTo` needs both `principalTypes` and `resourceTypes`",
+            "write both lists",
         ),
-        309 => ("a type is too large", "split it, or give fewer attributes"),
+        309 => (
+            "a type is too large",
+            "split it, or declare fewer attributes",
+        ),
         701 => (
             "the code of a policy would have more than 1,000,000 instructions",
             "split the policy",
@@ -63,22 +66,22 @@ pub fn words_of(number: u16) -> Option<(&'static str, &'static str)> {
 
 fn words_of_data(number: u16) -> Option<(&'static str, &'static str)> {
     let words = match number {
-        401 => ("two entities have one uid", "write each entity once"),
+        401 => ("two entities have the same uid", "write each entity once"),
         402 => (
-            "an entity is below itself",
+            "an entity is its own ancestor",
             "remove one parent of the circle",
         ),
-        501 => ("the file is not JSON", "the file has to be JSON"),
+        501 => ("the file is not valid JSON", "the file has to be JSON"),
         502 => (
-            "a part of the file has another shape than the format allows",
-            "docs/DATA.md has the keys of each part",
+            "a part of the file has the wrong form",
+            "the file is a list of objects; docs/DATA.md lists their keys",
         ),
         503 => (
             "an entity has a type that the schema does not declare",
             "check the type and its namespace",
         ),
         504 => (
-            "a value has another type than the schema gives it",
+            "a value has the wrong type",
             "compare the value with its attribute in the schema",
         ),
         505 => (
@@ -90,7 +93,7 @@ fn words_of_data(number: u16) -> Option<(&'static str, &'static str)> {
             "remove it, or declare it in the shape of the entity's type",
         ),
         507 => (
-            "an entity has a parent of a type that its type may not be in",
+            "an entity may not have a parent of this type",
             "add the type to `memberOfTypes` in the schema",
         ),
         508 => (

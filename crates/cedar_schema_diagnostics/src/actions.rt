@@ -79,7 +79,7 @@ fn refused_attributes(alloc: Global, number: u16, body: &Value) -> Option<Refusa
         _ if number == 302 => {
             let found = part_of(
                 alloc,
-                &["attributes of an action are not in this engine"],
+                &["attributes of an action are not supported"],
                 &["remove `attributes`"],
             );
             at(alloc, Step::Key("attributes"), found)

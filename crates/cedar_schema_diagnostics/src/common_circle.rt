@@ -46,7 +46,7 @@ fn told_circle(
     };
     let names = names_in(alloc, entries, circle)?;
     let mut says = Draft::new(alloc);
-    say_circle(&mut says, &names, circle.len(), "leads to");
+    say_circle(&mut says, &names, circle.len(), "refers to");
     let part = Some(part_with(alloc, says, Draft::new(alloc)));
     let part = at(alloc, Step::Key(first.key), part);
     let part = at(alloc, Step::Key("commonTypes"), part);

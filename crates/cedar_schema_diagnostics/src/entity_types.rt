@@ -67,10 +67,7 @@ fn refused_list(alloc: Global, number: u16, list: &Value) -> Option<Refusal> {
     if number != 302 {
         return None;
     }
-    let says = [
-        "a list of entity types is wanted, and this is ",
-        kind_of(list),
-    ];
+    let says = ["expected a list of entity types, found ", kind_of(list)];
     match list.as_str() {
         Some(name) if is_plain(name) => part_of(alloc, &says, &["write [\"", shown(name), "\"]"]),
         _ => part_of(alloc, &says, &[]),
@@ -81,10 +78,7 @@ fn refused_item(alloc: Global, setting: Setting<'_>, item: &Value) -> Option<Ref
     match item.as_str() {
         Some(name) => refused_entity_name(alloc, setting, name, false),
         None if setting.number == 302 => {
-            let says = [
-                "the name of an entity type is wanted, and this is ",
-                kind_of(item),
-            ];
+            let says = ["expected the name of an entity type, found ", kind_of(item)];
             part_of(alloc, &says, &[])
         }
         None => None,

@@ -43,7 +43,7 @@ fn refused_in(alloc: Global, json: &Value, number: u16) -> Result<Option<Refusal
         Some(root) => refused_in_root(alloc, root, number),
         None if number == 302 => {
             let says = [
-                "a schema is an object of namespaces, and this is ",
+                "a schema must be an object of namespaces, not ",
                 kind_of(json),
             ];
             Ok(part_of(alloc, &says, &[]))

@@ -122,7 +122,7 @@ impl Forms {
                 return Ok(None);
             };
             if next.level > MOST_LEVELS {
-                return Ok(Some("it is more than 100 levels high"));
+                return Ok(Some("it is more than 100 levels deep"));
             }
             if let Some(end) = self.end(next.form) {
                 push_parts(&mut left, end, next.level.saturating_add(1))?;

@@ -69,7 +69,7 @@ pub(crate) fn has_key(keys: &[&str], key: &str) -> bool {
 
 // A part that is not an object.
 fn refused_kind(alloc: Global, part: Part, json: &Value) -> Option<Refusal> {
-    let says = [name_of(part), " is an object, and this is ", kind_of(json)];
+    let says = [name_of(part), " must be an object, not ", kind_of(json)];
     match json.as_str() {
         Some(id) if part == Part::Member && is_plain(id) => {
             part_of(alloc, &says, &["write {\"id\":\"", shown(id), "\"}"])
@@ -92,7 +92,7 @@ fn refused_key(alloc: Global, part: Part, key: &str) -> Option<Refusal> {
 pub(crate) fn unknown_key(alloc: Global, what: &str, key: &str, keys: &[&'static str]) -> Refusal {
     let says = joined(alloc, &[shown(what), " has no key `", shown(key), "`"]);
     let hint = match nearest_key(key, keys) {
-        Some(meant) => joined(alloc, &["is `", shown(meant), "` meant?"]),
+        Some(meant) => joined(alloc, &["did you mean `", shown(meant), "`?"]),
         None => list_of(alloc, keys),
     };
     part_with(alloc, says, hint)
@@ -141,11 +141,7 @@ pub(crate) fn refused_text(alloc: Global, json: &Value, key: &str, what: &str) -
     match json.get(key) {
         Some(Value::String(_)) => None,
         Some(other) => {
-            let found = part_of(
-                alloc,
-                &["a string is wanted, and this is ", kind_of(other)],
-                &[],
-            );
+            let found = part_of(alloc, &["expected a string, found ", kind_of(other)], &[]);
             at(alloc, Step::Key(key), found)
         }
         None => part_of(
@@ -162,6 +158,6 @@ pub(crate) fn refused_object(alloc: Global, key: &str, json: &Value) -> Option<R
 }
 
 fn other_kind(alloc: Global, key: &str, kind: &str) -> Option<Refusal> {
-    let says = ["`", shown(key), "` is an object, and this is ", shown(kind)];
+    let says = ["`", shown(key), "` must be an object, not ", shown(kind)];
     part_of(alloc, &says, &[])
 }

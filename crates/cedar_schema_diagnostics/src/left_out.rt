@@ -4,7 +4,7 @@ use cedar_schema_json::Part;
 use std::alloc::Global;
 
 /// What is said of annotations.
-pub(crate) const ANNOTATIONS: &str = "annotations are not read here";
+pub(crate) const ANNOTATIONS: &str = "annotations are not supported";
 
 /// What to do about annotations.
 pub(crate) const WITHOUT_ANNOTATIONS: &str =
@@ -20,11 +20,11 @@ pub(crate) fn left_out_key(part: Part, key: &str) -> Option<(&'static str, &'sta
     }
     match key {
         "tags" => Some((
-            "entity tags are not in this engine",
+            "entity tags are not supported",
             "remove `tags`, and declare in `shape` the attributes that policies read",
         )),
         "enum" => Some((
-            "enumerated entity types are not in this engine",
+            "enumerated entity types are not supported",
             "write {}: the entities of a type may have any ids",
         )),
         "attributes" => Some((
@@ -49,7 +49,7 @@ pub(crate) fn left_out_extension(name: &str) -> Option<&'static str> {
 pub(crate) fn entity_or_common(alloc: Global) -> Option<Refusal> {
     part_of(
         alloc,
-        &["`EntityOrCommon` is what Cedar's translator writes; here it is not read"],
+        &["`EntityOrCommon`, which Cedar's translator writes, is not supported"],
         &[
             "write {\"type\":\"String\"}, {\"type\":\"Entity\",\"name\":\"T\"} or {\"type\":\"C\"} of a common type",
             "; tools/from_cedar does it for a whole file",

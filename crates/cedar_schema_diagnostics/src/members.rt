@@ -37,7 +37,7 @@ fn refused_list(alloc: Global, number: u16, list: &Value) -> Option<Refusal> {
     if number != 302 {
         return None;
     }
-    let says = ["a list of actions is wanted, and this is ", kind_of(list)];
+    let says = ["expected a list of actions, found ", kind_of(list)];
     match list.as_str() {
         Some(id) if is_plain(id) => part_of(
             alloc,
@@ -130,7 +130,7 @@ fn hint_action(hint: &mut Draft, setting: Setting<'_>, ty: &str, own: &str, id: 
         }
     }
     if let Some(meant) = nearest_action(Nearest::new(id), actions, ty, own).name() {
-        hint.add_all(&["is `", meant, "` meant?"]);
+        hint.add_all(&["did you mean `", meant, "`?"]);
     }
 }
 

@@ -30,7 +30,7 @@ pub(crate) fn refused_name(alloc: Global, number: u16, text: &str) -> Option<Ref
 
 // A name with the word `__cedar`. In Cedar it may begin the name of a built-in type.
 fn reserved_name(alloc: Global, text: &str) -> Option<Refusal> {
-    let says = ["`", shown(text), "` has the reserved word `__cedar`"];
+    let says = ["`", shown(text), "` contains the reserved word `__cedar`"];
     let meant = match text.strip_prefix("__cedar::") {
         Some(rest) => meant_built_in(rest),
         None => None,
@@ -39,7 +39,7 @@ fn reserved_name(alloc: Global, text: &str) -> Option<Refusal> {
         Some(meant) => part_of(
             alloc,
             &says,
-            &["is the built-in type `", shown(meant), "` meant?"],
+            &["did you mean the built-in type `", shown(meant), "`?"],
         ),
         None => part_of(alloc, &says, &["choose another name"]),
     }

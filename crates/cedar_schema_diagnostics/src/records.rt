@@ -58,7 +58,7 @@ fn refused_other(
                 alloc,
                 &[
                     what,
-                    " has to be a record, and `",
+                    " must be a record, but `",
                     shown(name),
                     "` is not one",
                 ],

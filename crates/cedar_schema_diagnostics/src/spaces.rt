@@ -49,7 +49,7 @@ fn refused_space(alloc: Global, number: u16, namespace: &str, space: &Value) -> 
 fn outside_namespaces(alloc: Global, key: &str) -> Option<Refusal> {
     part_of(
         alloc,
-        &["`", shown(key), "` is here the name of a namespace"],
+        &["`", shown(key), "` is read as the name of a namespace"],
         &["write {\"\":{\"", shown(key), "\":{..}}}"],
     )
 }

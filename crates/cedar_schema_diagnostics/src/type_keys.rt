@@ -100,7 +100,7 @@ fn other_key(
     Ok(part_of(
         alloc,
         &[what.as_str(), " has no key `", shown(key), "`"],
-        &["is the type `", shown(meant), "` meant?"],
+        &["did you mean the type `", shown(meant), "`?"],
     ))
 }
 

@@ -51,20 +51,12 @@ fn hint_entity(hint: &mut Draft, setting: Setting<'_>, text: &str, is_type: bool
     } else if is_common && is_type {
         hint_written(hint, name, "a common type");
     } else if is_common {
-        hint.add_all(&[
-            "`",
-            name,
-            "` is a common type, and an entity type is wanted",
-        ]);
+        hint.add_all(&["`", name, "` is a common type, not an entity type"]);
     } else if last_word(text) == "Action" {
-        hint.add_all(&[
-            "`",
-            name,
-            "` is the type of actions, and not an entity type",
-        ]);
+        hint.add_all(&["`", name, "` is the type of actions, not an entity type"]);
     } else if let Some(meant) = meant_name(&setting.declared.entities, setting.namespace, text) {
         let meant = as_written(meant.as_str(), setting.namespace);
-        hint.add_all(&["is `", meant, "` meant?"]);
+        hint.add_all(&["did you mean `", meant, "`?"]);
     }
 }
 
@@ -135,7 +127,7 @@ fn hint_type(hint: &mut Draft, setting: Setting<'_>, text: &str, is_entity: bool
             "\"}",
         ]);
     } else if let Some(meant) = meant_built_in(text) {
-        hint.add_all(&["is `", meant, "` meant?"]);
+        hint.add_all(&["did you mean `", meant, "`?"]);
     } else {
         hint_meant(hint, setting, text);
     }
@@ -145,10 +137,14 @@ fn hint_type(hint: &mut Draft, setting: Setting<'_>, text: &str, is_entity: bool
 fn hint_meant(hint: &mut Draft, setting: Setting<'_>, text: &str) {
     let space = setting.namespace;
     if let Some(name) = meant_name(&setting.declared.commons, space, text) {
-        hint.add_all(&["is `", as_written(name.as_str(), space), "` meant?"]);
+        hint.add_all(&["did you mean `", as_written(name.as_str(), space), "`?"]);
     } else if let Some(name) = meant_name(&setting.declared.entities, space, text) {
         let name = as_written(name.as_str(), space);
-        hint.add_all(&["is {\"type\":\"Entity\",\"name\":\"", name, "\"} meant?"]);
+        hint.add_all(&[
+            "did you mean {\"type\":\"Entity\",\"name\":\"",
+            name,
+            "\"}?",
+        ]);
     }
 }
 
@@ -165,11 +161,7 @@ pub(crate) fn refused_extension_name(alloc: Global, number: u16, text: &str) -> 
 }
 
 fn undeclared_extension(alloc: Global, text: &str) -> Option<Refusal> {
-    let says = [
-        "the extension type `",
-        shown(text),
-        "` is not in this engine",
-    ];
+    let says = ["the extension type `", shown(text), "` is not supported"];
     if let Some(hint) = left_out_extension(text) {
         return part_of(alloc, &says, &[hint]);
     }
@@ -179,7 +171,7 @@ fn undeclared_extension(alloc: Global, text: &str) -> Option<Refusal> {
         "`: `decimal` is the only one",
     ];
     match apart(text, "decimal") {
-        Some(_) => part_of(alloc, &says, &["is `decimal` meant?"]),
+        Some(_) => part_of(alloc, &says, &["did you mean `decimal`?"]),
         None => part_of(alloc, &says, &[]),
     }
 }

@@ -26,11 +26,7 @@ pub(crate) fn refused_shape(alloc: Global, json: &Value, is_attribute: bool) -> 
             refused_members(alloc, json, members, text.as_str(), is_attribute)
         }
         Some(other) => {
-            let found = part_of(
-                alloc,
-                &["a string is wanted, and this is ", kind_of(other)],
-                &[],
-            );
+            let found = part_of(alloc, &["expected a string, found ", kind_of(other)], &[]);
             at(alloc, Step::Key("type"), found)
         }
         None => without_type(alloc, json),
@@ -39,7 +35,7 @@ pub(crate) fn refused_shape(alloc: Global, json: &Value, is_attribute: bool) -> 
 
 // A type that is not an object.
 fn refused_kind(alloc: Global, json: &Value) -> Option<Refusal> {
-    let says = ["a type is an object, and this is ", kind_of(json)];
+    let says = ["a type must be an object, not ", kind_of(json)];
     match json.as_str() {
         Some(text) if is_plain(text) => {
             let name = meant_built_in(text).unwrap_or(text);
@@ -116,6 +112,6 @@ fn refused_truth(alloc: Global, json: &Value, key: &str, wanted: &str) -> Option
 }
 
 fn other_than(alloc: Global, wanted: &str, kind: &str) -> Option<Refusal> {
-    let says = [shown(wanted), " is wanted, and this is ", shown(kind)];
+    let says = ["expected ", shown(wanted), ", found ", shown(kind)];
     part_of(alloc, &says, &[])
 }

@@ -8,7 +8,7 @@ end
 
 complete -c cedar -f
 complete -c cedar -n "__cedar_runs ''" -a validate -d 'Reports on standard output where policies break the rules of a schema'
-complete -c cedar -n "__cedar_runs ''" -a authorize -d 'Answers each request line of standard input by a line on standard output'
+complete -c cedar -n "__cedar_runs ''" -a authorize -d 'Answers each request line of standard input with a line on standard output'
 complete -c cedar -n "__cedar_runs ''" -a why -d 'Says why each request line of standard input is allowed or denied'
 complete -c cedar -n "__cedar_runs ''" -a ask -d 'Answers one request, and ends with 0 for allow and 5 for deny'
 complete -c cedar -n "__cedar_runs ''" -a check-parse -d 'Reads a policy file without a schema, and counts its policies'

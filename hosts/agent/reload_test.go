@@ -120,7 +120,7 @@ func TestAFileThatTurnsBadAndGoodAgain(t *testing.T) {
 	got := it.get("/readyz")
 	ready := decoded[readiness](t, got.body)
 	if got.status != 200 || !ready.Ready || ready.Version != 1 || ready.Reload.Refused != 201 || ready.Reload.File != "policies" ||
-		!strings.HasPrefix(ready.Reload.Words, "error[201]: a policy text cannot go on like this") {
+		!strings.HasPrefix(ready.Reload.Words, "error[201]: the policy text has a syntax error") {
 		t.Error(got)
 	}
 	logged := `"event":"reload_refused","error":"a file is refused","file":"policies","refused":201,"words":"error[201]`

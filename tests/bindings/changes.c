@@ -113,7 +113,7 @@ static void check_words(void) {
     cedar_buffer text = {room, sizeof room, 0}, none = {NULL, 0, 9};
     const char *wanted =
         "error[506]: an attribute is not declared\n --> changes.json: upsert entry 1 (from 0), User::\"ann\"\n"
-        "   = attrs.agee: `User` has age\n   = hint: is `age` meant?\n";
+        "   = attrs.agee: `User` has age\n   = hint: did you mean `age`?\n";
     cedar_bytes changes = bytes_of(UPSERT(ENTRY("Group", "g", "{}", "") "," ENTRY("User", "ann", "{\"age\":1,\"agee\":2}", ""))), schema;
     schema = bytes_of(CHANGES_SCHEMA);
     CHECK(cedar_explain_changes(schema, changes, 506, CEDAR_WORDS, &text) == CEDAR_OK && has(&text, bytes_of(wanted)));

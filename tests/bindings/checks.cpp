@@ -47,7 +47,7 @@ static void check_refusals(const std::string &broken) {
                        {[&] { cedar::validate(files(broken)); }}}) {
         auto refusal = thrown<cedar::Refusal>(call);
         CHECK(refusal && refusal->file == CEDAR_POLICIES && refusal->number == 201 && refusal->offset == 128u && refusal->line == 4u);
-        CHECK(refusal && refusal->words.rfind("error[201]: a policy text cannot go on like this\n", 0) == 0);
+        CHECK(refusal && refusal->words.rfind("error[201]: the policy text has a syntax error\n", 0) == 0);
         CHECK(refusal && refusal->text == "{\"file\":\"policies\",\"offset\":128,\"refused\":201}\n" && refusal->status() == CEDAR_REFUSED);
     }
     auto refusal = thrown<cedar::Refusal>([&] { engine.publish({schema, policies, "{}", entities}); });

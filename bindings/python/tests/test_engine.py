@@ -156,7 +156,7 @@ class Refusals(unittest.TestCase):
                 call()
             refused = raised.exception
             self.assertEqual((refused.file, refused.number, refused.offset, refused.line), ('policies', 201, 128, 4))
-            self.assertTrue(refused.words.startswith('error[201]: a policy text cannot go on like this\n'), refused.words)
+            self.assertTrue(refused.words.startswith('error[201]: the policy text has a syntax error\n'), refused.words)
         self.assertEqual(engine.answer(content('notes', 'requests.jsonl')), content('notes', 'answers.jsonl').decode())
 
     def test_each_file(self):
@@ -345,7 +345,7 @@ class Changes(unittest.TestCase):
             self.engine.publish_changes(upsert(self.entry('Group', 'g'), self.entry('User', 'ann', age=1, agee=2)))
         self.assertEqual(raised.exception.words,
                          'error[506]: an attribute is not declared\n --> changes.json: upsert entry 1 (from 0), User::"ann"\n'
-                         '   = attrs.agee: `User` has age\n   = hint: is `age` meant?\n')
+                         '   = attrs.agee: `User` has age\n   = hint: did you mean `age`?\n')
         self.assertRaises(ValueError, self.engine.publish_changes, {'upsert': [self.entry('User', 'ann', age=float('nan'))]})
 
     def test_many(self):

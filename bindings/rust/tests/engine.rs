@@ -142,7 +142,7 @@ fn refusals_have_their_words() {
     for error in [Engine::new(&files).unwrap_err(), engine.publish(&files).unwrap_err(), validate(&files).unwrap_err()] {
         let Error::Refused(why) = error else { panic!("{error}") };
         assert_eq!((why.file, why.number, why.offset, why.line), (File::Policies, 201, Some(128), Some(4)));
-        assert!(why.words.starts_with("error[201]: a policy text cannot go on like this\n"), "{}", why.words);
+        assert!(why.words.starts_with("error[201]: the policy text has a syntax error\n"), "{}", why.words);
     }
     assert_eq!(engine.answer(&it.requests).unwrap(), it.answers);
 

@@ -103,7 +103,7 @@ fn unknown_words(words: &mut Words, key: &str) {
         _ => key,
     };
     add_key(&mut words.path, key);
-    words.says.add(KEYS_SAY);
+    words.says.add_all(&["unknown key; ", KEYS_SAY]);
     words.hint_at(meant_of(meant, &LINK_KEYS));
 }
 

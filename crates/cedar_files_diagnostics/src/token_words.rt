@@ -41,7 +41,9 @@ pub fn meant_by_word(found: &[Token<'_>], at: usize) -> Option<&'static str> {
         "and" => Some("write `&&` instead of `and`"),
         "or" => Some("write `||` instead of `or`"),
         "not" => Some("write `!` instead of `not`"),
-        "allow" | "deny" => Some("a policy begins with `permit` or `forbid`"),
+        "allow" | "deny" | "Permit" | "Forbid" | "PERMIT" | "FORBID" => Some(
+            "a policy begins with `permit` or `forbid`",
+        ),
         _ => None,
     }
 }
@@ -53,7 +55,10 @@ pub fn meant_by_character(rest: &str) -> Option<&'static str> {
         Some('&') => Some("write `&&` for a logical and"),
         Some('|') => Some("write `||` for a logical or"),
         Some('=') => Some("write `==` to compare"),
-        Some('\'') => Some("write strings in double quotes"),
+        Some('\'' | '\u{201C}' | '\u{201D}') => Some("write strings in double quotes"),
+        Some('#') => Some("write a comment after `//`"),
+        Some('/') => Some("write a comment after `//`; there is no division"),
+        Some('%') => Some("the arithmetic operators are `+`, `-` and `*`"),
         _ => None,
     }
 }

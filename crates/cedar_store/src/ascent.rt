@@ -3,7 +3,7 @@ ghost use Rattle.std.specs.Prelude.{◌≡◌};
 ghost use Rattle.cedar_store.specs.Private.Ascents.{reaches};
 
 use crate::ahead::is_ahead;
-use crate::numbers::{has_uid, Numbers};
+use crate::numbers::{Numbers, has_uid};
 use base_search::Row;
 use cedar_value::Uid;
 

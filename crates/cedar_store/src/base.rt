@@ -11,7 +11,9 @@ ghost use Rattle.cedar_store.specs.Private.Based.{IsMarked};
 ghost use Rattle.cedar_store.specs.Private.Gathered.{Gathers, KeepsFirst};
 ghost use Rattle.cedar_store.specs.Private.Kept.{AreAncestors, in_row, number_in};
 
-use crate::ahead::{is_ahead, is_any_ahead, is_mark_ahead, is_mark_ahead_of, row_ahead, row_of_many};
+use crate::ahead::{
+    is_ahead, is_any_ahead, is_mark_ahead, is_mark_ahead_of, row_ahead, row_of_many,
+};
 use crate::ancestors::push_members;
 use crate::ascent::Ascent;
 use crate::entity::Entity;

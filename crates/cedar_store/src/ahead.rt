@@ -1,7 +1,7 @@
 //! What is ahead of some numbers: the numbers themselves, and those in their rows of bits.
 //!
 //! The numbers of an entity's parents are kept, and a row for each number. So what is ahead of them is above the entity.
-ghost use Rattle.std.specs.Prelude.{◌≡◌, ◌||◌, ℕ, [], IfOk, OnOk, IsTrue, false, get_or};
+ghost use Rattle.std.specs.Prelude.{◌≡◌, ◌||◌, ℕ, [], IfOk, IfSome, OnOk, IsTrue, false, get_or};
 ghost use Rattle.std.specs.List.{list_any};
 ghost use Rattle.base_bits.specs.Bits.{has_bit};
 ghost use Rattle.cedar_value.specs.Datum.{same_uid};
@@ -15,6 +15,9 @@ use std::alloc::{AllocError, Global};
 
 // How many near numbers there may be where the uid is compared with theirs.
 const MOST_COMPARED: usize = 4;
+
+// How many near numbers there may be where each question goes through them. Of more a row is made once for an entity that is asked often.
+const MOST_WALKED: usize = 128;
 
 /// Whether the uid has a number, and the number is ahead of some near ones. Where these are few, the uid is compared with theirs. It is
 /// hashed only where that does not decide: where they are many, or there is something in their rows.
@@ -230,6 +233,16 @@ pub(crate) fn row_ahead(alloc: Global, rows: &[Row], near: &[usize]) -> Result<R
         join_at(&mut ahead, rows, *at)?;
     }
     Ok(ahead)
+}
+
+/// The numbers that are ahead of near ones, where these are many. None where they are few, or when out of memory.
+pub(crate) fn row_of_many(alloc: Global, rows: &[Row], near: &[usize]) -> Option<Row>
+    ensures { IfSome result (λ row. (m : ℕ) → has_bit row m ≡ has_ahead rows.now near.now m) }
+{
+    if near.len() <= MOST_WALKED {
+        return None;
+    }
+    row_ahead(alloc, rows, near).ok()
 }
 
 // Sets each bit of the row at a place.

@@ -11,7 +11,9 @@ ghost use Rattle.cedar_store.specs.Private.Based.{IsMarked};
 ghost use Rattle.cedar_store.specs.Private.Gathered.{Gathers, KeepsFirst};
 ghost use Rattle.cedar_store.specs.Private.Kept.{AreAncestors, in_row, number_in};
 
-use crate::ahead::{is_ahead, is_any_ahead, is_mark_ahead, is_mark_ahead_of, row_ahead};
+use crate::ahead::{
+    is_ahead, is_any_ahead, is_mark_ahead, is_mark_ahead_of, row_ahead, row_of_many,
+};
 use crate::ancestors::push_members;
 use crate::ascent::Ascent;
 use crate::entity::Entity;
@@ -171,10 +173,14 @@ impl Base {
     pub(crate) fn ascent(&self, uid: &Uid) -> Ascent<'_>
         ensures { AreAncestors self.now.world uid.now (reaches result) }
     {
+        let rows = self.rows.as_slice();
+        let near = parent_numbers(&self.table, &self.parents, uid);
+        let above = row_of_many(*self.rows.allocator(), rows, near);
         Ascent {
             numbers: &self.numbers,
-            rows: &self.rows,
-            near: parent_numbers(&self.table, &self.parents, uid),
+            rows,
+            near,
+            above,
         }
     }
 

@@ -145,7 +145,8 @@ impl Store {
     }
 
     /// The entity with a uid as a descendant, which is asked many times what it is below. It is looked up here, and not again unless the
-    /// store keeps changes. Takes no memory.
+    /// store keeps changes. Where it has more than 128 parents, this takes the memory of a row, and each question then the same time;
+    /// without that memory each question goes through the parents.
     pub fn descendant<'s>(&'s self, uid: &'s Uid) -> Descendant<'s>
         ensures world { result.world ≡ self.now }
         ensures uid { result.uid ≡ uid.now }

@@ -22,8 +22,8 @@ function groupsOf(report) {
 // The ranges that an explanation marks in a text. Without marks it is the character at its place.
 function rangesOf(text, words) {
   const place = { line: words.line, column: words.column, end_column: words.column + 1, says: '' };
-  return (words.marks ?? (words.line ? [place] : [])).map(({ line, column, end_column: end, says }) =>
-    ({ from: unitAt(text, line, column), to: unitAt(text, line, end), line, column, says }));
+  return (words.marks ?? (words.line ? [place] : [])).map(({ line, column, end_column: end, end_line: last = line, says }) =>
+    ({ from: unitAt(text, line, column), to: unitAt(text, last, end), line, column, says }));
 }
 
 // The range of an offset in bytes, where there are no words.

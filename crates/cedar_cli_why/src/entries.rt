@@ -3,8 +3,10 @@ ghost use Rattle.cedar_schema_spec.specs.Conformance.{Fits};
 
 use crate::entry::{Entry, Standing, entry_of};
 use crate::evaluation::policy_ending;
+use crate::line_count::LineCount;
 use cedar_ast::Decision;
 use cedar_auth::Ready;
+use cedar_parser_places::StatementPlaces;
 use cedar_value::Request;
 use std::alloc::{AllocError, Global};
 
@@ -38,7 +40,7 @@ pub fn entries_of(
     alloc: Global,
     ready: &Ready,
     request: &Request,
-    text: &str,
+    places: &StatementPlaces<'_>,
     decision: Decision,
     all: bool,
 ) -> Result<Entries, AllocError>
@@ -49,6 +51,7 @@ pub fn entries_of(
         shown: Vec::new(alloc),
         out_of_scope: 0,
     };
+    let mut lines = LineCount::new(places.text());
     let mut candidates = ready.candidates(request);
     for position in 0..policies.count() {
         let is_candidate = match candidates.split_first() {
@@ -61,7 +64,9 @@ pub fn entries_of(
         if is_candidate || all {
             let ending = policy_ending(alloc, ready, request, position)?;
             if let Some(policy) = policies.policy(position) {
-                let entry = entry_of(alloc, ready, request, text, policy, ending, decision)?;
+                let entry = entry_of(
+                    alloc, ready, request, places, &mut lines, policy, ending, decision,
+                )?;
                 entries.add(entry, all)?;
             }
         } else {

@@ -1,6 +1,7 @@
 //! What is said of one policy.
 use crate::decider::{Joined, way_to_decider, with_ending};
 use crate::ending::Ending;
+use crate::line_count::LineCount;
 use crate::place_of_part::{Placed, place_part};
 use crate::section::{Section, section_of};
 use crate::words::{joined_words, words_of};
@@ -8,6 +9,7 @@ use base_places::{Draft, Place};
 use cedar_ast::{Decision, Effect, Policy};
 use cedar_ast_expressions::{EvaluationError, Expr};
 use cedar_auth::Ready;
+use cedar_parser_places::StatementPlaces;
 use cedar_value::Request;
 use std::alloc::{AllocError, Global};
 
@@ -35,26 +37,17 @@ pub struct Entry {
     pub effect: Effect,
     /// What the policy came to.
     pub standing: Standing,
-    /// Where the part that decided begins in the policy text, in bytes from 0.
-    pub at: Option<usize>,
+    /// Where the part that decided begins in the policy text, as line and column from 0.
+    pub place: Option<Place>,
     /// How the part that decided ends, in words.
     pub says: String,
-}
-
-impl Entry {
-    /// Where the part that decided begins in the policy text, as line and column from 0.
-    pub fn place(&self, text: &str) -> Option<Place> {
-        match self.at {
-            Some(at) => Some(Place::of(text.as_bytes(), at)),
-            None => None,
-        }
-    }
 }
 
 // What is said of the part that decided.
 #[derive(Drop)]
 struct Reason {
     section: Section,
+    // Where it begins in the policy text, in bytes from 0.
     at: Option<usize>,
     says: String,
 }
@@ -77,12 +70,13 @@ fn standing_of(ending: Ending, section: Section, effect: Effect, decision: Decis
     }
 }
 
-/// What is said of a policy that ends in this way, where the request has this decision.
+/// What is said of a policy that ends in this way, where the request has this decision. `lines` counts those of the policy text.
 pub fn entry_of(
     alloc: Global,
     ready: &Ready,
     request: &Request,
-    text: &str,
+    places: &StatementPlaces<'_>,
+    lines: &mut LineCount<'_>,
     policy: &Policy,
     ending: Ending,
     decision: Decision,
@@ -94,16 +88,16 @@ pub fn entry_of(
             id,
             effect,
             standing: Standing::Overridden,
-            at: None,
+            place: None,
             says: String::new(alloc),
         });
     }
-    let reason = reason_of(alloc, ready, request, text, policy, ending)?;
+    let reason = reason_of(alloc, ready, request, places, policy, ending)?;
     Ok(Entry {
         id,
         effect,
         standing: standing_of(ending, reason.section, effect, decision),
-        at: reason.at,
+        place: lines.place(reason.at),
         says: reason.says,
     })
 }
@@ -113,13 +107,13 @@ fn reason_of(
     alloc: Global,
     ready: &Ready,
     request: &Request,
-    text: &str,
+    places: &StatementPlaces<'_>,
     policy: &Policy,
     ending: Ending,
 ) -> Result<Reason, AllocError> {
     let condition = policy.condition(alloc)?;
     let id = policy.id().as_str();
-    let reason = reason_within(alloc, ready, request, text, id, &condition, ending);
+    let reason = reason_within(alloc, ready, request, places, id, &condition, ending);
     drop(condition);
     reason
 }
@@ -128,13 +122,13 @@ fn reason_within(
     alloc: Global,
     ready: &Ready,
     request: &Request,
-    text: &str,
+    places: &StatementPlaces<'_>,
     id: &str,
     condition: &Expr,
     ending: Ending,
 ) -> Result<Reason, AllocError> {
     let way = way_to_decider(alloc, ready, request, condition, ending)?;
-    let found = place_part(alloc, text, id, way.part, &way.path)?;
+    let found = place_part(alloc, places, id, way.part, &way.path)?;
     let section = section_of(&way.path);
     let joined = joined_for(ending, way.joined);
     drop(way);

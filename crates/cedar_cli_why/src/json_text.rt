@@ -9,14 +9,13 @@ use cedar_auth::{Erring, Ready, Response};
 use cedar_value::{Request, Uid};
 use std::alloc::{AllocError, Global};
 
-/// An explanation of the decision about a request: one JSON object, and a line feed. `text` is the policy text.
+/// An explanation of the decision about a request: one JSON object, and a line feed.
 pub fn json_of(
     alloc: Global,
     ready: &Ready,
     request: &Request,
     response: &Response<'_>,
     entries: &Entries,
-    text: &str,
     number: usize,
 ) -> Result<String, AllocError> {
     let mut json = JsonDraft::new(alloc);
@@ -25,7 +24,7 @@ pub fn json_of(
     json.number_at("false_by_scope", entries.out_of_scope);
     json.number_at("line", number);
     add_unstored(&mut json, ready, request);
-    add_entries(alloc, &mut json, entries, text);
+    add_entries(alloc, &mut json, entries);
     json.end_object();
     let mut line = json.done()?;
     line.push('\n')?;
@@ -80,11 +79,11 @@ fn add_uid(json: &mut JsonDraft, uid: &Uid) {
 }
 
 // `"policies":[..]`
-fn add_entries(alloc: Global, json: &mut JsonDraft, entries: &Entries, text: &str) {
+fn add_entries(alloc: Global, json: &mut JsonDraft, entries: &Entries) {
     json.key("policies");
     json.begin_array();
     for entry in &entries.shown {
-        add_entry(alloc, json, entry, text);
+        add_entry(alloc, json, entry);
     }
     json.end_array();
 }
@@ -102,10 +101,9 @@ fn result_word(standing: Standing) -> &'static str {
 
 // `{"column":C,"effect":E,"line":L,"policy":ID,"result":R,"says":S}`. Without a place there is no column and no line, and without
 // words no `says`.
-fn add_entry(alloc: Global, json: &mut JsonDraft, entry: &Entry, text: &str) {
-    let place = entry.place(text);
+fn add_entry(alloc: Global, json: &mut JsonDraft, entry: &Entry) {
     json.begin_object();
-    if let Some(place) = place {
+    if let Some(place) = entry.place {
         json.number_at("column", place.column.saturating_add(1));
     }
     json.key("effect");
@@ -113,7 +111,7 @@ fn add_entry(alloc: Global, json: &mut JsonDraft, entry: &Entry, text: &str) {
         Effect::Permit => "permit",
         Effect::Forbid => "forbid",
     });
-    if let Some(place) = place {
+    if let Some(place) = entry.place {
         json.number_at("line", place.line.saturating_add(1));
     }
     json.string_at("policy", entry.id.as_str());

@@ -23,18 +23,17 @@ struct Widths {
     place: usize,
 }
 
-/// An explanation of the decision about a request: whole lines that are safe to show. `text` is the policy text.
+/// An explanation of the decision about a request: whole lines that are safe to show.
 pub fn text_of(
     alloc: Global,
     ready: &Ready,
     request: &Request,
     response: &Response<'_>,
     entries: &Entries,
-    text: &str,
     number: usize,
     all: bool,
 ) -> Result<String, AllocError> {
-    let widths = widths_of(alloc, entries, text)?;
+    let widths = widths_of(alloc, entries)?;
     let mut out = Draft::new(alloc);
     let mut line = Draft::new(alloc);
     add_heading(alloc, &mut line, number, response);
@@ -42,7 +41,7 @@ pub fn text_of(
     let mut line = Draft::new(alloc);
     add_request(alloc, &mut line, ready, request);
     add_line(&mut out, line);
-    add_entries(alloc, &mut out, entries, text, widths);
+    add_entries(alloc, &mut out, entries, widths);
     if !all {
         add_count(alloc, &mut out, entries);
     }
@@ -70,20 +69,20 @@ fn rank_of(standing: Standing) -> u8 {
 }
 
 // Adds a line for each policy.
-fn add_entries(alloc: Global, out: &mut Draft, entries: &Entries, text: &str, widths: Widths) {
+fn add_entries(alloc: Global, out: &mut Draft, entries: &Entries, widths: Widths) {
     for rank in 0..RANKS {
         for entry in &entries.shown {
             if rank_of(entry.standing) == rank {
-                add_entry(alloc, out, entry, text, widths);
+                add_entry(alloc, out, entry, widths);
             }
         }
     }
 }
 
 // `LINE:COLUMN`, both from 1; or nothing if there is no place.
-fn place_text(alloc: Global, text: &str, entry: &Entry) -> Result<String, AllocError> {
+fn place_text(alloc: Global, entry: &Entry) -> Result<String, AllocError> {
     let mut says = Draft::new(alloc);
-    if let Some(place) = entry.place(text) {
+    if let Some(place) = entry.place {
         says.add_display(place.line.saturating_add(1));
         says.add_char(':');
         says.add_display(place.column.saturating_add(1));
@@ -91,11 +90,11 @@ fn place_text(alloc: Global, text: &str, entry: &Entry) -> Result<String, AllocE
     says.done()
 }
 
-fn widths_of(alloc: Global, entries: &Entries, text: &str) -> Result<Widths, AllocError> {
+fn widths_of(alloc: Global, entries: &Entries) -> Result<Widths, AllocError> {
     let mut widths = Widths { id: 0, place: 0 };
     for entry in &entries.shown {
         let id = shortened(alloc, entry.id.as_str())?;
-        let place = place_text(alloc, text, entry)?;
+        let place = place_text(alloc, entry)?;
         widths.id = widths.id.max(id.chars().count());
         widths.place = widths.place.max(place.len());
     }
@@ -141,7 +140,7 @@ fn words_of(entry: &Entry) -> &str {
 }
 
 // Adds the line of a policy.
-fn add_entry(alloc: Global, out: &mut Draft, entry: &Entry, text: &str, widths: Widths) {
+fn add_entry(alloc: Global, out: &mut Draft, entry: &Entry, widths: Widths) {
     let mut line = Draft::new(alloc);
     line.add("  ");
     add_made_padded(&mut line, shortened(alloc, entry.id.as_str()), widths.id);
@@ -151,7 +150,7 @@ fn add_entry(alloc: Global, out: &mut Draft, entry: &Entry, text: &str, widths: 
     add_padded(&mut line, state_word(entry.standing), STATE_WIDTH);
     line.add("   ");
     if widths.place > 0 {
-        add_made_padded(&mut line, place_text(alloc, text, entry), widths.place);
+        add_made_padded(&mut line, place_text(alloc, entry), widths.place);
         line.add("  ");
     }
     line.add(words_of(entry));

@@ -23,6 +23,7 @@ mod heading;
 mod json_text;
 mod layout;
 mod line;
+mod line_count;
 mod options;
 mod piece;
 mod place_of_part;

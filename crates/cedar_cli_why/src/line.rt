@@ -6,6 +6,7 @@ use crate::json_text::json_of;
 use crate::layout::text_of;
 use crate::options::WhyOptions;
 use cedar_auth::{Ready, Response};
+use cedar_parser_places::StatementPlaces;
 use cedar_value::Request;
 use std::alloc::{AllocError, Global};
 
@@ -26,9 +27,24 @@ pub fn why_line(
     number: usize,
     options: WhyOptions,
 ) -> Result<String, AllocError> {
+    let places = StatementPlaces::of(alloc, text)?;
+    let says = line_with_places(alloc, ready, &places, line, number, options);
+    drop(places);
+    says
+}
+
+/// What [`why_line`] says of one request line, where the places of the policy text are found already.
+pub(crate) fn line_with_places(
+    alloc: Global,
+    ready: &Ready,
+    places: &StatementPlaces<'_>,
+    line: &[u8],
+    number: usize,
+    options: WhyOptions,
+) -> Result<String, AllocError> {
     match ready.read(alloc, line) {
         Ok(request) => {
-            let says = of_request(alloc, ready, text, &request, number, options);
+            let says = of_request(alloc, ready, places, &request, number, options);
             drop(request);
             says
         }
@@ -56,7 +72,7 @@ fn of_refusal(alloc: Global, line: usize, refusal: u16, json: bool) -> Result<St
 fn of_request(
     alloc: Global,
     ready: &Ready,
-    text: &str,
+    places: &StatementPlaces<'_>,
     request: &Request,
     number: usize,
     options: WhyOptions,
@@ -65,7 +81,7 @@ fn of_request(
 {
     match ready.answer(alloc, request) {
         Ok(response) => {
-            let says = of_response(alloc, ready, text, request, &response, number, options);
+            let says = of_response(alloc, ready, places, request, &response, number, options);
             drop(response);
             says
         }
@@ -77,7 +93,7 @@ fn of_request(
 fn of_response(
     alloc: Global,
     ready: &Ready,
-    text: &str,
+    places: &StatementPlaces<'_>,
     request: &Request,
     response: &Response<'_>,
     number: usize,
@@ -87,11 +103,11 @@ fn of_response(
 {
     let all = options.all;
     let decision = response.decision;
-    let entries = entries_of(alloc, ready, request, text, decision, all)?;
+    let entries = entries_of(alloc, ready, request, places, decision, all)?;
     let says = if options.json {
-        json_of(alloc, ready, request, response, &entries, text, number)
+        json_of(alloc, ready, request, response, &entries, number)
     } else {
-        text_of(alloc, ready, request, response, &entries, text, number, all)
+        text_of(alloc, ready, request, response, &entries, number, all)
     };
     drop(entries);
     says

@@ -2,7 +2,7 @@
 use crate::child::child_at;
 use crate::sign::negated_sign_of;
 use cedar_ast_expressions::{Expr, ExprKind, UnaryOperator};
-use cedar_parser_places::{PartPlace, part_place};
+use cedar_parser_places::{PartPlace, StatementPlaces};
 use std::alloc::{AllocError, Global};
 
 /// A part of a policy, and where it is written.
@@ -43,13 +43,13 @@ fn apart<'e>(part: &'e Expr, text: &str, place: Option<PartPlace>) -> Option<&'e
 /// is taken instead, if the text writes the two apart.
 pub fn place_part<'e>(
     alloc: Global,
-    text: &str,
+    places: &StatementPlaces<'_>,
     id: &str,
     part: &'e Expr,
     path: &[usize],
 ) -> Result<Placed<'e>, AllocError> {
-    let place = part_place(alloc, text, id, path)?;
-    let Some(inner) = apart(part, text, place) else {
+    let place = places.part(alloc, id, path)?;
+    let Some(inner) = apart(part, places.text(), place) else {
         return Ok(Placed {
             part,
             at: start_of(place),
@@ -57,7 +57,7 @@ pub fn place_part<'e>(
     };
     let mut longer = Vec::from_slice(alloc, path)?;
     longer.push(0)?;
-    let place = part_place(alloc, text, id, &longer)?;
+    let place = places.part(alloc, id, &longer)?;
     Ok(Placed {
         part: inner,
         at: start_of(place),

@@ -1,17 +1,18 @@
 //! Explains the decisions about request lines.
 ghost use Rattle.std.specs.Prelude.{◌-◌, ◌^◌, ◌<◌, IsErrOf};
 
-use crate::line::why_line;
+use crate::line::line_with_places;
 use crate::options::WhyOptions;
 use base_lines::{Engine, ServeFault, Sink, Source, serve};
 use cedar_auth::Ready;
+use cedar_parser_places::StatementPlaces;
 use std::alloc::{AllocError, Global};
 
 // Explains the lines of one source.
 #[derive(Drop)]
 struct Explaining<'r> {
     ready: &'r Ready,
-    text: &'r str,
+    places: &'r StatementPlaces<'r>,
     options: WhyOptions,
 }
 
@@ -34,7 +35,7 @@ impl<'r> Engine for Explaining<'r> {
         out: &mut Vec<u8>,
     ) -> Result<(), AllocError> {
         let number = buffers.lines.saturating_add(1);
-        let says = why_line(alloc, self.ready, self.text, line, number, self.options)?;
+        let says = line_with_places(alloc, self.ready, self.places, line, number, self.options)?;
         buffers.lines = number;
         // An answer ends without its line feed. After a text an empty line follows.
         let answer = if self.options.json {
@@ -47,7 +48,7 @@ impl<'r> Engine for Explaining<'r> {
     }
 }
 
-/// Explains the decision about each line of the source: what [`why_line`] says of it. As text an empty line follows each.
+/// Explains the decision about each line of the source: what [`why_line`](crate::why_line) says of it. As text an empty line follows each.
 ///
 /// # Errors
 ///
@@ -68,9 +69,10 @@ pub fn why<S: Source, K: Sink>(
     ensures read_rose { IsErrOf result ServeFault.ReadFailed → S.failed source.old < S.failed source.new }
     ensures write_rose { IsErrOf result ServeFault.WriteFailed → K.failed sink.old < K.failed sink.new }
 {
+    let places = StatementPlaces::of(alloc, text)?;
     let explaining = Explaining {
         ready,
-        text,
+        places: &places,
         options,
     };
     let mut explained = Explained { lines: 0 };

@@ -4,8 +4,8 @@ use crate::diagnostic_draft::DiagnosticDraft;
 use crate::excerpt::first_of;
 use crate::fault_part::{Checked, add_place, add_words, mark_statement};
 use crate::own_statement::{MOST_OF_ID, OwnStatement};
-use crate::statement_places::StatementPlaces;
 use cedar_check::{Fault, Report};
+use cedar_parser_places::StatementPlaces;
 use std::alloc::{AllocError, Global};
 
 /// How many faults and warnings are explained at most.

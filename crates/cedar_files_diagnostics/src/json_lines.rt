@@ -9,18 +9,33 @@ pub(crate) fn add_shown(alloc: Global, json: &mut JsonDraft, key: &str, text: &s
     json.shown(alloc, text);
 }
 
-// A mark: `{"column":C,"end_column":C,"line":L,"says":S}`, from line 1 and column 1; `end_column` is the column after the part.
+// Where a mark ends that begins at a place. A mark of nothing is one column wide.
+fn end_of(start: Place, marked: &str) -> Place {
+    let end = Place::of(marked.as_bytes(), marked.len());
+    if end.line == 0 {
+        return Place {
+            line: start.line,
+            column: start.column.saturating_add(end.column.max(1)),
+        };
+    }
+    Place {
+        line: start.line.saturating_add(end.line),
+        column: end.column,
+    }
+}
+
+// A mark: `{"column":C,"end_column":C,"end_line":L,"line":L,"says":S}`, from line 1 and column 1. `end_line` and `end_column` are the
+// place after the part; `end_line` is left out where it is the same line.
 fn add_mark(alloc: Global, json: &mut JsonDraft, text: &str, mark: &Mark) {
-    let place = Place::of(text.as_bytes(), mark.start);
-    let marked = text.get(mark.start..mark.end).unwrap_or("");
-    let column = place.column.saturating_add(1);
+    let start = Place::of(text.as_bytes(), mark.start);
+    let end = end_of(start, text.get(mark.start..mark.end).unwrap_or(""));
     json.begin_object();
-    json.number_at("column", column);
-    json.number_at(
-        "end_column",
-        column.saturating_add(marked.chars().count().max(1)),
-    );
-    json.number_at("line", place.line.saturating_add(1));
+    json.number_at("column", start.column.saturating_add(1));
+    json.number_at("end_column", end.column.saturating_add(1));
+    if end.line > start.line {
+        json.number_at("end_line", end.line.saturating_add(1));
+    }
+    json.number_at("line", start.line.saturating_add(1));
     add_shown(alloc, json, "says", mark.says.as_str());
     json.end_object();
 }

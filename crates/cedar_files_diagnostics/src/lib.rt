@@ -40,7 +40,6 @@ mod policy_words;
 mod refused;
 mod schemas;
 mod second_place;
-mod statement_places;
 mod token_words;
 mod words;
 

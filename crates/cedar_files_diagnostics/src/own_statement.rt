@@ -2,8 +2,7 @@
 use crate::diagnostic_draft::DiagnosticDraft;
 use crate::excerpt::first_of;
 use crate::fault_part::Checked;
-use crate::statement_places::StatementPlaces;
-use cedar_parser_places::PartPlace;
+use cedar_parser_places::{PartPlace, StatementPlaces};
 use std::alloc::{AllocError, Global};
 
 /// How many bytes of an id are shown at most.

@@ -1,6 +1,6 @@
 //! The place that explains a fault at another place: an open bracket, a missing `;`, a string over several lines.
 use crate::again::tokens_again;
-use crate::statement_places::StatementPlaces;
+use cedar_parser_places::StatementPlaces;
 use cedar_parser_tokens::ParseFault;
 use cedar_text::{TextFault, Token, TokenKind};
 use std::alloc::{AllocError, Global};

@@ -1,10 +1,11 @@
 //! Where in a policy text the parts of a condition are written.
 //!
 //! ```rust
-//! use cedar_parser_places::part_place;
+//! use cedar_parser_places::StatementPlaces;
 //!
 //! let text = "permit(principal, action, resource) when { principal.age > 17 };";
-//! if let Some(place) = part_place(alloc, text, "policy0", &[1, 1, 1])? {
+//! let places = StatementPlaces::of(alloc, text)?;
+//! if let Some(place) = places.part(alloc, "policy0", &[1, 1, 1])? {
 //!     assert_eq!(rt; (place.whole.start, place.whole.end), (43, 61));
 //!     assert_eq!(rt; (place.name.start, place.name.end), (57, 58));
 //! }
@@ -22,9 +23,11 @@ mod part;
 mod place;
 mod scope;
 mod statement;
+mod statement_places;
+mod statements;
 mod stretch;
 mod token_list;
 
 pub use clause::Clause;
 pub use extent::{Extent, PartPlace};
-pub use place::{part_clause, part_place};
+pub use statement_places::StatementPlaces;

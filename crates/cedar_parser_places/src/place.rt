@@ -1,12 +1,10 @@
-//! From a path to a place in the text.
-ghost use Rattle.std.specs.Prelude.{◌≤◌, IfOk, IfSome, length};
-
+//! From a path to a place in the text of a statement.
 use crate::clause::Clause;
 use crate::expression::{first_token, last_token, marked_in_expression};
 use crate::extent::PartPlace;
 use crate::led::{is_joined, led_into};
 use crate::scope::{ScopeTokens, marked_in_action_scope, marked_in_entity_scope, scope_tokens};
-use crate::statement::statement_with_id;
+use crate::statement::first_statement;
 use crate::stretch::{Marked, Stretch};
 use crate::token_list::TokenList;
 use cedar_ast::ConditionKind;
@@ -17,51 +15,29 @@ use std::alloc::{AllocError, Global};
 /// How many tokens an annotation has: `@`, a word, and a string in brackets.
 const ANNOTATION: usize = 5;
 
-/// Where the part of a policy's condition at a path is written; or none if the text has no such statement or part.
-///
-/// `id` is the id of a statement: the value of its annotation `id`, or else `policyN` for the statement at position N from 0. A
-/// policy that is linked from a template is written as the template is, so it is found by the id of the template.
-///
-/// `path` leads from the whole condition, `principal && (action && (resource && conditions))`, by the number of the child at each
-/// step: 0 for the left and 1 for the right one of `&&`, `||` and other operators on two operands; 0, 1 and 2 for the condition and
-/// the branches of `if`; 0 for the operand of an operator on one; and the position, from 0, of a member of a set or of an entry of a
-/// record. A part that is not written as such, such as the `==` that `!=` negates, has the place of what is written around it.
-///
-/// # Errors
-///
-/// Fails only when out of memory.
-pub fn part_place(
+/// Where the part at a path is written of the condition of the statement with which a text begins; or none if the text has no such
+/// statement or part.
+pub fn place_in_statement(
     alloc: Global,
     text: &str,
-    id: &str,
     path: &[usize],
-) -> Result<Option<PartPlace>, AllocError>
-    // The part is inside the text.
-    ensures inside { IfOk result (λ o. IfSome o (λ p. p.whole.end ≤ length text.now)) }
-    // Its name is inside the part.
-    ensures name_begins { IfOk result (λ o. IfSome o (λ p. p.whole.start ≤ p.name.start)) }
-    ensures name_goes_on { IfOk result (λ o. IfSome o (λ p. p.name.start ≤ p.name.end)) }
-    ensures name_ends { IfOk result (λ o. IfSome o (λ p. p.name.end ≤ p.whole.end)) }
-{
-    match place_in_text(alloc, text, id, path) {
-        Ok(place) => Ok(checked(text.len(), place)),
-        Err(fault) => Err(fault),
-    }
+) -> Result<Option<PartPlace>, AllocError> {
+    let Some(statement) = first_statement(alloc, text)? else {
+        return Ok(None);
+    };
+    let place = place_of_statement(alloc, text, &statement, path);
+    drop(statement);
+    place
 }
 
-/// Which clause of a policy's statement a path leads into; or none if the text has no such statement, or the path ends above its
-/// clauses. `id` and `path` are those of [`part_place`].
-///
-/// # Errors
-///
-/// Fails only when out of memory.
-pub fn part_clause(
+/// Which clause a path leads into of the statement with which a text begins; or none if the text has no such statement, or the path
+/// ends above its clauses.
+pub fn clause_in_statement(
     alloc: Global,
     text: &str,
-    id: &str,
     path: &[usize],
 ) -> Result<Option<Clause>, AllocError> {
-    let Some(statement) = statement_with_id(alloc, text, id)? else {
+    let Some(statement) = first_statement(alloc, text)? else {
         return Ok(None);
     };
     let conditions = statement.conditions.len();
@@ -72,41 +48,7 @@ pub fn part_clause(
     }
 }
 
-// A place in a text of this many bytes. Tokens are in order and inside their text, so it always is one.
-fn checked(size: usize, place: Option<PartPlace>) -> Option<PartPlace>
-    ensures inside { IfSome result (λ p. p.whole.end ≤ size) }
-    ensures name_begins { IfSome result (λ p. p.whole.start ≤ p.name.start) }
-    ensures name_goes_on { IfSome result (λ p. p.name.start ≤ p.name.end) }
-    ensures name_ends { IfSome result (λ p. p.name.end ≤ p.whole.end) }
-{
-    let Some(place) = place else {
-        return None;
-    };
-    if place.whole.end <= size
-        && place.whole.start <= place.name.start
-        && place.name.start <= place.name.end
-        && place.name.end <= place.whole.end
-    {
-        return Some(place);
-    }
-    None
-}
-
-fn place_in_text(
-    alloc: Global,
-    text: &str,
-    id: &str,
-    path: &[usize],
-) -> Result<Option<PartPlace>, AllocError> {
-    let Some(statement) = statement_with_id(alloc, text, id)? else {
-        return Ok(None);
-    };
-    let place = place_in_statement(alloc, text, &statement, path);
-    drop(statement);
-    place
-}
-
-fn place_in_statement(
+fn place_of_statement(
     alloc: Global,
     text: &str,
     statement: &WrittenStatement,

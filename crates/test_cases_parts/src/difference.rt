@@ -1,5 +1,6 @@
 //! What is printed of a case that differs.
 use crate::{Case, CaseFault, Outcome};
+use base_places::Draft;
 use std::alloc::{AllocError, Global};
 
 /// How a case ended.
@@ -17,15 +18,22 @@ struct Wanted {
     text: String,
     // Whether it is the whole text that the call gives, or a part of it.
     is_whole: bool,
+    // The status, if the case says one.
+    status: Option<u64>,
 }
 
 impl Wanted {
-    // What a case wants: its `stdout`, or where that is missing or null, a text in which its `contains` is.
+    // What a case wants: its `stdout`, or where that is missing or null, a text in which its `contains` is; and its `status`.
     fn of(alloc: Global, case: &Case) -> Result<Wanted, CaseFault> {
         let is_whole = case.get("stdout").is_some_and(|given| !given.is_null());
         let key = if is_whole { "stdout" } else { "contains" };
+        let status = case.number_if_given("status")?;
         let text = case.text(alloc, key)?;
-        Ok(Wanted { text, is_whole })
+        Ok(Wanted {
+            text,
+            is_whole,
+            status,
+        })
     }
 
     // Whether a text is what is wanted.
@@ -38,32 +46,42 @@ impl Wanted {
 }
 
 /// Compares what the case's call gives with what the case says.
-pub fn compared(alloc: Global, case: &Case, given: Outcome) -> Result<Ending, CaseFault> {
-    let Outcome {
-        text: found,
-        status: ended,
-    } = given;
-    let name = case.word("name")?;
+pub fn compared(alloc: Global, case: &Case, given: &Outcome) -> Result<Ending, CaseFault> {
     let wanted = Wanted::of(alloc, case)?;
-    let status = case.number_if_given("status")?;
-    if !wanted.is_met(found.as_str()) {
-        let wanted = wanted.text.as_str();
-        let difference = format!(in alloc; "{name}\n  wanted: {wanted}\n  found:  {found}")?;
-        return Ok(Ending::Differs(difference));
+    let mut said = Draft::new(alloc);
+    said.add(case.word("name")?);
+    if !wanted.is_met(given.text.as_str()) {
+        add_texts(&mut said, wanted.text.as_str(), given.text.as_str());
+        return Ok(Ending::Differs(said.done()?));
     }
-    match status {
-        Some(status) if status != u64::from(ended) => {
-            let difference = format!(in alloc;
-                "{name}\n  wanted: status {status}\n  found:  status {ended}"
-            )?;
-            Ok(Ending::Differs(difference))
+    match wanted.status {
+        Some(status) if status != u64::from(given.status) => {
+            add_statuses(&mut said, status, given.status);
+            Ok(Ending::Differs(said.done()?))
         }
         _ => Ok(Ending::Passed),
     }
 }
 
-/// The ending of a case that cannot be run.
-pub fn unread(alloc: Global, fault: &CaseFault) -> Result<Ending, AllocError> {
-    let difference = format!(in alloc; "a case cannot be run: {fault}")?;
-    Ok(Ending::Differs(difference))
+fn add_texts(said: &mut Draft, wanted: &str, found: &str) {
+    said.add("\n  wanted: ");
+    said.add(wanted);
+    said.add("\n  found:  ");
+    said.add(found);
+}
+
+fn add_statuses(said: &mut Draft, wanted: u64, found: u8) {
+    said.add("\n  wanted: status ");
+    said.add_display(wanted);
+    said.add("\n  found:  status ");
+    said.add_display(found);
+}
+
+/// The ending of a case that cannot be run: its name, or else what is known of it, and why.
+pub fn unread(alloc: Global, name: &str, fault: CaseFault) -> Result<Ending, AllocError> {
+    let mut said = Draft::new(alloc);
+    said.add(name);
+    said.add("\n  cannot be run: ");
+    fault.add_to(&mut said);
+    Ok(Ending::Differs(said.done()?))
 }

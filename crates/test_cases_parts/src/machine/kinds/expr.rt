@@ -5,40 +5,43 @@
 use crate::machine::entity_list::entities_of;
 use crate::machine::expression_code::expression_code;
 use crate::machine::request_input::request_of;
-use crate::machine::run_text::run_line;
+use crate::machine::run_text::add_run;
 use crate::machine::store_refusal::refused_store;
 use crate::{Case, CaseFault, Outcome};
-use cedar_code::Code;
+use base_places::Draft;
 use cedar_store::Store;
+use cedar_value::Request;
 use std::alloc::Global;
 
 /// What the case's call gives.
 pub fn outcome(alloc: Global, case: &Case) -> Result<Outcome, CaseFault> {
-    match Store::build(alloc, entities_of(alloc, case, "world")?) {
+    let entities = entities_of(alloc, case, "world")?;
+    match Store::build(alloc, entities) {
         Ok(store) => {
-            let line = line_over(alloc, case, &store);
+            let outcome = ran_over(alloc, case, &store);
             drop(store);
-            Ok(Outcome::text(line?))
+            outcome
         }
         Err(fault) => {
-            let line = refused_store(alloc, &fault);
+            let outcome = refused_store(alloc, &fault);
             drop(fault);
-            Ok(line?)
+            outcome
         }
     }
 }
 
-fn line_over(alloc: Global, case: &Case, store: &Store) -> Result<String, CaseFault> {
-    let expression = case.text(alloc, "expr")?;
-    let code = expression_code(alloc, expression.as_str())?;
-    let line = line_of(alloc, case, &code, store);
-    drop(code);
-    line
+fn ran_over(alloc: Global, case: &Case, store: &Store) -> Result<Outcome, CaseFault> {
+    let request = request_of(alloc, case)?;
+    let outcome = ran(alloc, case, &request, store);
+    drop(request);
+    outcome
 }
 
-fn line_of(alloc: Global, case: &Case, code: &Code, store: &Store) -> Result<String, CaseFault> {
-    let request = request_of(alloc, case)?;
-    let line = run_line(alloc, code, &request, store);
-    drop(request);
-    line
+fn ran(alloc: Global, case: &Case, request: &Request, store: &Store) -> Result<Outcome, CaseFault> {
+    let expression = case.text(alloc, "expr")?;
+    let code = expression_code(alloc, expression.as_str())?;
+    let mut text = Draft::new(alloc);
+    add_run(alloc, &mut text, &code, request, store);
+    drop(code);
+    Outcome::drafted(text)
 }

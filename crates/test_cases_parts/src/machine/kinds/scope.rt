@@ -9,6 +9,7 @@ ghost use Rattle.cedar_code.specs.Code.{code_of};
 use crate::machine::given_text::policies_of;
 use crate::machine::staff::{request_of_ann, staff};
 use crate::{Case, CaseFault, Outcome};
+use base_places::Draft;
 use cedar_ast::{Policy, PolicySet};
 use cedar_auth_candidates::{is_met, place_after_scope};
 use cedar_code::{Code, CodeFault, compile};
@@ -19,27 +20,43 @@ use std::alloc::Global;
 pub fn outcome(alloc: Global, case: &Case) -> Result<Outcome, CaseFault> {
     let text = case.text(alloc, "policy")?;
     let policies = policies_of(alloc, text.as_str())?;
-    let text = line_of(alloc, case, &policies);
+    let outcome = of_first(alloc, case, &policies);
     drop(policies);
-    Ok(Outcome::text(text?))
+    outcome
 }
 
-fn line_of(alloc: Global, case: &Case, policies: &PolicySet) -> Result<String, CaseFault> {
+fn of_first(alloc: Global, case: &Case, policies: &PolicySet) -> Result<Outcome, CaseFault> {
     let Some(policy) = policies.policy(0) else {
         return Err(CaseFault::Malformed("policy"));
     };
-    let count = match instructions_after_scope(alloc, policy) {
-        Ok(count) => count,
-        Err(fault) => return Err(CaseFault::Refused(fault.number())),
-    };
-    let store = staff(alloc)?;
-    let is_met = meets(alloc, case, policy, &store);
-    drop(store);
-    let is_met = is_met?;
-    Ok(format!(in alloc; "{is_met} {count}")?)
+    let is_met = meets(alloc, case, policy)?;
+    match instructions_after_scope(alloc, policy) {
+        Ok(count) => counted(alloc, is_met, count),
+        Err(fault) => Err(CaseFault::Refused(fault.number())),
+    }
 }
 
-fn meets(alloc: Global, case: &Case, policy: &Policy, store: &Store) -> Result<bool, CaseFault> {
+fn counted(alloc: Global, is_met: bool, count: usize) -> Result<Outcome, CaseFault> {
+    let mut text = Draft::new(alloc);
+    text.add_display(is_met);
+    text.add(" ");
+    text.add_display(count);
+    Outcome::drafted(text)
+}
+
+fn meets(alloc: Global, case: &Case, policy: &Policy) -> Result<bool, CaseFault> {
+    let store = staff(alloc)?;
+    let is_met = meets_over(alloc, case, policy, &store);
+    drop(store);
+    is_met
+}
+
+fn meets_over(
+    alloc: Global,
+    case: &Case,
+    policy: &Policy,
+    store: &Store,
+) -> Result<bool, CaseFault> {
     let request = request_of_ann(alloc, case)?;
     let is_met = is_met(policy.scope(), &request, store);
     drop(request);
@@ -59,5 +76,7 @@ fn code_of(alloc: Global, policy: &Policy) -> Result<Code, CodeFault>
     ensures { IfOk result (λ c. c.instructions ≡ code_of (condition_of policy.now)) }
 {
     let condition = policy.condition(alloc)?;
-    compile(alloc, &condition)
+    let code = compile(alloc, &condition);
+    drop(condition);
+    code
 }

@@ -67,5 +67,7 @@ fn name_of(case: &Case) -> &str {
 // The same, where the case can be run.
 fn ended(alloc: Global, case: &Case) -> Result<Ending, CaseFault> {
     let given = outcome(alloc, case)?;
-    compared(alloc, case, &given)
+    let ending = compared(alloc, case, &given);
+    drop(given);
+    ending
 }

@@ -47,19 +47,32 @@ impl Wanted {
 
 /// Compares what the case's call gives with what the case says.
 pub fn compared(alloc: Global, case: &Case, given: &Outcome) -> Result<Ending, CaseFault> {
+    let name = case.word("name")?;
     let wanted = Wanted::of(alloc, case)?;
     let mut said = Draft::new(alloc);
-    said.add(case.word("name")?);
+    said.add(name);
+    let differs = add_difference(&mut said, &wanted, given);
+    drop(wanted);
+    if differs {
+        Ok(Ending::Differs(said.done()?))
+    } else {
+        drop(said);
+        Ok(Ending::Passed)
+    }
+}
+
+// Adds where the two differ. Whether they do.
+fn add_difference(said: &mut Draft, wanted: &Wanted, given: &Outcome) -> bool {
     if !wanted.is_met(given.text.as_str()) {
-        add_texts(&mut said, wanted.text.as_str(), given.text.as_str());
-        return Ok(Ending::Differs(said.done()?));
+        add_texts(said, wanted.text.as_str(), given.text.as_str());
+        return true;
     }
     match wanted.status {
         Some(status) if status != u64::from(given.status) => {
-            add_statuses(&mut said, status, given.status);
-            Ok(Ending::Differs(said.done()?))
+            add_statuses(said, status, given.status);
+            true
         }
-        _ => Ok(Ending::Passed),
+        _ => false,
     }
 }
 

@@ -3,7 +3,7 @@ use crate::data::kinds::{
     changes, check, entities, links, read_schema, read_schema_chain, request, value,
 };
 use crate::language::kinds::{decimal, name, parse, tokens, tree, uid};
-use crate::machine::kinds::{colliding, condition, expr, policy, scope, set_run};
+use crate::machine::kinds::{colliding, condition, policy, set_run};
 use crate::{Case, CaseFault, Outcome};
 use std::alloc::Global;
 
@@ -16,7 +16,6 @@ pub fn part_outcome(alloc: Global, kind: &str, case: &Case) -> Result<Outcome, C
         "condition" => condition::outcome(alloc, case),
         "decimal" => decimal::outcome(alloc, case),
         "entities" => entities::outcome(alloc, case),
-        "expr" => expr::outcome(alloc, case),
         "links" => links::outcome(alloc, case),
         "name" => name::outcome(alloc, case),
         "parse" => parse::outcome(alloc, case),
@@ -24,7 +23,6 @@ pub fn part_outcome(alloc: Global, kind: &str, case: &Case) -> Result<Outcome, C
         "read-schema" => read_schema::outcome(alloc, case),
         "read-schema-chain" => read_schema_chain::outcome(alloc, case),
         "request" => request::outcome(alloc, case),
-        "scope" => scope::outcome(alloc, case),
         "set-run" => set_run::outcome(alloc, case),
         "tokens" => tokens::outcome(alloc, case),
         "tree" => tree::outcome(alloc, case),

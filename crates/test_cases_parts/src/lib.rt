@@ -1,8 +1,8 @@
-//! Cases of the engine's parts: a case with its inputs, and 20 kinds of calls, from tokens to runs of the machine.
+//! Cases of the engine's parts: a case with its inputs, and 18 kinds of calls, from tokens to runs of the machine.
 //!
 //! - `language`: texts of policies and what they are made of, names, uids, decimals.
 //! - `data`: schemas, and what is according to them.
-//! - `machine`: codes and their runs, scopes, and a store.
+//! - `machine`: codes and their runs, and a store.
 //!
 //! The kinds that few cases use are in `tests/unproved/rare_cases`, over what this crate has for them. Texts are written into a
 //! `Draft`, which remembers that memory was refused.
@@ -39,5 +39,5 @@ pub use outcome::Outcome;
 pub use policy_text::{permit_at, permit_when};
 pub use refusal_text::{add_refusal_line, add_refused, add_refused_at};
 pub use settings_input::settings_of;
-pub use uid_texts::{add_plain_uid, add_quoted, add_quoted_draft, add_uid};
+pub use uid_texts::{add_plain_uid, add_quoted, add_uid};
 pub use value_texts::{add_record, add_value};

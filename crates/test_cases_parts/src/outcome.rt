@@ -5,6 +5,7 @@ use std::alloc::Global;
 use std::str;
 
 /// What a call gives: a text, and the status with which a program would end.
+#[derive(Drop)]
 pub struct Outcome {
     /// The text, to the byte.
     pub text: String,

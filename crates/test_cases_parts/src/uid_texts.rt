@@ -17,15 +17,6 @@ pub fn add_plain_uid(text: &mut Draft, uid: &Uid) {
     text.add("\"");
 }
 
-/// Adds a text that was written piece by piece, as `add_quoted` does.
-pub fn add_quoted_draft(text: &mut Draft, content: Draft) {
-    add_quoted(text, content.as_str());
-    if content.is_refused() {
-        text.refuse();
-    }
-    drop(content);
-}
-
 /// Adds a text in quotes, with a `\` before each quote and each `\` in it.
 pub fn add_quoted(text: &mut Draft, content: &str) {
     text.add("\"");

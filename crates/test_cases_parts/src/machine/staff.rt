@@ -1,4 +1,4 @@
-//! The request and the entities that the kinds `condition`, `policy` and `scope` are evaluated over.
+//! The request and the entities that the kinds `condition` and `policy`, and `scope` of `tests/unproved`, are evaluated over.
 use crate::machine::request_input::request_in;
 use crate::{Case, CaseFault};
 use cedar_conform::read_entities;

@@ -83,11 +83,11 @@ def cases_of_answers():
 
 
 def text_of(case, key):
-    """The bytes of a text of a case, of hexadecimal digits where the key ends with `_hex`; None where the case does not have it."""
-    if key + '_hex' in case:
-        return bytes.fromhex(text_of(case, key + '_hex').decode())
+    """The bytes of a text of a case; None where the case does not have it."""
     if key not in case:
         return None
+    if isinstance(case[key], dict):
+        return bytes(case[key]['bytes'])
     parts = [case[key]] if isinstance(case[key], str) else case[key]
     return ''.join(it if isinstance(it, str) else it['repeat'] * it['times'] for it in parts).encode()
 

@@ -74,9 +74,10 @@ def worked():
 
 def text_of(case, name):
     """The bytes of an input of a case, or None."""
-    if name + '_hex' in case:
-        return bytes.fromhex(case[name + '_hex'])
-    return case[name].encode() if isinstance(case.get(name), str) else None
+    text = case.get(name)
+    if isinstance(text, dict):
+        return bytes(text['bytes'])
+    return text.encode() if isinstance(text, str) else None
 
 
 def diagnosed():

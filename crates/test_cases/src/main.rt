@@ -8,8 +8,6 @@
 
 mod kinds;
 mod program_files;
-mod ready_files;
-mod response_line;
 mod response_text;
 mod running;
 

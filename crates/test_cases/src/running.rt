@@ -39,15 +39,35 @@ impl Count {
 
 // How the case of a line ended.
 fn run_line(alloc: Global, line: &[u8]) -> Result<Ending, AllocError> {
-    match ended(alloc, line) {
+    match Case::read(alloc, line) {
+        Ok(case) => {
+            let ending = run_read(alloc, &case);
+            drop(case);
+            ending
+        }
+        Err(fault) => unread(alloc, "a line that is not a case", fault),
+    }
+}
+
+// How a case ended.
+fn run_read(alloc: Global, case: &Case) -> Result<Ending, AllocError> {
+    match ended(alloc, case) {
         Ok(ending) => Ok(ending),
-        Err(fault) => unread(alloc, &fault),
+        Err(fault) => unread(alloc, name_of(case), fault),
+    }
+}
+
+fn name_of(case: &Case) -> &str {
+    match case.word("name") {
+        Ok(name) => name,
+        Err(_) => "a case without a name",
     }
 }
 
 // The same, where the case can be run.
-fn ended(alloc: Global, line: &[u8]) -> Result<Ending, CaseFault> {
-    let case = Case::read(alloc, line)?;
-    let given = outcome(alloc, &case)?;
-    compared(alloc, &case, given)
+fn ended(alloc: Global, case: &Case) -> Result<Ending, CaseFault> {
+    let given = outcome(alloc, case)?;
+    let ending = compared(alloc, case, &given);
+    drop(given);
+    ending
 }

@@ -1,8 +1,10 @@
 //! A case.
 use crate::case_fault::CaseFault;
+use crate::json_parts::{list_at, number_at, text_at};
 use base_json::read_json;
+use base_places::Draft;
 use serde_json::Value;
-use std::alloc::{AllocError, Global};
+use std::alloc::Global;
 
 /// A case: a JSON object.
 #[derive(Drop)]
@@ -26,7 +28,7 @@ impl Case {
 
     /// A word: a JSON text as it is.
     pub fn word(&self, key: &'static str) -> Result<&str, CaseFault> {
-        match self.json.get(key).and_then(|value| value.as_str()) {
+        match text_at(&self.json, key) {
             Some(word) => Ok(word),
             None => Err(CaseFault::Malformed(key)),
         }
@@ -54,7 +56,7 @@ impl Case {
 
     /// The list at a key.
     pub fn list(&self, key: &'static str) -> Result<&[Value], CaseFault> {
-        match self.json.get(key).and_then(|value| value.as_array()) {
+        match list_at(&self.json, key) {
             Some(list) => Ok(list),
             None => Err(CaseFault::Malformed(key)),
         }
@@ -62,7 +64,7 @@ impl Case {
 
     /// The number at a key.
     pub fn number(&self, key: &'static str) -> Result<u64, CaseFault> {
-        match self.json.get(key).and_then(|value| value.as_u64()) {
+        match number_at(&self.json, key) {
             Some(number) => Ok(number),
             None => Err(CaseFault::Malformed(key)),
         }
@@ -71,10 +73,7 @@ impl Case {
     /// The number at a key; none where the key is missing.
     pub fn number_if_given(&self, key: &'static str) -> Result<Option<u64>, CaseFault> {
         match self.json.get(key) {
-            Some(value) => match value.as_u64() {
-                Some(number) => Ok(Some(number)),
-                None => Err(CaseFault::Malformed(key)),
-            },
+            Some(_) => Ok(Some(self.number(key)?)),
             None => Ok(None),
         }
     }
@@ -82,35 +81,50 @@ impl Case {
 
 // The text of a value: its own, or its parts', one after another.
 fn joined(alloc: Global, key: &'static str, value: &Value) -> Result<String, CaseFault> {
-    if let Some(text) = value.as_str() {
-        return Ok(String::from_str(alloc, text)?);
-    }
-    let Some(parts) = value.as_array() else {
-        return Err(CaseFault::Malformed(key));
+    let mut text = Draft::new(alloc);
+    let is_text = match value.as_array() {
+        Some(parts) => add_parts(&mut text, parts),
+        None => add_own(&mut text, value),
     };
-    let mut whole = String::new(alloc);
+    if !is_text {
+        return Err(CaseFault::Malformed(key));
+    }
+    Ok(text.done()?)
+}
+
+// Adds the parts of a text. Whether each of them is one.
+fn add_parts(text: &mut Draft, parts: &[Value]) -> bool {
+    let mut are_parts = true;
     for part in parts {
-        push_part(&mut whole, key, part)?;
+        are_parts = (add_own(text, part) || add_repeated(text, part)) && are_parts;
     }
-    Ok(whole)
+    are_parts
 }
 
-// Adds a part of a text, as often as it says.
-fn push_part(whole: &mut String, key: &'static str, part: &Value) -> Result<(), CaseFault> {
-    if let Some(text) = part.as_str() {
-        return Ok(whole.push_str(text)?);
-    }
-    let text = part.get("repeat").and_then(|value| value.as_str());
-    let times = part.get("times").and_then(|value| value.as_u64());
-    match (text, times) {
-        (Some(text), Some(times)) => Ok(push_times(whole, text, times)?),
-        _ => Err(CaseFault::Malformed(key)),
+// Adds a JSON text. Whether the value is one.
+fn add_own(text: &mut Draft, value: &Value) -> bool {
+    match value.as_str() {
+        Some(own) => {
+            text.add(own);
+            true
+        }
+        None => false,
     }
 }
 
-fn push_times(whole: &mut String, text: &str, times: u64) -> Result<(), AllocError> {
+// Adds a text as often as a part says. Whether it says so.
+fn add_repeated(text: &mut Draft, part: &Value) -> bool {
+    match (text_at(part, "repeat"), number_at(part, "times")) {
+        (Some(repeated), Some(times)) => {
+            add_times(text, repeated, times);
+            true
+        }
+        _ => false,
+    }
+}
+
+fn add_times(text: &mut Draft, repeated: &str, times: u64) {
     for _ in 0..times {
-        whole.push_str(text)?;
+        text.add(repeated);
     }
-    Ok(())
 }

@@ -1,12 +1,6 @@
-//! Kinds of cases for policy texts, values, decimals, patterns and sets of policies.
+//! Kinds of cases for policy texts, and for what they are made of: tokens, names, uids and decimals.
 //!
 //! A module of `kinds` says what each kind takes and gives.
-pub mod condition;
-pub mod head_text;
-mod kinds;
-pub mod policy_lines;
-mod statements_by_hand;
+pub mod condition_alone;
+pub mod kinds;
 pub mod tree_text;
-pub mod value_json;
-
-pub use kinds::outcome;

@@ -1,28 +1,31 @@
 //! Refusals as texts.
-use std::alloc::{AllocError, Global};
+use base_places::Draft;
 
-/// `refused NUMBER`.
-pub fn refused(alloc: Global, number: u16) -> Result<String, AllocError> {
-    format!(in alloc; "refused {number}")
+/// Adds `refused NUMBER`.
+pub fn add_refused(text: &mut Draft, number: u16) {
+    text.add("refused ");
+    text.add_display(number);
 }
 
-/// `refused NUMBER at OFFSET`, or `refused NUMBER` where it has no place.
-pub fn refused_at(alloc: Global, number: u16, offset: Option<usize>) -> Result<String, AllocError> {
-    match offset {
-        Some(offset) => format!(in alloc; "refused {number} at {offset}"),
-        None => refused(alloc, number),
+/// Adds `refused NUMBER at OFFSET`, or `refused NUMBER` where it has no place.
+pub fn add_refused_at(text: &mut Draft, number: u16, offset: Option<usize>) {
+    add_refused(text, number);
+    if let Some(offset) = offset {
+        text.add(" at ");
+        text.add_display(offset);
     }
 }
 
-/// The line of a refusal, as the program writes it but without the file: `{"offset":OFFSET,"refused":NUMBER}`, or
+/// Adds the line of a refusal, as the program writes it but without the file: `{"offset":OFFSET,"refused":NUMBER}`, or
 /// `{"refused":NUMBER}` where it has no place.
-pub fn refusal_line(
-    alloc: Global,
-    number: u16,
-    offset: Option<usize>,
-) -> Result<String, AllocError> {
-    match offset {
-        Some(offset) => format!(in alloc; "{{\"offset\":{offset},\"refused\":{number}}}\n"),
-        None => format!(in alloc; "{{\"refused\":{number}}}\n"),
+pub fn add_refusal_line(text: &mut Draft, number: u16, offset: Option<usize>) {
+    text.add("{");
+    if let Some(offset) = offset {
+        text.add("\"offset\":");
+        text.add_display(offset);
+        text.add(",");
     }
+    text.add("\"refused\":");
+    text.add_display(number);
+    text.add("}\n");
 }

@@ -1,30 +1,30 @@
 //! Uids as texts.
+use base_places::Draft;
 use cedar_value::Uid;
-use std::alloc::{AllocError, Global};
 
-/// The uid as `Type::"id"`, with a `\` before each quote and each `\` of its id.
-pub fn uid_text(alloc: Global, uid: &Uid) -> Result<String, AllocError> {
-    let id = quoted(alloc, uid.id.as_str())?;
-    let ty = uid.ty.as_str();
-    format!(in alloc; "{ty}::{id}")
+/// Adds a uid as `Type::"id"`, with a `\` before each quote and each `\` of its id.
+pub fn add_uid(text: &mut Draft, uid: &Uid) {
+    text.add(uid.ty.as_str());
+    text.add("::");
+    add_quoted(text, uid.id.as_str());
 }
 
-/// The uid as `Type::"id"`, with its id as it is.
-pub fn plain_uid_text(alloc: Global, uid: &Uid) -> Result<String, AllocError> {
-    let ty = uid.ty.as_str();
-    let id = uid.id.as_str();
-    format!(in alloc; "{ty}::\"{id}\"")
+/// Adds a uid as `Type::"id"`, with its id as it is.
+pub fn add_plain_uid(text: &mut Draft, uid: &Uid) {
+    text.add(uid.ty.as_str());
+    text.add("::\"");
+    text.add(uid.id.as_str());
+    text.add("\"");
 }
 
-/// The text in quotes, with a `\` before each quote and each `\` in it.
-pub fn quoted(alloc: Global, content: &str) -> Result<String, AllocError> {
-    let mut whole = String::from_str(alloc, "\"")?;
+/// Adds a text in quotes, with a `\` before each quote and each `\` in it.
+pub fn add_quoted(text: &mut Draft, content: &str) {
+    text.add("\"");
     for letter in content.chars() {
         if letter == '"' || letter == '\\' {
-            whole.push('\\')?;
+            text.add("\\");
         }
-        whole.push(letter)?;
+        text.add_char(letter);
     }
-    whole.push('"')?;
-    Ok(whole)
+    text.add("\"");
 }

@@ -1,92 +1,72 @@
 //! Values as texts: a record as `{key: value}`, a set as `[members]`, both ascending; a decimal as its
 //! ten-thousandths and `d`. What is in a string or an id is written as it is.
-use crate::uid_texts::plain_uid_text;
-use cedar_value::{Record, SharedText, Text, Value, ValueKind};
-use std::alloc::{AllocError, Global};
+use crate::separator::add_separator;
+use crate::uid_texts::add_plain_uid;
+use base_places::Draft;
+use cedar_value::{Record, SharedText, Value, ValueKind};
 
 // No value of a case nests deeper.
 const DEPTH: u32 = 8;
 
-/// The value as a text.
-pub fn value_text(alloc: Global, value: &Value) -> Result<String, AllocError> {
-    let mut text = String::new(alloc);
-    push_value(alloc, &mut text, value, DEPTH)?;
-    Ok(text)
+/// Adds a value.
+pub fn add_value(text: &mut Draft, value: &Value) {
+    push_value(text, value, DEPTH);
 }
 
-/// The record as a text.
-pub fn record_text(alloc: Global, record: &Record) -> Result<String, AllocError> {
-    let mut text = String::new(alloc);
-    push_pairs(alloc, &mut text, record.pairs(), DEPTH)?;
-    Ok(text)
+/// Adds a record.
+pub fn add_record(text: &mut Draft, record: &Record) {
+    push_pairs(text, record.pairs(), DEPTH);
 }
 
 #[cycle(push)]
-fn push_value(
-    alloc: Global,
-    text: &mut String,
-    value: &Value,
-    depth: u32,
-) -> Result<(), AllocError> {
+fn push_value(text: &mut Draft, value: &Value, depth: u32) {
     if depth == 0 {
-        return text.push_str("too deep");
+        return text.add("too deep");
     }
     match value.kind() {
-        ValueKind::Boolean(true) => text.push_str("true"),
-        ValueKind::Boolean(false) => text.push_str("false"),
-        ValueKind::Long(number) => text.push_str(format!(in alloc; "{number}")?.as_str()),
-        ValueKind::String(content) => push_quoted(alloc, text, content),
-        ValueKind::Uid(uid) => text.push_str(plain_uid_text(alloc, uid)?.as_str()),
-        ValueKind::Set(set) => push_members(alloc, text, set.members(), depth - 1),
-        ValueKind::Record(record) => push_pairs(alloc, text, record.pairs(), depth - 1),
+        ValueKind::Boolean(truth) => text.add_display(*truth),
+        ValueKind::Long(number) => text.add_display(*number),
+        ValueKind::String(content) => {
+            text.add("\"");
+            text.add(content.as_str());
+            text.add("\"");
+        }
+        ValueKind::Uid(uid) => add_plain_uid(text, uid),
+        ValueKind::Set(set) => push_members(text, set.members(), depth - 1),
+        ValueKind::Record(record) => push_pairs(text, record.pairs(), depth - 1),
         ValueKind::Decimal(decimal) => {
-            let units = decimal.units();
-            text.push_str(format!(in alloc; "{units}d")?.as_str())
+            text.add_display(decimal.units());
+            text.add("d");
         }
     }
 }
 
-fn push_quoted(alloc: Global, text: &mut String, content: &Text) -> Result<(), AllocError> {
-    let letters = content.as_str();
-    text.push_str(format!(in alloc; "\"{letters}\"")?.as_str())
-}
-
 #[cycle(push)]
-fn push_members(
-    alloc: Global,
-    text: &mut String,
-    members: &[Value],
-    depth: u32,
-) -> Result<(), AllocError> {
-    text.push_str("[")?;
-    let mut first = true;
+fn push_members(text: &mut Draft, members: &[Value], depth: u32) {
+    text.add("[");
+    let mut is_first = true;
     for member in members {
-        if !first {
-            text.push_str(", ")?;
-        }
-        first = false;
-        push_value(alloc, text, member, depth)?;
+        add_separator(text, is_first);
+        is_first = false;
+        push_value(text, member, depth);
     }
-    text.push_str("]")
+    text.add("]");
 }
 
 #[cycle(push)]
-fn push_pairs(
-    alloc: Global,
-    text: &mut String,
-    pairs: &[(SharedText, Value)],
-    depth: u32,
-) -> Result<(), AllocError> {
-    text.push_str("{")?;
-    let mut first = true;
+fn push_pairs(text: &mut Draft, pairs: &[(SharedText, Value)], depth: u32) {
+    text.add("{");
+    let mut is_first = true;
     for pair in pairs {
-        if !first {
-            text.push_str(", ")?;
-        }
-        first = false;
-        text.push_str(pair.0.as_str())?;
-        text.push_str(": ")?;
-        push_value(alloc, text, &pair.1, depth)?;
+        add_separator(text, is_first);
+        is_first = false;
+        add_key(text, pair.0.as_str());
+        push_value(text, &pair.1, depth);
     }
-    text.push_str("}")
+    text.add("}");
+}
+
+fn add_key(text: &mut Draft, key: &str) {
+    text.add(key);
+    text.add(": ");
 }

@@ -4,77 +4,97 @@
 //!
 //! Takes `schema`, `policies`, `entities`, the parts of the request, of which each may be missing, and the words `args` as
 //! `authorize` does. Without `entities` it is computed from all policies, over no entities.
-use crate::program_files::settings_of;
-use crate::ready_files::{ready_of, validated_with};
-use crate::response_text::lent_text;
+use crate::program_files::ProgramFiles;
+use crate::response_text::add_response;
+use base_places::Draft;
 use cedar_auth::{Ready, Validated};
+use cedar_files::{Unprepared, read_all};
 use cedar_store::Hierarchy;
 use cedar_value::{NoEntities, Request};
-use std::alloc::{AllocError, Global};
-use test_cases_parts::{Case, CaseFault, Outcome, request_of};
+use std::alloc::Global;
+use test_cases_parts::{Case, CaseFault, Outcome, request_of, settings_of};
 
 /// What the case's call gives.
 pub fn outcome(alloc: Global, case: &Case) -> Result<Outcome, CaseFault> {
-    let answer = if case.get("entities").is_some() {
-        over_entities(alloc, case)
-    } else {
-        over_none(alloc, case)
-    };
-    Ok(Outcome::text(answer?))
+    let settings = settings_of(case)?;
+    let given = ProgramFiles::of(alloc, case)?;
+    let mut files = given.lent();
+    if files.entities.is_none() {
+        files.entities = Some(b"[]".as_slice());
+    }
+    let prepared = read_all(alloc, &files, settings);
+    drop(given);
+    match prepared {
+        Ok(ready) => {
+            let outcome = answered(alloc, case, &ready);
+            drop(ready);
+            outcome
+        }
+        Err(unprepared) => {
+            let fault = fault_of(&unprepared);
+            drop(unprepared);
+            Err(fault)
+        }
+    }
 }
 
-fn over_entities(alloc: Global, case: &Case) -> Result<String, CaseFault> {
-    let ready = ready_of(alloc, case)?;
-    let answer = of_ready(alloc, case, &ready);
-    drop(ready);
-    answer
+fn fault_of(unprepared: &Unprepared) -> CaseFault {
+    match unprepared {
+        Unprepared::Refused(_, refusal) => CaseFault::Refused(refusal.number),
+        Unprepared::Faults(_) => CaseFault::Malformed("policies without faults"),
+        Unprepared::Unnamed => CaseFault::Malformed("schema and policies"),
+        Unprepared::Device | Unprepared::Memory => CaseFault::Memory,
+    }
 }
 
-fn of_ready(alloc: Global, case: &Case, ready: &Ready) -> Result<String, CaseFault> {
+fn answered(alloc: Global, case: &Case, ready: &Ready) -> Result<Outcome, CaseFault> {
     let request = request_of(alloc, case)?;
-    let answer = both_answers(alloc, ready, &request);
+    let mut text = Draft::new(alloc);
+    if case.get("entities").is_some() {
+        add_both(alloc, &mut text, ready, &request);
+    } else {
+        add_by_all(alloc, &mut text, ready.validated(), &request, &NoEntities);
+    }
     drop(request);
-    Ok(answer?)
+    Outcome::drafted(text)
 }
 
-fn both_answers(alloc: Global, ready: &Ready, request: &Request) -> Result<String, AllocError> {
+// Adds the answer from the candidates, and that from all policies where it is another.
+fn add_both(alloc: Global, text: &mut Draft, ready: &Ready, request: &Request) {
     if !ready.fits(request) {
-        return String::from_str(alloc, "does not fit");
+        return text.add("does not fit");
     }
-    let response = ready.answer(alloc, request)?;
-    let answer = lent_text(alloc, &response);
-    drop(response);
-    let answer = answer?;
-    let all = by_all(alloc, ready.validated(), request, ready.store())?;
-    if answer == all {
-        return Ok(answer);
+    match ready.answer(alloc, request) {
+        Ok(response) => {
+            add_response(text, &response);
+            drop(response);
+        }
+        Err(_) => text.refuse(),
     }
-    format!(in alloc; "{answer}, but all policies: {all}")
+    let mut all = Draft::new(alloc);
+    add_by_all(alloc, &mut all, ready.validated(), request, ready.store());
+    if all.is_refused() {
+        text.refuse();
+    }
+    if text.as_str() != all.as_str() {
+        text.add(", but all policies: ");
+        text.add(all.as_str());
+    }
+    drop(all);
 }
 
-fn by_all<H: Hierarchy>(
+fn add_by_all<H: Hierarchy>(
     alloc: Global,
+    text: &mut Draft,
     validated: &Validated,
     request: &Request,
     world: &H,
-) -> Result<String, AllocError> {
-    let response = validated.answer(alloc, request, world)?;
-    let answer = lent_text(alloc, &response);
-    drop(response);
-    answer
-}
-
-fn over_none(alloc: Global, case: &Case) -> Result<String, CaseFault> {
-    let policies = case.text(alloc, "policies")?;
-    let validated = validated_with(alloc, case, policies.as_str(), settings_of(case)?)?;
-    let answer = of_validated(alloc, case, &validated);
-    drop(validated);
-    answer
-}
-
-fn of_validated(alloc: Global, case: &Case, validated: &Validated) -> Result<String, CaseFault> {
-    let request = request_of(alloc, case)?;
-    let answer = by_all(alloc, validated, &request, &NoEntities);
-    drop(request);
-    Ok(answer?)
+) {
+    match validated.answer(alloc, request, world) {
+        Ok(response) => {
+            add_response(text, &response);
+            drop(response);
+        }
+        Err(_) => text.refuse(),
+    }
 }

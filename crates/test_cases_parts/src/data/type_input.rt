@@ -13,26 +13,23 @@ const DEPTH: u32 = 8;
 
 /// The type at a key.
 pub fn type_at(alloc: Global, case: &Case, key: &'static str) -> Result<Type, CaseFault> {
-    let Some(json) = case.get(key) else {
-        return Err(CaseFault::Malformed(key));
-    };
-    match type_of(alloc, json, DEPTH)? {
-        Some(ty) => Ok(ty),
+    match case.get(key) {
+        Some(json) => type_of(alloc, json, DEPTH),
         None => Err(CaseFault::Malformed(key)),
     }
 }
 
 // The type that a JSON says, if it says one that nests at most so deep.
 #[cycle(reading)]
-fn type_of(alloc: Global, json: &Value, depth: u32) -> Result<Option<Type>, AllocError> {
+fn type_of(alloc: Global, json: &Value, depth: u32) -> Result<Type, CaseFault> {
     if depth == 0 {
-        return Ok(None);
+        return Err(CaseFault::Malformed("a type"));
     }
     match json {
-        Value::String(word) => Ok(Some(named_type(alloc, word.as_str())?)),
+        Value::String(word) => Ok(named_type(alloc, word.as_str())?),
         Value::Array(members) => set_type(alloc, members, depth - 1),
         Value::Object(members) => record_type(alloc, members, depth - 1),
-        _ => Ok(None),
+        _ => Err(CaseFault::Malformed("a type")),
     }
 }
 
@@ -50,30 +47,21 @@ fn named_type(alloc: Global, word: &str) -> Result<Type, AllocError> {
 }
 
 #[cycle(reading)]
-fn set_type(alloc: Global, members: &[Value], depth: u32) -> Result<Option<Type>, AllocError> {
+fn set_type(alloc: Global, members: &[Value], depth: u32) -> Result<Type, CaseFault> {
     let Some(member) = members.first() else {
-        return Ok(None);
+        return Err(CaseFault::Malformed("a type"));
     };
-    match type_of(alloc, member, depth)? {
-        Some(member) => Ok(Some(Type::new(TypeKind::Set(Box::new(alloc, member)?)))),
-        None => Ok(None),
-    }
+    let member = type_of(alloc, member, depth)?;
+    Ok(Type::new(TypeKind::Set(Box::new(alloc, member)?)))
 }
 
 #[cycle(reading)]
-fn record_type(
-    alloc: Global,
-    members: &Map<String, Value>,
-    depth: u32,
-) -> Result<Option<Type>, AllocError> {
+fn record_type(alloc: Global, members: &Map<String, Value>, depth: u32) -> Result<Type, CaseFault> {
     let mut record = RecordType::new(alloc);
     for (key, json) in members.iter() {
-        match attribute_of(alloc, key.as_str(), json, depth)? {
-            Some(attribute) => record.insert(attribute)?,
-            None => return Ok(None),
-        }
+        record.insert(attribute_of(alloc, key.as_str(), json, depth)?)?;
     }
-    Ok(Some(Type::new(TypeKind::Record(record))))
+    Ok(Type::new(TypeKind::Record(record)))
 }
 
 #[cycle(reading)]
@@ -82,14 +70,12 @@ fn attribute_of(
     key: &str,
     json: &Value,
     depth: u32,
-) -> Result<Option<Attribute>, AllocError> {
+) -> Result<Attribute, CaseFault> {
     let (name, required) = match key.strip_suffix('?') {
         Some(name) => (name, false),
         None => (key, true),
     };
     let name = SharedText::read(alloc, name)?;
-    match type_of(alloc, json, depth)? {
-        Some(ty) => Ok(Some(Attribute { name, ty, required })),
-        None => Ok(None),
-    }
+    let ty = type_of(alloc, json, depth)?;
+    Ok(Attribute { name, ty, required })
 }

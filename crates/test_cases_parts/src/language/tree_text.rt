@@ -1,84 +1,98 @@
 //! An expression as a text in which every operator has its brackets, so that no two trees of policy texts are written
 //! alike.
-use crate::{add_after, quoted, uid_text};
+use crate::separator::add_separator;
+use crate::{add_quoted, add_uid};
+use base_places::Draft;
 use cedar_ast_expressions::{BinaryOperator, Expr, ExprKind, UnaryOperator, Variable};
 use cedar_ext::{Element, Pattern};
 use cedar_value::{SharedText, Value, ValueKind};
-use std::alloc::{AllocError, Global};
 
-/// The expression in brackets, with the sign or the name of each operator.
+/// Adds the expression in brackets, with the sign or the name of each operator.
 #[cycle(writing)]
-pub fn tree_text(alloc: Global, expression: &Expr) -> Result<String, AllocError> {
+pub fn add_tree(text: &mut Draft, expression: &Expr) {
     match expression.kind() {
-        ExprKind::Literal(value) => literal_text(alloc, value),
-        ExprKind::Variable(name) => String::from_str(alloc, variable_name(*name)),
+        ExprKind::Literal(value) => add_literal(text, value),
+        ExprKind::Variable(name) => text.add(variable_name(*name)),
         ExprKind::And(left, right) => {
-            let left = tree_text(alloc, left)?;
-            let right = tree_text(alloc, right)?;
-            format!(in alloc; "({left} && {right})")
+            text.add("(");
+            add_tree(text, left);
+            text.add(" && ");
+            add_tree(text, right);
+            text.add(")");
         }
         ExprKind::Or(left, right) => {
-            let left = tree_text(alloc, left)?;
-            let right = tree_text(alloc, right)?;
-            format!(in alloc; "({left} || {right})")
+            text.add("(");
+            add_tree(text, left);
+            text.add(" || ");
+            add_tree(text, right);
+            text.add(")");
         }
         ExprKind::If(condition, if_true, if_false) => {
-            let condition = tree_text(alloc, condition)?;
-            let if_true = tree_text(alloc, if_true)?;
-            let if_false = tree_text(alloc, if_false)?;
-            format!(in alloc; "(if {condition} then {if_true} else {if_false})")
+            text.add("(if ");
+            add_tree(text, condition);
+            text.add(" then ");
+            add_tree(text, if_true);
+            text.add(" else ");
+            add_tree(text, if_false);
+            text.add(")");
         }
         ExprKind::Unary(operator, operand) => {
-            let operand = tree_text(alloc, operand)?;
-            unary_text(alloc, operator, operand.as_str())
+            text.add(before_operand(operator));
+            add_tree(text, operand);
+            add_after_operand(text, operator);
         }
         ExprKind::Binary(operator, left, right) => {
-            let left = tree_text(alloc, left)?;
-            let right = tree_text(alloc, right)?;
-            binary_text(alloc, *operator, left.as_str(), right.as_str())
+            text.add("(");
+            add_tree(text, left);
+            text.add(binary_sign(*operator));
+            add_tree(text, right);
+            text.add(")");
         }
-        ExprKind::Set(members) => members_text(alloc, members),
-        ExprKind::Record(entries) => entries_text(alloc, entries.pairs()),
+        ExprKind::Set(members) => add_members(text, members),
+        ExprKind::Record(entries) => add_entries(text, entries.pairs()),
     }
 }
 
 // The members of a set, in the order in which they are written.
 #[cycle(writing)]
-fn members_text(alloc: Global, members: &[Expr]) -> Result<String, AllocError> {
-    let mut whole = String::new(alloc);
+fn add_members(text: &mut Draft, members: &[Expr]) {
+    text.add("[");
+    let mut is_first = true;
     for member in members {
-        let member = tree_text(alloc, member)?;
-        add_after(&mut whole, ", ", member.as_str())?;
+        add_separator(text, is_first);
+        is_first = false;
+        add_tree(text, member);
     }
-    format!(in alloc; "[{whole}]")
+    text.add("]");
 }
 
 // The entries of a record, in the order in which they are written.
 #[cycle(writing)]
-fn entries_text(alloc: Global, entries: &[(SharedText, Expr)]) -> Result<String, AllocError> {
-    let mut whole = String::new(alloc);
+fn add_entries(text: &mut Draft, entries: &[(SharedText, Expr)]) {
+    text.add("{");
+    let mut is_first = true;
     for entry in entries {
-        let value = tree_text(alloc, &entry.1)?;
-        let entry = entry_text(alloc, entry.0.as_str(), value.as_str())?;
-        add_after(&mut whole, ", ", entry.as_str())?;
+        add_separator(text, is_first);
+        is_first = false;
+        add_key(text, entry.0.as_str());
+        add_tree(text, &entry.1);
     }
-    format!(in alloc; "{{{whole}}}")
+    text.add("}");
 }
 
-fn entry_text(alloc: Global, key: &str, value: &str) -> Result<String, AllocError> {
-    let key = quoted(alloc, key)?;
-    format!(in alloc; "{key}: {value}")
+fn add_key(text: &mut Draft, key: &str) {
+    add_quoted(text, key);
+    text.add(": ");
 }
 
 // A text of a policy holds literals of these four kinds alone.
-fn literal_text(alloc: Global, value: &Value) -> Result<String, AllocError> {
+fn add_literal(text: &mut Draft, value: &Value) {
     match value.kind() {
-        ValueKind::Boolean(true) => String::from_str(alloc, "true"),
-        ValueKind::Boolean(false) => String::from_str(alloc, "false"),
-        ValueKind::Long(number) => format!(in alloc; "{number}"),
-        ValueKind::String(text) => quoted(alloc, text.as_str()),
-        ValueKind::Uid(uid) => uid_text(alloc, uid),
-        _ => String::from_str(alloc, "no literal"),
+        ValueKind::Boolean(truth) => text.add_display(*truth),
+        ValueKind::Long(number) => text.add_display(*number),
+        ValueKind::String(content) => add_quoted(text, content.as_str()),
+        ValueKind::Uid(uid) => add_uid(text, uid),
+        _ => text.add("no literal"),
     }
 }
 
@@ -92,80 +106,80 @@ fn variable_name(name: Variable) -> &'static str {
 }
 
 // A minus sign of an operator has a space after it, that of a number has none.
-fn unary_text(
-    alloc: Global,
-    operator: &UnaryOperator,
-    operand: &str,
-) -> Result<String, AllocError> {
+fn before_operand(operator: &UnaryOperator) -> &'static str {
     match operator {
-        UnaryOperator::Not => format!(in alloc; "(!{operand})"),
-        UnaryOperator::Negate => format!(in alloc; "(- {operand})"),
+        UnaryOperator::Not => "(!",
+        UnaryOperator::Negate => "(- ",
+        UnaryOperator::Get(_) => "",
+        UnaryOperator::Decimal => "decimal(",
+        UnaryOperator::Has(_)
+        | UnaryOperator::Like(_)
+        | UnaryOperator::Is(_)
+        | UnaryOperator::IsEmpty => "(",
+    }
+}
+
+fn add_after_operand(text: &mut Draft, operator: &UnaryOperator) {
+    match operator {
+        UnaryOperator::Not | UnaryOperator::Negate | UnaryOperator::Decimal => {}
         UnaryOperator::Has(key) => {
-            let key = quoted(alloc, key.as_str())?;
-            format!(in alloc; "({operand} has {key})")
+            text.add(" has ");
+            add_quoted(text, key.as_str());
         }
         UnaryOperator::Get(key) => {
-            let key = quoted(alloc, key.as_str())?;
-            format!(in alloc; "{operand}[{key}]")
+            text.add("[");
+            add_quoted(text, key.as_str());
         }
         UnaryOperator::Like(pattern) => {
-            let pattern = pattern_text(alloc, pattern)?;
-            format!(in alloc; "({operand} like <{pattern}>)")
+            text.add(" like <");
+            add_pattern(text, pattern);
+            text.add(">");
         }
         UnaryOperator::Is(ty) => {
-            let ty = ty.as_str();
-            format!(in alloc; "({operand} is {ty})")
+            text.add(" is ");
+            text.add(ty.as_str());
         }
-        UnaryOperator::Decimal => format!(in alloc; "decimal({operand})"),
-        UnaryOperator::IsEmpty => format!(in alloc; "({operand} isEmpty)"),
+        UnaryOperator::IsEmpty => text.add(" isEmpty"),
+    }
+    text.add(closing(operator));
+}
+
+fn closing(operator: &UnaryOperator) -> &'static str {
+    match operator {
+        UnaryOperator::Get(_) => "]",
+        _ => ")",
     }
 }
 
 // A star as it is, each character between single quotes.
-fn pattern_text(alloc: Global, pattern: &Pattern) -> Result<String, AllocError> {
-    let mut whole = String::new(alloc);
+fn add_pattern(text: &mut Draft, pattern: &Pattern) {
     for element in pattern.elements() {
-        add_element(&mut whole, *element)?;
-    }
-    Ok(whole)
-}
-
-fn add_element(whole: &mut String, element: Element) -> Result<(), AllocError> {
-    match element {
-        Element::Star => whole.push('*'),
-        Element::Character(letter) => {
-            whole.push('\'')?;
-            whole.push(letter)?;
-            whole.push('\'')
+        match *element {
+            Element::Star => text.add("*"),
+            Element::Character(letter) => {
+                text.add("'");
+                text.add_char(letter);
+                text.add("'");
+            }
         }
     }
 }
 
-fn binary_text(
-    alloc: Global,
-    operator: BinaryOperator,
-    left: &str,
-    right: &str,
-) -> Result<String, AllocError> {
-    let sign = binary_sign(operator);
-    format!(in alloc; "({left} {sign} {right})")
-}
-
 fn binary_sign(operator: BinaryOperator) -> &'static str {
     match operator {
-        BinaryOperator::Equal => "==",
-        BinaryOperator::Less => "<",
-        BinaryOperator::LessEqual => "<=",
-        BinaryOperator::Add => "+",
-        BinaryOperator::Subtract => "-",
-        BinaryOperator::Multiply => "*",
-        BinaryOperator::In => "in",
-        BinaryOperator::Contains => "contains",
-        BinaryOperator::ContainsAll => "containsAll",
-        BinaryOperator::ContainsAny => "containsAny",
-        BinaryOperator::DecimalLess => "lessThan",
-        BinaryOperator::DecimalLessEqual => "lessThanOrEqual",
-        BinaryOperator::DecimalGreater => "greaterThan",
-        BinaryOperator::DecimalGreaterEqual => "greaterThanOrEqual",
+        BinaryOperator::Equal => " == ",
+        BinaryOperator::Less => " < ",
+        BinaryOperator::LessEqual => " <= ",
+        BinaryOperator::Add => " + ",
+        BinaryOperator::Subtract => " - ",
+        BinaryOperator::Multiply => " * ",
+        BinaryOperator::In => " in ",
+        BinaryOperator::Contains => " contains ",
+        BinaryOperator::ContainsAll => " containsAll ",
+        BinaryOperator::ContainsAny => " containsAny ",
+        BinaryOperator::DecimalLess => " lessThan ",
+        BinaryOperator::DecimalLessEqual => " lessThanOrEqual ",
+        BinaryOperator::DecimalGreater => " greaterThan ",
+        BinaryOperator::DecimalGreaterEqual => " greaterThanOrEqual ",
     }
 }

@@ -5,13 +5,6 @@ use crate::{Case, CaseFault};
 use cedar_value::{Record, Request, Uid, ValueKind};
 use std::alloc::Global;
 
-// Who asks for what of which, where a case does not say it.
-const PRINCIPAL: &str = "User::\"ann\"";
-
-const ACTION: &str = "Action::\"view\"";
-
-const RESOURCE: &str = "Doc::\"d\"";
-
 /// The request of a case: `principal`, `action` and `resource`, as `User::"ann"`, and `context`, as an expression. Where a key
 /// is missing, `User::"ann"` asks for `Action::"view"` of `Doc::"d"` in an empty context.
 pub fn request_of(alloc: Global, case: &Case) -> Result<Request, CaseFault> {
@@ -23,38 +16,45 @@ pub fn request_of(alloc: Global, case: &Case) -> Result<Request, CaseFault> {
 
 /// The same in the context that this expression has as its value.
 pub fn request_in(alloc: Global, case: &Case, context: &str) -> Result<Request, CaseFault> {
-    let principal = uid_at(alloc, case, "principal", PRINCIPAL)?;
-    let action = uid_at(alloc, case, "action", ACTION)?;
-    let resource = uid_at(alloc, case, "resource", RESOURCE)?;
-    let context = record_of(alloc, context)?;
-    Ok(Request {
-        principal,
-        action,
-        resource,
-        context,
-    })
+    let mut request = plain_request(alloc)?;
+    match give_parts(alloc, case, context, &mut request) {
+        Ok(()) => Ok(request),
+        Err(fault) => {
+            drop(request);
+            Err(fault)
+        }
+    }
 }
 
 /// The request of a case that says nothing about it.
 pub fn plain_request(alloc: Global) -> Result<Request, CaseFault> {
     Ok(Request {
-        principal: uid_of(alloc, PRINCIPAL)?,
-        action: uid_of(alloc, ACTION)?,
-        resource: uid_of(alloc, RESOURCE)?,
+        principal: uid_of(alloc, "User::\"ann\"")?,
+        action: uid_of(alloc, "Action::\"view\"")?,
+        resource: uid_of(alloc, "Doc::\"d\"")?,
         context: Record::new(alloc),
     })
 }
 
-fn uid_at(
+// Gives a request the context, and what else the case says of it.
+fn give_parts(
     alloc: Global,
     case: &Case,
-    key: &'static str,
-    otherwise: &str,
-) -> Result<Uid, CaseFault> {
-    match case.text_if_given(alloc, key)? {
-        Some(text) => uid_of(alloc, text.as_str()),
-        None => uid_of(alloc, otherwise),
+    context: &str,
+    request: &mut Request,
+) -> Result<(), CaseFault> {
+    give_uid(alloc, case, "principal", &mut request.principal)?;
+    give_uid(alloc, case, "action", &mut request.action)?;
+    give_uid(alloc, case, "resource", &mut request.resource)?;
+    request.context = record_of(alloc, context)?;
+    Ok(())
+}
+
+fn give_uid(alloc: Global, case: &Case, key: &'static str, uid: &mut Uid) -> Result<(), CaseFault> {
+    if let Some(text) = case.text_if_given(alloc, key)? {
+        *uid = uid_of(alloc, text.as_str())?;
     }
+    Ok(())
 }
 
 // The record that an expression without variables has as its value.

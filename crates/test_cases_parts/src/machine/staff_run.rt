@@ -1,36 +1,32 @@
 //! Runs over the entities of `staff`.
-use crate::machine::run_text::outcome_text;
+use crate::machine::run_text::add_outcome;
 use crate::machine::staff::{request_of_ann, staff};
-use crate::{Case, CaseFault};
+use crate::{Case, CaseFault, Outcome};
+use base_places::Draft;
 use cedar_code::Code;
 use cedar_machine::run;
 use cedar_store::Store;
-use cedar_value::Request;
-use std::alloc::{AllocError, Global};
+use std::alloc::Global;
 
 /// How a code ends for Ann's request over the entities of `staff`: its value, or the name of its error.
-pub fn staff_end(alloc: Global, case: &Case, code: &Code) -> Result<String, CaseFault> {
+pub fn staff_end(alloc: Global, case: &Case, code: &Code) -> Result<Outcome, CaseFault> {
     let store = staff(alloc)?;
-    let end = end_over(alloc, case, code, &store);
+    let outcome = end_over(alloc, case, code, &store);
     drop(store);
-    end
+    outcome
 }
 
-fn end_over(alloc: Global, case: &Case, code: &Code, store: &Store) -> Result<String, CaseFault> {
+fn end_over(alloc: Global, case: &Case, code: &Code, store: &Store) -> Result<Outcome, CaseFault> {
     let request = request_of_ann(alloc, case)?;
-    let end = end_of(alloc, code, &request, store);
+    let ran = run(alloc, code, &request, store);
     drop(request);
-    Ok(end?)
-}
-
-fn end_of(
-    alloc: Global,
-    code: &Code,
-    request: &Request,
-    store: &Store,
-) -> Result<String, AllocError> {
-    let ran = run(alloc, code, request, store)?;
-    let end = outcome_text(alloc, &ran.outcome);
-    drop(ran);
-    end
+    let mut text = Draft::new(alloc);
+    match ran {
+        Ok(ran) => {
+            add_outcome(&mut text, &ran.outcome);
+            drop(ran);
+        }
+        Err(_) => text.refuse(),
+    }
+    Outcome::drafted(text)
 }

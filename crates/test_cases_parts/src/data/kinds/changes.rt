@@ -6,101 +6,115 @@
 //! other.
 use crate::data::schema_input::schema_of;
 use crate::data::store_input::store_of;
-use crate::{Case, CaseFault, Outcome, bytes_of, plain_uid_text, record_text, truth};
+use crate::{Case, CaseFault, Outcome, add_plain_uid, add_record, add_refused, bytes_of};
+use base_places::Draft;
 use cedar_conform::{ConformFault, read_changes, written_uid};
+use cedar_schema::Schema;
 use cedar_store::{Hierarchy, Store};
 use cedar_value::Uid;
 use serde_json::Value as Json;
-use std::alloc::{AllocError, Global};
+use std::alloc::Global;
 
 /// What the case's call gives.
 pub fn outcome(alloc: Global, case: &Case) -> Result<Outcome, CaseFault> {
-    let changes = bytes_of(alloc, case, "changes")?;
-    let before = store_of(alloc, case)?;
-    let text = after(alloc, case, &before, &changes);
-    drop(before);
-    Ok(Outcome::text(text?))
-}
-
-fn after(alloc: Global, case: &Case, before: &Store, changes: &[u8]) -> Result<String, CaseFault> {
     let schema = schema_of(alloc, case)?;
-    let read = read_changes(alloc, &schema, before, changes);
+    let outcome = for_schema(alloc, case, &schema);
     drop(schema);
-    match read {
+    outcome
+}
+
+fn for_schema(alloc: Global, case: &Case, schema: &Schema) -> Result<Outcome, CaseFault> {
+    let before = store_of(alloc, case, schema)?;
+    let outcome = changed(alloc, case, schema, &before);
+    drop(before);
+    outcome
+}
+
+fn changed(
+    alloc: Global,
+    case: &Case,
+    schema: &Schema,
+    before: &Store,
+) -> Result<Outcome, CaseFault> {
+    let changes = bytes_of(alloc, case, "changes")?;
+    match read_changes(alloc, schema, before, &changes) {
         Ok(store) => {
-            let text = answers(alloc, case, &store);
+            let outcome = answered(alloc, case, &store);
             drop(store);
-            text
+            outcome
         }
-        Err(fault) => Ok(refusal(alloc, fault)?),
+        Err(fault) => {
+            let outcome = refused(alloc, &fault);
+            drop(fault);
+            outcome
+        }
     }
 }
 
-fn answers(alloc: Global, case: &Case, store: &Store) -> Result<String, CaseFault> {
-    let mut lines = String::new(alloc);
-    for ask in case.list("asks")? {
-        lines.push_str(answer(alloc, store, ask)?.as_str())?;
-        lines.push_str("\n")?;
+fn answered(alloc: Global, case: &Case, store: &Store) -> Result<Outcome, CaseFault> {
+    let asks = case.list("asks")?;
+    let mut text = Draft::new(alloc);
+    for ask in asks {
+        add_answer(alloc, &mut text, store, ask)?;
     }
-    Ok(lines)
+    Outcome::drafted(text)
 }
 
-fn answer(alloc: Global, store: &Store, ask: &Json) -> Result<String, CaseFault> {
-    let Some(uids) = ask.as_array() else {
-        return Err(CaseFault::Malformed("asks"));
-    };
-    let entity = uid_of(alloc, uids.get(0))?;
-    let text = if uids.len() < 2 {
-        Ok(attributes(alloc, store, &entity)?)
-    } else {
-        is_below(alloc, store, &entity, uids.get(1))
+fn add_answer(alloc: Global, text: &mut Draft, store: &Store, ask: &Json) -> Result<(), CaseFault> {
+    let entity = uid_of(alloc, ask.get(0))?;
+    let added = match ask.get(1) {
+        None => {
+            add_attributes(text, store, &entity);
+            Ok(())
+        }
+        Some(above) => add_below(alloc, text, store, &entity, above),
     };
     drop(entity);
-    text
+    text.add("\n");
+    added
 }
 
-fn attributes(alloc: Global, store: &Store, entity: &Uid) -> Result<String, AllocError> {
-    match store.attributes(entity) {
-        Some(record) => record_text(alloc, record),
-        None => String::from_str(alloc, "-"),
-    }
-}
-
-fn is_below(
+fn add_below(
     alloc: Global,
+    text: &mut Draft,
     store: &Store,
     entity: &Uid,
-    above: Option<&Json>,
-) -> Result<String, CaseFault> {
-    let above = uid_of(alloc, above)?;
-    let is_below = store.is_below(entity, &above);
+    above: &Json,
+) -> Result<(), CaseFault> {
+    let above = uid_of(alloc, Some(above))?;
+    text.add_display(store.is_below(entity, &above));
     drop(above);
-    Ok(truth(alloc, is_below)?)
+    Ok(())
+}
+
+fn add_attributes(text: &mut Draft, store: &Store, entity: &Uid) {
+    match store.attributes(entity) {
+        Some(record) => add_record(text, record),
+        None => text.add("-"),
+    }
 }
 
 fn uid_of(alloc: Global, json: Option<&Json>) -> Result<Uid, CaseFault> {
     let Some(json) = json else {
         return Err(CaseFault::Malformed("asks"));
     };
-    match written_uid(alloc, json)? {
-        Some(uid) => Ok(uid),
-        None => Err(CaseFault::Malformed("asks")),
+    match written_uid(alloc, json) {
+        Ok(Some(uid)) => Ok(uid),
+        Ok(None) => Err(CaseFault::Malformed("asks")),
+        Err(_) => Err(CaseFault::Memory),
     }
 }
 
-fn refusal(alloc: Global, fault: ConformFault) -> Result<String, AllocError> {
-    let text = refusal_text(alloc, &fault);
-    drop(fault);
-    text
-}
-
-fn refusal_text(alloc: Global, fault: &ConformFault) -> Result<String, AllocError> {
-    let number = fault.number();
-    let uid = match fault {
-        ConformFault::OutOfMemory => return Err(AllocError),
-        ConformFault::DuplicateEntity(uid) => plain_uid_text(alloc, uid)?,
-        ConformFault::Cycle(uid) => plain_uid_text(alloc, uid)?,
-        _ => return format!(in alloc; "refused {number}"),
-    };
-    format!(in alloc; "refused {number} {uid}")
+fn refused(alloc: Global, fault: &ConformFault) -> Result<Outcome, CaseFault> {
+    let mut text = Draft::new(alloc);
+    add_refused(&mut text, fault.number());
+    match fault {
+        ConformFault::OutOfMemory => text.refuse(),
+        ConformFault::DuplicateEntity(uid) | ConformFault::Cycle(uid) => {
+            text.add(" ");
+            add_plain_uid(&mut text, uid);
+        }
+        _ => {}
+    }
+    Outcome::drafted(text)
 }

@@ -2,23 +2,32 @@
 //!
 //! Takes `schema` or `schema_named`, and `entities` (a text, or `{"bytes": [NUMBER, ..]}`).
 use crate::data::schema_input::schema_of;
-use crate::{Case, CaseFault, Outcome, bytes_of, refused};
+use crate::{Case, CaseFault, Outcome, add_refused, bytes_of};
+use base_places::Draft;
 use cedar_conform::read_entities;
 use cedar_schema::Schema;
-use std::alloc::{AllocError, Global};
+use std::alloc::Global;
 
 /// What the case's call gives.
 pub fn outcome(alloc: Global, case: &Case) -> Result<Outcome, CaseFault> {
-    let entities = bytes_of(alloc, case, "entities")?;
     let schema = schema_of(alloc, case)?;
-    let text = answer(alloc, &schema, &entities);
+    let outcome = for_schema(alloc, case, &schema);
     drop(schema);
-    Ok(Outcome::text(text?))
+    outcome
 }
 
-fn answer(alloc: Global, schema: &Schema, entities: &[u8]) -> Result<String, AllocError> {
-    match read_entities(alloc, schema, entities) {
-        Ok(_) => String::from_str(alloc, "read"),
-        Err(fault) => refused(alloc, fault.number()),
+fn for_schema(alloc: Global, case: &Case, schema: &Schema) -> Result<Outcome, CaseFault> {
+    let entities = bytes_of(alloc, case, "entities")?;
+    let mut text = Draft::new(alloc);
+    match read_entities(alloc, schema, &entities) {
+        Ok(store) => {
+            drop(store);
+            text.add("read");
+        }
+        Err(fault) => {
+            add_refused(&mut text, fault.number());
+            drop(fault);
+        }
     }
+    Outcome::drafted(text)
 }

@@ -1,41 +1,45 @@
 //! `links`: the links of a list, each as `TEMPLATE ID PRINCIPAL RESOURCE;` with `-` where no uid is given, or `refused NUMBER`.
 //!
 //! Takes `list`.
-use crate::{Case, CaseFault, Outcome, plain_uid_text, refused};
+use crate::{Case, CaseFault, Outcome, add_plain_uid, add_refused};
+use base_places::Draft;
 use cedar_ast::Link;
 use cedar_conform::read_links;
 use cedar_value::Uid;
-use std::alloc::{AllocError, Global};
+use std::alloc::Global;
 
 /// What the case's call gives.
 pub fn outcome(alloc: Global, case: &Case) -> Result<Outcome, CaseFault> {
     let list = case.text(alloc, "list")?;
-    let text = match read_links(alloc, list.as_bytes()) {
-        Ok(links) => links_text(alloc, &links),
-        Err(fault) => refused(alloc, fault.number()),
-    };
-    Ok(Outcome::text(text?))
-}
-
-fn links_text(alloc: Global, links: &[Link]) -> Result<String, AllocError> {
-    let mut text = String::new(alloc);
-    for link in links {
-        text.push_str(link_text(alloc, link)?.as_str())?;
+    let mut text = Draft::new(alloc);
+    match read_links(alloc, list.as_bytes()) {
+        Ok(links) => {
+            add_links(&mut text, &links);
+            drop(links);
+        }
+        Err(fault) => {
+            add_refused(&mut text, fault.number());
+            drop(fault);
+        }
     }
-    Ok(text)
+    Outcome::drafted(text)
 }
 
-fn link_text(alloc: Global, link: &Link) -> Result<String, AllocError> {
-    let template = link.template.as_str();
-    let id = link.id.as_str();
-    let principal = given_text(alloc, &link.slots.principal)?;
-    let resource = given_text(alloc, &link.slots.resource)?;
-    format!(in alloc; "{template} {id} {principal} {resource};")
+fn add_links(text: &mut Draft, links: &[Link]) {
+    for link in links {
+        text.add(link.template.as_str());
+        text.add(" ");
+        text.add(link.id.as_str());
+        add_given(text, &link.slots.principal);
+        add_given(text, &link.slots.resource);
+        text.add(";");
+    }
 }
 
-fn given_text(alloc: Global, given: &Option<Uid>) -> Result<String, AllocError> {
+fn add_given(text: &mut Draft, given: &Option<Uid>) {
+    text.add(" ");
     match given {
-        Some(uid) => plain_uid_text(alloc, uid),
-        None => String::from_str(alloc, "-"),
+        Some(uid) => add_plain_uid(text, uid),
+        None => text.add("-"),
     }
 }

@@ -3,44 +3,52 @@
 //!
 //! Takes `schema` (a text, or `{"bytes": [NUMBER, ..]}`) or `schema_named`.
 use crate::data::schema_input::schema_bytes;
-use crate::{Case, CaseFault, Outcome, refusal_line, uid_text};
+use crate::{Case, CaseFault, Outcome, add_refusal_line, add_uid};
+use base_places::Draft;
 use cedar_schema::{Environment, Schema, SchemaFault};
-use std::alloc::{AllocError, Global};
+use std::alloc::Global;
 
 /// What the case's call gives.
 pub fn outcome(alloc: Global, case: &Case) -> Result<Outcome, CaseFault> {
     let bytes = schema_bytes(alloc, case)?;
-    Ok(reading(alloc, &bytes)?)
+    reading(alloc, &bytes)
 }
 
 /// What reading a schema from bytes gives.
-pub fn reading(alloc: Global, bytes: &[u8]) -> Result<Outcome, AllocError> {
+pub fn reading(alloc: Global, bytes: &[u8]) -> Result<Outcome, CaseFault> {
     match Schema::read(alloc, bytes) {
         Ok(schema) => {
-            let text = environments_text(alloc, &schema);
+            let outcome = read(alloc, &schema);
             drop(schema);
-            Ok(Outcome::text(text?))
+            outcome
         }
-        Err(fault) => refusal(alloc, &fault),
+        Err(fault) => {
+            let outcome = refused(alloc, &fault);
+            drop(fault);
+            outcome
+        }
     }
 }
 
-fn refusal(alloc: Global, fault: &SchemaFault) -> Result<Outcome, AllocError> {
-    let text = refusal_line(alloc, fault.number(), None)?;
-    Ok(Outcome { text, status: 2 })
-}
-
-fn environments_text(alloc: Global, schema: &Schema) -> Result<String, AllocError> {
-    let mut all = String::new(alloc);
+fn read(alloc: Global, schema: &Schema) -> Result<Outcome, CaseFault> {
+    let mut text = Draft::new(alloc);
     for environment in schema.environments() {
-        all.push_str(environment_text(alloc, environment)?.as_str())?;
+        add_environment(&mut text, environment);
     }
-    Ok(all)
+    Outcome::drafted(text)
 }
 
-fn environment_text(alloc: Global, environment: &Environment) -> Result<String, AllocError> {
-    let action = uid_text(alloc, &environment.action)?;
-    let principal = environment.principal.as_str();
-    let resource = environment.resource.as_str();
-    format!(in alloc; "{action} {principal} {resource}\n")
+fn add_environment(text: &mut Draft, environment: &Environment) {
+    add_uid(text, &environment.action);
+    text.add(" ");
+    text.add(environment.principal.as_str());
+    text.add(" ");
+    text.add(environment.resource.as_str());
+    text.add("\n");
+}
+
+fn refused(alloc: Global, fault: &SchemaFault) -> Result<Outcome, CaseFault> {
+    let mut text = Draft::new(alloc);
+    add_refusal_line(&mut text, fault.number(), None);
+    Outcome::ended(text, 2)
 }

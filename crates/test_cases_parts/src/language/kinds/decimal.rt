@@ -2,21 +2,17 @@
 //!
 //! Takes `decimal`.
 use crate::{Case, CaseFault, Outcome};
+use base_places::Draft;
 use cedar_ext::Decimal;
-use std::alloc::{AllocError, Global};
+use std::alloc::Global;
 
 /// What the case's call gives.
 pub fn outcome(alloc: Global, case: &Case) -> Result<Outcome, CaseFault> {
-    let text = case.word("decimal")?;
-    Ok(Outcome::text(units_text(alloc, text)?))
-}
-
-fn units_text(alloc: Global, text: &str) -> Result<String, AllocError> {
-    match Decimal::read(text) {
-        Some(decimal) => {
-            let units = decimal.units();
-            format!(in alloc; "{units}")
-        }
-        None => String::from_str(alloc, "none"),
+    let written = case.word("decimal")?;
+    let mut text = Draft::new(alloc);
+    match Decimal::read(written) {
+        Some(decimal) => text.add_display(decimal.units()),
+        None => text.add("none"),
     }
+    Outcome::drafted(text)
 }

@@ -2,21 +2,31 @@
 //!
 //! Takes `name`.
 use crate::{Case, CaseFault, Outcome};
+use base_places::Draft;
 use cedar_value::Name;
-use std::alloc::{AllocError, Global};
+use std::alloc::Global;
 
 /// What the case's call gives.
 pub fn outcome(alloc: Global, case: &Case) -> Result<Outcome, CaseFault> {
-    let text = case.word("name")?;
-    Ok(Outcome::text(name_text(alloc, text)?))
+    let written = case.word("name")?;
+    let mut text = Draft::new(alloc);
+    match Name::read(alloc, written) {
+        Ok(Some(name)) => {
+            add_copy(alloc, &mut text, &name);
+            drop(name);
+        }
+        Ok(None) => text.add("none"),
+        Err(_) => text.refuse(),
+    }
+    Outcome::drafted(text)
 }
 
-fn name_text(alloc: Global, text: &str) -> Result<String, AllocError> {
-    match Name::read(alloc, text)? {
-        Some(name) => {
-            let copy = name.try_clone(alloc)?;
-            String::from_str(alloc, copy.as_str())
+fn add_copy(alloc: Global, text: &mut Draft, name: &Name) {
+    match name.try_clone(alloc) {
+        Ok(copy) => {
+            text.add(copy.as_str());
+            drop(copy);
         }
-        None => String::from_str(alloc, "none"),
+        Err(_) => text.refuse(),
     }
 }

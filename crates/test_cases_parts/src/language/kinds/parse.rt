@@ -2,29 +2,37 @@
 //! refusal, `{"offset":OFFSET,"refused":NUMBER}`, with status 2 where it does not.
 //!
 //! Takes `policies`.
-use crate::{Case, CaseFault, Outcome, refusal_line};
+use crate::{Case, CaseFault, Outcome, add_refusal_line};
+use base_places::Draft;
 use cedar_ast::PolicySet;
 use cedar_parser::{ParseFault, parse};
-use std::alloc::{AllocError, Global};
+use std::alloc::Global;
 
 /// What the case's call gives.
 pub fn outcome(alloc: Global, case: &Case) -> Result<Outcome, CaseFault> {
     let policies = case.text(alloc, "policies")?;
-    let outcome = match parse(alloc, policies.as_str()) {
-        Ok(set) => read(alloc, &set),
-        Err(fault) => refused(alloc, fault),
-    };
-    Ok(outcome?)
+    match parse(alloc, policies.as_str()) {
+        Ok(set) => {
+            let outcome = read(alloc, &set);
+            drop(set);
+            outcome
+        }
+        Err(fault) => refused(alloc, &fault),
+    }
 }
 
-fn read(alloc: Global, set: &PolicySet) -> Result<Outcome, AllocError> {
-    let policies = set.count();
-    let templates = set.template_count();
-    let text = format!(in alloc; "{{\"policies\":{policies},\"templates\":{templates}}}\n")?;
-    Ok(Outcome { text, status: 0 })
+fn read(alloc: Global, set: &PolicySet) -> Result<Outcome, CaseFault> {
+    let mut text = Draft::new(alloc);
+    text.add("{\"policies\":");
+    text.add_display(set.count());
+    text.add(",\"templates\":");
+    text.add_display(set.template_count());
+    text.add("}\n");
+    Outcome::drafted(text)
 }
 
-fn refused(alloc: Global, fault: ParseFault) -> Result<Outcome, AllocError> {
-    let text = refusal_line(alloc, fault.number(), fault.offset())?;
-    Ok(Outcome { text, status: 2 })
+fn refused(alloc: Global, fault: &ParseFault) -> Result<Outcome, CaseFault> {
+    let mut text = Draft::new(alloc);
+    add_refusal_line(&mut text, fault.number(), fault.offset());
+    Outcome::ended(text, 2)
 }

@@ -9,9 +9,9 @@ use std::alloc::Global;
 
 /// What the case's call gives.
 pub fn outcome(alloc: Global, case: &Case) -> Result<Outcome, CaseFault> {
-    let text = case.text(alloc, "policy")?;
-    let code = policy_code(alloc, text.as_str())?;
-    let end = staff_end(alloc, case, &code);
+    let policy = case.text(alloc, "policy")?;
+    let code = policy_code(alloc, policy.as_str())?;
+    let outcome = staff_end(alloc, case, &code);
     drop(code);
-    Ok(Outcome::text(end?))
+    outcome
 }

@@ -5,15 +5,15 @@ use Rattle.cedar_ast_expressions.specs.declared.entries.Entries.TheDeep.{size-Ex
 use Rattle.cedar_ast_expressions.proofs.Sizes.{size_low, most_pairs, pair_size}
 use Rattle.test_cases_parts.proofs.language.tree_text.+writing.Goals as goal
 
-pub tree_text-members_text-requires : goal.tree_text-members_text-requires
-tree_text-members_text-requires g c =
+pub add_tree-add_members-requires : goal.add_tree-add_members-requires
+add_tree-add_members-requires g c =
     let items : c.deref-in-Set.result.now ≡ c.in-Set.members.items = c.deref-in-Set.ensures.value in
     let own : c.args.expression.now ≡ set_with (expressions_of c.in-Set.members.items) = cc in
     let high : depth c.args.expression.now ≡ suc (list_depth c.deref-in-Set.result.now) = ap depth own ∙ ap (λ es. suc (list_depth es)) (sym items) in
     omega (arith, high, most_doubled size-Expr size_low c.deref-in-Set.result.now)
 
-pub tree_text-entries_text-requires : goal.tree_text-entries_text-requires
-tree_text-entries_text-requires g c =
+pub add_tree-add_entries-requires : goal.add_tree-add_entries-requires
+add_tree-add_entries-requires g c =
     let pairs : c.pairs.result.now ≡ c.in-Record.entries = c.pairs.ensures.pairs in
     let own : c.args.expression.now ≡ record_with (entries_of c.in-Record.entries) = cc in
     let high : depth c.args.expression.now ≡ suc (pairs_depth c.pairs.result.now) = ap depth own ∙ ap (λ ps. suc (pairs_depth ps)) (sym pairs) in

@@ -83,7 +83,7 @@ fn with_links_kept(
     overlay.base.facts();
     overlay.changes.facts();
     let marks = copied(alloc, overlay.base, overlay.marks)?;
-    let changes = with_more(alloc, overlay.changes, removed, upserted)?;
+    let changes = with_more(alloc, overlay.base, overlay.changes, removed, upserted)?;
     // No two of the new changes have one uid.
     changes.facts();
     let settled = Arc::try_clone(settled)?;
@@ -113,7 +113,7 @@ fn with_links_changed(
     let marks = marked_too(alloc, overlay.base, overlay.marks, removed, &upserted)?;
     let uids = copied_uids(alloc, &upserted)?;
     let hashing = upserted.hashing();
-    let changes = with_more(alloc, overlay.changes, removed, upserted)?;
+    let changes = with_more(alloc, overlay.base, overlay.changes, removed, upserted)?;
     // No two of the new changes have one uid.
     changes.facts();
     let links = ChangedLinks {

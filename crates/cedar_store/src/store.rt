@@ -17,6 +17,7 @@ use crate::entity::Entity;
 use crate::entity_table::EntityTable;
 use crate::overlay::Overlay;
 use crate::store_fault::StoreFault;
+use crate::sweeping::without_idle;
 use base_search::Row;
 use cedar_value::{Hierarchy, Record, Uid, ValueSet};
 use std::alloc::{AllocError, Global};
@@ -112,7 +113,8 @@ impl Store {
             marks: &self.marks,
             settled: &self.settled,
         };
-        let kept = changing::changed(alloc, &overlay, &self.settled, removed, upserted)?;
+        let made = changing::changed(alloc, &overlay, &self.settled, removed, upserted)?;
+        let kept = without_idle(alloc, &self.base, made)?;
         // No two changes have one uid.
         kept.changes.facts();
         Ok(Store {
@@ -121,6 +123,13 @@ impl Store {
             marks: kept.marks,
             settled: kept.settled,
         })
+    }
+
+    /// How many changes are kept over the entities that were read whole: one for each uid that changes upserted, and one for each of
+    /// these entities that they removed. Of other uids that were removed, at most as many more are kept, and 126. Time grows with the
+    /// number.
+    pub fn kept_changes(&self) -> usize {
+        self.changes.len()
     }
 
     /// Appends each uid that `low` is below, once (Cedar language reference, hierarchy). An entity that is not in the store is

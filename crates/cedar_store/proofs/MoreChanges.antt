@@ -2,12 +2,12 @@
 --     removed_seen, absent_seen      after one removal, of an entity that is there and of one that is not
 --     removals_more, upserts_more      after one removal more, and after one upsert more
 --     after_call      after both
-use Rattle.std.proofs.Common.{◌≡◌, ℕ, ◌+◌, ◌<◌, List, [], ◌∷◌, ◌++◌, length, get_or, take, Bool, true, false, cond, ◌||◌, Option, Some, None, is_some, refl, sym, ap, subst, ◌∙◌, IsTrue}
+use Rattle.std.proofs.Common.{◌≡◌, ℕ, ◌+◌, ◌<◌, List, [], ◌∷◌, ◌++◌, length, get_or, take, Bool, true, false, cond, ◌||◌, Option, Some, None, is_some, refl, sym, ap, subst, ◌∙◌}
 use Rattle.std.specs.List.{list_any}
 use Rattle.std.proofs.lemmas.List.{take_more}
 use Rattle.cedar_value.specs.Datum.{same_uid}
 use Rattle.cedar_value.specs.Private.Equality.{same_uid-Decides, uid_equivalence}
-use Rattle.cedar_value.specs.World.{EntityTree, World, entry_of, has_entity}
+use Rattle.cedar_value.specs.World.{EntityTree, World, entry_of}
 use Rattle.cedar_value.specs.declared.uid.Uid.{Uid}
 use Rattle.cedar_store.specs.Private.Called.{IsAfterCall, after_removals, after_upsert, removal}
 use Rattle.cedar_store.specs.Private.Changing.{ChangeTree, Seen, change_of, only, seen, told_entry, upsert_in}

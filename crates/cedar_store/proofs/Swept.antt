@@ -1,13 +1,13 @@
 -- Changes without those that are idle.
---     swept_put, swept_passed      what they show after one change more, and after one that is idle
+--     swept_passed      what they show after one that is idle
 --     taken_last, taken_all, once_there      the list of the changes, of which the last one is taken at a time
 --     swept_overlaid      what a store keeps with other changes that show the same
-use Rattle.std.proofs.Common.{◌≡◌, ◌↔◌, ℕ, inl, inr, ⊎_elim, List, [], ◌∷◌, ◌++◌, length, map, arith, Bool, true, false, cond, ◌||◌, Option, Some, None, is_some, refl, sym, ap, subst, ◌∙◌, Contains}
+use Rattle.std.proofs.Common.{◌≡◌, ℕ, inl, inr, ⊎_elim, List, [], ◌∷◌, ◌++◌, length, map, arith, Bool, true, false, cond, ◌||◌, Option, Some, None, is_some, refl, sym, ap, subst, ◌∙◌, Contains}
 use Rattle.std.proofs.lemmas.List.{append_assoc, map-append}
 use Rattle.base_reach.proofs.Chains.{chain_among}
 use Rattle.cedar_value.specs.Datum.{same_uid}
 use Rattle.cedar_value.specs.Private.Equality.{same_uid-Decides}
-use Rattle.cedar_value.specs.World.{EntityTree, World, Below, entry_of, has_entity, parents_of}
+use Rattle.cedar_value.specs.World.{EntityTree, World, Below, entry_of}
 use Rattle.cedar_value.specs.declared.uid.Uid.{Uid}
 use Rattle.cedar_store.specs.Private.Based.{BaseTree}
 use Rattle.cedar_store.specs.Private.Changing.{AreChangesDistinct, ChangeTree, EachChange, IsChangeOfUid, Seen, change_of, is_needed, only, seen, told_entry, upsert_in}
@@ -15,17 +15,10 @@ use Rattle.cedar_store.specs.Private.Overlaid.{IsOverlaid, world_over}
 use Rattle.cedar_store.proofs.AfterCall.{entry_case}
 use Rattle.cedar_store.proofs.Overlaid.{parents_in}
 
--- ---- one change more
+-- ---- an idle change
 
 abbrev show : Option ChangeTree → Option EntityTree → Seen
 show o e = record { entry = told_entry o e; upsert = upsert_in o }
-
-put_case : (b : Bool) (d : ChangeTree) (n m o : Option ChangeTree) (e : Option EntityTree) → n ≡ cond b (Some d) m → show m e ≡ show o e → show n e ≡ show (cond b (Some d) o) e
-put_case true d n m o e new before = ap (λ x. show x e) new
-put_case false d n m o e new before = ap (λ x. show x e) new ∙ before
-
-pub swept_put : (w : World) (d : ChangeTree) (done m n : List ChangeTree) → ((u : Uid) → seen w m u ≡ seen w done u) → ((u : Uid) → change_of n u ≡ cond (same_uid d.uid u) (Some d) (change_of m u)) → (u : Uid) → seen w n u ≡ seen w (d ∷ done) u
-swept_put w d done m n before new u = put_case (same_uid d.uid u) d (change_of n u) (change_of m u) (change_of done u) (entry_of w u) (new u) (before u)
 
 idle_here : (x e : Option EntityTree) (o : Option ChangeTree) → (is_some x || is_some e) ≡ false → o ≡ None → show o e ≡ only x
 idle_here None None o idle none = ap (λ y. show y None) none

@@ -153,7 +153,7 @@ impl ChangeMap {
         }
     }
 
-    /// Whether no more changes may become idle before all that are idle are left out: about half as many have as are needed.
+    /// Whether no more changes may become idle before all that are idle are left out.
     pub(crate) fn has_no_room(&self) -> bool {
         self.idle_room == 0
     }

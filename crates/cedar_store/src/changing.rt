@@ -112,7 +112,6 @@ fn with_links_changed(
     overlay.changes.facts();
     let marks = marked_too(alloc, overlay.base, overlay.marks, removed, &upserted)?;
     let uids = copied_uids(alloc, &upserted)?;
-    let hashing = upserted.hashing();
     let changes = with_more(alloc, overlay.base, overlay.changes, removed, upserted)?;
     // No two of the new changes have one uid.
     changes.facts();
@@ -120,7 +119,7 @@ fn with_links_changed(
         base: overlay.base,
         changes: &changes,
     };
-    let part = settled_anew(alloc, &links, &marks, overlay.settled, &uids, hashing)?;
+    let part = settled_anew(alloc, &links, &marks, overlay.settled, &uids)?;
     let settled = Arc::new(alloc, part)?;
     Ok(Kept {
         changes,

@@ -13,7 +13,7 @@ use std::alloc::{AllocError, Global};
 /// What a store keeps, without the changes that are idle once there are many: those that remove a uid which the base lacks.
 ///
 /// All changes are gone through where about half as many have become idle as were needed the last time. So time is in proportion to
-/// the changes that came since then, and at most half as many changes are idle as are needed, and some 100.
+/// the changes that came since then, and where n changes are needed at most n + 126 more are kept.
 ///
 /// # Errors
 ///

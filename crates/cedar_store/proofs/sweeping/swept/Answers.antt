@@ -1,7 +1,7 @@
-use Rattle.std.proofs.Common.{◌≡◌, ◌∷◌, [], false, List, length, map, arith, sym, ap, subst, ◌∙◌}
+use Rattle.std.proofs.Common.{◌≡◌, ◌∷◌, [], false, List, map, arith, sym, ap, subst, ◌∙◌}
 use Rattle.std.proofs.lemmas.List.{append-nil}
 use Rattle.cedar_store.specs.Private.Changing.{ChangeTree, is_needed, seen}
-use Rattle.cedar_store.proofs.Swept.{once_there, swept_passed, swept_put, taken_all, taken_last}
+use Rattle.cedar_store.proofs.Swept.{once_there, swept_passed, taken_all, taken_last}
 use Rattle.cedar_store.proofs.sweeping.swept.Goals as goal
 
 pub last-init : goal.last-init

@@ -87,7 +87,8 @@ impl Store {
     ///
     /// Where each uid that is removed or upserted has nothing below it, or keeps its parents in their order, the time grows with the
     /// uids that the changes name and the parents of what they upsert, and a row of bits is copied. Else the links above each uid
-    /// whose row has become wrong are followed again.
+    /// whose row has become wrong are followed again. Once many uids that were not read whole have been removed again, all changes
+    /// are gone through, and these uids are forgotten. Over many calls that takes time in proportion to the changes.
     ///
     /// # Errors
     ///

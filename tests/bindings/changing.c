@@ -1,7 +1,7 @@
 /* The cost of changes of entities, in C: changing ENTITIES KIND CALLS. It makes a world of so many users in a thousand groups of three levels,
- * and publishes changes of a kind to it, one after another: `upsert`, `remove`, `group`, `same`, `thousand`. A group is upserted with other
- * parents (`group`), or with those that it has (`same`). It prints the bytes that malloc has given more after the first change, while the
- * version before it is held. */
+ * and publishes changes of a kind to it, one after another: `upsert`, `remove`, `group`, `same`, `thousand`, `passing`. A group is upserted
+ * with other parents (`group`), or with those that it has (`same`). A thousand new users come with a call, and go with the next (`passing`).
+ * It prints the bytes that malloc has given more after the last change, while the version before all of them is held. */
 #include "files.h"
 
 #include <malloc.h>
@@ -11,6 +11,9 @@ static const char SCHEMA[] =
     "\"Record\",\"attributes\":{\"age\":{\"type\":\"Long\"}}}}},\"actions\":{\"view\":{\"appliesTo\":{\"principalTypes\":[\"User\"],"
     "\"resourceTypes\":[\"Group\"]}}}}}";
 static const char POLICIES[] = "@id(\"staff\") permit(principal in Group::\"g0\", action, resource);";
+
+/* No user of the world has this number or one above. */
+enum { FIRST_NEW = 10000000 };
 
 static char *text;
 static size_t length;
@@ -61,12 +64,20 @@ static cedar_bytes changes(const char *kind, unsigned call) {
         add("{\"upsert\":[");
         add_group(500, 1 + (strcmp(kind, "same") == 0 ? 500 : call) % 9);
         add("]}");
+    } else if (strcmp(kind, "passing") == 0 && call % 2 == 1) {
+        add("{\"remove\":[");
+        for (unsigned one = 0; one < 1000; one++) {
+            snprintf(uid, sizeof uid, "%s{\"type\":\"User\",\"id\":\"u%u\"}", one ? "," : "", FIRST_NEW + call / 2 * 1000 + one);
+            add(uid);
+        }
+        add("]}");
     } else {
-        unsigned count = strcmp(kind, "thousand") == 0 ? 1000 : 1;
+        unsigned count = strcmp(kind, "upsert") == 0 ? 1 : 1000;
+        unsigned first = strcmp(kind, "passing") == 0 ? FIRST_NEW + call / 2 * 1000 : call * count;
         add("{\"upsert\":[");
         for (unsigned one = 0; one < count; one++) {
             add(one ? "," : "");
-            add_user(call * count + one, 10 + call % 990, 17);
+            add_user(first + one, 10 + call % 990, 17);
         }
         add("]}");
     }
@@ -84,14 +95,11 @@ int main(int count, char **words) {
     CHECK(cedar_publish(&engine, &files, NULL, NULL) == CEDAR_OK && cedar_share(&engine, &before) == CEDAR_OK);
     free(text);
     text = malloc(1 << 20);
+    size_t held = mallinfo2().uordblks;
     for (unsigned call = 0; call < calls; call++) {
-        cedar_bytes bytes = changes(words[2], call);
-        size_t held = mallinfo2().uordblks;
-        CHECK(cedar_publish_changes(&engine, bytes, NULL, NULL) == CEDAR_OK);
-        if (call == 0) {
-            printf("%zu\n", mallinfo2().uordblks - held);
-        }
+        CHECK(cedar_publish_changes(&engine, changes(words[2], call), NULL, NULL) == CEDAR_OK);
     }
+    printf("%zu\n", mallinfo2().uordblks - held);
     cedar_free(&before);
     cedar_free(&engine);
     free(text);

@@ -13,7 +13,7 @@ use Rattle.cedar_store.specs.Changes.{changed, is_changed, IsThereInChanges}
 use Rattle.cedar_store.specs.Entities.{uids_of}
 use Rattle.cedar_store.specs.Private.Based.{BaseTree, IsMarked}
 use Rattle.cedar_store.specs.Private.Called.{AreMarkedToo, AreSettledAnew, DoLinksStay, IsAfterCall, IsCycleThere, IsLinked}
-use Rattle.cedar_store.specs.Private.Changing.{AreChangesDistinct, ChangeTree, EachChange, IsChangeOfUid, change_of, upsert_in}
+use Rattle.cedar_store.specs.Private.Changing.{AreChangesDistinct, ChangeTree, EachChange, IsChangeOfUid, Seen, change_of, told_entry, upsert_in}
 use Rattle.cedar_store.specs.Private.Kept.{in_row, number_in}
 use Rattle.cedar_store.specs.Private.Overlaid.{AreMarked, AreParentsKnown, IsNumbered, IsOverlaid, IsSettled, world_over}
 use Rattle.cedar_store.specs.declared.store_fault.StoreFault.{StoreFault}
@@ -22,18 +22,9 @@ use Rattle.cedar_store.proofs.ChangedLemmas.{entry_named, entry_unnamed}
 use Rattle.cedar_store.proofs.CutChains.{chain_stays, cycle_named, last_link}
 use Rattle.cedar_store.proofs.Overlaid.{over_named, over_unnamed, parents_in, parents_named, parents_unnamed}
 
--- the entity that a change of the uid, if there is one, leaves
-abbrev told_entry : Option ChangeTree → Option EntityTree → Option EntityTree
-told_entry None e = e
-told_entry (Some c) e = c.entity
-
-entry_case : (w : World) (cs : List ChangeTree) (u : Uid) (o : Option ChangeTree) → AreChangesDistinct cs → EachChange IsChangeOfUid cs → change_of cs u ≡ o → entry_of (world_over w cs) u ≡ told_entry o (entry_of w u)
+pub entry_case : (w : World) (cs : List ChangeTree) (u : Uid) (o : Option ChangeTree) → AreChangesDistinct cs → EachChange IsChangeOfUid cs → change_of cs u ≡ o → entry_of (world_over w cs) u ≡ told_entry o (entry_of w u)
 entry_case w cs u None distinct named is = over_unnamed w cs distinct named u is
 entry_case w cs u (Some c) distinct named is = over_named w cs distinct named u c is
-
-named_entry : (o : Option ChangeTree) (e : Option EntityTree) → IsTrue (is_some o) → told_entry o e ≡ upsert_in o
-named_entry None e there = cc
-named_entry (Some c) e there = refl
 
 first_or_second : (a c : Bool) → (a && not c) ≡ false → (a ≡ false) ⊎ (c ≡ true)
 first_or_second true true h = inr refl
@@ -47,12 +38,12 @@ not_second false c h t = cc
 
 -- ---- entities and parents after the call
 
-module _ (w : World) (old new : List ChangeTree) (removed : List Uid) (upserted : World) (distinct : AreChangesDistinct old) (named : EachChange IsChangeOfUid old) (distinct_new : AreChangesDistinct new) (named_new : EachChange IsChangeOfUid new) (after : IsAfterCall old removed upserted new) where
+module _ (w : World) (old new : List ChangeTree) (removed : List Uid) (upserted : World) (distinct : AreChangesDistinct old) (named : EachChange IsChangeOfUid old) (distinct_new : AreChangesDistinct new) (named_new : EachChange IsChangeOfUid new) (after : IsAfterCall w old removed upserted new) where
   entry_by : (u : Uid) (b : Bool) → is_changed removed upserted u ≡ b → entry_of (world_over w new) u ≡ entry_of (changed (world_over w old) removed upserted) u
   entry_by u true is =
-      entry_case w new u (change_of new u) distinct_new named_new refl ∙ named_entry (change_of new u) (entry_of w u) (after.named u is) ∙ after.upserts u is ∙ sym (entry_named (world_over w old) removed upserted u is)
+      entry_case w new u (change_of new u) distinct_new named_new refl ∙ ap (λ (s : Seen). s.entry) (after.named u is) ∙ sym (entry_named (world_over w old) removed upserted u is)
   entry_by u false is =
-      entry_case w new u (change_of new u) distinct_new named_new refl ∙ ap (λ o. told_entry o (entry_of w u)) (after.kept u is) ∙ sym (entry_case w old u (change_of old u) distinct named refl) ∙ sym (entry_unnamed (world_over w old) removed upserted u is)
+      entry_case w new u (change_of new u) distinct_new named_new refl ∙ ap (λ (s : Seen). s.entry) (after.kept u is) ∙ sym (entry_case w old u (change_of old u) distinct named refl) ∙ sym (entry_unnamed (world_over w old) removed upserted u is)
 
   pub entry_after : (u : Uid) → entry_of (world_over w new) u ≡ entry_of (changed (world_over w old) removed upserted) u
   entry_after u = entry_by u (is_changed removed upserted u) refl
@@ -89,14 +80,14 @@ module _ (b : BaseTree) (cs : List ChangeTree) (part : World) (distinct : AreCha
 
 module _ (b : BaseTree) (old new : List ChangeTree) (removed : List Uid) (upserted : World) (marks marks_new : List ℕ) (part : World)
     (distinct : AreChangesDistinct old) (named : EachChange IsChangeOfUid old) (distinct_new : AreChangesDistinct new) (named_new : EachChange IsChangeOfUid new)
-    (numbered : (u v : Uid) → Below b.world u v → IsNumbered b v) (after : IsAfterCall old removed upserted new) (kept : IsOverlaid b old marks part) where
+    (numbered : (u v : Uid) → Below b.world u v → IsNumbered b v) (after : IsAfterCall b.world old removed upserted new) (kept : IsOverlaid b old marks part) where
   abbrev is_named : Uid → Bool
   is_named = is_changed removed upserted
 
   known_by : (part_new : World) (u p : Uid) (e : EntityTree) (t : Bool) → is_named u ≡ t → ((p : Uid) → IsLinked b part p → IsLinked b part_new p) → (entry_of upserted u ≡ Some e → IsLinked b part_new p)
       → upsert_in (change_of new u) ≡ Some e → Contains e.parents p → IsLinked b part_new p
-  known_by part_new u p e true is keeps here entity m = here (sym (after.upserts u is) ∙ entity)
-  known_by part_new u p e false is keeps here entity m = keeps p (kept.parents u p e (ap upsert_in (sym (after.kept u is)) ∙ entity) m)
+  known_by part_new u p e true is keeps here entity m = here (sym (ap (λ (s : Seen). s.upsert) (after.named u is)) ∙ entity)
+  known_by part_new u p e false is keeps here entity m = keeps p (kept.parents u p e (sym (ap (λ (s : Seen). s.upsert) (after.kept u is)) ∙ entity) m)
 
   kept_parents : (u : Uid) → is_named u ≡ false → parents_of (world_over b.world new) u ≡ parents_of (world_over b.world old) u
   kept_parents = parents_kept b.world old new removed upserted distinct named distinct_new named_new after

@@ -27,4 +27,5 @@ pub mod Places
 pub mod PlainRows
 pub mod SameEntities
 pub mod Staying
+pub mod Swept
 pub mod UpsertedFaults

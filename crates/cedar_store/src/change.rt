@@ -3,12 +3,13 @@ ghost use Rattle.std.specs.Prelude.{◌≡◌, Contains, OnOk};
 ghost use Rattle.base_reach.specs.Private.Lent.{lent};
 ghost use Rattle.cedar_value.specs.Datum.{same_uid};
 ghost use Rattle.cedar_value.specs.declared.uid.Uid.{Uid as Uids};
+ghost use Rattle.cedar_store.specs.Private.Changing.{IsChangeOfUid, is_needed};
 ghost use Rattle.cedar_store.specs.Private.Parts.{HasParentsDue};
 
 use crate::base::Base;
 use crate::entity::Entity;
 use crate::settling::push_unnumbered;
-use cedar_value::Uid;
+use cedar_value::{Hierarchy, Uid};
 use std::alloc::AllocError;
 use std::marker::Model;
 
@@ -55,6 +56,20 @@ impl Change {
             Some(entity) => push_unnumbered(base, &entity.parents, due),
             None => Ok(()),
         }
+    }
+
+    /// For contracts alone: an entity that is upserted has the uid of its change.
+    pub(crate) fn facts(&self)
+        ensures { IsChangeOfUid self.now }
+    {
+        let _uid = &self.uid;
+    }
+
+    /// Whether the change shows another entity than there is without it: it upserts one, or removes one of the base.
+    pub(crate) fn is_needed(&self, base: &Base) -> bool
+        ensures { result ≡ is_needed base.now.world self.now }
+    {
+        self.entity.is_some() || base.has(&self.uid)
     }
 
     /// Whether this is the change of the uid.

@@ -1,5 +1,5 @@
 //! The changes of a world, by their uids.
-ghost use Rattle.std.specs.Prelude.{◌≡◌, ◌↔◌, [], Contains, IfOk, IsTrue, OnOk, Some, if◌then◌else◌, option_copied};
+ghost use Rattle.std.specs.Prelude.{◌≡◌, ◌↔◌, [], Contains, IfOk, IsTrue, OnOk, Some, if◌then◌else◌, map, option_copied};
 ghost use Rattle.base_reach.specs.Private.Lent.{lent};
 ghost use Rattle.cedar_value.specs.Datum.{same_uid};
 ghost use Rattle.cedar_value.specs.declared.uid.Uid as uids;
@@ -19,12 +19,16 @@ use std::sync::Arc;
 // No memory holds a deeper tree.
 const MOST_DEPTH: u32 = 62;
 
+// So many idle changes may be there whatever else is.
+const IDLE_ROOM: usize = 64;
+
 /// The changes of a world, each found by its uid. A new version shares with the old one all that is not on the way to what
 /// changes. Contracts see the list of the changes.
 #[derive(Drop)]
 pub(crate) struct ChangeMap {
     hashing: UidHashing,
     root: ForkTree,
+    idle_room: usize,
 }
 
 impl Model for ChangeMap {
@@ -52,7 +56,15 @@ impl ChangeMap {
         ChangeMap {
             hashing,
             root: ForkTree::Leaf,
+            idle_room: IDLE_ROOM,
         }
+    }
+
+    /// No changes, which are hashed as these are. Takes no memory.
+    pub(crate) fn none(&self) -> Self
+        ensures { result ≡ [] }
+    {
+        ChangeMap::new(self.hashing)
     }
 
     /// Whether there are no changes.
@@ -83,13 +95,67 @@ impl ChangeMap {
     pub(crate) fn with(&self, alloc: Global, change: Change) -> Result<ChangeMap, AllocError>
         ensures { IfOk result (λ m. (u : uids.Uid) → change_of m u ≡ (if same_uid change.uid u then Some change else change_of self.now u)) }
     {
-        let hash = hash_of(&self.hashing, &change.uid);
-        let change = Arc::new(alloc, change)?;
+        self.with_shared(alloc, Arc::new(alloc, change)?)
+    }
+
+    /// These changes with one more, which another version may hold too.
+    ///
+    /// # Errors
+    ///
+    /// Fails only when out of memory.
+    pub(crate) fn with_shared(
+        &self,
+        alloc: Global,
+        change: Arc<Change, Global>,
+    ) -> Result<ChangeMap, AllocError>
+        ensures { IfOk result (λ m. (u : uids.Uid) → change_of m u ≡ (if same_uid change.value.uid u then Some change.value else change_of self.now u)) }
+    {
+        change.facts();
+        let hash = hash_of(&self.hashing, change.uid());
         let root = self.root.with(alloc, hash, change)?;
         Ok(ChangeMap {
             hashing: self.hashing,
             root,
+            idle_room: self.idle_room,
         })
+    }
+
+    /// All changes, in a list.
+    ///
+    /// # Errors
+    ///
+    /// Fails only when out of memory.
+    pub(crate) fn all(&self, alloc: Global) -> Result<Vec<Arc<Change, Global>>, AllocError>
+        ensures { IfOk result (λ all. map (λ c. c.value) all.items ≡ self.now) }
+    {
+        let mut all = Vec::new(alloc);
+        self.root.push_all(&mut all)?;
+        Ok(all)
+    }
+
+    /// The same changes, one of which has become idle.
+    pub(crate) fn with_one_idle(self) -> Self
+        ensures { result ≡ self }
+    {
+        ChangeMap {
+            idle_room: self.idle_room.saturating_sub(1),
+            ..self
+        }
+    }
+
+    /// The same changes, of which so many are needed and none is idle.
+    pub(crate) fn with_none_idle(self, needed: usize) -> Self
+        ensures { result ≡ self }
+    {
+        ChangeMap {
+            idle_room: (needed / 2).saturating_add(IDLE_ROOM),
+            ..self
+        }
+    }
+
+    /// Whether no more changes may become idle before all that are idle are left out.
+    pub(crate) fn has_no_room(&self) -> bool {
+        self.idle_room == 0
     }
 
     /// Appends each parent of the entities that the changes upsert, but for those with a number.
@@ -102,6 +168,11 @@ impl ChangeMap {
         ensures parents { OnOk result (EachChange (HasParentsDue base.now (lent due.new.items)) self.now) }
     {
         self.root.push_parents(base, due)
+    }
+
+    /// How many changes there are. Time grows with their number.
+    pub(crate) fn len(&self) -> usize {
+        self.root.len()
     }
 
     /// Two to the depth of the tree: at most one more than there are changes.
@@ -121,6 +192,7 @@ impl ChangeMap {
         Ok(ChangeMap {
             hashing: self.hashing,
             root,
+            idle_room: self.idle_room,
         })
     }
 

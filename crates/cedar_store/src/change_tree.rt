@@ -1,10 +1,10 @@
 //! The tree of changes.
-ghost use Rattle.std.specs.Prelude.{◌≡◌, Contains, IfOk, OnOk, option_copied};
+ghost use Rattle.std.specs.Prelude.{◌≡◌, ◌++◌, Contains, IfOk, OnOk, map, option_copied};
 ghost use Rattle.base_reach.specs.Private.Lent.{lent};
 ghost use Rattle.cedar_value.specs.declared.uid.Uid.{Uid as Uids};
 ghost use Rattle.cedar_store.specs.Private.Parts.{HasParentsDue};
 ghost use Rattle.cedar_store.specs.Private.Branches as branches;
-ghost use Rattle.cedar_store.specs.Private.Branches.{EachKeyed, descent, grow, keyed_in, put, three_left, three_middle, three_right, two_left, two_right};
+ghost use Rattle.cedar_store.specs.Private.Branches.{EachKeyed, changes_in, descent, grow, keyed_in, put, three_left, three_middle, three_right, two_left, two_right};
 ghost use Rattle.cedar_store.specs.Private.Forks.{branches_of, grown_of, keyed_of};
 
 use crate::base::Base;
@@ -114,6 +114,41 @@ impl ForkTree {
                 fork.second.change.push_parents(base, due)?;
                 fork.right.push_parents(base, due)
             }
+        }
+    }
+
+    /// Appends all changes, from left to right.
+    pub(crate) fn push_all(&self, all: &mut Vec<Arc<Change, Global>>) -> Result<(), AllocError>
+        ensures { OnOk result (map (λ c. c.value) all.new.items ≡ map (λ c. c.value) all.old.items ++ changes_in (branches_of self.now)) }
+    {
+        match self {
+            ForkTree::Leaf => Ok(()),
+            ForkTree::Two(fork) => {
+                fork.left.push_all(all)?;
+                all.push(Arc::try_clone(&fork.keyed.change)?)?;
+                fork.right.push_all(all)
+            }
+            ForkTree::Three(fork) => {
+                fork.left.push_all(all)?;
+                all.push(Arc::try_clone(&fork.first.change)?)?;
+                fork.middle.push_all(all)?;
+                all.push(Arc::try_clone(&fork.second.change)?)?;
+                fork.right.push_all(all)
+            }
+        }
+    }
+
+    /// How many changes there are.
+    pub(crate) fn len(&self) -> usize {
+        match self {
+            ForkTree::Leaf => 0,
+            ForkTree::Two(fork) => (fork.left.len())
+                .saturating_add(fork.right.len())
+                .saturating_add(1),
+            ForkTree::Three(fork) => (fork.left.len())
+                .saturating_add(fork.middle.len())
+                .saturating_add(fork.right.len())
+                .saturating_add(2),
         }
     }
 

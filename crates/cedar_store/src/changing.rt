@@ -83,7 +83,7 @@ fn with_links_kept(
     overlay.base.facts();
     overlay.changes.facts();
     let marks = copied(alloc, overlay.base, overlay.marks)?;
-    let changes = with_more(alloc, overlay.changes, removed, upserted)?;
+    let changes = with_more(alloc, overlay.base, overlay.changes, removed, upserted)?;
     // No two of the new changes have one uid.
     changes.facts();
     let settled = Arc::try_clone(settled)?;
@@ -112,15 +112,14 @@ fn with_links_changed(
     overlay.changes.facts();
     let marks = marked_too(alloc, overlay.base, overlay.marks, removed, &upserted)?;
     let uids = copied_uids(alloc, &upserted)?;
-    let hashing = upserted.hashing();
-    let changes = with_more(alloc, overlay.changes, removed, upserted)?;
+    let changes = with_more(alloc, overlay.base, overlay.changes, removed, upserted)?;
     // No two of the new changes have one uid.
     changes.facts();
     let links = ChangedLinks {
         base: overlay.base,
         changes: &changes,
     };
-    let part = settled_anew(alloc, &links, &marks, overlay.settled, &uids, hashing)?;
+    let part = settled_anew(alloc, &links, &marks, overlay.settled, &uids)?;
     let settled = Arc::new(alloc, part)?;
     Ok(Kept {
         changes,

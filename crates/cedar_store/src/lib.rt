@@ -43,6 +43,7 @@ mod rows;
 mod settling;
 mod store;
 mod store_fault;
+mod sweeping;
 mod uid_hasher;
 mod uid_hashing;
 

@@ -23,11 +23,10 @@ pub(crate) fn part_above(
     alloc: Global,
     links: &ChangedLinks<'_>,
     due: &[&Uid],
-    hashing: UidHashing,
 ) -> Result<Vec<Entity>, AllocError>
     ensures { IfOk result (λ part. IsPartAbove (world_over links.now.base.now.world links.now.changes.now) (lent due.now) part.items) }
 {
-    let mut met = IndexSet::with_hasher(alloc, hashing);
+    let mut met = IndexSet::with_hasher(alloc, UidHashing::of_uids(due));
     for uid in due {
         meet(alloc, &mut met, *uid)?;
     }

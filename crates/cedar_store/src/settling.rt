@@ -11,7 +11,6 @@ use crate::base::Base;
 use crate::changed_links::ChangedLinks;
 use crate::part::part_above;
 use crate::store_fault::StoreFault;
-use crate::uid_hashing::UidHashing;
 use base_reach::Links;
 use base_search::Row;
 use cedar_value::Uid;
@@ -28,7 +27,6 @@ pub(crate) fn settled_anew<'s>(
     marks: &Row,
     old: &'s Base,
     uids: &[Uid],
-    hashing: UidHashing,
 ) -> Result<Base, StoreFault>
     ensures settled { IfOk result (λ new. AreSettledAnew links.now.base.now links.now.changes.now marks.now old.now.world uids.now new.world) }
     ensures refused { IfErr result (IsCycleThere (world_over links.now.base.now.world links.now.changes.now)) }
@@ -36,7 +34,7 @@ pub(crate) fn settled_anew<'s>(
     let mut due = Vec::new(alloc);
     push_known(links, old, uids, &mut due)?;
     links.base.push_marked(marks, &mut due)?;
-    let part = part_above(alloc, links, &due, hashing)?;
+    let part = part_above(alloc, links, &due)?;
     let settled = Base::build(alloc, part)?;
     // Nothing of it is below itself.
     settled.facts();

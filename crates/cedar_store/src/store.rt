@@ -17,6 +17,7 @@ use crate::entity::Entity;
 use crate::entity_table::EntityTable;
 use crate::overlay::Overlay;
 use crate::store_fault::StoreFault;
+use crate::sweeping::without_idle;
 use base_search::Row;
 use cedar_value::{Hierarchy, Record, Uid, ValueSet};
 use std::alloc::{AllocError, Global};
@@ -86,7 +87,8 @@ impl Store {
     ///
     /// Where each uid that is removed or upserted has nothing below it, or keeps its parents in their order, the time grows with the
     /// uids that the changes name and the parents of what they upsert, and a row of bits is copied. Else the links above each uid
-    /// whose row has become wrong are followed again.
+    /// whose row has become wrong are followed again. Once many uids that were not read whole have been removed again, all changes
+    /// are gone through, and these uids are forgotten. Over many calls that takes time in proportion to the changes.
     ///
     /// # Errors
     ///
@@ -112,7 +114,8 @@ impl Store {
             marks: &self.marks,
             settled: &self.settled,
         };
-        let kept = changing::changed(alloc, &overlay, &self.settled, removed, upserted)?;
+        let made = changing::changed(alloc, &overlay, &self.settled, removed, upserted)?;
+        let kept = without_idle(alloc, &self.base, made)?;
         // No two changes have one uid.
         kept.changes.facts();
         Ok(Store {
@@ -121,6 +124,13 @@ impl Store {
             marks: kept.marks,
             settled: kept.settled,
         })
+    }
+
+    /// How many changes are kept over the entities that were read whole: one for each uid that changes upserted, and one for each of
+    /// these entities that they removed. Of other uids that were removed, at most as many more are kept, and 126. Time grows with the
+    /// number.
+    pub fn kept_changes(&self) -> usize {
+        self.changes.len()
     }
 
     /// Appends each uid that `low` is below, once (Cedar language reference, hierarchy). An entity that is not in the store is

@@ -23,6 +23,15 @@ impl UidHashing {
         UidHashing::by_digest(digest)
     }
 
+    /// The hashing for these uids.
+    pub(crate) fn of_uids(uids: &[&Uid]) -> Self {
+        let mut digest = DefaultHasher::new();
+        for uid in uids {
+            uid.hash(&mut digest);
+        }
+        UidHashing::by_digest(digest)
+    }
+
     /// The hashing for the uids that the digest was fed. Takes no memory.
     pub fn by_digest(mut digest: DefaultHasher) -> Self {
         let key = digest.finish();

@@ -14,6 +14,8 @@ mod entities;
 #[cfg(test)]
 mod many;
 #[cfg(test)]
+mod passing;
+#[cfg(test)]
 mod questions;
 #[cfg(test)]
 mod random;

@@ -7,9 +7,9 @@ use Rattle.cedar_value.specs.declared.uid.Uid.{Uid}
 use Rattle.cedar_store.specs.Changes.{is_changed}
 use Rattle.cedar_store.specs.Entities.{IsAcyclic}
 use Rattle.cedar_store.specs.Private.Based.{BaseTree}
-use Rattle.cedar_store.specs.Private.Changing.{ChangeTree, change_of, upsert_in}
+use Rattle.cedar_store.specs.Private.Changing.{ChangeTree, Seen, only, seen}
 use Rattle.cedar_store.specs.Private.Kept.{in_row}
-use Rattle.cedar_store.specs.Private.Overlaid.{IsNamed, IsNumbered, IsSettled, AreParentsKnown, AreSettled, AreMarkedSettled, world_over}
+use Rattle.cedar_store.specs.Private.Overlaid.{IsNumbered, IsSettled, AreParentsKnown, AreSettled, AreMarkedSettled, world_over}
 use Rattle.cedar_store.specs.declared.store_fault.StoreFault.{StoreFault}
 use Rattle.cedar_store.specs.declared.store_fault.StoreFault.TheVariants.{OutOfMemory, DuplicateEntity, Cycle}
 
@@ -17,20 +17,19 @@ use Rattle.cedar_store.specs.declared.store_fault.StoreFault.TheVariants.{OutOfM
 abbrev pub removal : Uid → ChangeTree
 removal u = record { uid = u; entity = None }
 
--- what changes say of the uid after the removals
-abbrev pub after_removals : List Uid → (Uid → Option ChangeTree) → Uid → Option ChangeTree
-after_removals removed old u = if list_any (same_uid u) removed then Some (removal u) else old u
+-- what changes show of the uid after the removals
+abbrev pub after_removals : List Uid → (Uid → Seen) → Uid → Seen
+after_removals removed old u = if list_any (same_uid u) removed then only None else old u
 
 -- what changes say of the uid after the entity with it, if there is one, is upserted
 abbrev pub after_upsert : Uid → Option EntityTree → Option ChangeTree → Option ChangeTree
 after_upsert u None old = old
 after_upsert u (Some e) old = Some (record { uid = u; entity = Some e })
 
--- the new changes say what the call says of the uids that it names, and of each other uid what the old ones say
-pub record IsAfterCall (old : List ChangeTree) (removed : List Uid) (upserted : World) (new : List ChangeTree) : Type 0 where
-  pub kept : (u : Uid) → is_changed removed upserted u ≡ false → change_of new u ≡ change_of old u
-  pub named : (u : Uid) → is_changed removed upserted u ≡ true → IsNamed new u
-  pub upserts : (u : Uid) → is_changed removed upserted u ≡ true → upsert_in (change_of new u) ≡ entry_of upserted u
+-- of the uids that the call names, the new changes show what it upserts, and of each other uid what the old ones show
+pub record IsAfterCall (w : World) (old : List ChangeTree) (removed : List Uid) (upserted : World) (new : List ChangeTree) : Type 0 where
+  pub kept : (u : Uid) → is_changed removed upserted u ≡ false → seen w new u ≡ seen w old u
+  pub named : (u : Uid) → is_changed removed upserted u ≡ true → seen w new u ≡ only (entry_of upserted u)
 
 -- each uid that was marked still is, and each with a number that the call names is
 pub record AreMarkedToo (b : BaseTree) (removed : List Uid) (upserted : World) (old new : List ℕ) : Type 0 where

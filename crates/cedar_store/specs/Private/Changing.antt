@@ -1,7 +1,7 @@
 -- The changes of a world, as a list.
-use Rattle.std.specs.Prelude.{◌≡◌, Bool, false, List, [], ◌∷◌, Option, Some, None, is_none, if◌then◌else◌}
+use Rattle.std.specs.Prelude.{◌≡◌, ◌||◌, Bool, false, List, [], ◌∷◌, Option, Some, None, is_none, is_some, if◌then◌else◌}
 use Rattle.cedar_value.specs.Datum.{same_uid}
-use Rattle.cedar_value.specs.World.{EntityTree, World}
+use Rattle.cedar_value.specs.World.{EntityTree, World, entry_of, has_entity}
 use Rattle.cedar_value.specs.declared.uid.Uid.{Uid}
 
 -- what changes say of a uid: the entity that is upserted, or none where the uid is removed
@@ -59,3 +59,27 @@ upsert_in (Some c) = c.entity
 abbrev pub is_removal : Option ChangeTree → Bool
 is_removal None = false
 is_removal (Some c) = is_none c.entity
+
+-- ---- changes over entities that were read whole
+
+-- the entity that a change of the uid, if there is one, leaves
+abbrev pub told_entry : Option ChangeTree → Option EntityTree → Option EntityTree
+told_entry None e = e
+told_entry (Some c) e = c.entity
+
+-- what changes show of a uid: the entity that there is, and the one that they upsert
+pub record Seen : Type 0 where
+  pub entry : Option EntityTree
+  pub upsert : Option EntityTree
+
+-- this entity, if it is one, is there and upserted, and no other
+abbrev pub only : Option EntityTree → Seen
+only e = record { entry = e; upsert = e }
+
+-- what the changes show of the uid
+abbrev pub seen : World → List ChangeTree → Uid → Seen
+seen w cs u = record { entry = told_entry (change_of cs u) (entry_of w u); upsert = upsert_in (change_of cs u) }
+
+-- whether the change shows another entity than there is without it: it upserts one, or removes one that was read whole
+abbrev pub is_needed : World → ChangeTree → Bool
+is_needed w c = is_some c.entity || has_entity w c.uid

@@ -12,10 +12,6 @@ use Rattle.cedar_store.specs.Private.Kept.{in_row, number_in}
 abbrev pub world_over : World → List ChangeTree → World
 world_over w cs = changed w (removed_of cs) (upserted_of cs)
 
--- whether there is a change of the uid
-abbrev pub IsNamed : List ChangeTree → Uid → Type 0
-IsNamed cs u = IsTrue (is_some (change_of cs u))
-
 -- the part of the world that is kept apart has the uid
 abbrev pub IsSettled : World → Uid → Type 0
 IsSettled part u = IsTrue (has_entity part u)

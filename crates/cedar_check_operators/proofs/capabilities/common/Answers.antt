@@ -3,7 +3,7 @@ use Rattle.cedar_check_spec.specs.Capabilities.{AreKept}
 use Rattle.cedar_check_spec.specs.Private.Checking.{common}
 use Rattle.cedar_check_spec.proofs.Trees.{common_kept}
 use Rattle.cedar_check_operators.specs.View.{held_view}
-use Rattle.cedar_check_operators.proofs.capability.common.Goals as goal
+use Rattle.cedar_check_operators.proofs.capabilities.common.Goals as goal
 
 pub returns : goal.returns
 returns c =

@@ -1,10 +1,9 @@
 -- Heights of expressions.
-use Rattle.std.proofs.Common.{◌≡◌, ℕ, Bool, true, false, Box, refl, ap, sym, ◌∙◌}
+use Rattle.std.proofs.Common.{◌≡◌, ℕ, Bool, true, false, refl, ap}
 use Rattle.std.specs.Prelude.{◌&&◌}
-use Rattle.cedar_ast_expressions.specs.Expression.{Expression}
 use Rattle.cedar_ast_expressions.specs.ExprKind.{expression_of}
 use Rattle.cedar_ast_expressions.specs.declared.expression.ExprKind.{ExprKind}
-use Rattle.cedar_ast_expressions.specs.declared.expression.ExprKind.TheVariants.{Literal, Variable, And, Or, If, Unary, Binary, Set, Record}
+use Rattle.cedar_ast_expressions.specs.declared.expression.ExprKind.TheVariants.{Unary}
 use Rattle.cedar_ast_expressions.specs.Private.SameExpression.{same_expression, same_expression-Decides}
 use Rattle.cedar_check_spec.specs.Capabilities as spec
 use Rattle.cedar_check_spec.specs.Private.Checking.{same_capability}

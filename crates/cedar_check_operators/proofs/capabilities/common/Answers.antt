@@ -1,4 +1,4 @@
-use Rattle.std.proofs.Common.{◌≡◌, ◌++◌, [], drop, drop_of_length-le, append-nil, arith, ap, sym, subst, ◌∙◌}
+use Rattle.std.proofs.Common.{◌≡◌, ◌++◌, [], drop_of_length-le, append-nil, arith, ap, sym, subst, ◌∙◌}
 use Rattle.cedar_check_spec.specs.Capabilities.{AreKept}
 use Rattle.cedar_check_spec.specs.Private.Checking.{common}
 use Rattle.cedar_check_spec.proofs.Trees.{common_kept}

@@ -1,4 +1,4 @@
-use Rattle.std.proofs.Common.{◌≡◌, sym, ◌∙◌}
+use Rattle.std.proofs.Common.{sym, ◌∙◌}
 use Rattle.cedar_check_operators.specs.View.{capability_view}
 use Rattle.cedar_check_operators.proofs.Heights.{apart}
 use Rattle.cedar_check_operators.proofs.capabilities.same_capability.Goals as goal

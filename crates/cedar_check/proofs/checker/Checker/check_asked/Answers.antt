@@ -1,4 +1,4 @@
-use Rattle.std.proofs.Common.{rules, ◌≡◌, [], Option, Some, ap, subst, sym, ◌∙◌}
+use Rattle.std.proofs.Common.{rules, ◌≡◌, [], Option, ap, subst, sym, ◌∙◌}
 use Rattle.std.specs.Prelude.{IfOk}
 use Rattle.cedar_schema_types.specs.declared.truth.Truth.TheVariants.{False}
 use Rattle.cedar_ast_expressions.specs.Expression.{binary}

@@ -143,3 +143,11 @@ module _ (h : Capabilities) (c : Capabilities → Option Typed) where
   pub regrouped : (b : Capabilities → Option Typed) (t : Option Typed) → on_boolean (on_boolean t (and_type h b)) (and_type h c) ≡ on_boolean t (and_type h (λ k. on_boolean (b k) (and_type k c)))
   regrouped b None = refl
   regrouped b (Some t) = first b t.gained (truth_in t.ty)
+
+-- ---- `&&` where nothing is held
+
+-- the row of `&&` whose left side has this type, and is not known false
+pub and_on : (f : Truth) (b : Capabilities → Option Typed) (t : Typed) → truth_in t.ty ≡ Some f → (f ≡ False → ⊥) → on_boolean (b t.gained) (and_right f t.gained) ≡ on_boolean (Some t) (and_type [] b)
+and_on False b t is not = absurd (not refl)
+and_on True b t is not = ap (option_and_then (λ (f : Truth). and_type [] b f t.gained)) (sym is)
+and_on Any b t is not = ap (option_and_then (λ (f : Truth). and_type [] b f t.gained)) (sym is)

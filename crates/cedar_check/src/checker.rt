@@ -201,6 +201,20 @@ impl<'a> Checker<'a> {
         and_right(self.alloc, truth, x.gained, right)
     }
 
+    // The type of `one OPERATOR two`.
+    fn check_relation(
+        &self,
+        held: &[Capability<'a>],
+        operator: BinaryOperator,
+        one: &'a Expr,
+        two: &'a Expr,
+    ) -> Result<Typing<'a>, AllocError>
+        ensures { IfOk result (λ t. typing_view t ≡ type_of_with self.now.settings self.now.schema.now self.now.environment.now (held_view held.now) (binary operator one.now two.now)) }
+    {
+        let typing = self.check(held, one)?;
+        self.check_binary(held, operator, typing, one, two)
+    }
+
     // The row of `left && one OPERATOR two`, where nothing is held.
     fn check_asked(
         &self,
@@ -223,8 +237,7 @@ impl<'a> Checker<'a> {
         if truth == Truth::False {
             return Ok(Typing::plain(self.alloc, LentType::Boolean(Truth::False)));
         }
-        let typing = self.check(&x.gained, one)?;
-        let asked = self.check_binary(&x.gained, operator, typing, one, two)?;
+        let asked = self.check_relation(&x.gained, operator, one, two)?;
         and_right(self.alloc, truth, x.gained, asked)
     }
 

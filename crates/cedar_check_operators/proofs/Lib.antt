@@ -1,3 +1,4 @@
 pub mod Held
+mod Heights
 mod Joinable
 mod Written

@@ -1,5 +1,5 @@
 -- What contracts see of the values of the rules.
-use Rattle.std.specs.Prelude.{ℕ, option_map, List, map, Option, Some, None}
+use Rattle.std.specs.Prelude.{option_map, List, map, Option, Some, None}
 use Rattle.cedar_schema_types.specs.Types.{TypeTree}
 use Rattle.cedar_schema_types.specs.Types as kind
 use Rattle.cedar_check_spec.specs.Capabilities as spec

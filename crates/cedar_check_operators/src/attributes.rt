@@ -6,7 +6,8 @@ ghost use Rattle.cedar_check_spec.specs.Typing.{attributes_in};
 ghost use Rattle.std.specs.Prelude.{◌||◌};
 ghost use Rattle.cedar_check_operators.specs.View.{capability_view, held_view, tree_of, typing_view};
 
-use crate::capability::{Capability, is_held};
+use crate::capabilities::is_held;
+use crate::capability::Capability;
 use crate::declared::declared;
 use crate::lent_type::{LentType, TypeGlance};
 use crate::type_fault::TypeFault;

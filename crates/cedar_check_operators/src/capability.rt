@@ -1,12 +1,9 @@
-//! Capabilities.
-ghost use Rattle.std.specs.Prelude.{◌≡◌, ◌++◌, IfOk};
-ghost use Rattle.cedar_check_spec.specs.Capabilities.{AreKept};
-ghost use Rattle.cedar_check_spec.specs.Private.Checking.{is_held, same_capability};
-ghost use Rattle.cedar_check_operators.specs.View.{capability_view, held_view};
+//! A capability.
+ghost use Rattle.std.specs.Prelude.{◌≡◌};
+ghost use Rattle.cedar_check_operators.specs.Private.Height.{height_of};
 
-use cedar_ast_expressions::Expr;
+use cedar_ast_expressions::{Expr, ExprKind};
 use cedar_value::Text;
-use std::alloc::{AllocError, Global};
 
 /// An attribute that an expression is known to have (cedar-spec, Lean: Cedar.Validation, capabilities).
 #[derive(Clone, Copy)]
@@ -15,75 +12,31 @@ pub struct Capability<'a> {
     pub on: &'a Expr,
     /// The attribute's name.
     pub key: &'a Text,
+    /// With how many operators on one operand the expression begins, modulo 2^64. Expressions that differ in this are not equal.
+    pub(crate) height: u64,
+    ghost measured: { height ≡ height_of on.now },
 }
 
-// Whether the two are equal.
-fn same_capability(one: Capability<'_>, two: Capability<'_>) -> bool
-    ensures { result ≡ same_capability (capability_view one.entry) (capability_view two.entry) }
-{
-    one.key == two.key && one.on == two.on
+impl<'a> Capability<'a> {
+    /// The capability that the expression has the attribute.
+    pub(crate) fn new(on: &'a Expr, key: &'a Text) -> Self
+        ensures on { result.on.now ≡ on.now }
+        ensures key { result.key.now ≡ key.now }
+    {
+        let height = height_of(on);
+        Capability { on, key, height }
+    }
 }
 
-// Whether the capability is one of these.
-pub(crate) fn is_held(wanted: Capability<'_>, held: &[Capability<'_>]) -> bool
-    ensures { result ≡ is_held (capability_view wanted.entry) (held_view held.now) }
+// With how many operators on one operand an expression begins, modulo 2^64.
+fn height_of(expression: &Expr) -> u64
+    ensures { result ≡ height_of expression.now }
 {
-    for capability in held {
-        if same_capability(*capability, wanted) {
-            return true;
-        }
+    let mut height: u64 = 0;
+    let mut rest = expression;
+    'down: while let ExprKind::Unary(_, operand) = rest.kind() {
+        height = height.wrapping_add(1);
+        rest = operand;
     }
-    false
-}
-
-/// What is held, and what is gained.
-pub fn extended<'a>(
-    alloc: Global,
-    held: &[Capability<'a>],
-    gained: &[Capability<'a>],
-) -> Result<Vec<Capability<'a>>, AllocError>
-    ensures { IfOk result (λ all. held_view all.items ≡ held_view held.now ++ held_view gained.now) }
-{
-    let mut all = Vec::new(alloc);
-    for capability in held {
-        all.push(*capability)?;
-    }
-    for capability in gained {
-        all.push(*capability)?;
-    }
-    Ok(all)
-}
-
-/// The ones and the others. Where one of the two lists is empty, it takes no memory.
-pub fn together<'a>(
-    one: Vec<Capability<'a>>,
-    two: Vec<Capability<'a>>,
-) -> Result<Vec<Capability<'a>>, AllocError>
-    ensures { IfOk result (λ all. held_view all.items ≡ held_view one.entry.items ++ held_view two.entry.items) }
-{
-    if one.is_empty() {
-        return Ok(two);
-    }
-    let mut all = one;
-    for capability in &two {
-        all.push(*capability)?;
-    }
-    Ok(all)
-}
-
-/// The capabilities of the first list that the second has, in order.
-pub fn common<'a>(
-    alloc: Global,
-    one: &[Capability<'a>],
-    two: &[Capability<'a>],
-) -> Result<Vec<Capability<'a>>, AllocError>
-    ensures { IfOk result (λ both. AreKept (held_view one.now) (held_view two.now) (held_view both.items)) }
-{
-    let mut both = Vec::new(alloc);
-    for capability in one {
-        if is_held(*capability, two) {
-            both.push(*capability)?;
-        }
-    }
-    Ok(both)
+    height
 }

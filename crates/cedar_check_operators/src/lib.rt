@@ -22,6 +22,7 @@
 #![tactic(auto)]
 
 mod attributes;
+mod capabilities;
 mod capability;
 mod declared;
 mod equality;
@@ -36,7 +37,8 @@ mod sets;
 mod type_fault;
 mod typing;
 
-pub use capability::{Capability, common, extended, together};
+pub use capabilities::{common, extended, together};
+pub use capability::Capability;
 pub use declared::is_action;
 pub use joining::join_types;
 pub use lent_type::LentType;

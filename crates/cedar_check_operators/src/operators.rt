@@ -93,7 +93,7 @@ pub fn unary_type<'a>(
                 alloc,
                 schema,
                 held,
-                Capability { on: operand, key },
+                Capability::new(operand, key),
                 &typed.ty,
             )
         }
@@ -102,7 +102,7 @@ pub fn unary_type<'a>(
                 alloc,
                 schema,
                 held,
-                Capability { on: operand, key },
+                Capability::new(operand, key),
                 &typed.ty,
             )
         }

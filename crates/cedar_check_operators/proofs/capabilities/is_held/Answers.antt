@@ -3,7 +3,7 @@ use Rattle.std.specs.Prelude.{◌||◌}
 use Rattle.cedar_check_spec.specs.Private.Checking.{is_held}
 use Rattle.cedar_check_operators.specs.View.{capability_view, held_view}
 use Rattle.cedar_check_operators.proofs.Held.{held_step}
-use Rattle.cedar_check_operators.proofs.capability.is_held.Goals as goal
+use Rattle.cedar_check_operators.proofs.capabilities.is_held.Goals as goal
 
 pub returns-then-same_capability : goal.returns-then-same_capability
 returns-then-same_capability c =

@@ -1,5 +1,5 @@
 use Rattle.std.proofs.Common.{◌≡◌, ◌++◌, take}
-use Rattle.cedar_check_operators.proofs.capability.extended.Given as goal
+use Rattle.cedar_check_operators.proofs.capabilities.extended.Given as goal
 
 abbrev pub invariant-loop-capability : goal.invariant-loop-capability
 invariant-loop-capability l = l.all.items ≡ take l.capability-index l.held

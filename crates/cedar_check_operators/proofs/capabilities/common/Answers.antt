@@ -1,9 +1,9 @@
-use Rattle.std.proofs.Common.{◌≡◌, ◌++◌, [], drop, drop_of_length-le, append-nil, arith, ap, sym, subst, ◌∙◌}
+use Rattle.std.proofs.Common.{◌≡◌, ◌++◌, [], drop_of_length-le, append-nil, arith, ap, sym, subst, ◌∙◌}
 use Rattle.cedar_check_spec.specs.Capabilities.{AreKept}
 use Rattle.cedar_check_spec.specs.Private.Checking.{common}
 use Rattle.cedar_check_spec.proofs.Trees.{common_kept}
 use Rattle.cedar_check_operators.specs.View.{held_view}
-use Rattle.cedar_check_operators.proofs.capability.common.Goals as goal
+use Rattle.cedar_check_operators.proofs.capabilities.common.Goals as goal
 
 pub returns : goal.returns
 returns c =

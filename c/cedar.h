@@ -21,10 +21,9 @@
  * Copies: a copy of a cedar_engine is the same handle. Once cedar_free was called for one of them, the others return CEDAR_ARGUMENT, and
  * cedar_free leaves them alone.
  *
- * Stack: 4 MiB for cedar_explain, cedar_explain_changes and those calls that are to give words (cedar_refusal), 512 KiB for those that
- * publish, change, validate, share, free, or explain a request or a line, 64 KiB for the other calls. Do not call from a signal handler, nor
- * in the forked child of a process with several threads. No call starts a thread or reads a file, and only calls over a cedar_shared wait, as
- * is said there. */
+ * Stack: 512 KiB for the calls that publish, change, validate, share, free or explain, 64 KiB for the other calls. Do not call from a signal
+ * handler, nor in the forked child of a process with several threads. No call starts a thread or reads a file, and only calls over a
+ * cedar_shared wait, as is said there. */
 #ifndef CEDAR_H
 #define CEDAR_H
 #include <stddef.h>
@@ -251,7 +250,10 @@ uint32_t cedar_answer_with_entities(cedar_engine *engine, cedar_bytes lines, ced
 uint32_t cedar_answer_line(cedar_engine *engine, cedar_bytes line, cedar_buffer *text);
 
 /* Decides a request. With CEDAR_OK `allow` is the decision, and with every other status it is 0. The text is the line that cedar_answer
- * would write, without its line feed. A buffer without room says that no text is wanted, which takes less time. */
+ * would write, without its line feed. A buffer without room says that no text is wanted, which takes less time.
+ *
+ * The context is a JSON text of its own here. So it may be 127 levels deep, where that of a line is one level deeper in its line and refused
+ * with 501. And a context that is not JSON is refused after faults of the uids (502, 503, 510, 511), in a line before them. */
 uint32_t cedar_decide(cedar_engine *engine, const cedar_request *request, cedar_decision *decision, cedar_buffer *text);
 
 /* The calls of the proved part, which the library exports, too. They check nothing: no address may be null, and each is of so many bytes as

@@ -27,8 +27,8 @@ const (
 	statusRefused = 3
 )
 
-// The least call stack of a thread, in bytes: explaining a refusal needs up to 4 MiB (docs/EMBEDDING.md).
-const leastStack = 5 << 20
+// The least call stack of a thread, in bytes: publishing and explaining need up to 512 KiB (docs/EMBEDDING.md).
+const leastStack = 1 << 20
 
 func main() {
 	os.Exit(run(os.Args[1:], os.Stdout, os.Stderr))
@@ -78,8 +78,7 @@ func checkStack() error {
 	if err := syscall.Getrlimit(syscall.RLIMIT_STACK, &limit); err != nil {
 		return fmt.Errorf("the limit of the call stack cannot be read: %w", err)
 	}
-	isUnlimited := limit.Cur > 1<<62
-	if isUnlimited || limit.Cur < leastStack {
+	if limit.Cur < leastStack {
 		return fmt.Errorf("threads have too small a call stack: run `ulimit -s 8192` before")
 	}
 	return nil

@@ -407,18 +407,12 @@ func TestTheModeOfTheAdminSocket(t *testing.T) {
 // With less stack than the deepest files need, the program does not start.
 func TestTooSmallAStack(t *testing.T) {
 	_, files := copied(t, "notes")
-	for _, limit := range []string{"4096", "unlimited"} {
-		words := append([]string{"-c", `ulimit -s "$0" && exec "$@"`, limit, built(t)}, append(files, "--listen", "127.0.0.1:0")...)
-		ends, cancel := context.WithTimeout(context.Background(), 20*time.Second)
-		defer cancel()
-		said, err := exec.CommandContext(ends, "bash", words...).CombinedOutput()
-		var ended *exec.ExitError
-		if limit == "unlimited" && strings.Contains(string(said), "ulimit: ") && !strings.Contains(string(said), "cedar-agent: ") {
-			t.Log("the limit cannot be raised here: ", string(said))
-			continue
-		}
-		if !errors.As(err, &ended) || ended.ExitCode() != statusFailed || !strings.Contains(string(said), "ulimit -s 8192") {
-			t.Error(limit, err, string(said))
-		}
+	words := append([]string{"-c", `ulimit -s 768 && exec "$0" "$@"`, built(t)}, append(files, "--listen", "127.0.0.1:0")...)
+	ends, cancel := context.WithTimeout(context.Background(), 20*time.Second)
+	defer cancel()
+	said, err := exec.CommandContext(ends, "bash", words...).CombinedOutput()
+	var ended *exec.ExitError
+	if !errors.As(err, &ended) || ended.ExitCode() != statusFailed || !strings.Contains(string(said), "ulimit -s 8192") {
+		t.Error(err, string(said))
 	}
 }

@@ -9,7 +9,6 @@
 #include <sys/wait.h>
 #include <unistd.h>
 
-#define EXPLAINING_STACK ((size_t)4 << 20)
 #define READING_STACK ((size_t)512 << 10)
 #define ASKING_STACK ((size_t)64 << 10)
 /* The memory below a stack, which no call may reach. It is larger than the frame of any function. */
@@ -324,7 +323,7 @@ static void check_text(uint32_t status) {
     changes = upserts(files.entities);
     on_a_stack(READING_STACK, publishes_changes);
     CHECK(is_right);
-    on_a_stack(EXPLAINING_STACK, explains_changes);
+    on_a_stack(READING_STACK, explains_changes);
     CHECK(is_right);
     check_line(status == CEDAR_OK);
     free((void *)changes.at);
@@ -422,7 +421,7 @@ static void check(const form *form) {
     CHECK(is_right);
     on_a_stack(READING_STACK, validates);
     CHECK(is_right);
-    on_a_stack(EXPLAINING_STACK, explains);
+    on_a_stack(READING_STACK, explains);
     CHECK(is_right);
     for (size_t i = 0; i < COUNT(lines); i++) {
         asked_line = text_of(&lines[i]);

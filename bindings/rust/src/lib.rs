@@ -28,7 +28,7 @@ use std::borrow::Cow;
 
 pub use error::{Error, Faults, File, Refusal, RequestRefusal};
 use raw::{Asks, Shared, Why};
-use stack::{on_enough_stack, on_large_stack};
+use stack::on_enough_stack;
 
 /// The version of the interface that this crate is written for.
 const ABI_VERSION: u32 = 1;
@@ -212,11 +212,7 @@ impl Engine {
     ///
     /// Those of [`Engine::new`], and [`Error::Closed`]. Nothing has changed then.
     pub fn publish(&self, files: &Files) -> Result<(), Error> {
-        on_large_stack(|| {
-            let mut why = Why::new(true);
-            let status = self.shared.publish(files, &mut why);
-            why.done(status)
-        })
+        made(|why| (self.shared.publish(files, why), ()))
     }
 
     /// Reads entities, and has all later calls answer over them, according to the schema, the policies and the links that are current.
@@ -226,11 +222,7 @@ impl Engine {
     ///
     /// [`Error::Refused`], [`Error::Memory`] and [`Error::Closed`]. Nothing has changed then.
     pub fn publish_entities(&self, entities: &[u8]) -> Result<(), Error> {
-        on_large_stack(|| {
-            let mut why = Why::new(true);
-            let status = self.shared.publish_entities(entities, &mut why);
-            why.done(status)
-        })
+        made(|why| (self.shared.publish_entities(entities, why), ()))
     }
 
     /// Reads changes of entities, `{"upsert":[entry, ..],"remove":[uid, ..]}`, and has all later calls answer over the entities after them.
@@ -240,7 +232,7 @@ impl Engine {
     ///
     /// [`Error::Refused`], [`Error::Memory`] and [`Error::Closed`]. Nothing has changed then.
     pub fn publish_changes(&self, changes: &[u8]) -> Result<(), Error> {
-        changed(|why| (self.shared.publish_changes(changes, why), ()))
+        made(|why| (self.shared.publish_changes(changes, why), ()))
     }
 
     /// Another engine, of the same policies, over the entities after changes, for example those that a request brings with it. This engine is
@@ -250,7 +242,7 @@ impl Engine {
     ///
     /// Those of [`Engine::publish_changes`].
     pub fn with_changes(&self, changes: &[u8]) -> Result<Engine, Error> {
-        let shared = changed(|why| self.shared.with_changes(changes, why))?;
+        let shared = made(|why| self.shared.with_changes(changes, why))?;
         Ok(Engine { shared: shared.ok_or(Error::Memory)? })
     }
 
@@ -353,18 +345,13 @@ impl Engine {
     }
 }
 
-/// Makes a call that takes changes, on the caller's thread where that has enough stack. Where it refuses them it is made once more, on a
-/// thread with the stack for the words.
-fn changed<T: Send>(call: impl Fn(&mut Why) -> (u32, T) + Sync) -> Result<T, Error> {
-    let made = |wants_words: bool| {
-        let mut why = Why::new(wants_words);
+/// Makes a call that says in words why it refuses something.
+fn made<T: Send>(call: impl FnOnce(&mut Why) -> (u32, T) + Send) -> Result<T, Error> {
+    on_enough_stack(|| {
+        let mut why = Why::new();
         let (status, value) = call(&mut why);
         why.done(status).map(|()| value)
-    };
-    match on_enough_stack(|| made(false)) {
-        Err(Error::Refused(_)) => on_large_stack(|| made(true)),
-        done => done,
-    }
+    })
 }
 
 /// Validates the policies of files. `entities` is not read.
@@ -373,8 +360,8 @@ fn changed<T: Send>(call: impl Fn(&mut Why) -> (u32, T) + Sync) -> Result<T, Err
 ///
 /// [`Error::Refused`] where a file is refused, and [`Error::Memory`].
 pub fn validate(files: &Files) -> Result<Report, Error> {
-    on_large_stack(|| {
-        let (mut why, mut text) = (Why::new(true), room(1024)?);
+    on_enough_stack(|| {
+        let (mut why, mut text) = (Why::new(), room(1024)?);
         match raw::validate(files, &mut why, &mut text) {
             status @ (raw::OK | raw::FAULTS) => Ok(Report { is_accepted: status == raw::OK, text: text_of(text)? }),
             status => Err(why.done(status).err().unwrap_or(Error::Library(status))),
@@ -388,7 +375,7 @@ pub fn validate(files: &Files) -> Result<Report, Error> {
 ///
 /// [`Error::Memory`].
 pub fn explain(files: &Files) -> Result<String, Error> {
-    on_large_stack(|| written(1024, |text| raw::explain(files, text)))
+    on_enough_stack(|| written(1024, |text| raw::explain(files, text)))
 }
 
 /// The version of the engine, for example `0.1.0`.

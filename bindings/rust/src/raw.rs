@@ -12,6 +12,9 @@ pub(crate) const FAULTS: u32 = 3;
 pub(crate) const NO_REQUEST: u32 = 7;
 pub(crate) const CLOSED: u32 = 8;
 
+/// `CEDAR_WANTS_WORDS`.
+const WANTS_WORDS: u32 = 1;
+
 /// `cedar_bytes`, which lend what they were made of.
 #[repr(C)]
 #[derive(Clone, Copy)]
@@ -100,10 +103,10 @@ pub(crate) struct Why {
 }
 
 impl Why {
-    /// Room for a refusal, with words or without.
-    pub(crate) fn new(wants_words: bool) -> Why {
+    /// Room for a refusal and its words.
+    pub(crate) fn new() -> Why {
         let (size, none) = (std::mem::size_of::<Why>(), Bytes::NONE);
-        Why { size, file: 0, number: 0, offset: 0, wants: wants_words.into(), reserved: 0, line: 0, text: none, words: none }
+        Why { size, file: 0, number: 0, offset: 0, wants: WANTS_WORDS, reserved: 0, line: 0, text: none, words: none }
     }
 
     /// What a call has done that returned this status.

@@ -4,20 +4,20 @@ use std::thread;
 
 use crate::Error;
 
-/// The stack that reading files, explaining refusals and freeing engines may need, with room to spare.
-const LARGE: usize = 8 << 20;
-/// The stack that publishing entities, and freeing the engine before, may need, with room to spare: the library needs 512 KiB.
+/// The stack that a call which publishes, explains or frees may need, with room to spare: the library needs 512 KiB.
 const ENOUGH: usize = 640 << 10;
+/// The stack of a thread that is started for such a call.
+const LARGE: usize = 2 << 20;
 
-/// Runs work on a thread of its own, since a thread of Rust has 2 MiB of stack unless it is made with more.
-pub(crate) fn on_large_stack<T: Send>(work: impl FnOnce() -> Result<T, Error> + Send) -> Result<T, Error> {
+/// Runs work on a thread of its own.
+fn on_large_stack<T: Send>(work: impl FnOnce() -> Result<T, Error> + Send) -> Result<T, Error> {
     thread::scope(|scope| match thread::Builder::new().stack_size(LARGE).spawn_scoped(scope, work) {
         Ok(worker) => worker.join().unwrap_or_else(|fault| std::panic::resume_unwind(fault)),
         Err(_) => Err(Error::Memory),
     })
 }
 
-/// Runs work on the caller's thread where that has enough stack for entities, or else as [`on_large_stack`] does.
+/// Runs work on the caller's thread where that has enough stack for it, or else on a thread of its own.
 pub(crate) fn on_enough_stack<T: Send>(work: impl FnOnce() -> Result<T, Error> + Send) -> Result<T, Error> {
     if system::free_stack() >= ENOUGH {
         return work();

@@ -14,6 +14,7 @@
 #![tactic(auto)]
 
 mod again;
+mod around;
 mod brought;
 mod changes;
 mod counting_sink;
@@ -22,6 +23,7 @@ mod diagnostic;
 mod diagnostic_draft;
 mod entities;
 mod excerpt;
+mod expected;
 mod explain;
 mod explain_all;
 mod fault_part;
@@ -40,7 +42,9 @@ mod policy_words;
 mod refused;
 mod schemas;
 mod second_place;
+mod syntax_hint;
 mod token_words;
+mod unexpected;
 mod words;
 
 pub use brought::explain_request_with_entities;

@@ -32,6 +32,7 @@ mod faulty;
 mod format;
 mod human;
 mod item_place;
+mod json_hint;
 mod json_lines;
 mod json_text;
 mod links;

@@ -37,11 +37,8 @@ pub fn meant_by_function(rest: &str) -> &'static str {
         | "toSeconds"
         | "toMinutes"
         | "toHours"
-        | "toDays" => {
-            "functions of dates and durations are not supported: see docs/GRAMMAR.md"
-        }
-        "hasTag" | "getTag" =>
-            "entity tags are not supported: see docs/GRAMMAR.md",
+        | "toDays" => { "functions of dates and durations are not supported: see docs/GRAMMAR.md" }
+        "hasTag" | "getTag" => "entity tags are not supported: see docs/GRAMMAR.md",
         "startsWith" | "endsWith" | "matches" | "starts_with" | "ends_with" | "substring" => {
             "`like` compares a string with a pattern: write `x like \"abc*\"`"
         }

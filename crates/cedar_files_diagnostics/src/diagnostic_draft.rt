@@ -63,8 +63,13 @@ impl DiagnosticDraft {
 
     /// Says what to do, in place of what was said before.
     pub(crate) fn advise(&mut self, hint: &str) {
+        self.advise_all(&[hint]);
+    }
+
+    /// Says what to do in these pieces, in place of what was said before.
+    pub(crate) fn advise_all(&mut self, pieces: &[&str]) {
         let mut draft = Draft::new(self.alloc);
-        draft.add(hint);
+        draft.add_all(pieces);
         self.hint = draft;
     }
 

@@ -35,6 +35,7 @@ mod item_place;
 mod json_hint;
 mod json_lines;
 mod json_text;
+mod link_words;
 mod links;
 mod messages;
 mod own_statement;

@@ -50,55 +50,43 @@ const UID: &str = "X::\"a\"";
 
 const NAME: &str = "x";
 
-/// What is said to be expected where a text is allowed, and another one is not.
-struct Shown {
-    tried: &'static str,
-    says: &'static str,
-    unless: [&'static str; 2],
-}
-
-const fn shown(tried: &'static str, says: &'static str, unless: [&'static str; 2]) -> Shown {
-    Shown {
-        tried,
-        says,
-        unless,
-    }
-}
+/// What is said to be expected: the text that is tried for it, the words, and two texts of which none may be allowed beside it.
+type Shown = (&'static str, &'static str, [&'static str; 2]);
 
 /// What is shown, in this order. An expression may begin with much that is not shown beside it, and operators are one thing where all of
 /// them are allowed.
 const SHOWN: [Shown; 31] = [
-    shown("1", "an expression", ["", ""]),
-    shown(UID, "a uid such as `User::\"ann\"`", ["1", ""]),
-    shown(NAME, "a name", [UID, ""]),
-    shown("\"a\"", "a string", ["1", ""]),
-    shown("?principal", "a slot", ["1", ""]),
-    shown("like", "an operator", ["", ""]),
-    shown("&&", "`&&`", ["like", ""]),
-    shown("||", "`||`", ["like", ""]),
-    shown("==", "`==`", ["&&", ""]),
-    shown("in", "`in`", ["&&", ""]),
-    shown("is", "`is`", ["&&", ""]),
-    shown(",", "`,`", ["", ""]),
-    shown(")", "`)`", ["", ""]),
-    shown("]", "`]`", ["", ""]),
-    shown("}", "`}`", ["", ""]),
-    shown(";", "`;`", ["", ""]),
-    shown(":", "`:`", ["", ""]),
-    shown("::", "`::`", ["&&", ""]),
-    shown("(", "`(`", ["1", "&&"]),
-    shown("[", "`[`", ["1", "&&"]),
-    shown("{", "`{`", ["1", ""]),
-    shown("permit", "`permit`", [NAME, ""]),
-    shown("forbid", "`forbid`", [NAME, ""]),
-    shown("@", "`@`", ["", ""]),
-    shown("principal", "`principal`", [NAME, ""]),
-    shown("action", "`action`", [NAME, ""]),
-    shown("resource", "`resource`", [NAME, ""]),
-    shown("when", "`when`", [NAME, ""]),
-    shown("unless", "`unless`", [NAME, ""]),
-    shown("then", "`then`", ["", ""]),
-    shown("else", "`else`", ["", ""]),
+    ("1", "an expression", ["", ""]),
+    (UID, "a uid such as `User::\"ann\"`", ["1", ""]),
+    (NAME, "a name", [UID, ""]),
+    ("\"a\"", "a string", ["1", ""]),
+    ("?principal", "a slot", ["1", ""]),
+    ("like", "an operator", ["", ""]),
+    ("&&", "`&&`", ["like", ""]),
+    ("||", "`||`", ["like", ""]),
+    ("==", "`==`", ["&&", ""]),
+    ("in", "`in`", ["&&", ""]),
+    ("is", "`is`", ["&&", ""]),
+    (",", "`,`", ["", ""]),
+    (")", "`)`", ["", ""]),
+    ("]", "`]`", ["", ""]),
+    ("}", "`}`", ["", ""]),
+    (";", "`;`", ["", ""]),
+    (":", "`:`", ["", ""]),
+    ("::", "`::`", ["&&", ""]),
+    ("(", "`(`", ["1", "&&"]),
+    ("[", "`[`", ["1", "&&"]),
+    ("{", "`{`", ["1", ""]),
+    ("permit", "`permit`", [NAME, ""]),
+    ("forbid", "`forbid`", [NAME, ""]),
+    ("@", "`@`", ["", ""]),
+    ("principal", "`principal`", [NAME, ""]),
+    ("action", "`action`", [NAME, ""]),
+    ("resource", "`resource`", [NAME, ""]),
+    ("when", "`when`", [NAME, ""]),
+    ("unless", "`unless`", [NAME, ""]),
+    ("then", "`then`", ["", ""]),
+    ("else", "`else`", ["", ""]),
 ];
 
 /// What the grammar allows at a place: those of the texts that were tried with which the parser goes on.
@@ -137,8 +125,8 @@ impl Expected {
 
     // Whether this is said to be expected.
     fn shows(&self, shown: &Shown) -> bool {
-        let [one, two] = shown.unless;
-        self.allows(shown.tried) && !self.allows(one) && !self.allows(two)
+        let (tried, _, [one, two]) = *shown;
+        self.allows(tried) && !self.allows(one) && !self.allows(two)
     }
 
     /// Adds what is expected, at most five things: "expected `;`, `when` or `unless`", after a comma. Adds nothing where nothing is known.
@@ -156,7 +144,7 @@ impl Expected {
                     _ if number.saturating_add(1) == count => " or ",
                     _ => ", ",
                 });
-                says.add(shown.says);
+                says.add(shown.1);
                 number = number.saturating_add(1);
             }
         }

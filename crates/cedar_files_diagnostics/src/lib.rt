@@ -53,7 +53,7 @@ pub use brought::explain_request_with_entities;
 pub use changes::explain_changes;
 pub use counting_sink::{CountingSink, FirstRefused, LineCounts};
 pub use data::explain_request;
-pub use diagnostic::{Diagnostic, Explanation, Mark, Severity};
+pub use diagnostic::{Diagnostic, Explanation, Mark, Severity, Subject};
 pub use explain::explain_file;
 pub use explain_all::explain_files;
 pub use fault_part::Checked;

@@ -129,13 +129,20 @@ impl Expected {
         self.allows(tried) && !self.allows(one) && !self.allows(two)
     }
 
+    // How many things are said to be expected.
+    fn count_shown(&self) -> usize {
+        let mut count = 0usize;
+        for shown in &SHOWN {
+            if count < MOST && self.shows(shown) {
+                count = count.saturating_add(1);
+            }
+        }
+        count
+    }
+
     /// Adds what is expected, at most five things: "expected `;`, `when` or `unless`", after a comma. Adds nothing where nothing is known.
     pub(crate) fn add_to(&self, says: &mut Draft) {
-        let count = SHOWN
-            .iter()
-            .filter(|shown| self.shows(shown))
-            .count()
-            .min(MOST);
+        let count = self.count_shown();
         let mut number = 0usize;
         for shown in &SHOWN {
             if number < count && self.shows(shown) {

@@ -62,7 +62,11 @@ check_members-returns t c =
     ∙ c.loop-member.invariant
 
 pub check_record-loop-pair-init : goal.check_record-loop-pair-init
-check_record-loop-pair-init t c = record { names = refl; made = (no_attributes, none_made, refl) }
+check_record-loop-pair-init t c =
+    let empty = c.new-attributes.ensures.items in record {
+      names = ap (map name_of) empty;
+      made = (no_attributes, subst (IsMade no_attributes) (sym empty) none_made, refl);
+    }
 
 pub check_record-returns-in-Refused : goal.check_record-returns-in-Refused
 check_record-returns-in-Refused t c =

@@ -1,12 +1,11 @@
 -- The uids above which the part is made.
-use Rattle.std.proofs.Common.{◌≡◌, inl, inr, Bool, true, false, List, Bor, Option, None, Some, is_some, refl, sym, subst, ◌∙◌, Contains}
+use Rattle.std.proofs.Common.{◌≡◌, ◌⊎◌, inl, inr, ⊎_elim, Bool, true, false, List, Bor, Option, None, Some, is_some, refl, sym, subst, ◌∙◌, Contains}
 use Rattle.base_reach.specs.Private.Lent.{lent}
 use Rattle.cedar_value.specs.World.{EntityTree, World, entry_of, parents_of}
 use Rattle.cedar_value.specs.declared.uid.Uid.{Uid}
 use Rattle.cedar_store.specs.Private.Based.{BaseTree}
-use Rattle.cedar_store.specs.Private.Called.{IsLinked}
 use Rattle.cedar_store.specs.Private.Kept.{number_in}
-use Rattle.cedar_store.specs.Private.Overlaid.{IsNumbered, IsSettled}
+use Rattle.cedar_store.specs.Private.Overlaid.{IsNumbered, IsPlaced, IsSettled}
 use Rattle.cedar_store.proofs.ChangedLemmas.{entry_in}
 use Rattle.cedar_store.proofs.EachMore.{Each}
 use Rattle.cedar_store.proofs.Marked.{Keeps}
@@ -24,12 +23,12 @@ AreParentsDue b w due u = Each (IsDue b due) (parents_of w u)
 pub still_parents_due : (b : BaseTree) (w : World) (old new : List (Bor Uid)) (us : List Uid) → Keeps old new → Each (AreParentsDue b w old) us → Each (AreParentsDue b w new) us
 still_parents_due b w old new us keeps each u m = still_due b old new (parents_of w u) keeps (each u m)
 
-pub numbered_or_not : (b : BaseTree) (part : World) (p : Uid) → (¬ IsNumbered b p → IsSettled part p) → IsLinked b part p
-numbered_or_not b part p settled = by (is_some (number_in b.keys p)) refl
+pub numbered_or_not : (P : Type 0) (b : BaseTree) (part : World) (p : Uid) → (¬ IsNumbered b p → IsSettled part p ⊎ P) → IsPlaced b part p ⊎ P
+numbered_or_not P b part p rest = by (is_some (number_in b.keys p)) refl
   where
-    by : (t : Bool) → is_some (number_in b.keys p) ≡ t → IsLinked b part p
-    by true is = inr is
-    by false is = inl (settled (λ there. absurd (let both : true ≡ false = sym there ∙ is in cc)))
+    by : (t : Bool) → is_some (number_in b.keys p) ≡ t → IsPlaced b part p ⊎ P
+    by true is = inl (inr is)
+    by false is = ⊎_elim (λ settled. inl (inl settled)) (λ h. inr h) (rest (λ there. absurd (let both : true ≡ false = sym there ∙ is in cc)))
 
 -- ---- what a part has
 

@@ -19,12 +19,14 @@ pub mod MoreChanges
 pub mod Near
 pub mod NearMembers
 pub mod NoChanges
+pub mod Noted
 pub mod Numbered
 pub mod OnceEach
 pub mod Overlaid
 pub mod Parts
 pub mod Places
 pub mod PlainRows
+pub mod Resettled
 pub mod SameEntities
 pub mod Staying
 pub mod Swept

@@ -11,7 +11,7 @@ use Rattle.cedar_store.specs.Faults.{IsThere}
 use Rattle.cedar_store.specs.Private.Based.{BaseTree}
 use Rattle.cedar_store.specs.Private.Changing.{ChangeTree}
 use Rattle.cedar_store.specs.Private.Kept.{in_row, number_in}
-use Rattle.cedar_store.specs.Private.Overlaid.{IsOverlaid, IsSettled}
+use Rattle.cedar_store.specs.Private.Overlaid.{IsNoted, IsOverlaid, IsSettled}
 use Rattle.cedar_store.specs.declared.store_fault.StoreFault.{StoreFault}
 use Rattle.cedar_store.specs.declared.store_fault.StoreFault.TheVariants.{OutOfMemory, DuplicateEntity, Cycle}
 use Rattle.cedar_store.proofs.Overlaid.{world_over-none}
@@ -26,17 +26,21 @@ no_mark keys u there = let none = told_nothing (number_in keys u) in let both : 
 no_entity : (u : Uid) → IsSettled [] u → ⊥
 no_entity u there = cc
 
-overlaid_empty : (b : BaseTree) → IsAcyclic b.world → IsOverlaid b [] [] []
+no_note : (p : Uid) → IsNoted [] p → ⊥
+no_note p note = cc
+
+overlaid_empty : (b : BaseTree) → IsAcyclic b.world → IsOverlaid b [] [] [] []
 overlaid_empty b acyclic = record {
   acyclic = subst IsAcyclic (sym (world_over-none b.world [] refl)) acyclic;
   marked = λ u number. inr (ap (λ w. parents_of w u) (world_over-none b.world [] refl));
   settled = λ u v there. absurd (no_entity u there);
   parents = λ u p e there m. absurd (cc);
+  noted = λ p note. absurd (no_note p note);
   below_marked = λ p number marked. absurd (⊎_elim (λ m. no_mark b.keys p m) (λ h. no_mark b.keys h.0 h.1) marked);
 }
 
-pub overlaid_none : (b : BaseTree) (cs : List ChangeTree) (marks : List ℕ) (part : World) → cs ≡ [] → marks ≡ [] → part ≡ [] → IsAcyclic b.world → IsOverlaid b cs marks part
-overlaid_none b cs marks part no_changes no_marks no_part acyclic = rw (no_changes, no_marks, no_part) (overlaid_empty b acyclic)
+pub overlaid_none : (b : BaseTree) (cs : List ChangeTree) (marks : List ℕ) (part : World) (notes : List ChangeTree) → cs ≡ [] → marks ≡ [] → part ≡ [] → notes ≡ [] → IsAcyclic b.world → IsOverlaid b cs marks part notes
+overlaid_none b cs marks part notes no_changes no_marks no_part no_notes acyclic = rw (no_changes, no_marks, no_part, no_notes) (overlaid_empty b acyclic)
 
 -- ---- faults of no entities
 

@@ -8,6 +8,7 @@ use Rattle.std.proofs.Common.{◌≡◌, ◌↔◌, ℕ, ◌⊎◌, inl, inr, �
 use Rattle.std.specs.Option.{option_map}
 use Rattle.std.proofs.lemmas.List.{append-nil}
 use Rattle.base_reach.specs.Closure.{one_link, more_links}
+use Rattle.base_reach.proofs.Chains.{first_link}
 use Rattle.base_reach.proofs.Listed.{nowhere}
 use Rattle.cedar_value.specs.Datum.{Datum, uid}
 use Rattle.cedar_value.specs.World.{EntityTree, World, Below, entry_of, has_entity, parents_of}
@@ -15,7 +16,7 @@ use Rattle.cedar_value.specs.declared.uid.Uid.{Uid}
 use Rattle.cedar_store.specs.Private.Based.{BaseTree}
 use Rattle.cedar_store.specs.Private.Changing.{AreChangesDistinct, ChangeTree, EachChange, IsChangeOfUid, change_of, removed_of, upserted_of, upsert_in}
 use Rattle.cedar_store.specs.Private.Kept.{in_row}
-use Rattle.cedar_store.specs.Private.Overlaid.{IsNumbered, IsOverlaid, IsSettled, world_over}
+use Rattle.cedar_store.specs.Private.Overlaid.{IsBare, IsLinked, IsNumbered, IsOverlaid, IsPlaced, IsSettled, world_over}
 use Rattle.cedar_store.proofs.ChangedLemmas.{entry_unnamed, entry_named}
 use Rattle.cedar_store.proofs.ChangesTold.{changed_told, upserted_told}
 
@@ -81,25 +82,37 @@ module _ (w : World) (cs : List ChangeTree) where
 pub unsettled : (part : World) (u : Uid) (t : Bool) → t ≡ has_entity part u → t ≡ false → ¬ IsSettled part u
 unsettled part u t is none there = let both : true ≡ false = sym there ∙ sym is ∙ none in cc
 
-module _ (b : BaseTree) (cs : List ChangeTree) (marks : List ℕ) (part : World) (distinct : AreChangesDistinct cs) (named : EachChange IsChangeOfUid cs)
-    (numbered : (u v : Uid) → Below b.world u v → IsNumbered b v) (kept : IsOverlaid b cs marks part) where
+module _ (b : BaseTree) (cs : List ChangeTree) (marks : List ℕ) (part : World) (notes : List ChangeTree) (distinct : AreChangesDistinct cs) (named : EachChange IsChangeOfUid cs)
+    (numbered : (u v : Uid) → Below b.world u v → IsNumbered b v) (kept : IsOverlaid b cs marks part notes) where
   -- a row that has no mark in common is right
   pub row_apart : (u : Uid) → change_of cs u ≡ None → ((x : Uid) → IsTrue (in_row b.keys marks x) → ¬ Below b.world u x) → IsApart b.world cs u
   row_apart u none right = (parents_unnamed b.world cs distinct named u none, λ x c. ⊎_elim (λ there. absurd (right x there c)) (λ same. same) (kept.marked x (numbered u x c)))
 
-  parent_case : (z p : Uid) (o : Option ChangeTree) (e : Option EntityTree) → change_of cs z ≡ o → upsert_in o ≡ e → Contains (parents_of (world_over b.world cs) z) p → IsSettled part p ⊎ IsNumbered b p
-  parent_case z p None e is entity m = inr (numbered z p (one_link (subst (λ ps. Contains ps p) (parents_unnamed b.world cs distinct named z is) m)))
+  parent_case : (z p : Uid) (o : Option ChangeTree) (e : Option EntityTree) → change_of cs z ≡ o → upsert_in o ≡ e → Contains (parents_of (world_over b.world cs) z) p → IsLinked b part notes p
+  parent_case z p None e is entity m = inl (inr (numbered z p (one_link (subst (λ ps. Contains ps p) (parents_unnamed b.world cs distinct named z is) m))))
   parent_case z p (Some c) None is entity m = absurd (nowhere p (subst (λ ps. Contains ps p) (parents_named b.world cs distinct named z c is ∙ ap parents_in entity) m))
   parent_case z p (Some c) (Some e) is entity m =
       kept.parents z p e (ap upsert_in is ∙ entity) (subst (λ ps. Contains ps p) (parents_named b.world cs distinct named z c is ∙ ap parents_in entity) m)
 
+  -- what the part lacks, where it has a number
+  number_apart : (p : Uid) → IsNumbered b p → ¬ IsSettled part p → IsApart b.world cs p
+  number_apart p number unsettled = (
+    ⊎_elim (λ there. absurd (unsettled (kept.below_marked p number (inl there)))) (λ same. same) (kept.marked p number),
+    λ x c. ⊎_elim (λ there. absurd (unsettled (kept.below_marked p number (inr (x, there, c))))) (λ same. same) (kept.marked x (numbered p x c)),
+  )
+
+  bare_apart : (p : Uid) → IsBare b cs p → IsApart b.world cs p
+  bare_apart p bare = (bare.0 ∙ sym bare.1, λ x c. absurd (let first = first_link c in nowhere first.0 (subst (λ ps. Contains ps first.0) bare.1 first.1)))
+
+  placed_apart : (p : Uid) → IsPlaced b part p → ¬ IsSettled part p → IsApart b.world cs p
+  placed_apart p (inl settled) unsettled = absurd (unsettled settled)
+  placed_apart p (inr number) unsettled = number_apart p number unsettled
+
   -- a direct parent after the changes that the part lacks
   pub parent_apart : (z p : Uid) → Contains (parents_of (world_over b.world cs) z) p → ¬ IsSettled part p → IsApart b.world cs p
   parent_apart z p m unsettled =
-      let number : IsNumbered b p = ⊎_elim (λ settled. absurd (unsettled settled)) (λ n. n) (parent_case z p (change_of cs z) (upsert_in (change_of cs z)) refl refl m) in (
-        ⊎_elim (λ there. absurd (unsettled (kept.below_marked p number (inl there)))) (λ same. same) (kept.marked p number),
-        λ x c. ⊎_elim (λ there. absurd (unsettled (kept.below_marked p number (inr (x, there, c))))) (λ same. same) (kept.marked x (numbered p x c)),
-      )
+      ⊎_elim (λ placed. placed_apart p placed unsettled) (λ note. ⊎_elim (λ placed. placed_apart p placed unsettled) (bare_apart p) (kept.noted p note))
+      (parent_case z p (change_of cs z) (upsert_in (change_of cs z)) refl refl m)
 
 -- ---- sets of values
 

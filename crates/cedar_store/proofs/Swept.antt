@@ -51,7 +51,7 @@ once_there cs done old d is distinct = (distinct_rest cs (d ∷ done) (subst Are
 
 -- ---- what a store keeps
 
-module _ (b : BaseTree) (old new : List ChangeTree) (marks : List ℕ) (part : World) (distinct : AreChangesDistinct old) (named : EachChange IsChangeOfUid old) (distinct_new : AreChangesDistinct new) (named_new : EachChange IsChangeOfUid new) (same : (u : Uid) → seen b.world new u ≡ seen b.world old u) where
+module _ (b : BaseTree) (old new : List ChangeTree) (marks : List ℕ) (part : World) (notes : List ChangeTree) (distinct : AreChangesDistinct old) (named : EachChange IsChangeOfUid old) (distinct_new : AreChangesDistinct new) (named_new : EachChange IsChangeOfUid new) (same : (u : Uid) → seen b.world new u ≡ seen b.world old u) where
   pub swept_entry : (u : Uid) → entry_of (world_over b.world new) u ≡ entry_of (world_over b.world old) u
   swept_entry u =
       entry_case b.world new u (change_of new u) distinct_new named_new refl ∙ ap (λ (s : Seen). s.entry) (same u) ∙ sym (entry_case b.world old u (change_of old u) distinct named refl)
@@ -62,11 +62,12 @@ module _ (b : BaseTree) (old new : List ChangeTree) (marks : List ℕ) (part : W
   below_new : (u v : Uid) → Below (world_over b.world old) u v → Below (world_over b.world new) u v
   below_new u v chain = chain_among (λ x y m. subst (λ o. Contains (parents_in o) y) (sym (swept_entry x)) m) chain
 
-  pub swept_overlaid : IsOverlaid b old marks part → IsOverlaid b new marks part
+  pub swept_overlaid : IsOverlaid b old marks part notes → IsOverlaid b new marks part notes
   swept_overlaid kept = record {
     acyclic = λ u chain. kept.acyclic u (below_old u u chain);
     marked = λ u number. ⊎_elim (λ there. inl there) (λ is. inr (ap parents_in (swept_entry u) ∙ is)) (kept.marked u number);
     settled = λ u v there. (let told = kept.settled u v there in (λ c. below_new u v (told.0 c), λ c. told.1 (below_old u v c)));
     parents = λ u p e is m. kept.parents u p e (sym (ap (λ (s : Seen). s.upsert) (same u)) ∙ is) m;
+    noted = λ p note. ⊎_elim (λ placed. inl placed) (λ bare. inr (ap parents_in (swept_entry p) ∙ bare.0, bare.1)) (kept.noted p note);
     below_marked = kept.below_marked;
   }

@@ -28,6 +28,7 @@ pub(crate) struct Kept {
     pub(crate) changes: ChangeMap,
     pub(crate) marks: Row,
     pub(crate) settled: Arc<Base, Global>,
+    pub(crate) noted: ChangeMap,
 }
 
 /// What a store keeps after more changes.
@@ -45,9 +46,9 @@ pub(crate) fn changed(
     removed: &[Uid],
     upserted: EntityTable,
 ) -> Result<Kept, StoreFault>
-    requires overlaid { IsOverlaid overlay.now.base.now overlay.now.changes.now overlay.now.marks.now overlay.now.settled.now.world }
+    requires overlaid { IsOverlaid overlay.now.base.now overlay.now.changes.now overlay.now.marks.now overlay.now.settled.now.world overlay.now.noted.now }
     requires same { settled.now.value ≡ overlay.now.settled.now }
-    ensures overlaid { IfOk result (λ k. IsOverlaid overlay.now.base.now k.changes k.marks k.settled.value.world) }
+    ensures overlaid { IfOk result (λ k. IsOverlaid overlay.now.base.now k.changes k.marks k.settled.value.world k.noted) }
     ensures entries { IfOk result (λ k. (u : Uids) → entry_of (world_over overlay.now.base.now.world k.changes) u
         ≡ entry_of (changed_world (world_over overlay.now.base.now.world overlay.now.changes.now) removed.now upserted) u) }
     ensures refused { IfErr result (IsThereInChanges (world_over overlay.now.base.now.world overlay.now.changes.now) removed.now upserted) }
@@ -56,7 +57,7 @@ pub(crate) fn changed(
         base: overlay.base,
         changes: overlay.changes,
     };
-    if do_links_stay(&links, overlay.settled, removed, &upserted) {
+    if do_links_stay(&links, overlay.settled, overlay.noted, removed, &upserted) {
         with_links_kept(alloc, overlay, settled, removed, upserted)
     } else {
         with_links_changed(alloc, overlay, removed, upserted)
@@ -71,10 +72,10 @@ fn with_links_kept(
     removed: &[Uid],
     upserted: EntityTable,
 ) -> Result<Kept, StoreFault>
-    requires overlaid { IsOverlaid overlay.now.base.now overlay.now.changes.now overlay.now.marks.now overlay.now.settled.now.world }
+    requires overlaid { IsOverlaid overlay.now.base.now overlay.now.changes.now overlay.now.marks.now overlay.now.settled.now.world overlay.now.noted.now }
     requires same { settled.now.value ≡ overlay.now.settled.now }
-    requires stay { DoLinksStay overlay.now.base.now overlay.now.changes.now overlay.now.settled.now.world removed.now upserted }
-    ensures overlaid { IfOk result (λ k. IsOverlaid overlay.now.base.now k.changes k.marks k.settled.value.world) }
+    requires stay { DoLinksStay overlay.now.base.now overlay.now.changes.now overlay.now.settled.now.world overlay.now.noted.now removed.now upserted }
+    ensures overlaid { IfOk result (λ k. IsOverlaid overlay.now.base.now k.changes k.marks k.settled.value.world k.noted) }
     ensures entries { IfOk result (λ k. (u : Uids) → entry_of (world_over overlay.now.base.now.world k.changes) u
         ≡ entry_of (changed_world (world_over overlay.now.base.now.world overlay.now.changes.now) removed.now upserted) u) }
     ensures refused { IfErr result (IsThereInChanges (world_over overlay.now.base.now.world overlay.now.changes.now) removed.now upserted) }
@@ -87,10 +88,12 @@ fn with_links_kept(
     // No two of the new changes have one uid.
     changes.facts();
     let settled = Arc::try_clone(settled)?;
+    let noted = overlay.noted.try_clone()?;
     Ok(Kept {
         changes,
         marks,
         settled,
+        noted,
     })
 }
 
@@ -101,8 +104,8 @@ fn with_links_changed(
     removed: &[Uid],
     upserted: EntityTable,
 ) -> Result<Kept, StoreFault>
-    requires overlaid { IsOverlaid overlay.now.base.now overlay.now.changes.now overlay.now.marks.now overlay.now.settled.now.world }
-    ensures overlaid { IfOk result (λ k. IsOverlaid overlay.now.base.now k.changes k.marks k.settled.value.world) }
+    requires overlaid { IsOverlaid overlay.now.base.now overlay.now.changes.now overlay.now.marks.now overlay.now.settled.now.world overlay.now.noted.now }
+    ensures overlaid { IfOk result (λ k. IsOverlaid overlay.now.base.now k.changes k.marks k.settled.value.world k.noted) }
     ensures entries { IfOk result (λ k. (u : Uids) → entry_of (world_over overlay.now.base.now.world k.changes) u
         ≡ entry_of (changed_world (world_over overlay.now.base.now.world overlay.now.changes.now) removed.now upserted) u) }
     ensures refused { IfErr result (IsThereInChanges (world_over overlay.now.base.now.world overlay.now.changes.now) removed.now upserted) }
@@ -119,12 +122,14 @@ fn with_links_changed(
         base: overlay.base,
         changes: &changes,
     };
-    let part = settled_anew(alloc, &links, &marks, overlay.settled, &uids)?;
+    let anew = settled_anew(alloc, &links, &marks, overlay.settled, overlay.noted, &uids)?;
+    let (part, noted) = anew;
     let settled = Arc::new(alloc, part)?;
     Ok(Kept {
         changes,
         marks,
         settled,
+        noted,
     })
 }
 

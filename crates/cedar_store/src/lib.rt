@@ -33,6 +33,7 @@ mod links;
 mod links_stay;
 mod marks;
 mod more_changes;
+mod noting;
 mod numbers;
 mod overlay;
 mod part;

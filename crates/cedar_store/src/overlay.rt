@@ -18,13 +18,15 @@ use std::alloc::AllocError;
 ///
 /// What an entity is below is found without memory and in one step up: `settled` is the part of the world above each parent whose row
 /// of bits the changes have made wrong, with rows of its own, and the row is right for each other parent. `marks` has the number of
-/// each uid that changes gave other parents: a row that has none of them in common is right.
+/// each uid that changes gave other parents: a row that has none of them in common is right. `noted` has each parent without a number,
+/// as a removal: what it has and the part lacks has no parents.
 #[derive(Clone, Copy)]
 pub(crate) struct Overlay<'s> {
     pub(crate) base: &'s Base,
     pub(crate) changes: &'s ChangeMap,
     pub(crate) marks: &'s Row,
     pub(crate) settled: &'s Base,
+    pub(crate) noted: &'s ChangeMap,
 }
 
 impl<'s> Overlay<'s> {
@@ -55,7 +57,7 @@ impl<'s> Overlay<'s> {
 
     /// Whether the one is below the other.
     pub(crate) fn is_below(&self, low: &Uid, high: &Uid) -> bool
-        requires { IsOverlaid self.now.base.now self.now.changes.now self.now.marks.now self.now.settled.now.world }
+        requires { IsOverlaid self.now.base.now self.now.changes.now self.now.marks.now self.now.settled.now.world self.now.noted.now }
         ensures { IsTrue result ↔ Below (world_over self.now.base.now.world self.now.changes.now) low.now high.now }
     {
         if self.settled.has(low) {
@@ -69,7 +71,7 @@ impl<'s> Overlay<'s> {
 
     /// Whether the entity is below some uid of the set.
     pub(crate) fn is_below_any(&self, low: &Uid, highs: &ValueSet) -> bool
-        requires { IsOverlaid self.now.base.now self.now.changes.now self.now.marks.now self.now.settled.now.world }
+        requires { IsOverlaid self.now.base.now self.now.changes.now self.now.marks.now self.now.settled.now.world self.now.noted.now }
         ensures { IsTrue result
             ↔ ((v : Uids) × Contains highs.now (uid_datum v) × Below (world_over self.now.base.now.world self.now.changes.now) low.now v) }
     {
@@ -87,7 +89,7 @@ impl<'s> Overlay<'s> {
     /// Where changes name the entity, or something that it may be below, each uid above a parent is compared with those above the
     /// parents before it. So with more parents than one, time grows with the square of the number of uids that are appended.
     pub(crate) fn ancestors(&self, low: &Uid, found: &mut Vec<&'s Uid>) -> Result<(), AllocError>
-        requires { IsOverlaid self.now.base.now self.now.changes.now self.now.marks.now self.now.settled.now.world }
+        requires { IsOverlaid self.now.base.now self.now.changes.now self.now.marks.now self.now.settled.now.world self.now.noted.now }
         ensures adds { OnOk result (AddsAncestors (world_over self.now.base.now.world self.now.changes.now) low.now found.old.items found.new.items) }
         ensures refused { OnErr result (found.new.items ≡ found.old.items) }
     {
@@ -103,7 +105,7 @@ impl<'s> Overlay<'s> {
     // The direct parents of an entity where changes name it, or something that it may be below. None where all that it is below is as
     // it was before the changes.
     fn changed_parents(&self, low: &Uid) -> Option<&'s [Uid]>
-        requires { IsOverlaid self.now.base.now self.now.changes.now self.now.marks.now self.now.settled.now.world }
+        requires { IsOverlaid self.now.base.now self.now.changes.now self.now.marks.now self.now.settled.now.world self.now.noted.now }
         ensures { MatchOption result
             ((v : Uids) → Below (world_over self.now.base.now.world self.now.changes.now) low.now v ↔ Below self.now.base.now.world low.now v)
             (λ ps. ps.now ≡ parents_of (world_over self.now.base.now.world self.now.changes.now) low.now) }
@@ -127,7 +129,7 @@ impl<'s> Overlay<'s> {
 
     // Whether one of the direct parents of some entity is the uid, or is below it.
     fn lead_to(&self, parents: &[Uid], high: &Uid) -> bool
-        requires overlaid { IsOverlaid self.now.base.now self.now.changes.now self.now.marks.now self.now.settled.now.world }
+        requires overlaid { IsOverlaid self.now.base.now self.now.changes.now self.now.marks.now self.now.settled.now.world self.now.noted.now }
         requires parents { (p : Uids) → Contains parents.now p
             → (z : Uids) × Contains (parents_of (world_over self.now.base.now.world self.now.changes.now) z) p }
         ensures { IsTrue result ↔ ((p : Uids) × Contains parents.now p
@@ -143,7 +145,7 @@ impl<'s> Overlay<'s> {
 
     // Whether a direct parent of some entity is below the uid.
     fn is_parent_below(&self, parent: &Uid, high: &Uid) -> bool
-        requires overlaid { IsOverlaid self.now.base.now self.now.changes.now self.now.marks.now self.now.settled.now.world }
+        requires overlaid { IsOverlaid self.now.base.now self.now.changes.now self.now.marks.now self.now.settled.now.world self.now.noted.now }
         requires parent { (z : Uids) × Contains (parents_of (world_over self.now.base.now.world self.now.changes.now) z) parent.now }
         ensures { IsTrue result ↔ Below (world_over self.now.base.now.world self.now.changes.now) parent.now high.now }
     {
@@ -157,7 +159,7 @@ impl<'s> Overlay<'s> {
 
     // Whether one of the direct parents of some entity is a uid of the set, or is below one.
     fn lead_to_any(&self, parents: &[Uid], highs: &ValueSet) -> bool
-        requires overlaid { IsOverlaid self.now.base.now self.now.changes.now self.now.marks.now self.now.settled.now.world }
+        requires overlaid { IsOverlaid self.now.base.now self.now.changes.now self.now.marks.now self.now.settled.now.world self.now.noted.now }
         requires parents { (p : Uids) → Contains parents.now p
             → (z : Uids) × Contains (parents_of (world_over self.now.base.now.world self.now.changes.now) z) p }
         ensures { IsTrue result ↔ ((p : Uids) × Contains parents.now p × (v : Uids) × Contains highs.now (uid_datum v)
@@ -173,7 +175,7 @@ impl<'s> Overlay<'s> {
 
     // Whether a direct parent of some entity is below some uid of the set.
     fn is_parent_below_any(&self, parent: &Uid, highs: &ValueSet) -> bool
-        requires overlaid { IsOverlaid self.now.base.now self.now.changes.now self.now.marks.now self.now.settled.now.world }
+        requires overlaid { IsOverlaid self.now.base.now self.now.changes.now self.now.marks.now self.now.settled.now.world self.now.noted.now }
         requires parent { (z : Uids) × Contains (parents_of (world_over self.now.base.now.world self.now.changes.now) z) parent.now }
         ensures { IsTrue result ↔ ((v : Uids) × Contains highs.now (uid_datum v)
             × Below (world_over self.now.base.now.world self.now.changes.now) parent.now v) }
@@ -188,7 +190,7 @@ impl<'s> Overlay<'s> {
 
     // Appends each of the direct parents of some entity, and what these are below, once. When out of memory, the list is as it was.
     fn push_above(&self, parents: &'s [Uid], found: &mut Vec<&'s Uid>) -> Result<(), AllocError>
-        requires overlaid { IsOverlaid self.now.base.now self.now.changes.now self.now.marks.now self.now.settled.now.world }
+        requires overlaid { IsOverlaid self.now.base.now self.now.changes.now self.now.marks.now self.now.settled.now.world self.now.noted.now }
         requires parents { (p : Uids) → Contains parents.now p
             → (z : Uids) × Contains (parents_of (world_over self.now.base.now.world self.now.changes.now) z) p }
         ensures adds { OnOk result (Adds found.old.items found.new.items (λ v. (p : Uids) × Contains parents.now p
@@ -211,7 +213,7 @@ impl<'s> Overlay<'s> {
         found: &mut Vec<&'s Uid>,
         begun: usize,
     ) -> Result<(), AllocError>
-        requires overlaid { IsOverlaid self.now.base.now self.now.changes.now self.now.marks.now self.now.settled.now.world }
+        requires overlaid { IsOverlaid self.now.base.now self.now.changes.now self.now.marks.now self.now.settled.now.world self.now.noted.now }
         requires parents { (p : Uids) → Contains parents.now p
             → (z : Uids) × Contains (parents_of (world_over self.now.base.now.world self.now.changes.now) z) p }
         requires begun { begun ≤ length found.old.items }
@@ -234,7 +236,7 @@ impl<'s> Overlay<'s> {
         found: &mut Vec<&'s Uid>,
         begun: usize,
     ) -> Result<(), AllocError>
-        requires overlaid { IsOverlaid self.now.base.now self.now.changes.now self.now.marks.now self.now.settled.now.world }
+        requires overlaid { IsOverlaid self.now.base.now self.now.changes.now self.now.marks.now self.now.settled.now.world self.now.noted.now }
         requires parent { (z : Uids) × Contains (parents_of (world_over self.now.base.now.world self.now.changes.now) z) parent.now }
         requires begun { begun ≤ length found.old.items }
         ensures kept { KeepsFirst begun found.old.items found.new.items }

@@ -33,6 +33,7 @@ pub struct Store {
     changes: ChangeMap,
     marks: Row,
     settled: Arc<Base, Global>,
+    noted: ChangeMap,
 }
 
 impl Model for Store {
@@ -47,7 +48,7 @@ impl Model for Store {
 
     ghost view = { λ s. world_over s.base.value.world s.changes };
 
-    ghost invariant = { λ s. IsOverlaid s.base.value s.changes s.marks s.settled.value.world };
+    ghost invariant = { λ s. IsOverlaid s.base.value s.changes s.marks s.settled.value.world s.noted };
 }
 
 impl Store {
@@ -79,6 +80,7 @@ impl Store {
             changes: ChangeMap::new(hashing),
             marks: Row::new(alloc),
             settled: Arc::new(alloc, nothing)?,
+            noted: ChangeMap::new(hashing),
         })
     }
 
@@ -113,6 +115,7 @@ impl Store {
             changes: &self.changes,
             marks: &self.marks,
             settled: &self.settled,
+            noted: &self.noted,
         };
         let made = changing::changed(alloc, &overlay, &self.settled, removed, upserted)?;
         let kept = without_idle(alloc, &self.base, made)?;
@@ -123,6 +126,7 @@ impl Store {
             changes: kept.changes,
             marks: kept.marks,
             settled: kept.settled,
+            noted: kept.noted,
         })
     }
 
@@ -182,13 +186,14 @@ impl Store {
     // The entities that were read whole, and the changes over them.
     fn overlay(&self) -> Overlay<'_>
         ensures world { world_over result.base.now.world result.changes.now ≡ self.now }
-        ensures overlaid { IsOverlaid result.base.now result.changes.now result.marks.now result.settled.now.world }
+        ensures overlaid { IsOverlaid result.base.now result.changes.now result.marks.now result.settled.now.world result.noted.now }
     {
         Overlay {
             base: &self.base,
             changes: &self.changes,
             marks: &self.marks,
             settled: &self.settled,
+            noted: &self.noted,
         }
     }
 }

@@ -19,8 +19,8 @@ use std::alloc::{AllocError, Global};
 ///
 /// Fails only when out of memory.
 pub(crate) fn without_idle(alloc: Global, base: &Base, kept: Kept) -> Result<Kept, AllocError>
-    requires { IsOverlaid base.now kept.changes kept.marks kept.settled.value.world }
-    ensures overlaid { IfOk result (λ k. IsOverlaid base.now k.changes k.marks k.settled.value.world) }
+    requires { IsOverlaid base.now kept.changes kept.marks kept.settled.value.world kept.noted }
+    ensures overlaid { IfOk result (λ k. IsOverlaid base.now k.changes k.marks k.settled.value.world k.noted) }
     ensures entries { IfOk result (λ k. (u : Uids) → entry_of (world_over base.now.world k.changes) u ≡ entry_of (world_over base.now.world kept.changes) u) }
 {
     if !kept.changes.has_no_room() {

@@ -9,7 +9,7 @@ use Rattle.cedar_store.specs.Entities.{IsAcyclic}
 use Rattle.cedar_store.specs.Private.Based.{BaseTree}
 use Rattle.cedar_store.specs.Private.Changing.{ChangeTree, Seen, only, seen}
 use Rattle.cedar_store.specs.Private.Kept.{in_row}
-use Rattle.cedar_store.specs.Private.Overlaid.{IsNumbered, IsSettled, AreParentsKnown, AreSettled, AreMarkedSettled, world_over}
+use Rattle.cedar_store.specs.Private.Overlaid.{IsBare, IsLinked, IsNoted, IsNumbered, IsPlaced, IsSettled, AreNotesRight, AreParentsKnown, AreSettled, AreMarkedSettled, world_over}
 use Rattle.cedar_store.specs.declared.store_fault.StoreFault.{StoreFault}
 use Rattle.cedar_store.specs.declared.store_fault.StoreFault.TheVariants.{OutOfMemory, DuplicateEntity, Cycle}
 
@@ -36,24 +36,32 @@ pub record AreMarkedToo (b : BaseTree) (removed : List Uid) (upserted : World) (
   pub kept : (u : Uid) → IsTrue (in_row b.keys old u) → IsTrue (in_row b.keys new u)
   pub named : (u : Uid) → is_changed removed upserted u ≡ true → IsNumbered b u → IsTrue (in_row b.keys new u)
 
--- the uid has a number, or is in the part that is kept apart
-abbrev pub IsLinked : BaseTree → World → Uid → Type 0
-IsLinked b part u = IsSettled part u ⊎ IsNumbered b u
-
 -- what something is below has the same parents before and after the call
-abbrev pub DoParentsStay : BaseTree → List ChangeTree → World → World → Uid → Type 0
-DoParentsStay b cs part upserted u = IsLinked b part u → parents_of upserted u ≡ parents_of (world_over b.world cs) u
+abbrev pub DoParentsStay : BaseTree → List ChangeTree → World → List ChangeTree → World → Uid → Type 0
+DoParentsStay b cs part notes upserted u = IsLinked b part notes u → parents_of upserted u ≡ parents_of (world_over b.world cs) u
 
 -- what something is below and the call names keeps its parents, and each parent of what the call upserts is known
-pub record DoLinksStay (b : BaseTree) (cs : List ChangeTree) (part : World) (removed : List Uid) (upserted : World) : Type 0 where
-  pub same : (u : Uid) → is_changed removed upserted u ≡ true → DoParentsStay b cs part upserted u
-  pub known : (u p : Uid) (e : EntityTree) → entry_of upserted u ≡ Some e → Contains e.parents p → IsLinked b part p
+pub record DoLinksStay (b : BaseTree) (cs : List ChangeTree) (part : World) (notes : List ChangeTree) (removed : List Uid) (upserted : World) : Type 0 where
+  pub same : (u : Uid) → is_changed removed upserted u ≡ true → DoParentsStay b cs part notes upserted u
+  pub known : (u p : Uid) (e : EntityTree) → entry_of upserted u ≡ Some e → Contains e.parents p → IsLinked b part notes p
 
--- the part is right and has no cycle, and has each uid that it must have after the call
-pub record AreSettledAnew (b : BaseTree) (cs : List ChangeTree) (marks : List ℕ) (old : World) (uids : List Uid) (new : World) : Type 0 where
+-- the uid is in the part or has a number, or it is noted and has nothing above it
+abbrev pub IsResettled : BaseTree → List ChangeTree → World → List ChangeTree → Uid → Type 0
+IsResettled b cs part notes p = IsPlaced b part p ⊎ (IsNoted notes p × IsBare b cs p)
+
+-- what was noted still is, and what else is to be known after the call is settled again: the old part, and of the uids of the call what is noted and their parents
+pub record AreNotesKept (b : BaseTree) (cs : List ChangeTree) (old : World) (notes : List ChangeTree) (uids : List Uid) (new : World) (notes_new : List ChangeTree) : Type 0 where
+  pub settled : (p : Uid) → IsSettled old p → IsResettled b cs new notes_new p
+  pub parents : (u p : Uid) → Contains uids u → Contains (parents_of (world_over b.world cs) u) p → IsResettled b cs new notes_new p
+  pub upserted : (u : Uid) → Contains uids u → IsNoted notes u → IsResettled b cs new notes_new u
+  pub kept : (p : Uid) → IsNoted notes p → IsNoted notes_new p
+  pub told : (p : Uid) → IsNoted notes_new p → IsNoted notes p ⊎ IsResettled b cs new notes_new p
+
+-- the part is right and has no cycle, and with the notes it has each uid that it must have after the call
+pub record AreSettledAnew (b : BaseTree) (cs : List ChangeTree) (marks : List ℕ) (old : World) (notes : List ChangeTree) (uids : List Uid) (new : World) (notes_new : List ChangeTree) : Type 0 where
   pub settled : AreSettled (world_over b.world cs) new
   pub acyclic : IsAcyclic new
-  pub known : (((p : Uid) → IsSettled old p → IsLinked b new p) × ((u p : Uid) → Contains uids u → Contains (parents_of (world_over b.world cs) u) p → IsLinked b new p)) ⊎ AreParentsKnown b cs new
+  pub known : AreNotesKept b cs old notes uids new notes_new ⊎ (AreParentsKnown b cs new notes_new × AreNotesRight b cs new notes_new)
   pub below_marked : AreMarkedSettled b marks new
 
 -- the fault is that of a cycle of the world, or says nothing of it

@@ -27,5 +27,5 @@ returns-else-is_below_marked c =
     let cs = c.args.self.now.changes.now in
     let distinct = c.facts-2.ensures.distinct in
     let named = c.facts-2.ensures.named in
-    let apart = row_apart b cs c.args.self.now.marks.now c.args.self.now.settled.now.world distinct named c.facts.ensures.numbered c.requires c.args.low.now (sym c.in-None.ensures) (c.is_below_marked.ensures c.if-is_below_marked.false) in
+    let apart = row_apart b cs c.args.self.now.marks.now c.args.self.now.settled.now.world c.args.self.now.noted.now distinct named c.facts.ensures.numbered c.requires c.args.low.now (sym c.in-None.ensures) (c.is_below_marked.ensures c.if-is_below_marked.false) in
     λ v. below_apart b.world cs c.args.low.now v apart

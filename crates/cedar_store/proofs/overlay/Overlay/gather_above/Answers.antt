@@ -22,5 +22,5 @@ returns-clause-gathers c =
     let p = c.args.parent.now in
     let distinct = c.facts-2.ensures.distinct in
     let named = c.facts-2.ensures.named in
-    let apart = parent_apart b cs c.args.self.now.marks.now part distinct named c.facts.ensures.numbered c.requires.overlaid c.requires.parent.0 p c.requires.parent.1 (unsettled part p c.has.result c.has.ensures c.if-has.false) in
+    let apart = parent_apart b cs c.args.self.now.marks.now part c.args.self.now.noted.now distinct named c.facts.ensures.numbered c.requires.overlaid c.requires.parent.0 p c.requires.parent.1 (unsettled part p c.has.result c.has.ensures c.if-has.false) in
     on_ok_weaker c.gather_ancestors-2.result (Gathers-as c.args.begun c.args.found.now.items c.gather_ancestors-2.new.found.items (λ v. Below b.world p v) (λ v. Below (world_over b.world cs) p v) (λ v. (let same = below_apart b.world cs p v apart in (same.1, same.0)))) c.gather_ancestors-2.ensures.gathers

@@ -18,6 +18,6 @@ returns c =
     let p = c.args.parent.now in
     let distinct = c.facts-2.ensures.distinct in
     let named = c.facts-2.ensures.named in
-    let apart = parent_apart b cs c.args.self.now.marks.now part distinct named c.facts.ensures.numbered c.requires.overlaid c.requires.parent.0 p c.requires.parent.1 (unsettled part p c.has.result c.has.ensures c.if-has.false) in
+    let apart = parent_apart b cs c.args.self.now.marks.now part c.args.self.now.noted.now distinct named c.facts.ensures.numbered c.requires.overlaid c.requires.parent.0 p c.requires.parent.1 (unsettled part p c.has.result c.has.ensures c.if-has.false) in
     let same = below_apart b.world cs p c.args.high.now apart in
     (λ t. same.1 (c.is_below-2.ensures.chain.0 t), λ d. c.is_below-2.ensures.chain.1 (same.0 d))

@@ -18,5 +18,5 @@ returns c =
     let p = c.args.parent.now in
     let distinct = c.facts-2.ensures.distinct in
     let named = c.facts-2.ensures.named in
-    let apart = parent_apart b cs c.args.self.now.marks.now part distinct named c.facts.ensures.numbered c.requires.overlaid c.requires.parent.0 p c.requires.parent.1 (unsettled part p c.has.result c.has.ensures c.if-has.false) in
+    let apart = parent_apart b cs c.args.self.now.marks.now part c.args.self.now.noted.now distinct named c.facts.ensures.numbered c.requires.overlaid c.requires.parent.0 p c.requires.parent.1 (unsettled part p c.has.result c.has.ensures c.if-has.false) in
     any_same (world_over b.world cs) b.world p c.args.highs.now c.is_below_any-2.result (λ v. below_apart b.world cs p v apart) c.is_below_any-2.ensures.chain

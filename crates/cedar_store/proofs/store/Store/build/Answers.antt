@@ -14,7 +14,7 @@ returns-in_err-nothing-clause-refused c =
 pub invariant_of-result : goal.invariant_of-result
 invariant_of-result c =
     let part = ap (λ (b : BaseTree). b.world) c.in_ok-new-2.ensures.ok ∙ c.in_ok-nothing.ensures.world ∙ c.new.ensures.items in
-    overlaid_none c.in_ok-new.field-0.value c.new-3.result c.new-4.result c.in_ok-new-2.field-0.value.world c.new-3.ensures c.new-4.ensures part
+    overlaid_none c.in_ok-new.field-0.value c.new-3.result c.new-4.result c.in_ok-new-2.field-0.value.world c.new-6.result c.new-3.ensures c.new-4.ensures part c.new-6.ensures
     (subst (λ (b : BaseTree). IsAcyclic b.world) (sym c.in_ok-new.ensures.ok) c.facts.ensures.acyclic)
 
 pub returns-clause-world : goal.returns-clause-world

@@ -248,12 +248,6 @@ impl Ready {
         &self.store
     }
 
-    /// How many changes of entities are kept over the entities that were read whole: 0 where no changes were made since. Entities that are
-    /// read whole again are kept without changes. See `Store::kept_changes` for what counts, and what is forgotten.
-    pub fn kept_changes(&self) -> usize {
-        self.store.kept_changes()
-    }
-
     /// The code, the id and the effect of the policy at a position from 0. Takes no memory.
     pub fn part(&self, position: usize) -> (&Code, &str, Effect)
         requires { position < length self.now.policies.policies }

@@ -12,7 +12,6 @@ use crate::tally::Tally;
 use cedar_ast::Decision;
 use cedar_auth_candidates::Selection;
 use cedar_conform::{FittingRequest, RequestReader};
-use cedar_value::Request;
 use std::alloc::{AllocError, Global};
 
 /// Appends the answer to one request line, as [`serve`](crate::serve) writes it but without LF: the response of the policies to
@@ -42,36 +41,12 @@ pub fn answer_line(
 }
 
 /// Appends the response to a request that fits, as a line of answers has it, without LF: for example
-/// `{"decision":"allow","determining":["policy0"],"erring":[]}`. Returns the decision.
+/// `{"decision":"allow","determining":["policy0"],"erring":[]}`. Returns the decision. The position of its environment is known, as
+/// [`Ready::read_fitting_parts`] gives it.
 ///
 /// # Errors
 ///
 /// Fails only when out of memory, which is never a decision. The text is then as before.
-pub fn append_answer(
-    alloc: Global,
-    ready: &Ready,
-    request: &Request,
-    out: &mut Vec<u8>,
-) -> Result<Decision, AllocError>
-    requires { Fits ready.now.schema request.now }
-    ensures decided { IfOk result (λ d. d ≡ (response_to ready.now request.now).decision) }
-    ensures ok { OnOk result (out.new.items ≡ out.old.items ++ response_text ready.now request.now) }
-    ensures err { OnErr result (out.new.items ≡ out.old.items) }
-{
-    let mut selection = Selection::new(alloc);
-    let mut tally = Tally::new(alloc);
-    ready.tally(alloc, request, &mut selection, &mut tally)?;
-    let told = tally.told();
-    append_response(alloc, &told, out)?;
-    Ok(told.decision())
-}
-
-/// Like [`append_answer`], for a request of whose environment the position is known, as [`Ready::read_fitting_parts`] gives it. It finds the
-/// candidates without a search.
-///
-/// # Errors
-///
-/// Those of [`append_answer`].
 pub fn append_fitting_answer(
     alloc: Global,
     ready: &Ready,
@@ -93,23 +68,12 @@ pub fn append_fitting_answer(
     Ok(decision)
 }
 
-/// The decision on a request that fits (Cedar language reference, authorization).
+/// The decision on a request that fits (Cedar language reference, authorization). The position of its environment is known, as
+/// [`Ready::read_fitting_parts`] gives it.
 ///
 /// # Errors
 ///
 /// Fails only when out of memory, which is never a decision.
-pub fn decide(alloc: Global, ready: &Ready, request: &Request) -> Result<Decision, AllocError>
-    requires { Fits ready.now.schema request.now }
-    ensures { IfOk result (λ d. d ≡ (response_to ready.now request.now).decision) }
-{
-    ready.decide(alloc, request)
-}
-
-/// Like [`decide`], for a request of whose environment the position is known, as [`Ready::read_fitting_parts`] gives it.
-///
-/// # Errors
-///
-/// Those of [`decide`].
 pub fn decide_fitting(
     alloc: Global,
     ready: &Ready,

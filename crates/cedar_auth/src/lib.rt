@@ -49,7 +49,7 @@ pub use base_lines::{
 };
 pub use cedar_auth_law::engine_is_sound;
 pub use crossing::{ready_crosses, validated_crosses};
-pub use deciding::{answer_line, append_answer, append_fitting_answer, decide, decide_fitting};
+pub use deciding::{answer_line, append_fitting_answer, decide_fitting};
 pub use not_ready::NotReady;
 pub use not_validated::NotValidated;
 pub use ready::Ready;

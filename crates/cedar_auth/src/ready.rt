@@ -38,7 +38,7 @@ use cedar_code::Code;
 use cedar_conform::{
     FittingRequest, RequestParts, RequestReader, denoted_requests_fit,
     denoted_requests_have_no_fault, read_changes, read_entities_owned, read_fitting_parts,
-    read_fitting_request, read_request, read_request_parts,
+    read_fitting_request, read_request,
 };
 use cedar_conform_values::{ConformFault, read_values_belong};
 use cedar_parser_tokens::uid_or_none;
@@ -248,6 +248,12 @@ impl Ready {
         &self.store
     }
 
+    /// How many changes of entities are kept over the entities that were read whole: 0 where no changes were made since. Entities that are
+    /// read whole again are kept without changes. See `Store::kept_changes` for what counts, and what is forgotten.
+    pub fn kept_changes(&self) -> usize {
+        self.store.kept_changes()
+    }
+
     /// The code, the id and the effect of the policy at a position from 0. Takes no memory.
     pub fn part(&self, position: usize) -> (&Code, &str, Effect)
         requires { position < length self.now.policies.policies }
@@ -289,32 +295,12 @@ impl Ready {
         read_fitting_request(alloc, self.indexed.validated.schema(), line, reader)
     }
 
-    /// The request that parts denote for the schema (Cedar documentation, entities and context in JSON). The reader
-    /// keeps its buffers from request to request.
+    /// The request that parts denote for the schema (Cedar documentation, entities and context in JSON), with the position of its
+    /// environment. The reader keeps its buffers from request to request.
     ///
     /// # Errors
     ///
     /// 1 when out of memory, and otherwise 501 to 506 or 509 to 511 only where that fault is in the parts.
-    pub fn read_parts(
-        &self,
-        alloc: Global,
-        parts: &RequestParts<'_>,
-        reader: &mut RequestReader,
-    ) -> Result<Request, ConformFault>
-        ensures denotes { IfOk result (PartsDenote self.now.schema (parts_of parts.now)) }
-        ensures fits { IfOk result (Fits self.now.schema) }
-        ensures only { (q : RequestTree) → PartsDenote self.now.schema (parts_of parts.now) q → MatchResult result (λ found. found ≡ q) (λ e. e ≡ OutOfMemory) }
-        ensures refused { IfErr result (λ e. e ≢ OutOfMemory → PartsHaveFault self.now.schema (parts_of parts.now) e) }
-    {
-        read_request_parts(alloc, self.validated().schema(), parts, reader)
-    }
-
-    /// Like [`Ready::read_parts`], and gives the position of the request's environment too, for
-    /// [`append_fitting_answer`](crate::append_fitting_answer).
-    ///
-    /// # Errors
-    ///
-    /// Those of [`Ready::read_parts`].
     pub fn read_fitting_parts(
         &self,
         alloc: Global,
@@ -450,19 +436,6 @@ impl Ready {
             .tally(alloc, &mut evaluator, positions, tally)
     }
 
-    // The decision on the request. Keeps no list of policies.
-    pub(crate) fn decide(&self, alloc: Global, request: &Request) -> Result<Decision, AllocError>
-        requires { Fits self.now.schema request.now }
-        ensures { IfOk result (λ d. d ≡ (response self.now.policies.policies request.now self.now.world).decision) }
-    {
-        // The entities conform to the schema.
-        self.premises();
-        let mut selection = Selection::new(alloc);
-        let positions = self.selected_over(request, self.store(), &mut selection)?;
-        let mut evaluator = Evaluator::over(request, self.store());
-        self.validated().decide(alloc, &mut evaluator, positions)
-    }
-
     // Like `tally`, for a request of whose environment the position is known.
     pub(crate) fn tally_fitting<'r>(
         &'r self,
@@ -481,7 +454,7 @@ impl Ready {
             .tally(alloc, &mut evaluator, positions, tally)
     }
 
-    // Like `decide`, for a request of whose environment the position is known.
+    // The decision on a request of whose environment the position is known. Keeps no list of policies.
     pub(crate) fn decide_fitting(
         &self,
         alloc: Global,

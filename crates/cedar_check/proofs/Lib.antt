@@ -3,6 +3,7 @@ pub mod Environments
 pub mod Inside
 pub mod Joined
 pub mod Kept
+pub mod MadeRecord
 pub mod Numbers
 pub mod Policies
 pub mod Typings

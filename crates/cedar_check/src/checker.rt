@@ -9,14 +9,15 @@ ghost use Rattle.cedar_check.specs.Private.Spine.{left_of, row_from};
 
 use crate::branches::{if_joined, if_known};
 use crate::prepared::Parts;
+use crate::records::{push_attribute, record_type};
 use crate::rows::{and_right, binary_row, literal_type, or_right, unary_row, variable_type};
 use crate::spine::Spine;
 use cedar_ast_expressions::{BinaryOperator, Expr, ExprKind};
 use cedar_check_operators::{
-    Capability, LentType, TypeFault, Typing, add_attribute, extended, join_types, set_type,
+    Capability, LentType, TypeFault, Typing, extended, join_types, set_type,
 };
 use cedar_check_spec::Settings;
-use cedar_schema::{Environment, RecordType, Schema, Truth, Type, TypeKind};
+use cedar_schema::{Environment, Schema, Truth};
 use cedar_value::SharedText;
 use std::alloc::{AllocError, Global};
 
@@ -400,15 +401,14 @@ impl<'a> Checker<'a> {
         requires { AreDistinct (keys_of pairs.now) }
         ensures { IfOk result (λ t. typing_view t ≡ type_of_with self.now.settings self.now.schema.now self.now.environment.now (held_view held.now) (record_with (entries_of pairs.now))) }
     {
-        let mut attributes = RecordType::new(self.alloc);
+        let mut attributes = Vec::new(self.alloc);
         for pair in pairs {
             let x = match self.check(held, &pair.1)? {
                 Typing::Typed(x) => x,
                 Typing::Refused(fault) => return Ok(Typing::Refused(fault)),
             };
-            add_attribute(self.alloc, &mut attributes, &pair.0, &x.ty)?;
+            push_attribute(self.alloc, &mut attributes, &pair.0, x.ty)?;
         }
-        let ty = Type::new(TypeKind::Record(attributes));
-        Ok(Typing::plain(self.alloc, LentType::Made(ty)))
+        record_type(self.alloc, attributes)
     }
 }

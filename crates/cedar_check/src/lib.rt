@@ -27,6 +27,7 @@ mod form;
 mod known;
 mod mention;
 mod prepared;
+mod records;
 mod report;
 mod rows;
 mod signatures;

@@ -8,11 +8,10 @@
 //! assert!(rt; fits(&schema, &request));
 //! ```
 //!
-//! To read many lines, use [`read_request_with`], whose [`RequestReader`] is kept from line to line. A host without lines gives the parts
-//! of a request to [`read_request_parts`]. [`read_fitting_request`] and [`read_fitting_parts`] do the same, and also give the position of
-//! the request's environment in the schema. Lines that bring entities of their own are read with [`read_request_with_entities`]
-//! (`specs/RequestsWithEntities.antt`). Entities are read by
-//! cedar_conform_entities, values and uids by cedar_conform_values.
+//! To read many lines, use [`read_request_with`], whose [`RequestReader`] is kept from line to line. [`read_fitting_request`] does the same,
+//! and also gives the position of the request's environment in the schema. So does [`read_fitting_parts`] for a host without lines, which
+//! gives the parts of a request. Lines that bring entities of their own are read with [`read_request_with_entities`]
+//! (`specs/RequestsWithEntities.antt`). Entities are read by cedar_conform_entities, values and uids by cedar_conform_values.
 #![tactic(auto)]
 
 mod context;
@@ -49,7 +48,7 @@ pub use laws::{
     worlds_for_requests_conform,
 };
 pub use links::read_links;
-pub use parts::{RequestParts, UidParts, read_fitting_parts, read_request_parts};
+pub use parts::{RequestParts, UidParts, read_fitting_parts};
 pub use request::{read_fitting_request, read_request, read_request_with};
 pub use request_reader::RequestReader;
 pub use request_with_entities::read_request_with_entities;

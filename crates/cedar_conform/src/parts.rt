@@ -48,36 +48,13 @@ pub struct RequestParts<'p> {
     pub context: &'p [u8],
 }
 
-/// The request that the parts denote for the schema (Cedar documentation, entities and context in JSON). The reader keeps its buffers
-/// from request to request.
+/// The request that the parts denote for the schema, with the position of its environment (Cedar documentation, entities and context in
+/// JSON). The reader keeps its buffers from request to request.
 ///
 /// # Errors
 ///
 /// 1 when out of memory, and otherwise 501 to 506 or 509 to 511 only where that fault is in the parts: 502 for a type that is not
 /// a name, and 501 for a context that is not JSON.
-pub fn read_request_parts(
-    alloc: Global,
-    schema: &Schema,
-    parts: &RequestParts<'_>,
-    reader: &mut RequestReader,
-) -> Result<Request, ConformFault>
-    ensures denotes { IfOk result (PartsDenote schema.now (parts_of parts.now)) }
-    ensures fits { IfOk result (Fits schema.now) }
-    ensures only { (q : RequestTree) → PartsDenote schema.now (parts_of parts.now) q → MatchResult result (λ found. found ≡ q) (λ e. e ≡ OutOfMemory) }
-    ensures refused { IfErr result (λ e. e ≢ OutOfMemory → PartsHaveFault schema.now (parts_of parts.now) e) }
-{
-    // A schema lists its types and actions in order, and the types that an action applies to are declared. A JSON that is read
-    // for a type gives a value of the type.
-    schema.well_formedness();
-    read_values_belong();
-    request_of_parts(alloc, schema, parts, reader)
-}
-
-/// Like [`read_request_parts`], and gives the position of the environment of the request too.
-///
-/// # Errors
-///
-/// Those of [`read_request_parts`].
 pub fn read_fitting_parts(
     alloc: Global,
     schema: &Schema,
@@ -90,7 +67,8 @@ pub fn read_fitting_parts(
     ensures only { (q : RequestTree) → PartsDenote schema.now (parts_of parts.now) q → MatchResult result (λ found. found.request ≡ q) (λ e. e ≡ OutOfMemory) }
     ensures refused { IfErr result (λ e. e ≢ OutOfMemory → PartsHaveFault schema.now (parts_of parts.now) e) }
 {
-    // As in `read_request_parts`.
+    // A schema lists its types and actions in order, and the types that an action applies to are declared. A JSON that is read
+    // for a type gives a value of the type.
     schema.well_formedness();
     read_values_belong();
     match request_of_parts(alloc, schema, parts, reader) {

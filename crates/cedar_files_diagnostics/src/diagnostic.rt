@@ -22,6 +22,15 @@ pub struct Mark {
     pub says: String,
 }
 
+/// A part of what a fault or a warning of a policy is about.
+#[derive(Drop)]
+pub struct Subject {
+    /// `policy`, `action`, `principal` or `resource`: its key in JSON.
+    pub key: &'static str,
+    /// The id of the policy; the uid of the action, as a policy writes it; or the type of the principal or the resource.
+    pub says: String,
+}
+
 /// What is explained of one refusal, one fault or one warning.
 #[derive(Drop)]
 pub struct Diagnostic {
@@ -35,6 +44,8 @@ pub struct Diagnostic {
     pub place: Option<Place>,
     /// Which part of the file it is, in words; perhaps nothing.
     pub part: String,
+    /// The policy that has a fault or a warning, and the first environment in which it has the fault; nothing of other refusals.
+    pub subjects: Vec<Subject>,
     /// The parts of the text that are marked. The first one is at the place.
     pub marks: Vec<Mark>,
     /// What else is said.

@@ -1,5 +1,5 @@
 //! What is explained of one refusal, one fault or one warning, while it is written.
-use crate::diagnostic::{Diagnostic, Explanation, Mark, Severity};
+use crate::diagnostic::{Diagnostic, Explanation, Mark, Severity, Subject};
 use base_places::{Draft, DraftList, Place};
 use std::alloc::{AllocError, Global};
 
@@ -17,6 +17,7 @@ pub(crate) struct DiagnosticDraft {
     pub(crate) place: Option<Place>,
     /// Which part of the file it is, in words.
     pub(crate) part: Draft,
+    subjects: DraftList<Subject>,
     marks: DraftList<Mark>,
     notes: DraftList<String>,
     hint: Draft,
@@ -32,10 +33,22 @@ impl DiagnosticDraft {
             reason,
             place: None,
             part: Draft::new(alloc),
+            subjects: DraftList::new(alloc),
             marks: DraftList::new(alloc),
             notes: DraftList::new(alloc),
             hint: Draft::new(alloc),
         }
+    }
+
+    /// Says what it is about, by a key of JSON.
+    pub(crate) fn name(&mut self, key: &'static str, says: &str) {
+        self.name_made(key, String::from_str(self.alloc, says));
+    }
+
+    /// Says what it is about with words that were made elsewhere, or remembers that they could not be made.
+    pub(crate) fn name_made(&mut self, key: &'static str, made: Result<String, AllocError>) {
+        self.subjects
+            .add_made(made.map(|says| Subject { key, says }));
     }
 
     /// Marks a part of the text, after the marks that it has.
@@ -63,8 +76,13 @@ impl DiagnosticDraft {
 
     /// Says what to do, in place of what was said before.
     pub(crate) fn advise(&mut self, hint: &str) {
+        self.advise_all(&[hint]);
+    }
+
+    /// Says what to do in these pieces, in place of what was said before.
+    pub(crate) fn advise_all(&mut self, pieces: &[&str]) {
         let mut draft = Draft::new(self.alloc);
-        draft.add(hint);
+        draft.add_all(pieces);
         self.hint = draft;
     }
 
@@ -81,6 +99,7 @@ impl DiagnosticDraft {
             reason: self.reason,
             place: self.place,
             part: self.part.done()?,
+            subjects: self.subjects.done()?,
             marks: self.marks.done()?,
             notes: self.notes.done()?,
             hint: if hint.is_empty() { None } else { Some(hint) },

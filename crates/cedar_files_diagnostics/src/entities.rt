@@ -3,7 +3,7 @@ use crate::again::{bytes_again, schema_again};
 use crate::data::{add_entry, reason_of};
 use crate::diagnostic::Explanation;
 use crate::diagnostic_draft::DiagnosticDraft;
-use crate::item_place::item_place;
+use crate::item_place::{item_place, note_other_than_list};
 use crate::words::words_of;
 use base_places::Draft;
 use cedar_conform::read_entities_owned;
@@ -190,6 +190,7 @@ pub fn explain_entities<F: Files>(
     };
     let mut diagnostic = DiagnosticDraft::error(alloc, number, reason);
     diagnostic.advise(hint);
+    note_other_than_list(&mut diagnostic, &bytes);
     let added = if number == DUPLICATE || number == CIRCLE {
         add_store_fault(alloc, &mut diagnostic, files, &schema, bytes)
     } else {

@@ -143,6 +143,7 @@ fn push_warning(
         "no request can satisfy this policy",
     );
     diagnostic.severity = Severity::Warning;
+    diagnostic.name("policy", policy);
     mark_statement(&mut diagnostic, statement);
     let id = first_of(policy, MOST_OF_ID);
     diagnostic.note(&[
@@ -195,12 +196,23 @@ fn diagnostic_of<'s>(
         None => mark_statement(&mut diagnostic, statement),
     }
     diagnostic.note_made(says);
+    name_first(alloc, &mut diagnostic, group.first);
     statement.note_link(&mut diagnostic);
     match &part {
         Some(part) => add_words(&mut diagnostic, part),
         None => diagnostic.advise(hint),
     }
     diagnostic.done()
+}
+
+// Says which policy has a fault, and in which environment.
+fn name_first(alloc: Global, diagnostic: &mut DiagnosticDraft, fault: &Fault) {
+    let ty = fault.action.ty.as_str();
+    let id = fault.action.id.as_str();
+    diagnostic.name("policy", fault.policy.as_str());
+    diagnostic.name_made("action", format!(in alloc; "{ty}::{id:?}"));
+    diagnostic.name("principal", fault.principal.as_str());
+    diagnostic.name("resource", fault.resource.as_str());
 }
 
 // The policy and the environments of its faults.

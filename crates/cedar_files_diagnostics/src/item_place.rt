@@ -1,4 +1,5 @@
 //! Where an item of a JSON list begins.
+use crate::diagnostic_draft::DiagnosticDraft;
 use base_places::Place;
 
 // What was read of a list, up to a byte.
@@ -77,4 +78,18 @@ pub(crate) fn item_place(text: &[u8], position: usize) -> Option<Place> {
         }
     }
     None
+}
+
+/// Adds what a JSON text is, if it is not a list.
+pub(crate) fn note_other_than_list(diagnostic: &mut DiagnosticDraft, bytes: &[u8]) {
+    let first = bytes.iter().find(|byte| !byte.is_ascii_whitespace());
+    let found = match first {
+        Some(b'{') => "an object",
+        Some(b'"') => "a string",
+        Some(b'-' | b'0'..=b'9') => "a number",
+        Some(b't' | b'f') => "a Boolean",
+        Some(b'n') => "null",
+        _ => return,
+    };
+    diagnostic.note(&["expected a list, found ", found]);
 }

@@ -73,6 +73,15 @@ fn severity_of(severity: Severity) -> &'static str {
     }
 }
 
+// What a diagnostic is about under a key, if it is said.
+fn add_subject(json: &mut JsonDraft, diagnostic: &Diagnostic, key: &str) {
+    for subject in &diagnostic.subjects {
+        if subject.key == key {
+            json.string_at(key, subject.says.as_str());
+        }
+    }
+}
+
 // A diagnostic of a file that has this text. Its keys ascend.
 fn add_diagnostic(
     alloc: Global,
@@ -82,6 +91,7 @@ fn add_diagnostic(
     diagnostic: &Diagnostic,
 ) {
     json.begin_object();
+    add_subject(json, diagnostic, "action");
     if let Some(place) = diagnostic.place {
         json.number_at("column", place.column.saturating_add(1));
     }
@@ -98,7 +108,10 @@ fn add_diagnostic(
     if !diagnostic.part.is_empty() {
         add_shown(alloc, json, "part", diagnostic.part.as_str());
     }
+    add_subject(json, diagnostic, "policy");
+    add_subject(json, diagnostic, "principal");
     add_shown(alloc, json, "reason", diagnostic.reason);
+    add_subject(json, diagnostic, "resource");
     add_shown(alloc, json, "severity", severity_of(diagnostic.severity));
     json.end_object();
 }

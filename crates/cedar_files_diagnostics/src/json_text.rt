@@ -5,6 +5,7 @@ ghost use Rattle.serde_json.specs.Read.{read as read_text};
 
 use crate::diagnostic::Explanation;
 use crate::diagnostic_draft::DiagnosticDraft;
+use crate::json_hint::meant_in_json;
 use base_places::Place;
 use serde_json::Value;
 use std::alloc::{AllocError, Global};
@@ -67,8 +68,8 @@ pub fn explain_json(
         "invalid JSON: unexpected end of input"
     };
     diagnostic.mark(at, at, says);
-    if text.starts_with('\u{FEFF}') {
-        diagnostic.advise("the file begins with a byte order mark: save it without one");
+    if let Some(hint) = meant_in_json(alloc, text.as_str(), at)? {
+        diagnostic.advise(hint);
     }
     let mut explanation = diagnostic.alone(file)?;
     explanation.text = text;

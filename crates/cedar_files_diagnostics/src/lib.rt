@@ -14,6 +14,7 @@
 #![tactic(auto)]
 
 mod again;
+mod around;
 mod brought;
 mod changes;
 mod counting_sink;
@@ -22,6 +23,7 @@ mod diagnostic;
 mod diagnostic_draft;
 mod entities;
 mod excerpt;
+mod expected;
 mod explain;
 mod explain_all;
 mod fault_part;
@@ -30,8 +32,10 @@ mod faulty;
 mod format;
 mod human;
 mod item_place;
+mod json_hint;
 mod json_lines;
 mod json_text;
+mod link_words;
 mod links;
 mod messages;
 mod own_statement;
@@ -40,14 +44,16 @@ mod policy_words;
 mod refused;
 mod schemas;
 mod second_place;
+mod syntax_hint;
 mod token_words;
+mod unexpected;
 mod words;
 
 pub use brought::explain_request_with_entities;
 pub use changes::explain_changes;
 pub use counting_sink::{CountingSink, FirstRefused, LineCounts};
 pub use data::explain_request;
-pub use diagnostic::{Diagnostic, Explanation, Mark, Severity};
+pub use diagnostic::{Diagnostic, Explanation, Mark, Severity, Subject};
 pub use explain::explain_file;
 pub use explain_all::explain_files;
 pub use fault_part::Checked;

@@ -3,7 +3,8 @@ use crate::again::{links_of, policies_again};
 use crate::data::add_fault;
 use crate::diagnostic::Explanation;
 use crate::diagnostic_draft::DiagnosticDraft;
-use crate::item_place::item_place;
+use crate::item_place::{item_place, note_other_than_list};
+use crate::link_words::add_meaning;
 use crate::words::words_of;
 use cedar_ast::{Link, LinkFault, PolicySet};
 use cedar_conform_diagnostics::refused_link;
@@ -33,6 +34,14 @@ fn add_position(diagnostic: &mut DiagnosticDraft, bytes: &[u8], position: usize)
     diagnostic.part.add(" (from 0)");
 }
 
+// Adds the ids of a link that the policies refuse, and what is likely meant.
+fn add_link(diagnostic: &mut DiagnosticDraft, policies: &PolicySet, link: &Link) {
+    let id = link.id.as_str();
+    let template = link.template.as_str();
+    diagnostic.note(&["link `", id, "` of template `", template, "`"]);
+    add_meaning(diagnostic, policies, link);
+}
+
 // Adds the first link that the policies refuse.
 fn add_refused<F: Files>(
     alloc: Global,
@@ -45,17 +54,14 @@ fn add_refused<F: Files>(
         return Ok(());
     };
     let refused = first_refused(&mut policies, links);
-    drop(policies);
-    let Some(position) = refused? else {
-        return Ok(());
-    };
-    add_position(diagnostic, bytes, position);
-    if let Some(link) = links.get(position) {
-        let id = link.id.as_str();
-        let template = link.template.as_str();
-        diagnostic.note(&["link `", id, "` of template `", template, "`"]);
+    if let Ok(Some(position)) = refused {
+        add_position(diagnostic, bytes, position);
+        if let Some(link) = links.get(position) {
+            add_link(diagnostic, &policies, link);
+        }
     }
-    Ok(())
+    drop(policies);
+    refused.map(|_| ())
 }
 
 // Adds the first link that is not written as one.
@@ -64,6 +70,7 @@ fn add_malformed(
     diagnostic: &mut DiagnosticDraft,
     bytes: &[u8],
 ) -> Result<(), AllocError> {
+    note_other_than_list(diagnostic, bytes);
     if let Some(refused) = refused_link(alloc, bytes)? {
         add_position(diagnostic, bytes, refused.position);
         add_fault(diagnostic, &refused.fault);

@@ -6,11 +6,13 @@ ghost use Rattle.cedar_parser.specs.PolicyText.{HasFault, IsPolicyText};
 ghost use Rattle.cedar_parser_tokens.specs.Faults.{offset_of};
 
 use crate::again::tokens_again;
+use crate::around::Around;
 use crate::diagnostic::Explanation;
 use crate::diagnostic_draft::DiagnosticDraft;
 use crate::policy_words::{hint_of, mark_of, reason_of};
 use crate::second_place::{SecondPlace, before_unexpected, second_place};
-use crate::token_words::{meant_by_character, meant_by_word, unexpected};
+use crate::token_words::{meant_by_character, meant_by_function};
+use crate::unexpected::mark_unexpected;
 use base_places::Place;
 use cedar_parser::parse;
 use cedar_parser_tokens::ParseFault;
@@ -87,6 +89,7 @@ fn hint_for(text: &str, fault: ParseFault) -> Option<&'static str> {
         ParseFault::Text(TextFault::BadCharacter(at)) => {
             meant_by_character(text.get(at..).unwrap_or(""))
         }
+        ParseFault::UnknownFunction(at) => Some(meant_by_function(text.get(at..).unwrap_or(""))),
         _ => hint_of(fault),
     }
 }
@@ -114,8 +117,10 @@ fn add_unexpected(
 ) -> Result<(), AllocError> {
     let found = tokens_again(alloc, text)?;
     let second = before_unexpected(alloc, &found, at)?;
-    diagnostic.mark_made(at, at, unexpected(alloc, &found, at));
-    add_rest(diagnostic, second, meant_by_word(&found, at));
+    let around = Around::of(&found, at);
+    drop(found);
+    let hint = mark_unexpected(alloc, diagnostic, text, around, at)?;
+    add_rest(diagnostic, second, hint);
     Ok(())
 }
 

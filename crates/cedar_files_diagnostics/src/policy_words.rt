@@ -66,9 +66,6 @@ pub fn hint_of(fault: ParseFault) -> Option<&'static str> {
             Some("`?principal` and `?resource` are allowed only in the scope of their own variable")
         }
         ParseFault::Arity(_) => Some("`isEmpty` takes no argument, all others take one"),
-        ParseFault::UnknownFunction(_) => Some(
-            "docs/GRAMMAR.md lists the functions and methods; those of IP addresses, dates, durations and entity tags are not supported",
-        ),
         ParseFault::TooDeep(_) | ParseFault::TooHigh(_) | ParseFault::TooLarge(_) => {
             Some("split the policy into several")
         }

@@ -1,52 +1,5 @@
-//! Words for the text at a place that the grammar does not allow.
-use crate::excerpt::first_of;
-use base_places::Draft;
-use cedar_text::{Token, TokenKind};
-use std::alloc::{AllocError, Global};
-
-/// How many bytes of a token are shown at most.
-const MOST: usize = 40;
-
-// The token that begins at an offset.
-fn token_at<'t>(found: &[Token<'t>], at: usize) -> Option<Token<'t>> {
-    found.iter().find(|token| token.start() == at).copied()
-}
-
-/// What the mark says: the token that begins at an offset of a text that has these tokens, or the end of the text.
-pub fn unexpected(alloc: Global, found: &[Token<'_>], at: usize) -> Result<String, AllocError> {
-    let mut says = Draft::new(alloc);
-    match token_at(found, at) {
-        Some(token) => {
-            says.add("unexpected `");
-            let line = token.text.lines().next().unwrap_or(token.text);
-            let shown = first_of(line, MOST);
-            says.add_shown(shown);
-            if shown.len() < token.text.len() {
-                says.add("..");
-            }
-            says.add_char('`');
-        }
-        None => says.add("unexpected end of input"),
-    }
-    says.done()
-}
-
-/// What is likely meant by the word at an offset of a text that has these tokens, which the grammar does not allow; or none.
-pub fn meant_by_word(found: &[Token<'_>], at: usize) -> Option<&'static str> {
-    let token = token_at(found, at)?;
-    if token.kind != TokenKind::Identifier {
-        return None;
-    }
-    match token.text {
-        "and" => Some("write `&&` instead of `and`"),
-        "or" => Some("write `||` instead of `or`"),
-        "not" => Some("write `!` instead of `not`"),
-        "allow" | "deny" | "Permit" | "Forbid" | "PERMIT" | "FORBID" => Some(
-            "a policy begins with `permit` or `forbid`",
-        ),
-        _ => None,
-    }
-}
+//! What is likely meant by characters with which no token begins, and by names that no function has.
+use base_names::Nearest;
 
 /// What is likely meant by a character with which no token begins, or none. The text is what is from it on.
 pub fn meant_by_character(rest: &str) -> Option<&'static str> {
@@ -59,6 +12,55 @@ pub fn meant_by_character(rest: &str) -> Option<&'static str> {
         Some('#') => Some("write a comment after `//`"),
         Some('/') => Some("write a comment after `//`; there is no division"),
         Some('%') => Some("the arithmetic operators are `+`, `-` and `*`"),
+        Some('?') => Some("write `if a then b else c`"),
         _ => None,
     }
+}
+
+/// What is likely meant by a function or method that does not exist. The text is what is from its name on.
+pub fn meant_by_function(rest: &str) -> &'static str {
+    let end = rest
+        .find(|letter: char| !letter.is_ascii_alphanumeric() && letter != '_')
+        .unwrap_or(rest.len());
+    let name = rest.get(..end).unwrap_or("");
+    match name {
+        "ip" | "isIpv4" | "isIpv6" | "isLoopback" | "isMulticast" | "isInRange" => {
+            "functions of IP addresses are not supported: see docs/GRAMMAR.md"
+        }
+        "datetime"
+        | "duration"
+        | "offset"
+        | "durationSince"
+        | "toDate"
+        | "toTime"
+        | "toMilliseconds"
+        | "toSeconds"
+        | "toMinutes"
+        | "toHours"
+        | "toDays" => { "functions of dates and durations are not supported: see docs/GRAMMAR.md" }
+        "hasTag" | "getTag" => "entity tags are not supported: see docs/GRAMMAR.md",
+        "startsWith" | "endsWith" | "matches" | "starts_with" | "ends_with" | "substring" => {
+            "`like` compares a string with a pattern: write `x like \"abc*\"`"
+        }
+        "size" | "length" | "len" | "count" | "empty" => {
+            "`x.isEmpty()` tests whether a set is empty; the number of its members cannot be asked for"
+        }
+        "includes" | "has" | "in" => "write `x.contains(y)` for a set, and `x in y` for entities",
+        _ => nearest_function(name).unwrap_or("docs/GRAMMAR.md lists the functions and methods"),
+    }
+}
+
+// The function or method with the nearest name.
+fn nearest_function(name: &str) -> Option<&'static str> {
+    Nearest::new(name)
+        .compare("decimal", "did you mean `decimal`?")
+        .compare("contains", "did you mean `contains`?")
+        .compare("containsAll", "did you mean `containsAll`?")
+        .compare("containsAny", "did you mean `containsAny`?")
+        .compare("isEmpty", "did you mean `isEmpty`?")
+        .compare("lessThan", "did you mean `lessThan`?")
+        .compare("lessThanOrEqual", "did you mean `lessThanOrEqual`?")
+        .compare("greaterThan", "did you mean `greaterThan`?")
+        .compare("greaterThanOrEqual", "did you mean `greaterThanOrEqual`?")
+        .name()
 }

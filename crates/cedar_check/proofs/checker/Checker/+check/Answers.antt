@@ -1,8 +1,13 @@
-use Rattle.std.proofs.Common.{◌≡◌, ◌+◌, ◌-◌, suc, Option, length, drop, drop_of_length-le, take, arith, ap, subst, sym, ◌∙◌}
+use Rattle.std.proofs.Common.{◌≡◌, ◌+◌, ◌-◌, ◌≤◌, suc, true, Contains, Option, length, drop, drop_of_length-le, map, take, arith, ap, refl, subst, sym, ◌∙◌}
+use Rattle.std.proofs.Math.ListN.{length-map}
 use Rattle.std.proofs.lemmas.List.{take_all}
+use Rattle.std.proofs.lemmas.Result.{IfOk-weaker}
 use Rattle.std.specs.Prelude.{IfOk, option_and_then, option_map}
 use Rattle.cedar_schema_types.specs.Joining.{only_if}
+use Rattle.cedar_schema_types.specs.Ordered.{with_attribute}
 use Rattle.cedar_schema_types.specs.Types.{Attributes, no_attributes, record_of}
+use Rattle.cedar_schema_types.specs.declared.attribute.Attribute.{Attribute}
+use Rattle.cedar_schema_types.proofs.Names.{name_of}
 use Rattle.cedar_ast_expressions.specs.Private.Depth.{depth, list_depth, pairs_depth}
 use Rattle.cedar_ast_expressions.specs.Expression.{and, set_with, record_with, expressions_of, entries_of}
 use Rattle.cedar_ast_expressions.specs.Keys.{AreDistinct, keys_of, keys_in}
@@ -11,6 +16,7 @@ use Rattle.cedar_check_spec.specs.Rows.{Typed, as_type}
 use Rattle.cedar_check_spec.specs.Private.Checking.{and_type, are_distinct, on_boolean, type_of_with, types_onto, types_entries}
 use Rattle.cedar_check_operators.specs.View.{held_view, tree_of, typed_view, typing_view}
 use Rattle.cedar_check.proofs.Joined.{member_refused, member_apart, member_joined, entry_refused, entry_added, nothing, distinct_names}
+use Rattle.cedar_check.proofs.MadeRecord.{IsMade, key_new, none_made, one_more_made, one_more_name, record_made}
 use Rattle.cedar_check.specs.Private.Spine.{Leads, row_from, rows_from}
 use Rattle.cedar_check.proofs.Ways.{last_low, regrouped, row_up, row_whole, rows_whole, way_up}
 use Rattle.cedar_check.proofs.checker.Checker.+check.Goals as goal
@@ -55,27 +61,56 @@ check_members-returns t c =
     ∙ sym (ap (λ l. types_onto c.args.self.now.settings c.args.self.now.schema.now c.args.self.now.environment.now (held_view c.args.held.now) (tree_of c.loop-member.joined) (expressions_of l)) (drop_of_length-le c.args.others.now {i = c.loop-member.member-index} (omega arith)))
     ∙ c.loop-member.invariant
 
+pub check_record-loop-pair-init : goal.check_record-loop-pair-init
+check_record-loop-pair-init t c =
+    let empty = c.new-attributes.ensures.items in record {
+      names = ap (map name_of) empty;
+      made = (no_attributes, subst (IsMade no_attributes) (sym empty) none_made, refl);
+    }
+
 pub check_record-returns-in-Refused : goal.check_record-returns-in-Refused
 check_record-returns-in-Refused t c =
-    let none = sym c.loop-pair.invariant
-    ∙ entry_refused c.args.self.now.settings c.args.self.now.schema.now c.args.self.now.environment.now (held_view c.args.held.now) c.loop-pair.attributes c.args.pairs.now c.loop-pair.pair-index c.pair-item.result c.loop-pair-test.true c.pair-item.is
+    let made = c.loop-pair.invariant.made in
+    let none = sym made.2
+    ∙ entry_refused c.args.self.now.settings c.args.self.now.schema.now c.args.self.now.environment.now (held_view c.args.held.now) made.0 c.args.pairs.now c.loop-pair.pair-index c.pair-item.result c.loop-pair-test.true c.pair-item.is
     (sym c.in_ok-x.ensures ∙ ap typing_view c.in-Refused.is) in
     sym (ap (λ o. only_if (are_distinct (keys_in (entries_of c.args.pairs.now))) (option_and_then (λ (at : Attributes). as_type (record_of at)) o)) none ∙ nothing (are_distinct (keys_in (entries_of c.args.pairs.now))))
 
 pub check_record-loop-pair-preserved : goal.check_record-loop-pair-preserved
 check_record-loop-pair-preserved t c =
-    ap (λ at. types_entries c.args.self.now.settings c.args.self.now.schema.now c.args.self.now.environment.now (held_view c.args.held.now) at (entries_of (drop (c.loop-pair.pair-index + 1) c.args.pairs.now))) c.in_ok-add_attribute.ensures
-    ∙ entry_added c.args.self.now.settings c.args.self.now.schema.now c.args.self.now.environment.now (held_view c.args.held.now) c.loop-pair.attributes c.args.pairs.now c.loop-pair.pair-index c.pair-item.result (typed_view c.in-Typed.x) c.loop-pair-test.true c.pair-item.is
-    (sym c.in_ok-x.ensures ∙ ap typing_view c.in-Typed.is)
-    ∙ c.loop-pair.invariant
+    let before = c.loop-pair.invariant in
+    let made = before.made in
+    let items = c.loop-pair.attributes.items in
+    let p = c.pair-item.result in
+    let x = typed_view c.in-Typed.x in
+    let a : Attribute = record { name = p.0; ty = x.ty; required = true } in
+    let old = key_new c.args.pairs.now c.loop-pair.pair-index p c.requires c.loop-pair-test.true c.pair-item.is in
+    let new = one_more_made made.0 items a (λ m. old (subst (λ ks. Contains ks p.0) before.names m)) made.1 in
+    let names = one_more_name c.args.pairs.now items a c.loop-pair.pair-index p c.loop-pair-test.true c.pair-item.is refl before.names in record {
+      names = ap (map name_of) c.in_ok-push_attribute.ensures ∙ names;
+      made = (
+        with_attribute p.0 true x.ty made.0,
+        subst (IsMade (with_attribute p.0 true x.ty made.0)) (sym c.in_ok-push_attribute.ensures) new,
+        entry_added c.args.self.now.settings c.args.self.now.schema.now c.args.self.now.environment.now (held_view c.args.held.now) made.0 c.args.pairs.now c.loop-pair.pair-index p x c.loop-pair-test.true c.pair-item.is
+            (sym c.in_ok-x.ensures ∙ ap typing_view c.in-Typed.is)
+            ∙ made.2,
+      );
+    }
+
+pub check_record-record_type-requires : goal.check_record-record_type-requires
+check_record-record_type-requires t c =
+    let done : length c.args.pairs.now ≤ c.loop-pair.pair-index = omega arith in
+    let names = c.loop-pair.invariant.names ∙ take_all c.loop-pair.pair-index (keys_of c.args.pairs.now) (rw length-map done) in
+    subst AreDistinct (sym names) c.requires
 
 pub check_record-returns : goal.check_record-returns
 check_record-returns t c =
-    let end = sym (ap (λ l. types_entries c.args.self.now.settings c.args.self.now.schema.now c.args.self.now.environment.now (held_view c.args.held.now) c.loop-pair.attributes (entries_of l)) (drop_of_length-le c.args.pairs.now {i = c.loop-pair.pair-index} (omega arith)))
-    ∙ c.loop-pair.invariant in
-    c.plain.ensures ∙ ap as_type c.new-ty.ensures
-    ∙ ap (option_and_then (λ (at : Attributes). as_type (record_of at))) end
-    ∙ sym (ap (λ b. only_if b (option_and_then (λ (at : Attributes). as_type (record_of at)) (types_entries c.args.self.now.settings c.args.self.now.schema.now c.args.self.now.environment.now (held_view c.args.held.now) no_attributes (entries_of c.args.pairs.now)))) (distinct_names c.args.pairs.now c.requires))
+    let made = c.loop-pair.invariant.made in
+    let entries = types_entries c.args.self.now.settings c.args.self.now.schema.now c.args.self.now.environment.now (held_view c.args.held.now) in
+    let end = sym (ap (λ l. entries made.0 (entries_of l)) (drop_of_length-le c.args.pairs.now {i = c.loop-pair.pair-index} (omega arith))) ∙ made.2 in
+    let whole = ap (option_and_then (λ (at : Attributes). as_type (record_of at))) end
+    ∙ sym (ap (λ b. only_if b (option_and_then (λ (at : Attributes). as_type (record_of at)) (entries no_attributes (entries_of c.args.pairs.now)))) (distinct_names c.args.pairs.now c.requires)) in
+    IfOk-weaker c.record_type.result _ _ (λ y h. h.2 ∙ ap (λ (at : Attributes). as_type (record_of at)) (record_made made.0 c.loop-pair.attributes.items h.0 made.1 h.1) ∙ whole) c.record_type.ensures
 
 pub check_members-check-requires : goal.check_members-check-requires
 check_members-check-requires t c = (omega (arith, member_depth c.args.others.now c.loop-member.member-index c.member-item.result c.loop-member-test.true c.member-item.is, c.decreases), tt)

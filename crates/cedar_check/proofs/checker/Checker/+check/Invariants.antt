@@ -1,9 +1,12 @@
-use Rattle.std.proofs.Common.{◌≡◌, max, ◌+◌, ◌*◌, ◌≤◌, length, drop, take}
-use Rattle.cedar_schema_types.specs.Types.{no_attributes}
+use Rattle.std.proofs.Common.{◌≡◌, max, ◌+◌, ◌*◌, ◌≤◌, length, drop, map, take}
+use Rattle.cedar_schema_types.specs.Types.{Attributes, no_attributes}
+use Rattle.cedar_schema_types.proofs.Names.{name_of}
 use Rattle.cedar_ast_expressions.specs.Expression.{Expression, entries_of, expressions_of}
+use Rattle.cedar_ast_expressions.specs.Keys.{keys_of}
 use Rattle.cedar_ast_expressions.specs.Private.Depth.{depth, list_depth, pairs_depth}
 use Rattle.cedar_check_spec.specs.Private.Checking.{and_type, on_boolean, type_of_with, types_entries, types_onto}
 use Rattle.cedar_check_operators.specs.View.{held_view, tree_of, typing_view}
+use Rattle.cedar_check.proofs.MadeRecord.{IsMade}
 use Rattle.cedar_check.specs.Private.Spine.{Leads, rows_from}
 use Rattle.cedar_check.proofs.checker.Checker.+check.Given as goal
 
@@ -68,7 +71,10 @@ abbrev pub invariant-check_members-loop-member : goal.invariant-check_members-lo
 invariant-check_members-loop-member l =
     types_onto l.self.settings l.self.schema.now l.self.environment.now (held_view l.held) (tree_of l.joined) (expressions_of (drop l.member-index l.others)) ≡ types_onto l.self.settings l.self.schema.now l.self.environment.now (held_view l.held) (tree_of l.fn.first) (expressions_of l.others)
 
--- what is left comes onto what has come in
+-- the names that have come in are the first keys, and onto the attributes that they make comes what is left
 abbrev pub invariant-check_record-loop-pair : goal.invariant-check_record-loop-pair
-invariant-check_record-loop-pair l =
-    types_entries l.self.settings l.self.schema.now l.self.environment.now (held_view l.held) l.attributes (entries_of (drop l.pair-index l.pairs)) ≡ types_entries l.self.settings l.self.schema.now l.self.environment.now (held_view l.held) no_attributes (entries_of l.pairs)
+invariant-check_record-loop-pair l = record {
+  names : map name_of l.attributes.items ≡ take l.pair-index (keys_of l.pairs);
+  made : (at : Attributes) × IsMade at l.attributes.items
+      × (types_entries l.self.settings l.self.schema.now l.self.environment.now (held_view l.held) at (entries_of (drop l.pair-index l.pairs)) ≡ types_entries l.self.settings l.self.schema.now l.self.environment.now (held_view l.held) no_attributes (entries_of l.pairs));
+}

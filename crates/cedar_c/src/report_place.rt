@@ -42,7 +42,8 @@ impl ReportPlace {
 
     /// The place that C is given.
     pub(crate) fn of(place: Place) -> ReportPlace
-        ensures { place.lines ≢ Some 18446744073709551615 → place_of result ≡ place }
+        ensures place { place.lines ≢ Some 18446744073709551615 → place_of result ≡ place }
+        ensures faults { result.faults ≡ place.faults }
     {
         ReportPlace {
             policy: place.policy as u64,

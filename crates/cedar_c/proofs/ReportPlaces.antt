@@ -1,5 +1,5 @@
 -- Lemmas on places of a report.
-use Rattle.std.proofs.Common.{◌≡◌, ◌≢◌, ℕ, ◌<◌, ◌-◌, Bool, true, false, List, Option, None, Some, inl, inr, refl, sym, ap, subst, ◌∙◌, arith, eq-eqb, eqb→eq}
+use Rattle.std.proofs.Common.{◌≡◌, ◌≢◌, ℕ, ◌<◌, ◌-◌, Bool, true, false, List, Option, None, Some, inl, inr, refl, sym, ap, subst, ◌∙◌, arith, eq-eqb, eqb-true}
 use Rattle.std.specs.Prelude.{nat_eq, if◌then◌else◌}
 use Rattle.cedar_ast.specs.PolicySetTree.{PolicySetTree}
 use Rattle.cedar_schema_spec.specs.SchemaTree.{SchemaTree}
@@ -26,7 +26,7 @@ pub limited : (settings : Settings) (s : SchemaTree) (set : PolicySetTree) (from
 limited settings s set from to text lt h = λ e. not-last from.lines _ (nat_eq from.lines 18446744073709551615) refl lt (sym h.limit_is ∙ e)
 
 limit_is : (n : ℕ) (b : Bool) → nat_eq n 18446744073709551615 ≡ b → (Some n ≡ Some 18446744073709551615 → ⊥) → (if b then None else Some n) ≡ Some n
-limit_is n true e h = absurd (h (ap Some (eqb→eq n 18446744073709551615 e)))
+limit_is n true e h = absurd (h (ap Some (eqb-true n 18446744073709551615 e)))
 limit_is n false e h = refl
 
 number_with : (limit : Option ℕ) → limit ≢ Some 18446744073709551615 → (n : ℕ) × (limit_of n ≡ limit)

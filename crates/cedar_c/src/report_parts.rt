@@ -29,17 +29,12 @@ fn status_of(part: &ReportPart) -> u32
 }
 
 // Gives a part, and moves the place on, if the buffer has room for it.
-fn give_part(
-    part: &ReportPart,
-    place: &mut ReportPlace,
-    text: &mut [u8],
-    written: &mut usize,
-) -> u32
-    ensures given { result ≢ 6 → (take written.new text.new ≡ part.now.text.items) × (part.now.place.lines ≢ Some 18446744073709551615 → place_of place.new ≡ part.now.place) }
-    ensures more { result ≡ 9 → part.now.has_ended ≡ false }
-    ensures ok { result ≡ 0 → (part.now.has_ended ≡ true) × (place.new.faults ≡ 0) }
-    ensures faults { result ≡ 3 → (part.now.has_ended ≡ true) × (place.new.faults ≢ 0) }
-    ensures room { result ≡ 6 → IsTooLong part.now.text.items text.old written.new × (place.new ≡ place.old) × (text.new ≡ text.old) }
+fn give_part(part: ReportPart, place: &mut ReportPlace, text: &mut [u8], written: &mut usize) -> u32
+    ensures given { result ≢ 6 → (take written.new text.new ≡ part.text.items) × (part.place.lines ≢ Some 18446744073709551615 → place_of place.new ≡ part.place) }
+    ensures more { result ≡ 9 → part.has_ended ≡ false }
+    ensures ok { result ≡ 0 → (part.has_ended ≡ true) × (place.new.faults ≡ 0) }
+    ensures faults { result ≡ 3 → (part.has_ended ≡ true) × (place.new.faults ≢ 0) }
+    ensures room { result ≡ 6 → IsTooLong part.text.items text.old written.new × (place.new ≡ place.old) × (text.new ≡ text.old) }
     ensures rest { result ≢ 6 → drop written.new text.new ≡ drop written.new text.old }
     ensures fits { result ≢ 6 → written.new ≤ length text.old }
     ensures known { IsOneOf (0 ∷ 3 ∷ 6 ∷ 9 ∷ []) result }
@@ -49,7 +44,7 @@ fn give_part(
         return given;
     }
     *place = ReportPlace::of(part.place);
-    status_of(part)
+    status_of(&part)
 }
 
 // Gives the line that refuses a file, if the buffer has room for it.
@@ -99,7 +94,7 @@ pub(crate) fn report_next(
     ensures known { IsOneOf (0 ∷ 1 ∷ 2 ∷ 3 ∷ 4 ∷ 6 ∷ 9 ∷ []) result }
 {
     match report_part(alloc, texts, settings, place.place()) {
-        Ok(Some(part)) => give_part(&part, place, text, written),
+        Ok(Some(part)) => give_part(part, place, text, written),
         Ok(None) => ARGUMENT,
         Err(Unprepared::Refused(role, why)) => give_line(alloc, role, why, text, written),
         Err(Unprepared::Memory) => MEMORY,

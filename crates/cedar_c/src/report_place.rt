@@ -1,5 +1,5 @@
 //! How far a report has been written, for C.
-ghost use Rattle.std.specs.Prelude.{◌≡◌, ◌≢◌, Some};
+ghost use Rattle.std.specs.Prelude.{◌≡◌, ◌≢◌, ◌<◌, ◌^◌, Some};
 ghost use Rattle.cedar_c.specs.ReportPlaces.{limit_of, place_of};
 
 use cedar_files::ReportPlace as Place;
@@ -30,7 +30,8 @@ fn limit_of(lines: u64) -> Option<u64>
 impl ReportPlace {
     /// The place that C gives.
     pub(crate) fn place(self) -> Place
-        ensures { result ≡ place_of self }
+        ensures place { result ≡ place_of self }
+        ensures fits { self.lines < 2 ^ 64 }
     {
         Place {
             policy: self.policy as usize,

@@ -9,9 +9,10 @@ pub returns-in-Ok-Some-clause-room : goal.returns-in-Ok-Some-clause-room
 returns-in-Ok-Some-clause-room c = λ h.
     let part = c.in-Ok-Some.part in
     let found = rw c.in-Ok-Some.field-0-is at c.in-Ok-Some.ensures.part in
-    let next = subst (λ (p : Place). IsNextPart c.args.settings found.0 found.1.policies p part) c.place.ensures found.3 in
+    let next = subst (λ (p : Place). IsNextPart c.args.settings found.0 found.1.policies p part) c.place.ensures.place found.3 in
     let told = c.give_part.ensures.room h in
-    (part.text.items, next-told c.args.settings (held_by c.args.texts.now) found.0 found.1 found.2 c.args.place.now part (omega arith) next, told.0, told.2)
+    let long = rw c.in-Ok-Some.part-is at told.0 in
+    (part.text.items, next-told c.args.settings (held_by c.args.texts.now) found.0 found.1 found.2 c.args.place.now part c.place.ensures.fits next, long, told.2)
 
 pub returns-in-Err-Refused-clause-refused : goal.returns-in-Err-Refused-clause-refused
 returns-in-Err-Refused-clause-refused c = λ h. record {

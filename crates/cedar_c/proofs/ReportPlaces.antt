@@ -7,7 +7,7 @@ use Rattle.cedar_check_spec.specs.declared.settings.Settings.{Settings}
 use Rattle.cedar_files.specs.ReportPart.{EndsReport, GoesOnReport, IsNextPart, IsReportPart, limit_after}
 use Rattle.cedar_files.specs.Roles.{Holdings}
 use Rattle.cedar_files.specs.Validation.{Hold}
-use Rattle.cedar_files.specs.declared.report_part.ReportPart.{ReportPart}
+use Rattle.cedar_files.specs.declared.report_parts.ReportPart.{ReportPart}
 use Rattle.cedar_files.specs.declared.report_place.ReportPlace.{ReportPlace as Place}
 use Rattle.cedar_c.specs.ReportPlaces.{HaveLastPart, HavePart, IsPartReported, limit_of, place_of}
 use Rattle.cedar_c.specs.declared.report_place.ReportPlace.{ReportPlace}

@@ -8,7 +8,7 @@ use Rattle.cedar_check_spec.specs.Reports.{FaultTree, AreFaultsWith, AreWarnings
 use Rattle.cedar_check_spec.specs.declared.settings.Settings.{Settings}
 use Rattle.cedar_files.specs.ReportJson.{totals_data}
 use Rattle.cedar_files.specs.ReportText.{ReportLine, AreReported, TellsEach}
-use Rattle.cedar_files.specs.declared.report_part.ReportPart.{ReportPart}
+use Rattle.cedar_files.specs.declared.report_parts.ReportPart.{ReportPart}
 use Rattle.cedar_files.specs.declared.report_place.ReportPlace.{ReportPlace}
 
 -- The place where a report begins, with this limit of lines (own).

@@ -26,7 +26,7 @@ mod reading_linked;
 mod refusal;
 mod report;
 mod report_lines;
-mod report_part;
+mod report_parts;
 mod report_place;
 mod reporting;
 mod unprepared;
@@ -42,7 +42,7 @@ pub use reading::{Unread, read_changed, read_over, read_policies, read_ready, re
 pub use reading_all::read_all;
 pub use refusal::{FileRefusal, refusal_line, refuse};
 pub use report::report_text;
-pub use report_part::{ReportPart, report_part};
+pub use report_parts::{ReportPart, report_part};
 pub use report_place::ReportPlace;
 pub use unprepared::Unprepared;
 pub use validating::{validate, validate_keeping, write_report};

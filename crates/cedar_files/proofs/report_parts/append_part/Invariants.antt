@@ -1,6 +1,6 @@
 use Rattle.std.proofs.Common.{◌≡◌, ◌⊎◌, ◌<◌}
 use Rattle.cedar_files.specs.ReportPart.{IsReportPart}
-use Rattle.cedar_files.proofs.report_part.append_part.Given as goal
+use Rattle.cedar_files.proofs.report_parts.append_part.Given as goal
 
 abbrev pub invariant-part : goal.invariant-part
 invariant-part l = record {

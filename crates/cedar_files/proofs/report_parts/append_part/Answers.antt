@@ -1,7 +1,7 @@
 use Rattle.std.proofs.Common.{◌≡◌, [], true, inl, inr, refl, rules, sym, subst, arith}
 use Rattle.cedar_files.specs.ReportPart.{IsReportPart}
 use Rattle.cedar_files.proofs.Parts.{join-on, no-part}
-use Rattle.cedar_files.proofs.report_part.append_part.Goals as goal
+use Rattle.cedar_files.proofs.report_parts.append_part.Goals as goal
 
 pub part-init : goal.part-init
 part-init c =

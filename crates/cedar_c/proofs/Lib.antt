@@ -1,3 +1,4 @@
 mod OneReport
 mod Stored
+mod ReportPlaces
 mod SlotCrossing

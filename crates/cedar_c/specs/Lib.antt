@@ -6,6 +6,7 @@ pub mod Handles
 pub mod Lending
 pub mod Pieces
 pub mod Publishing
+pub mod ReportPlaces
 pub mod SettingBits
 pub mod Statuses
 pub mod Texts

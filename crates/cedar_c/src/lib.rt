@@ -12,6 +12,7 @@ ghost use Rattle.cedar_c.specs.Answers.{AnswersLines, AnswersLinesWithEntities, 
 ghost use Rattle.cedar_c.specs.Buffers.{IsGiven, IsTooLong};
 ghost use Rattle.cedar_c.specs.Deciding.{AnswersParts, ArePartsRefused, IsDecided, parts};
 ghost use Rattle.cedar_c.specs.Publishing.{AreChangesRefused, AreRefusedOver, HaveFaults, IsChanged, IsOver, IsRefusedFirst, no_refusal};
+ghost use Rattle.cedar_c.specs.ReportPlaces.{HaveLastPart, HaveNoPlace, HavePart, IsPartReported};
 ghost use Rattle.cedar_c.specs.SettingBits.{AreSettings};
 ghost use Rattle.cedar_c.specs.Statuses.{IsOneOf};
 ghost use Rattle.cedar_c.specs.Texts.{held};
@@ -31,6 +32,8 @@ mod new_handle;
 mod parts;
 mod publishing;
 mod refusal;
+mod report_parts;
+mod report_place;
 mod setting_bits;
 mod slot;
 mod status;
@@ -48,6 +51,8 @@ use new_handle::NewHandle;
 use parts::{RequestBytes, UidBytes};
 use publishing::{engine_of, say_why};
 use refusal::Refusal;
+use report_parts::report_next;
+use report_place::ReportPlace;
 use setting_bits::settings_of;
 use slot::Slot;
 use status::{ARGUMENT, MEMORY, NO_ENGINE, OK};
@@ -235,6 +240,52 @@ pub extern "C" fn cedar_raw_validate(
     report_on(alloc, &texts, settings, text, written)
 }
 
+/// Gives the next part of the report on policies against a schema, from a place on, and moves the place on: `MORE` where the report goes
+/// on, `OK` or `FAULTS` where it has ended. Then the text ends with the line of totals, which counts what the place counts. Otherwise the
+/// place is as before. The texts of the parts from a place of zeros without a limit of lines are the text of `cedar_raw_validate`, as
+/// `parts_are_the_report` of `cedar_files` says.
+#[unsafe(no_mangle)]
+pub extern "C" fn cedar_raw_validate_part(
+    alloc: Global,
+    schema: &[u8],
+    policies: &[u8],
+    links: &[u8],
+    settings: u32,
+    place: &mut ReportPlace,
+    text: &mut [u8],
+    written: &mut usize,
+) -> u32
+    ensures more { result ≡ 9 → (chosen : SettingsTree) × AreSettings settings chosen
+        × HavePart chosen (held schema.now policies.now links.now []) place.old place.new (take written.new text.new) }
+    ensures ok { result ≡ 0 → (chosen : SettingsTree) × AreSettings settings chosen
+        × HaveLastPart chosen (held schema.now policies.now links.now []) place.old place.new (take written.new text.new) × (place.new.faults ≡ 0) }
+    ensures refused { result ≡ 2 → IsRefusedIn (held schema.now policies.now links.now []) (take written.new text.new) }
+    ensures faults { result ≡ 3 → (chosen : SettingsTree) × AreSettings settings chosen
+        × HaveLastPart chosen (held schema.now policies.now links.now []) place.old place.new (take written.new text.new) × (place.new.faults ≢ 0) }
+    ensures room { result ≡ 6 → (chosen : SettingsTree) × (told : List ℕ) × AreSettings settings chosen
+        × IsPartReported chosen (held schema.now policies.now links.now []) place.old told × IsTooLong told text.old written.new }
+    ensures argument { result ≡ 4 → ((chosen : SettingsTree) → ¬ AreSettings settings chosen)
+        ⊎ ((chosen : SettingsTree) × AreSettings settings chosen × HaveNoPlace chosen (held schema.now policies.now links.now []) place.old) }
+    ensures same { IsOneOf (1 ∷ 2 ∷ 4 ∷ 6 ∷ []) result → place.new ≡ place.old }
+    ensures rest { IsOneOf (0 ∷ 2 ∷ 3 ∷ 9 ∷ []) result → drop written.new text.new ≡ drop written.new text.old }
+    ensures fits { IsOneOf (0 ∷ 2 ∷ 3 ∷ 9 ∷ []) result → written.new ≤ length text.old }
+    ensures untouched { result ≡ 6 → text.new ≡ text.old }
+    ensures unwritten { IsOneOf (1 ∷ 4 ∷ []) result → (text.new ≡ text.old) × (written.new ≡ 0) }
+    ensures known { IsOneOf (0 ∷ 1 ∷ 2 ∷ 3 ∷ 4 ∷ 6 ∷ 9 ∷ []) result }
+{
+    *written = 0;
+    let Some(settings) = settings_of(settings) else {
+        return ARGUMENT;
+    };
+    let texts = Texts {
+        schema,
+        policies,
+        links,
+        entities: &[],
+    };
+    report_next(alloc, &texts, settings, place, text, written)
+}
+
 /// Explains to a person, or in JSON lines, why a file is refused or which faults the policies have. The text has length 0 where nothing
 /// is refused.
 #[unsafe(no_mangle)]
@@ -370,6 +421,24 @@ pub extern "C" fn cedar_raw_share(alloc: Global, place: &mut Handle, other: &mut
             }
             Err(_) => MEMORY,
         },
+    }
+}
+
+/// Gives how many changes of entities are kept over the entities that were read whole.
+#[unsafe(no_mangle)]
+pub extern "C" fn cedar_raw_kept_changes(place: &mut Handle, count: &mut u64) -> u32
+    ensures same { place.new.value ≡ place.old.value }
+    ensures none { result ≡ 5 → place.old.value ≡ Empty }
+    ensures uncounted { result ≡ 5 → count.new ≡ 0 }
+    ensures known { IsOneOf (0 ∷ 5 ∷ []) result }
+{
+    *count = 0;
+    match place.slot() {
+        Slot::Empty => NO_ENGINE,
+        Slot::Full(engine) => {
+            *count = engine.ready.kept_changes() as u64;
+            OK
+        }
     }
 }
 

@@ -23,3 +23,6 @@ pub(crate) const ROOM: u32 = 6;
 
 /// The parts are not a request.
 pub(crate) const NO_REQUEST: u32 = 7;
+
+/// A part of the report was given, and there is more.
+pub(crate) const MORE: u32 = 9;

@@ -3,8 +3,10 @@ pub mod EntitiesFiles
 pub mod Found
 pub mod Holding
 pub mod Links
+pub mod Parts
 pub mod PolicyFiles
 pub mod Prefixes
+pub mod Sending
 pub mod Telling
 pub mod Texts
 pub mod Unusable

@@ -1,4 +1,4 @@
--- Lemmas on reports that are told policy by policy.
+-- Lemmas on lines of a report, and on what is left of a report policy by policy.
 use Rattle.std.proofs.Common.{◌≡◌, ℕ, zero, suc, ◌<◌, ◌+◌, Bool, true, false, not, cond, List, [], ◌∷◌, ◌++◌, length, map, take, drop, Some, None, Result, Ok, Err, OnOk, ◌≤◌, arith, refl, sym, ap, ap₂, subst, ◌∙◌, add-one, append_assoc, append-nil, drop-cons}
 use Rattle.std.specs.Prelude.{filter, is_some, slice_index_or, AllPairs}
 use Rattle.std.specs.List.{slice_get, flat_map}
@@ -51,24 +51,6 @@ line-behind {E} (Ok u) x d old before new none tokens t b z w n =
 pub lines-behind : (xs ys : List ReportLine) (a b c : List ℕ) → AppendsLines xs a b → AppendsLines ys b c → AppendsLines (xs ++ ys) a c
 lines-behind xs ys a b c h k =
     (h.0 ++ k.0, tells-append xs ys h.0 k.0 h.1 k.1, k.2 ∙ ap (λ (t : List ℕ). t ++ k.0) h.2 ∙ append_assoc a h.0 k.0)
-
--- what tells the first lines is after the text, if what tells the second is told after it
-abbrev pub IsTellingOn : List ReportLine → List ReportLine → List ℕ → List ℕ → Type 0
-IsTellingOn left all old now = (so : List ℕ) × (now ≡ old ++ so) × ((more : List ℕ) → TellsEach left more → TellsEach all (so ++ more))
-
--- one more line is told
-pub telling-next : (x : ReportLine) (left all : List ReportLine) (old now new : List ℕ) → IsTellingOn (x ∷ left) all old now → AppendsLines (x ∷ []) now new
-    → IsTellingOn left all old new
-telling-next x left all old now new h k = (
-  h.0 ++ k.0,
-  k.2 ∙ ap (λ (t : List ℕ). t ++ k.0) h.1 ∙ append_assoc old h.0 k.0,
-  λ more m. subst (TellsEach all) (sym (append_assoc h.0 k.0 more)) (h.2 (k.0 ++ more) (tells-append (x ∷ []) left k.0 more k.1 m)),
-)
-
--- no line is left
-pub telling-end : (left all : List ReportLine) (old now : List ℕ) → left ≡ [] → IsTellingOn left all old now → AppendsLines all old now
-telling-end left all old now e h =
-    (h.0, subst (TellsEach all) (append-nil h.0) (h.2 [] (subst (λ (ls : List ReportLine). TellsEach ls []) (sym e) refl)), h.1)
 
 -- ---- ids
 
@@ -234,7 +216,7 @@ module _ (settings : Settings) (s : SchemaTree) where
   abbrev pub policy_lines : PolicyTree → List ReportLine
   policy_lines p = map fault_line (faults_of_with settings s p) ++ cond (is_impossible_with settings s p) (warning_line p.id ∷ []) []
 
-  lines_of : (p : PolicyTree) (ps : List PolicyTree) (lines : List ReportLine) (b : Bool) → is_impossible_with settings s p ≡ b → AreReported settings s ps lines
+  pub lines_of : (p : PolicyTree) (ps : List PolicyTree) (lines : List ReportLine) (b : Bool) → is_impossible_with settings s p ≡ b → AreReported settings s ps lines
       → AreReported settings s (p ∷ ps) ((map fault_line (faults_of_with settings s p) ++ cond b (warning_line p.id ∷ []) []) ++ lines)
   lines_of p ps lines true e h =
       let none : faults_of_with settings s p ≡ [] = sym (faults_in_are settings s p (impossible_without_fault settings s p (impossible settings s p e))) in
@@ -243,77 +225,31 @@ module _ (settings : Settings) (s : SchemaTree) where
       subst (λ (ls : List ReportLine). AreReported settings s (p ∷ ps) (ls ++ lines)) (sym (append-nil (map fault_line (faults_of_with settings s p))))
       (of_satisfiable (not_impossible settings s p e) (are_faults_in settings s p (environments_of s.actions)) h)
 
-  reported : (ps : List PolicyTree) → AreReported settings s ps (flat_map policy_lines ps)
+  pub reported : (ps : List PolicyTree) → AreReported settings s ps (flat_map policy_lines ps)
   reported [] = of_none
   reported (p ∷ ps) = lines_of p ps (flat_map policy_lines ps) (is_impossible_with settings s p) refl (reported ps)
 
-  -- what was told before the policy at a place, and what is left
-  pub record IsToldTo (ps : List PolicyTree) (i : ℕ) (fs : List FaultTree) (ids : List (List ℕ)) (text : List ℕ) : Type 0 where
+  -- what is left of the faults and the warnings of all policies, before the policy at a place
+  pub record IsLeft (ps : List PolicyTree) (i : ℕ) (fs : List FaultTree) (ids : List (List ℕ)) : Type 0 where
     pub faults : fs ≡ all_faults_with settings s (drop i ps)
     pub warnings : ids ≡ warnings_with settings s (drop i ps)
-    pub told : TellsEach (flat_map policy_lines (take i ps)) text
 
-  lines_more : (ps : List PolicyTree) (i : ℕ) (p : PolicyTree) → slice_get ps i ≡ Some p
-      → flat_map policy_lines (take i ps) ++ policy_lines p ≡ flat_map policy_lines (take (i + 1) ps)
-  lines_more ps i p e =
-      flat_map_more policy_lines [] (take i ps) p ∙ ap (flat_map policy_lines) (sym (take-next ps i p e))
-
-  told_more : (xs ys : List ReportLine) (a b : List ℕ) → TellsEach xs a → AppendsLines ys a b → TellsEach (xs ++ ys) b
-  told_more xs ys a b h k = subst (λ (t : List ℕ). TellsEach (xs ++ ys) t) (sym k.2) (tells-append xs ys a k.0 h k.1)
-
-  next_lines : (p : PolicyTree) (ps : List PolicyTree) → IsFree p.id ps
-      → map fault_line (faults_of_first p.id (all_faults_with settings s (p ∷ ps))) ++ cond (begins_with p.id (warnings_with settings s (p ∷ ps))) (warning_line p.id ∷ []) [] ≡ policy_lines p
-  next_lines p ps h =
-      ap₂ (λ (fs : List FaultTree) (b : Bool). map fault_line fs ++ cond b (warning_line p.id ∷ []) []) (split p ps h).0 (warned p ps h)
-
-  -- the policy at the place is told
-  pub told-next : (ps : List PolicyTree) (i : ℕ) (p : PolicyTree) (fs : List FaultTree) (ids : List (List ℕ)) (old mid new : List ℕ)
-      → slice_get ps i ≡ Some p → AreApart (drop i ps) → IsToldTo ps i fs ids old
-      → AppendsLines (map fault_line (faults_of_first p.id fs)) old mid → AppendsLines (cond (begins_with p.id ids) (warning_line p.id ∷ []) []) mid new
-      → IsToldTo ps (i + 1) (faults_after p.id fs) (cond (begins_with p.id ids) (drop 1 ids) ids) new
-  told-next ps i p fs ids old mid new e apart h k l =
+  -- what is cut off is the policy's own, and the others are left
+  pub cut-next : (ps : List PolicyTree) (i : ℕ) (p : PolicyTree) (id : List ℕ) (fs own others : List FaultTree) (ids own' others' : List (List ℕ))
+      → slice_get ps i ≡ Some p → id ≡ p.id → AreApart (drop i ps) → IsLeft ps i fs ids
+      → own ≡ faults_of_first id fs → others ≡ faults_after id fs
+      → own' ≡ cond (begins_with id ids) (id ∷ []) [] → others' ≡ cond (begins_with id ids) (drop 1 ids) ids
+      → (own ≡ faults_of_with settings s p) × (own' ≡ cond (is_impossible_with settings s p) (p.id ∷ []) []) × IsLeft ps (i + 1) others others'
+  cut-next ps i p id fs own others ids own' others' e d apart h o f w v =
       let at : drop i ps ≡ p ∷ drop (i + 1) ps = drop_got ps i p e in
       let free : IsFree p.id (drop (i + 1) ps) = (subst AreApart at apart).0 in
       let faults : fs ≡ all_faults_with settings s (p ∷ drop (i + 1) ps) = h.faults ∙ ap (all_faults_with settings s) at in
-      let warned : ids ≡ warnings_with settings s (p ∷ drop (i + 1) ps) = h.warnings ∙ ap (warnings_with settings s) at in
-      let lines : map fault_line (faults_of_first p.id fs) ++ cond (begins_with p.id ids) (warning_line p.id ∷ []) [] ≡ policy_lines p =
-      ap₂ (λ (fs : List FaultTree) (ids : List (List ℕ)). map fault_line (faults_of_first p.id fs) ++ cond (begins_with p.id ids) (warning_line p.id ∷ []) []) faults warned
-      ∙ next_lines p (drop (i + 1) ps) free in
-      let both : AppendsLines (policy_lines p) old new = subst (λ (ls : List ReportLine). AppendsLines ls old new) lines (lines-behind _ _ old mid new k l) in
-      record {
-        faults = ap (faults_after p.id) faults ∙ (split p (drop (i + 1) ps) free).1;
-        warnings = ap (λ (ids : List (List ℕ)). cond (begins_with p.id ids) (drop 1 ids) ids) warned ∙ left p (drop (i + 1) ps) free;
-        told = subst (λ (ls : List ReportLine). TellsEach ls new) (lines_more ps i p e) (told_more _ _ old new h.told both);
-      }
-
-  -- the same by the id and the lists as the code has them
-  pub told-step : (ps : List PolicyTree) (i : ℕ) (p : PolicyTree) (fs fs' : List FaultTree) (ids ids' : List (List ℕ)) (old mid new id id' : List ℕ)
-      → slice_get ps i ≡ Some p → id ≡ p.id → id' ≡ p.id → AreApart (drop i ps) → IsToldTo ps i fs ids old
-      → AppendsLines (map fault_line (faults_of_first id fs)) old mid → AppendsLines (cond (begins_with id' ids) (warning_line id' ∷ []) []) mid new
-      → fs' ≡ faults_after id fs → ids' ≡ cond (begins_with id' ids) (drop 1 ids) ids → IsToldTo ps (i + 1) fs' ids' new
-  told-step ps i p fs fs' ids ids' old mid new id id' e d d' apart h k l f w =
-      let next : IsToldTo ps (i + 1) (faults_after p.id fs) (cond (begins_with p.id ids) (drop 1 ids) ids) new =
-      told-next ps i p fs ids old mid new e apart h
-      (subst (λ (x : List ℕ). AppendsLines (map fault_line (faults_of_first x fs)) old mid) d k)
-      (subst (λ (x : List ℕ). AppendsLines (cond (begins_with x ids) (warning_line x ∷ []) []) mid new) d' l) in
-      record {
-        faults = f ∙ ap (λ (x : List ℕ). faults_after x fs) d ∙ next.faults;
-        warnings = w ∙ ap (λ (x : List ℕ). cond (begins_with x ids) (drop 1 ids) ids) d' ∙ next.warnings;
-        told = next.told;
-      }
-
-  -- all are told, and then the totals
-  pub told-all : (ps : List PolicyTree) (i : ℕ) (fs : List FaultTree) (ids : List (List ℕ)) (old new : List ℕ) (m n : ℕ)
-      → length ps ≤ i → IsToldTo ps i fs ids old → m ≡ length (all_faults_with settings s ps) → n ≡ length (warnings_with settings s ps)
-      → AppendsLines (totals_line m n ∷ []) old new → IsReportText settings s ps new
-  told-all ps i fs ids old new m n whole h em en k =
-      let told : TellsEach (flat_map policy_lines ps) old = subst (λ (qs : List PolicyTree). TellsEach (flat_map policy_lines qs) old) (take_all i ps whole) h.told in
-      record {
-        lines = flat_map policy_lines ps;
-        faults = all_faults_with settings s ps;
-        warnings = warnings_with settings s ps;
-        reported = reported ps;
-        are_faults = are_faults settings s ps;
-        are_warnings = are_warnings settings s ps;
-        told = subst (λ (x : ReportLine). TellsEach (flat_map policy_lines ps ++ x ∷ []) new) (ap₂ totals_line em en) (told_more _ _ old new told k);
-      }
+      let warnings : ids ≡ warnings_with settings s (p ∷ drop (i + 1) ps) = h.warnings ∙ ap (warnings_with settings s) at in
+      let first : begins_with id ids ≡ is_impossible_with settings s p = ap₂ begins_with d warnings ∙ warned p (drop (i + 1) ps) free in (
+        o ∙ ap₂ faults_of_first d faults ∙ (split p (drop (i + 1) ps) free).0,
+        w ∙ ap₂ (λ (b : Bool) (x : List ℕ). cond b (x ∷ []) []) first d,
+        record {
+          faults = f ∙ ap₂ faults_after d faults ∙ (split p (drop (i + 1) ps) free).1;
+          warnings = v ∙ ap₂ (λ (x : List ℕ) (ids : List (List ℕ)). cond (begins_with x ids) (drop 1 ids) ids) d warnings ∙ left p (drop (i + 1) ps) free;
+        },
+      )

@@ -32,8 +32,9 @@ abbrev pub BeginsReporting : Settings → Holdings → Option (List ℕ) → Opt
 BeginsReporting settings holds old new = (s : SchemaTree) × (set : PolicySetTree) × Hold holds s set × Writes old new (BeginsReport settings s set.policies)
 
 -- How `validate` ends under these settings, and what it has written by then: the report on policies, which have no faults or have
--- some; or the line of a refused file. Nothing is written where a file that is needed is not named, or memory runs out. Where a file
--- cannot be read, or the sink failed, as the type before the written bytes says, it is a beginning of these, or nothing (own).
+-- some; or the line of a refused file. Nothing is written where a file that is needed is not named. Where memory runs out, it is
+-- nothing, or a beginning of the report. Where a file cannot be read, or the sink failed, as the type before the written bytes says, it
+-- is a beginning of these, or nothing (own).
 abbrev pub Validates : Settings → Holdings → Type 0 → Option (List ℕ) → Option (List ℕ) → End → Type 0
 Validates settings holds failed old new Done =
     (s : SchemaTree) × (set : PolicySetTree) × Hold holds s set × AreFaultsWith settings s set.policies [] × Writes old new (IsReportText settings s set.policies)
@@ -44,7 +45,7 @@ Validates settings holds failed old new Device = (((holds Schema ≡ None) ⊎ (
     × (Keeps old new
     ⊎ BeginsReporting settings holds old new
     ⊎ ((role : Role) × (refusal : FileRefusal) × IsRefused holds role refusal × Writes old new (BeginsRefusal role refusal)))
-Validates settings holds failed old new Memory = Keeps old new
+Validates settings holds failed old new Memory = Keeps old new ⊎ BeginsReporting settings holds old new
 
 -- How the program ends where it reads all files and nothing is ready to answer, and what it has written by then: the report on
 -- policies with faults; or the line of the file that is judged first among those that are refused. Nothing is written where a file

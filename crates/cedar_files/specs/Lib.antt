@@ -9,6 +9,7 @@ pub mod PolicyFile
 pub mod Private
 pub mod Refusal
 pub mod ReportJson
+pub mod ReportPart
 pub mod ReportText
 pub mod Roles
 pub mod SchemaFile

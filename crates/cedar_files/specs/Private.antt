@@ -1,4 +1,5 @@
 -- What proofs and private contracts use. No public clause uses it.
+pub mod Reporting
 pub mod Telling
 pub mod Tokens
 pub mod Unusable

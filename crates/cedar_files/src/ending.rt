@@ -2,6 +2,9 @@
 ghost use Rattle.std.specs.Prelude.{◌≡◌};
 ghost use Rattle.cedar_files.specs.Ending.{status_of};
 
+use base_lines::WriteFailed;
+use std::alloc::AllocError;
+
 /// How the program ends.
 #[derive(Clone, Copy, Debug, PartialEq, Eq)]
 pub enum End {
@@ -31,5 +34,25 @@ impl End {
             End::CommandLine => 4,
             End::Device | End::Memory => 1,
         }
+    }
+}
+
+impl From<AllocError> for End {
+    ghost use Rattle.cedar_files.specs.declared.ending.End.TheVariants.{Memory};
+
+    ghost from_gives = { λ _ end. end ≡ Memory };
+
+    fn from(_error: AllocError) -> End {
+        End::Memory
+    }
+}
+
+impl From<WriteFailed> for End {
+    ghost use Rattle.cedar_files.specs.declared.ending.End.TheVariants.{Device};
+
+    ghost from_gives = { λ _ end. end ≡ Device };
+
+    fn from(_error: WriteFailed) -> End {
+        End::Device
     }
 }

@@ -1,8 +1,11 @@
 //! A text of lines, each of them JSON.
-ghost use Rattle.std.specs.Prelude.{◌≡◌, ◌++◌, [], ◌∷◌, OnOk};
+ghost use Rattle.std.specs.Prelude.{◌≡◌, ◌+◌, ◌-◌, ◌<◌, ◌^◌, ℕ, List, ◌++◌, [], ◌∷◌, length, OnErr, OnOk};
+ghost use Rattle.std.specs.Io.KnownBytes.{Appends};
 ghost use Rattle.json.specs.Print.{print};
+ghost use Rattle.base_lines.specs.AnswerText.{Writes};
 ghost use Rattle.base_lines.specs.Lines.{line_feed};
 
+use base_lines::{Sink, WriteFailed, flush};
 use json::Writer;
 use std::alloc::{AllocError, Global};
 use std::marker::Model;
@@ -58,6 +61,24 @@ impl JsonLines {
         self.text.extend_from_slice(&self.room)?;
         self.text.push(b'\n')?;
         Ok(())
+    }
+
+    /// How many bytes the text has.
+    pub(crate) fn len(&self) -> usize
+        ensures { result ≡ length self.now }
+    {
+        self.text.len()
+    }
+
+    /// Writes the text to a sink, and empties it. After a failure some beginning of it was written.
+    pub(crate) fn send<K: Sink>(&mut self, sink: &mut K) -> Result<(), WriteFailed>
+        requires { K.failed sink.old < 2 ^ 64 - 1 }
+        ensures ok { OnOk result ((self.new ≡ []) × Appends (K.written sink.old) (K.written sink.new) self.old) }
+        ensures err { OnErr result (Writes (K.written sink.old) (K.written sink.new) (λ text. (more : List ℕ) × (self.old ≡ text ++ more))) }
+        ensures count_ok { OnOk result (K.failed sink.new ≡ K.failed sink.old) }
+        ensures count_err { OnErr result (K.failed sink.new ≡ K.failed sink.old + 1) }
+    {
+        flush(&mut self.text, sink)
     }
 
     /// The text. Takes no memory.

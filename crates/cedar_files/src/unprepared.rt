@@ -6,6 +6,7 @@ use crate::files::Role;
 use crate::reading::Unread;
 use crate::refusal::FileRefusal;
 use cedar_auth::NotValidated;
+use std::alloc::AllocError;
 use std::fmt;
 use thiserror::Error;
 
@@ -38,6 +39,16 @@ impl fmt::Debug for Unprepared {
             Unprepared::Device => write!(f, "Device"),
             Unprepared::Memory => write!(f, "Memory"),
         }
+    }
+}
+
+impl From<AllocError> for Unprepared {
+    ghost use Rattle.cedar_files.specs.declared.unprepared.Unprepared.TheVariants.{Memory};
+
+    ghost from_gives = { λ _ why. why ≡ Memory };
+
+    fn from(_error: AllocError) -> Unprepared {
+        Unprepared::Memory
     }
 }
 

@@ -1,7 +1,0 @@
-use Rattle.std.proofs.Common.{append_assoc}
-use Rattle.cedar_files.proofs.report.write_totals.Goals as goal
-
-pub returns-clause-tokens : goal.returns-clause-tokens
-returns-clause-tokens c =
-    rw (c.in_ok-end_object.ensures.ok, c.in_ok-u64-2.ensures.ok, c.in_ok-key-2.ensures.ok, c.in_ok-u64.ensures.ok, c.in_ok-key.ensures.ok, c.in_ok-begin_object.ensures.ok)
-    (simp append_assoc)

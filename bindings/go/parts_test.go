@@ -22,7 +22,8 @@ func partsFiles(policies string) Files {
 }
 
 func faultLine(policy, principal string) string {
-	return fmt.Sprintf(`{"action":{"id":"view","type":"Action"},"fault":603,"policy":"%s","principal":"%s","resource":"Doc"}`+"\n", policy, principal)
+	const line = `{"action":{"id":"view","type":"Action"},"fault":603,"policy":"%s","principal":"%s","resource":"Doc"}` + "\n"
+	return fmt.Sprintf(line, policy, principal)
 }
 
 func totalsLine(faults, warnings uint64) string {

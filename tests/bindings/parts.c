@@ -2,6 +2,8 @@
 #include "files.h"
 #include "parts.h"
 
+#include <inttypes.h>
+
 /* Room for each text of these tests. */
 #define ROOM ((size_t)1 << 20)
 
@@ -78,7 +80,8 @@ static int are_the_whole(const char *policies, uint32_t wanted, uint64_t faults,
     uint32_t status;
     int parts;
     char totals[64];
-    size_t length = (size_t)snprintf(totals, sizeof totals, "{\"faults\":%llu,\"warnings\":%llu}\n", (unsigned long long)faults, (unsigned long long)warnings);
+    const char *form = "{\"faults\":%" PRIu64 ",\"warnings\":%" PRIu64 "}\n";
+    size_t length = (size_t)snprintf(totals, sizeof totals, form, faults, warnings);
     cedar_bytes text = whole(&files, &status);
     CHECK(status == wanted && text.length >= length && memcmp(whole_room + text.length - length, totals, length) == 0);
     CHECK(joined(&files, &place, 256, &all, &parts) == wanted && has(&all, text));
@@ -101,7 +104,8 @@ static void check_short(void) {
 
 /* Parts that end after so many policies, and parts that end after so many bytes. */
 static void check_many(void) {
-    char *right = policies_of(MANY_POLICIES, RIGHT_POLICY, WRONG_POLICY, is_some), *wrong = policies_of(MANY_POLICIES, RIGHT_POLICY, WRONG_POLICY, is_each);
+    char *right = policies_of(MANY_POLICIES, RIGHT_POLICY, WRONG_POLICY, is_some);
+    char *wrong = policies_of(MANY_POLICIES, RIGHT_POLICY, WRONG_POLICY, is_each);
     char *vain = policies_of(MANY_POLICIES, RIGHT_POLICY, VAIN_POLICY, is_each);
     int parts = are_the_whole(right, CEDAR_FAULTS, 6, 0);
     CHECK(parts == 3 || parts == 4);
@@ -263,7 +267,8 @@ static void check_refusals(void) {
     CHECK(cedar_validate_part(&files, &place, NULL, &small) == CEDAR_ROOM && small.written == strlen(line) && are_same(&place, &first));
     files = files_with(RIGHT_POLICY);
     files.schema = bytes_of("{");
-    CHECK(cedar_validate_part(&files, &place, &refusal, &text) == CEDAR_REFUSED && has(&text, bytes_of("{\"file\":\"schema\",\"refused\":301}\n")));
+    line = "{\"file\":\"schema\",\"refused\":301}\n";
+    CHECK(cedar_validate_part(&files, &place, &refusal, &text) == CEDAR_REFUSED && has(&text, bytes_of(line)));
     CHECK(refusal.file == CEDAR_SCHEMA && refusal.number == 301 && refusal.offset == CEDAR_NO_OFFSET && are_same(&place, &first));
     cedar_refusal_free(&refusal);
     files = files_with(RIGHT_POLICY);

@@ -107,7 +107,8 @@ int main() {
     check_lines();
     check_leaving();
     check_refusals();
-    const std::string wanted = FAULT_LINE("policy0", "Admin") FAULT_LINE("policy0", "User") WARNING_LINE("policy1") "{\"faults\":2,\"warnings\":1}\n";
+    const std::string wanted = FAULT_LINE("policy0", "Admin") FAULT_LINE("policy0", "User") WARNING_LINE("policy1")
+        "{\"faults\":2,\"warnings\":1}\n";
     CHECK(joined(cedar::validate_parts(files(WRONG_POLICY VAIN_POLICY))) == wanted);
     std::printf("%d passed, %d failed\n", passed, failed);
     return failed != 0;

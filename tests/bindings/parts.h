@@ -13,7 +13,8 @@ static const char PARTS_SCHEMA[] =
 
 /* A line of the fault of a policy for one type of principals, and a line of a warning, of the forms of docs/REFUSALS.md. */
 #define FAULT_LINE(policy, principal) \
-    "{\"action\":{\"id\":\"view\",\"type\":\"Action\"},\"fault\":603,\"policy\":\"" policy "\",\"principal\":\"" principal "\",\"resource\":\"Doc\"}\n"
+    "{\"action\":{\"id\":\"view\",\"type\":\"Action\"},\"fault\":603,\"policy\":\"" policy "\"," \
+    "\"principal\":\"" principal "\",\"resource\":\"Doc\"}\n"
 #define WARNING_LINE(policy) "{\"policy\":\"" policy "\",\"warning\":650}\n"
 
 /* So many policies have more text than a part, and are more than a part has. */

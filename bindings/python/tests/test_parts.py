@@ -79,7 +79,8 @@ class Parts(unittest.TestCase):
         self.assertTrue(first + ''.join(other) == report)
 
     def test_refusals(self):
-        for given, file, number in (((SCHEMA, 'permit('), 'policies', 201), (('{', RIGHT), 'schema', 301), ((SCHEMA, RIGHT, '{}'), 'links', 502)):
+        broken = (((SCHEMA, 'permit('), 'policies', 201), (('{', RIGHT), 'schema', 301), ((SCHEMA, RIGHT, '{}'), 'links', 502))
+        for given, file, number in broken:
             parts = bobbinjade.validate_parts(*given, lines=5)
             with self.assertRaises(bobbinjade.Refused) as raised:
                 next(parts)
@@ -91,7 +92,8 @@ class Parts(unittest.TestCase):
     def test_links_and_decimals(self):
         link = json.dumps([{'template_id': 't', 'link_id': 'l', 'args': {'?principal': 'User::"ann"'}}])
         template = '@id("t") permit(principal == ?principal, action, resource) when { resource.size > 0 };'
-        for given in ((SCHEMA, template, link), (SCHEMA, 'permit(principal, action, resource) when { decimal("x") == decimal("1.0") };', None, True)):
+        decimal = 'permit(principal, action, resource) when { decimal("x") == decimal("1.0") };'
+        for given in ((SCHEMA, template, link), (SCHEMA, decimal, None, True), (SCHEMA, decimal)):
             self.assertEqual(''.join(bobbinjade.validate_parts(*given)), bobbinjade.validate(*given).text)
 
 

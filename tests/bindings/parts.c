@@ -1,4 +1,4 @@
-/* Reports in parts, in C: parts. */
+/* Reports in parts, in C: parts [POLICIES], with so many in place of 3,000 where there are to be many. */
 #include "files.h"
 #include "parts.h"
 
@@ -8,6 +8,7 @@
 #define ROOM ((size_t)1 << 20)
 
 static char whole_room[ROOM], joined_room[ROOM], part_room[ROOM];
+static size_t many = MANY_POLICIES;
 
 static cedar_files files_with(const char *policies) {
     return (cedar_files){sizeof(cedar_files), bytes_of(PARTS_SCHEMA), bytes_of(policies), {NULL, 0}, {NULL, 0}, 0, 0};
@@ -28,7 +29,7 @@ static char *policies_of(size_t count, const char *plain, const char *other, int
 }
 
 static int is_each(size_t number) { return number + 1 > 0; }
-static int is_some(size_t number) { return number == 0 || number == 1500 || number == MANY_POLICIES - 1; }
+static int is_some(size_t number) { return number == 0 || number == many / 2 || number == many - 1; }
 
 static cedar_report_place start(uint64_t lines) { return (cedar_report_place){.size = sizeof(cedar_report_place), .lines = lines}; }
 
@@ -102,16 +103,22 @@ static void check_short(void) {
     CHECK(are_the_whole(RIGHT_POLICY, CEDAR_OK, 0, 0) == 1 && are_the_whole("", CEDAR_OK, 0, 0) == 1);
 }
 
+/* Whether so many parts have a thousand policies each, but for the last one or two. */
+static int is_count_of_thousands(int parts) {
+    int least = (int)((many + PART_POLICIES - 1) / PART_POLICIES);
+    return parts == least || parts == least + 1;
+}
+
 /* Parts that end after so many policies, and parts that end after so many bytes. */
 static void check_many(void) {
-    char *right = policies_of(MANY_POLICIES, RIGHT_POLICY, WRONG_POLICY, is_some);
-    char *wrong = policies_of(MANY_POLICIES, RIGHT_POLICY, WRONG_POLICY, is_each);
-    char *vain = policies_of(MANY_POLICIES, RIGHT_POLICY, VAIN_POLICY, is_each);
+    char *right = policies_of(many, RIGHT_POLICY, WRONG_POLICY, is_some);
+    char *wrong = policies_of(many, RIGHT_POLICY, WRONG_POLICY, is_each);
+    char *vain = policies_of(many, RIGHT_POLICY, VAIN_POLICY, is_each);
     int parts = are_the_whole(right, CEDAR_FAULTS, 6, 0);
-    CHECK(parts == 3 || parts == 4);
-    /* A fault takes 99 bytes at least, so 3,000 policies with two of them take more than 590,000. */
-    CHECK(are_the_whole(wrong, CEDAR_FAULTS, 2 * MANY_POLICIES, 0) >= 9);
-    CHECK(are_the_whole(vain, CEDAR_OK, 0, MANY_POLICIES) >= 3);
+    CHECK(is_count_of_thousands(parts));
+    /* A fault takes 99 bytes at least, and a policy has two of them. */
+    CHECK(are_the_whole(wrong, CEDAR_FAULTS, 2 * many, 0) >= (int)(2 * many * 99 / (PART_BYTES + 256)));
+    CHECK(are_the_whole(vain, CEDAR_OK, 0, many) >= (int)(many / PART_POLICIES));
     free(right);
     free(wrong);
     free(vain);
@@ -128,23 +135,24 @@ static size_t first_lines(cedar_bytes text, int count) {
 
 /* After so many lines only the counts go on: the totals are those of the whole report. */
 static void check_lines(void) {
-    static const char TOTALS[] = "{\"faults\":6000,\"warnings\":0}\n";
-    char *wrong = policies_of(MANY_POLICIES, RIGHT_POLICY, WRONG_POLICY, is_each);
+    char *wrong = policies_of(many, RIGHT_POLICY, WRONG_POLICY, is_each);
     cedar_files files = files_with(wrong);
     uint32_t status;
     int parts;
     cedar_buffer all;
     cedar_bytes report = whole(&files, &status);
-    for (int lines = 0; lines <= 5; lines++) {
+    char totals[64];
+    size_t room = (size_t)snprintf(totals, sizeof totals, "{\"faults\":%zu,\"warnings\":0}\n", 2 * many);
+    for (int lines = 0; lines <= 5; lines += lines ? 4 : 1) {
         cedar_report_place place = start((uint64_t)lines);
         size_t length = first_lines(report, lines);
-        CHECK(joined(&files, &place, 256, &all, &parts) == CEDAR_FAULTS && (parts == 3 || parts == 4));
-        CHECK(all.written == length + strlen(TOTALS) && memcmp(joined_room, whole_room, length) == 0);
-        CHECK(memcmp(joined_room + length, TOTALS, strlen(TOTALS)) == 0 && place.faults == 6000 && place.lines == 0);
+        CHECK(joined(&files, &place, 256, &all, &parts) == CEDAR_FAULTS && is_count_of_thousands(parts));
+        CHECK(all.written == length + room && memcmp(joined_room, whole_room, length) == 0);
+        CHECK(memcmp(joined_room + length, totals, room) == 0 && place.faults == 2 * many && place.lines == 0);
     }
     /* A limit that is not reached. */
     cedar_report_place place = start(10000);
-    CHECK(joined(&files, &place, 256, &all, &parts) == CEDAR_FAULTS && has(&all, report) && place.lines == 4000);
+    CHECK(joined(&files, &place, 256, &all, &parts) == CEDAR_FAULTS && has(&all, report) && place.lines == 10000 - 2 * many);
     /* Warnings count as faults do. */
     files = files_with(VAIN_POLICY WRONG_POLICY VAIN_POLICY);
     place = start(1);
@@ -155,7 +163,7 @@ static void check_lines(void) {
 
 /* Each place goes on alone: two reports that are written in turn, and a copy of a place. */
 static void check_places(void) {
-    char *wrong = policies_of(MANY_POLICIES, RIGHT_POLICY, WRONG_POLICY, is_each);
+    char *wrong = policies_of(many, RIGHT_POLICY, WRONG_POLICY, is_each);
     cedar_files files = files_with(wrong), other = files_with(WRONG_POLICY);
     cedar_report_place place = start(CEDAR_ALL_LINES), between = place, copy;
     cedar_buffer text = {part_room, ROOM, 0}, again = {joined_room, ROOM, 0};
@@ -171,9 +179,9 @@ static void check_places(void) {
     CHECK(first + text.written <= report.length && memcmp(part_room, whole_room + first, text.written) == 0);
     /* The lines of a policy begin at a place that has so many policies before it. */
     copy = start(CEDAR_ALL_LINES);
-    copy.policy = MANY_POLICIES - 1;
-    copy.faults = 2 * (MANY_POLICIES - 1);
-    CHECK(cedar_validate_part(&files, &copy, NULL, &text) == CEDAR_FAULTS && copy.policy == MANY_POLICIES && copy.faults == 6000);
+    copy.policy = many - 1;
+    copy.faults = 2 * (many - 1);
+    CHECK(cedar_validate_part(&files, &copy, NULL, &text) == CEDAR_FAULTS && copy.policy == many && copy.faults == 2 * many);
     CHECK(text.written < report.length && memcmp(part_room, whole_room + report.length - text.written, text.written) == 0);
     CHECK(first_lines((cedar_bytes){part_room, text.written}, 3) == text.written);
     free(wrong);
@@ -201,10 +209,11 @@ static void check_room(void) {
     part_room[report.length] = '#';
     CHECK(cedar_validate_part(&files, &place, NULL, &text) == CEDAR_FAULTS && has(&text, report) && part_room[report.length] == '#');
     /* A part without lines takes no room. */
-    char *right = policies_of(MANY_POLICIES, RIGHT_POLICY, WRONG_POLICY, is_some);
+    char *right = policies_of(many, RIGHT_POLICY, WRONG_POLICY, is_some);
     files = files_with(right);
     place = start(0);
-    CHECK(cedar_validate_part(&files, &place, NULL, NULL) == CEDAR_MORE && place.policy == PART_POLICIES && place.faults == 2);
+    CHECK(cedar_validate_part(&files, &place, NULL, NULL) == CEDAR_MORE && place.policy == PART_POLICIES);
+    CHECK(place.faults == (many / 2 < PART_POLICIES ? 4 : 2));
     free(right);
 }
 
@@ -281,7 +290,8 @@ static void check_refusals(void) {
     CHECK(refusal.file == 0 && refusal.number == 0 && refusal.offset == CEDAR_NO_OFFSET && !refusal.words.at && place.policy == 1);
 }
 
-int main(void) {
+int main(int count, char **words) {
+    many = count > 1 ? strtoul(words[1], NULL, 10) : many;
     check_short();
     check_many();
     check_lines();

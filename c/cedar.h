@@ -233,14 +233,14 @@ uint32_t cedar_validate(const cedar_files *files, cedar_buffer *text);
 /* The same, with all that `refusal` says of a file that is refused. */
 uint32_t cedar_validate_files(const cedar_files *files, cedar_refusal *refusal, cedar_buffer *text);
 
-/* Validates the next policies, writes what it found of them, and moves the place on. Such calls, one after another over the same files, write
- * the report of cedar_validate in parts, and nothing is kept between them: a report of policies that one does not trust may be left at any
- * part. A part ends after the policy with which its text has 65,536 bytes or more, or after 1,000 policies.
+/* Validates the next policies, and writes what it found of them. Such calls, one after another over the same files, write the report of
+ * cedar_validate in parts. Each of them reads the files anew, and nothing is kept between them: a report of policies that one does not trust
+ * may be left at any part. A part ends after the policy with which its text has 65,536 bytes or more, or after 1,000 policies.
  *
  * CEDAR_MORE: there is more, so call again. The text may have no bytes. CEDAR_OK and CEDAR_FAULTS: the report has ended, and the text ends
- * with the line of totals, which `lines` does not count. CEDAR_REFUSED: the text is the line of a refusal, and `refusal` is as for
- * cedar_validate_files. With each other status the place is as before. CEDAR_ARGUMENT is also for a place that is over the end of the
- * policies. `refusal` and `text` may be null. */
+ * with the line of totals, which `lines` does not count. Only with these three the place moves on. CEDAR_REFUSED: the text is the line of a
+ * refusal, and `refusal` is as for cedar_validate_files. CEDAR_ARGUMENT is also for a place that is over the end of the policies. `refusal`
+ * and `text` may be null. */
 uint32_t cedar_validate_part(const cedar_files *files, cedar_report_place *place, cedar_refusal *refusal, cedar_buffer *text);
 
 /* Frees the text and the words of a refusal, and sets them to null. */
@@ -266,7 +266,8 @@ uint32_t cedar_explain_request(cedar_engine *engine, const cedar_request *reques
 uint32_t cedar_share(cedar_engine *engine, cedar_engine *other);
 
 /* Says how many changes of entities the engine keeps, over the entities that it read as a whole: 0 after cedar_publish and
- * cedar_publish_entities. docs/DATA.md says which are kept. With another status than CEDAR_OK the count is 0. */
+ * cedar_publish_entities. docs/DATA.md says which are kept. It takes time in proportion to the count. With another status than CEDAR_OK
+ * the count is 0. */
 uint32_t cedar_kept_changes(cedar_engine *engine, uint64_t *count);
 
 /* Answers each line of `lines`, as `cedar authorize` does. */

@@ -42,7 +42,7 @@ uint32_t cedar_version(cedar_buffer *text) {
 const char *cedar_status_text(uint32_t status) {
     static const char *const TEXTS[] = {"done", "out of memory", "a file is refused", "the policies have faults", "a wrong argument",
                                         "nothing was published", "the buffer is too small", "the request is refused",
-                                        "the engine is closed"};
+                                        "the engine is closed", "a part of the report was written"};
     return status < sizeof TEXTS / sizeof *TEXTS ? TEXTS[status] : "an unknown status";
 }
 
@@ -65,6 +65,16 @@ uint32_t cedar_share(cedar_engine *engine, cedar_engine *other) {
     cedar_engine *handle = cedar_handle_of(engine), *second = cedar_handle_of(other);
     bool are_two = handle && second && handle->at != second->at;
     return are_two ? cedar_raw_share(handle, second) : CEDAR_ARGUMENT;
+}
+
+uint32_t cedar_kept_changes(cedar_engine *engine, uint64_t *count) {
+    cedar_engine *handle = cedar_handle_of(engine);
+    uint64_t kept = 0;
+    uint32_t status = handle && count ? cedar_raw_kept_changes(handle, &kept) : CEDAR_ARGUMENT;
+    if (count) {
+        *count = status == CEDAR_OK ? kept : 0;
+    }
+    return status;
 }
 
 uint32_t cedar_publish(cedar_engine *engine, const cedar_files *files, cedar_refusal *refusal, cedar_buffer *text) {
@@ -102,6 +112,20 @@ uint32_t cedar_validate(const cedar_files *files, cedar_buffer *text) {
     uint32_t status = cedar_raw_validate(at_of(files->schema), files->schema.length, at_of(files->policies), files->policies.length,
                                          at_of(files->links), files->links.length, files->settings, room.at, room.room, &room.written);
     return given(status, text, room.written);
+}
+
+uint32_t cedar_validate_part(const cedar_files *files, cedar_report_place *place, cedar_refusal *refusal, cedar_buffer *text) {
+    bool has_place = place && place->size == sizeof *place;
+    if (!has_place || !cedar_are_files(files) || !cedar_is_refusal(refusal) || !cedar_is_room(text)) {
+        return given(CEDAR_ARGUMENT, text, 0);
+    }
+    cedar_raw_report_place raw = {place->policy, place->faults, place->warnings, place->lines};
+    cedar_buffer room = room_of(text);
+    uint32_t status = cedar_raw_validate_part(at_of(files->schema), files->schema.length, at_of(files->policies), files->policies.length,
+                                              at_of(files->links), files->links.length, files->settings, &raw, room.at, room.room,
+                                              &room.written);
+    *place = (cedar_report_place){sizeof *place, raw.policy, raw.faults, raw.warnings, raw.lines};
+    return cedar_say_which(given(status, text, room.written), files, refusal);
 }
 
 uint32_t cedar_explain(const cedar_files *files, uint32_t format, cedar_buffer *text) {

@@ -48,6 +48,9 @@ bool cedar_are_files(const cedar_files *files);
 /* Whether a refusal is null, or has a size and wants that are known. */
 bool cedar_is_refusal(const cedar_refusal *refusal);
 
+/* Says which file a call that validates has refused with this status, and why. Gives the status, or that of saying so. */
+uint32_t cedar_say_which(uint32_t status, const cedar_files *files, cedar_refusal *refusal);
+
 /* Publishes to a handle, and says why what is published is refused. The arguments are right. */
 uint32_t cedar_publish_this(cedar_engine *engine, const cedar_publication *publication, cedar_refusal *refusal, cedar_buffer *text);
 #endif

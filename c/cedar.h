@@ -48,7 +48,8 @@ enum {
     CEDAR_NO_ENGINE = 5,  /* nothing was published */
     CEDAR_ROOM = 6,       /* the buffer is too small: `written` is the room that is needed, and the buffer is as before */
     CEDAR_NO_REQUEST = 7, /* the request to be decided is refused, with the number in `refused` */
-    CEDAR_CLOSED = 8      /* the shared engine was closed */
+    CEDAR_CLOSED = 8,     /* the shared engine was closed */
+    CEDAR_MORE = 9        /* a part of the report was written, and there is more */
 };
 
 /* The files of a refusal. Changes of entities are refused as the entities. */
@@ -68,6 +69,9 @@ enum { CEDAR_WANTS_WORDS = 1 };
 
 /* The offset of a refusal that has no place. */
 #define CEDAR_NO_OFFSET UINT64_MAX
+
+/* The lines of a cedar_report_place without a limit. */
+#define CEDAR_ALL_LINES UINT64_MAX
 
 /* Bytes that a call reads. `at` may be null where the length is 0, and only there. */
 typedef struct cedar_bytes {
@@ -130,6 +134,16 @@ typedef struct cedar_decision {
     uint32_t allow, refused;
 } cedar_decision;
 
+/* How far a report has been written: where cedar_validate_part goes on. It begins with 0 in each field but `size` and `lines`. A copy of it is
+ * the same place. */
+typedef struct cedar_report_place {
+    size_t size;       /* sizeof (cedar_report_place) */
+    uint64_t policy;   /* how many policies have been reported on */
+    uint64_t faults;   /* how many faults they have */
+    uint64_t warnings; /* how many warnings */
+    uint64_t lines;    /* how many lines of faults and warnings may still be written, or CEDAR_ALL_LINES. After them only the counts go on */
+} cedar_report_place;
+
 /* The version of the interface of the library. It is CEDAR_ABI_VERSION, or the library does not fit this header. */
 uint32_t cedar_abi_version(void);
 
@@ -168,6 +182,9 @@ uint32_t cedar_shared_publish_entities(cedar_shared *shared, cedar_bytes entitie
 
 /* Reads changes of entities, as cedar_publish_changes does, and makes an engine over the entities after them current. */
 uint32_t cedar_shared_publish_changes(cedar_shared *shared, cedar_bytes changes, cedar_refusal *refusal, cedar_buffer *text);
+
+/* Says how many changes of entities the current engine keeps, as cedar_kept_changes does. */
+uint32_t cedar_shared_kept_changes(cedar_shared *shared, uint64_t *count);
 
 /* Makes another engine, of the same policies, over the entities after changes. The first one is as before, and calls that publish to it do
  * not wait. With another status than CEDAR_OK the other one is null. */
@@ -216,6 +233,16 @@ uint32_t cedar_validate(const cedar_files *files, cedar_buffer *text);
 /* The same, with all that `refusal` says of a file that is refused. */
 uint32_t cedar_validate_files(const cedar_files *files, cedar_refusal *refusal, cedar_buffer *text);
 
+/* Validates the next policies, and writes what it found of them. Such calls, one after another over the same files, write the report of
+ * cedar_validate in parts. Each of them reads the files anew, and nothing is kept between them: a report of policies that one does not trust
+ * may be left at any part. A part ends after the policy with which its text has 65,536 bytes or more, or after 1,000 policies.
+ *
+ * CEDAR_MORE: there is more, so call again. The text may have no bytes. CEDAR_OK and CEDAR_FAULTS: the report has ended, and the text ends
+ * with the line of totals, which `lines` does not count. Only with these three the place moves on. CEDAR_REFUSED: the text is the line of a
+ * refusal, and `refusal` is as for cedar_validate_files. CEDAR_ARGUMENT is also for a place that is over the end of the policies. `refusal`
+ * and `text` may be null. */
+uint32_t cedar_validate_part(const cedar_files *files, cedar_report_place *place, cedar_refusal *refusal, cedar_buffer *text);
+
 /* Frees the text and the words of a refusal, and sets them to null. */
 void cedar_refusal_free(cedar_refusal *refusal);
 
@@ -237,6 +264,11 @@ uint32_t cedar_explain_request(cedar_engine *engine, const cedar_request *reques
 /* Has `other`, which cedar_new made, lead to the engine to which `engine` leads. The engine to which `other` led before is freed, where no
  * other handle shares it. */
 uint32_t cedar_share(cedar_engine *engine, cedar_engine *other);
+
+/* Says how many changes of entities the engine keeps, over the entities that it read as a whole: 0 after cedar_publish and
+ * cedar_publish_entities. docs/DATA.md says which are kept. It takes time in proportion to the count. With another status than CEDAR_OK
+ * the count is 0. */
+uint32_t cedar_kept_changes(cedar_engine *engine, uint64_t *count);
 
 /* Answers each line of `lines`, as `cedar authorize` does. */
 uint32_t cedar_answer(cedar_engine *engine, cedar_bytes lines, cedar_buffer *text);
@@ -266,6 +298,9 @@ typedef struct cedar_raw_refusal {
 typedef struct cedar_raw_decision {
     uint32_t allow, refused;
 } cedar_raw_decision;
+typedef struct cedar_raw_report_place {
+    uint64_t policy, faults, warnings, lines;
+} cedar_raw_report_place;
 uint32_t cedar_raw_new(void **out);
 void cedar_raw_free(cedar_engine engine);
 uint32_t cedar_raw_publish(cedar_engine *engine, const void *schema, size_t schema_length, const void *policies, size_t policies_length,
@@ -277,6 +312,9 @@ uint32_t cedar_raw_publish_changes(cedar_engine *engine, const void *changes, si
                                    size_t room, size_t *written);
 uint32_t cedar_raw_validate(const void *schema, size_t schema_length, const void *policies, size_t policies_length, const void *links,
                             size_t links_length, uint32_t settings, void *text, size_t room, size_t *written);
+uint32_t cedar_raw_validate_part(const void *schema, size_t schema_length, const void *policies, size_t policies_length, const void *links,
+                                 size_t links_length, uint32_t settings, cedar_raw_report_place *place, void *text, size_t room,
+                                 size_t *written);
 uint32_t cedar_raw_explain(const void *schema, size_t schema_length, const void *policies, size_t policies_length, const void *links,
                            size_t links_length, const void *entities, size_t entities_length, uint32_t settings, uint32_t format,
                            void *text, size_t room, size_t *written);
@@ -284,6 +322,7 @@ uint32_t cedar_raw_explain_changes(const void *schema, size_t schema_length, con
                                    uint32_t format, void *text, size_t room, size_t *written);
 uint32_t cedar_raw_explain_line(cedar_engine *engine, const void *line, size_t length, uint32_t kind, uint32_t number, uint32_t format,
                                 void *text, size_t room, size_t *written);
+uint32_t cedar_raw_kept_changes(cedar_engine *engine, uint64_t *count);
 uint32_t cedar_raw_share(cedar_engine *engine, cedar_engine *other);
 uint32_t cedar_raw_answer(cedar_engine *engine, const void *lines, size_t length, void *text, size_t room, size_t *written);
 uint32_t cedar_raw_answer_with_entities(cedar_engine *engine, const void *lines, size_t length, void *text, size_t room, size_t *written);

@@ -182,11 +182,7 @@ uint32_t cedar_publish_this(cedar_engine *engine, const cedar_publication *it, c
     return status;
 }
 
-uint32_t cedar_validate_files(const cedar_files *files, cedar_refusal *refusal, cedar_buffer *text) {
-    if (!cedar_is_refusal(refusal)) {
-        return CEDAR_ARGUMENT;
-    }
-    uint32_t status = cedar_validate(files, text);
+uint32_t cedar_say_which(uint32_t status, const cedar_files *files, cedar_refusal *refusal) {
     say_why(status, refusal, &(cedar_raw_refusal){0, 0, CEDAR_NO_OFFSET});
     if (status == CEDAR_REFUSED && refusal) {
         /* Publishing to a handle of its own says which file is refused, and why. */
@@ -196,4 +192,8 @@ uint32_t cedar_validate_files(const cedar_files *files, cedar_refusal *refusal, 
         cedar_free(&handle);
     }
     return status;
+}
+
+uint32_t cedar_validate_files(const cedar_files *files, cedar_refusal *refusal, cedar_buffer *text) {
+    return cedar_is_refusal(refusal) ? cedar_say_which(cedar_validate(files, text), files, refusal) : CEDAR_ARGUMENT;
 }

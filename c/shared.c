@@ -498,6 +498,18 @@ uint32_t cedar_shared_with_changes(cedar_shared *shared, cedar_bytes changes, ce
     return CEDAR_OK;
 }
 
+uint32_t cedar_shared_kept_changes(cedar_shared *shared, uint64_t *count) {
+    handle *it;
+    uint32_t status = take(shared, &it);
+    if (status != CEDAR_OK) {
+        cedar_kept_changes(NULL, count);
+        return status;
+    }
+    status = cedar_kept_changes(&it->engine, count);
+    give(shared, it);
+    return status;
+}
+
 uint32_t cedar_shared_decide(cedar_shared *shared, const cedar_request *request, cedar_decision *decision, cedar_buffer *text) {
     handle *it;
     uint32_t status = take(shared, &it);

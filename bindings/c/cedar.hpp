@@ -16,6 +16,7 @@
 #include <cstdint>
 #include <functional>
 #include <initializer_list>
+#include <iterator>
 #include <memory>
 #include <new>
 #include <optional>
@@ -336,6 +337,88 @@ inline Report validate(const Files &files) {
     return {status == CEDAR_OK, std::move(text)};
 }
 
+/* A report in parts, each of which is made when it is asked for. A caller may leave at any part: the rest is then never made. The parts, one
+ * after another, are the text of `validate`; with a limit, its first `lines` lines and the line of totals. A part ends after the policy with
+ * which it has 64 KiB, or after 1,000 policies. The texts of the files belong to the caller, and have to be there as long as this is. */
+class ReportParts {
+public:
+    explicit ReportParts(const Files &files, std::uint64_t lines = CEDAR_ALL_LINES)
+        : files_(detail::raw(files)), place_{sizeof(cedar_report_place), 0, 0, 0, lines} {}
+
+    /* Makes the next part, which `text` then has: whole lines, or none. Returns false where the report has ended. Throws Refusal where a file
+     * is refused, and OutOfMemory; then it may be called again, and makes the same part. */
+    bool next() {
+        if (has_ended_) {
+            return false;
+        }
+        detail::Why why;
+        std::string part;
+        std::uint32_t status = detail::grown(part, std::size_t{72} << 10, [&](cedar_buffer &buffer) {
+            cedar_refusal_free(&why);
+            return cedar_validate_part(&files_, &place_, &why, &buffer);
+        });
+        if (status != CEDAR_MORE && status != CEDAR_FAULTS) {
+            why.check(status);
+        }
+        has_ended_ = status != CEDAR_MORE;
+        text_.swap(part);
+        return true;
+    }
+
+    /* The last part. */
+    const std::string &text() const noexcept { return text_; }
+
+    /* How many policies have been reported on so far, how many faults they have, and how many warnings. */
+    std::uint64_t policies() const noexcept { return place_.policy; }
+    std::uint64_t faults() const noexcept { return place_.faults; }
+    std::uint64_t warnings() const noexcept { return place_.warnings; }
+
+    /* Whether the report has ended, and the policies have no faults. */
+    bool accepted() const noexcept { return has_ended_ && place_.faults == 0; }
+
+    /* The parts from the next one on, for a loop. It throws what `next` throws. */
+    class iterator {
+    public:
+        using iterator_category = std::input_iterator_tag;
+        using value_type = std::string;
+        using difference_type = std::ptrdiff_t;
+        using pointer = const std::string *;
+        using reference = const std::string &;
+
+        reference operator*() const { return parts_->text(); }
+        pointer operator->() const { return &parts_->text(); }
+        iterator &operator++() {
+            parts_ = parts_->next() ? parts_ : nullptr;
+            return *this;
+        }
+        void operator++(int) { ++*this; }
+        friend bool operator==(iterator one, iterator other) { return one.parts_ == other.parts_; }
+        friend bool operator!=(iterator one, iterator other) { return one.parts_ != other.parts_; }
+
+    private:
+        friend class ReportParts;
+        explicit iterator(ReportParts *parts) : parts_(parts) {}
+        ReportParts *parts_;
+    };
+    iterator begin() { return iterator(next() ? this : nullptr); }
+    iterator end() { return iterator(nullptr); }
+
+private:
+    cedar_files files_;
+    cedar_report_place place_;
+    std::string text_;
+    bool has_ended_ = false;
+};
+
+/* Validates the policies of files, of which `entities` is not read, and gives the report in parts. It is for policies that one does not trust,
+ * whose report may be a thousand times as long as they are:
+ *
+ *   for (const std::string &part : cedar::validate_parts(files, 1000)) {
+ *       std::cout << part;
+ *   }
+ */
+inline ReportParts validate_parts(const Files &files, std::uint64_t lines = CEDAR_ALL_LINES) { return ReportParts(files, lines); }
+
 /* Explains in words why files are refused or have faults. Empty where they are accepted. */
 inline std::string explain(const Files &files) {
     cedar_files raw = detail::raw(files);
@@ -384,6 +467,14 @@ public:
         cedar_shared *other;
         why.check(cedar_shared_with_changes(open(), detail::bytes(changes), &other, &why, nullptr));
         return Engine(other);
+    }
+
+    /* How many changes of entities are kept over the entities that were read as a whole: 0 after `publish` and `publish_entities`. It takes
+     * time in proportion to the count. Throws NoEngine, OutOfMemory and Closed. */
+    std::uint64_t kept_changes() const {
+        std::uint64_t count;
+        detail::check(cedar_shared_kept_changes(open(), &count));
+        return count;
     }
 
     /* Whether a request is allowed. It makes no text, so it is the fastest call. Throws RequestRefusal where the request is refused. */

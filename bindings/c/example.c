@@ -121,6 +121,19 @@ int main(int count, char **words) {
         fwrite(answer.at, 1, answer.written, stdout);
     }
     cedar_shared_free(engine);
+
+    /* Policies of others: their report comes in parts, and may be left at any of them. After 100 lines only the counts go on. */
+    cedar_report_place place = {.size = sizeof place, .lines = 100};
+    cedar_buffer part = {NULL, 0, 0};
+    do {
+        status = cedar_validate_part(&files, &place, NULL, &part);
+        if (status != CEDAR_ROOM) {
+            fwrite(part.at, 1, part.written, stdout);
+        } else if (!(part.at = realloc(part.at, part.room = part.written))) {
+            return 1;
+        }
+    } while (status == CEDAR_MORE || status == CEDAR_ROOM);
+    free(part.at);
     const cedar_bytes read[] = {files.schema, files.policies, files.links, files.entities, entities, lines};
     for (size_t i = 0; i < sizeof read / sizeof *read; i++) {
         free((void *)read[i].at);

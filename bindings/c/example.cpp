@@ -59,6 +59,11 @@ int main(int count, char **words) {
             R"({"principal":"User::\"ann\"","action":"Action::\"write\"","resource":"Notebook::\"plans\"",)"
             R"("entities":[{"uid":{"type":"User","id":"ann"}}]})");
 
+        // Policies of others: their report comes in parts, and may be left at any of them. After 100 lines only the counts go on.
+        for (const std::string &part : cedar::validate_parts({schema, policies, links, entities}, 100)) {
+            std::cout << part;
+        }
+
         // Policies that are refused change nothing.
         try {
             engine.publish({schema, "permit(", links, entities});

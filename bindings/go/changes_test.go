@@ -155,6 +155,40 @@ func TestManyChanges(t *testing.T) {
 	}
 }
 
+// What is kept of changes, as docs/DATA.md has it.
+func TestKeptChanges(t *testing.T) {
+	engine := staffEngine(t)
+	isKept := func(it *Engine, least, most uint64) {
+		t.Helper()
+		if count, err := it.KeptChanges(); err != nil || count < least || count > most {
+			t.Error(count, err)
+		}
+	}
+	var entries, uids []string
+	for number := 0; number < 1000; number++ {
+		entries = append(entries, entryText("User", fmt.Sprint("u", number), `{"age":1}`))
+		uids = append(uids, uidText("User", fmt.Sprint("u", number)))
+	}
+	isKept(engine, 0, 0)
+	changed(t, engine, upsert(entries...))
+	isKept(engine, 1000, 1000)
+	isKept(withChanges(t, engine, upsert(ann())), 1001, 1001)
+	changed(t, engine, remove(uids...))
+	isKept(engine, 0, 126)
+	changed(t, engine, remove(uidText("User", "bob")))
+	isKept(engine, 1, 128)
+	if err := engine.PublishEntities([]byte("[]")); err != nil {
+		t.Error(err)
+	}
+	isKept(engine, 0, 0)
+	_ = engine.Close()
+	for _, it := range []*Engine{engine, {}} {
+		if count, err := it.KeptChanges(); !errors.Is(err, ErrClosed) || count != 0 {
+			t.Error(count, err)
+		}
+	}
+}
+
 // A request that brings its entities: no other request sees them.
 func TestRequestsWithEntities(t *testing.T) {
 	engine := staffEngine(t)

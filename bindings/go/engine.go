@@ -112,6 +112,12 @@ func (e *Engine) WithChanges(changes []byte) (*Engine, error) {
 	return e.withChanges(changes)
 }
 
+// KeptChanges says how many changes of entities are kept over the entities that were read as a whole: 0 after Publish and PublishEntities. It
+// takes time in proportion to the count. The error is ErrMemory or ErrClosed.
+func (e *Engine) KeptChanges() (uint64, error) {
+	return e.keptChanges()
+}
+
 // Close frees all that no running call uses. Later calls give ErrClosed. Closing twice is safe. An Engine to which nothing refers is
 // freed without it.
 func (e *Engine) Close() error {

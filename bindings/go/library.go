@@ -41,6 +41,32 @@ static uint32_t with_changes(void *shared, _GoString_ changes, cedar_shared **ot
     return cedar_shared_with_changes(shared, bytes_of(changes), other, why, NULL);
 }
 
+// A part of a report: what a call gives, and the place after it.
+typedef struct part {
+    outcome gives;
+    cedar_report_place place;
+} part;
+
+static part validate_part(_GoString_ schema, _GoString_ policies, _GoString_ links, uint32_t settings, cedar_report_place place,
+                          cedar_refusal *why, char *text, size_t room) {
+    cedar_files files = {sizeof files, bytes_of(schema), bytes_of(policies), bytes_of(links), {NULL, 0}, settings, 0};
+    cedar_buffer buffer = {text, room, 0};
+    cedar_refusal_free(why);
+    uint32_t status = cedar_validate_part(&files, &place, why, &buffer);
+    return (part){{status, 0, 0, buffer.written}, place};
+}
+
+typedef struct counted {
+    uint32_t status;
+    uint64_t count;
+} counted;
+
+static counted kept_changes(void *shared) {
+    counted gives = {0, 0};
+    gives.status = cedar_shared_kept_changes(shared, &gives.count);
+    return gives;
+}
+
 // Validates or explains files.
 static outcome check(_GoString_ schema, _GoString_ policies, _GoString_ links, _GoString_ entities, uint32_t settings, cedar_refusal *why,
                      char *text, size_t room) {
@@ -191,6 +217,36 @@ func validated(files *Files) (isAccepted bool, report string, err error) {
 	return isAccepted, report, err
 }
 
+// reportPlace is where a report goes on.
+type reportPlace = C.cedar_report_place
+
+// firstPlace gives the beginning of a report of so many lines.
+func firstPlace(lines uint64) reportPlace {
+	return reportPlace{size: C.sizeof_cedar_report_place, lines: C.uint64_t(lines)}
+}
+
+// validatedPart makes the part of a report that begins at a place, in a text which grows, and moves the place on. It says whether there is
+// more. With an error the place is as before, and there is no part.
+func validatedPart(files *Files, place *reportPlace, made []byte) (part []byte, hasMore bool, err error) {
+	err = refused(func(why *C.cedar_refusal) C.uint32_t {
+		for {
+			at, size := room(made)
+			it := C.validate_part(text(files.Schema), text(files.Policies), text(files.Links), files.settings(), *place, why, at, size)
+			if it.gives.written > size {
+				made = make([]byte, 0, it.gives.written)
+				continue
+			}
+			hasMore = it.gives.status == C.CEDAR_MORE
+			if !hasMore && it.gives.status != C.CEDAR_OK && it.gives.status != C.CEDAR_FAULTS {
+				return it.gives.status
+			}
+			part, *place = made[:it.gives.written], it.place
+			return C.CEDAR_OK
+		}
+	})
+	return part, hasMore, err
+}
+
 // explained says why files are refused or have faults.
 func explained(files *Files) (string, error) {
 	status, words := checked(files, nil)
@@ -240,6 +296,15 @@ func (e *Engine) publishEntities(entities []byte) error {
 
 func (e *Engine) publishChanges(changes []byte) error {
 	return e.publish(func(why *C.cedar_refusal) C.uint32_t { return C.publish_changes(e.shared, text(changes), why) })
+}
+
+func (e *Engine) keptChanges() (uint64, error) {
+	if e.shared == nil {
+		return 0, ErrClosed
+	}
+	gives := C.kept_changes(e.shared)
+	runtime.KeepAlive(e)
+	return uint64(gives.count), failed(gives.status)
 }
 
 func (e *Engine) withChanges(changes []byte) (*Engine, error) {

@@ -51,6 +51,10 @@ def main():
             'entities': [{'uid': {'type': 'User', 'id': 'ann'}}]}
     print(engine.answer_with_entities(json.dumps(line)), end='')
 
+    # Policies of others: their report comes in parts, and may be left at any of them. After 100 lines only the counts go on.
+    for part in bobbinjade.validate_parts(files[0], files[1], files[3], lines=100):
+        print(part, end='')
+
     # Policies that are refused change nothing.
     try:
         engine.publish(files[0], 'permit(', files[2])

@@ -27,6 +27,10 @@ typedef struct decision {
     size_t size;
     uint32_t allow, refused;
 } decision;
+typedef struct place {
+    size_t size;
+    uint64_t policy, faults, warnings, lines;
+} place;
 
 static int passed, failed;
 static void *library;
@@ -72,6 +76,9 @@ int main(int count, char **words) {
     uint32_t (*decide)(void *, const request *, decision *, buffer *) =
         (uint32_t(*)(void *, const request *, decision *, buffer *))named("cedar_shared_decide");
     uint32_t (*answer)(void *, bytes, buffer *) = (uint32_t(*)(void *, bytes, buffer *))named("cedar_shared_answer");
+    uint32_t (*validate)(const files *, place *, void *, buffer *) =
+        (uint32_t(*)(const files *, place *, void *, buffer *))named("cedar_validate_part");
+    uint32_t (*kept)(void *, uint64_t *) = (uint32_t(*)(void *, uint64_t *))named("cedar_shared_kept_changes");
     void (*release)(void *) = (void (*)(void *))named("cedar_shared_free");
     uint32_t (*abi)(void) = (uint32_t(*)(void))named("cedar_abi_version");
     const char *(*said)(uint32_t) = (const char *(*)(uint32_t))named("cedar_status_text");
@@ -88,6 +95,12 @@ int main(int count, char **words) {
     check(decide(shared, &asked, &decided, NULL) == 0 && decided.allow == 1, "deciding");
     check(answer(shared, content(words[2], "requests.jsonl"), &told) == 0 && told.written == answers.length, "answering");
     check(memcmp(room, answers.at, answers.length) == 0, "the answers");
+    place at = {sizeof at, 0, 7, 7, 0};
+    bytes report = text("{\"faults\":7,\"warnings\":7}\n");
+    check(validate(&all, &at, NULL, &told) == 3 && at.policy > 0 && at.faults == 7 && at.lines == 0, "validating a part");
+    check(told.written == report.length && memcmp(room, report.at, report.length) == 0, "the part");
+    uint64_t changes = 7;
+    check(kept(shared, &changes) == 0 && changes == 0, "counting changes");
     all.links = (bytes){NULL, 72};
     check(publish(shared, &all, NULL, NULL) == 4, "links that were not read");
     asked.size++;

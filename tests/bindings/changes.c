@@ -145,6 +145,90 @@ static void check_many(void) {
     cedar_free(&engine);
 }
 
+/* Changes of this count of users, as JSON that the caller frees: they are upserted, or removed. */
+static char *changes_of(int count, int is_removal) {
+    char *at = malloc((size_t)count * 100 + 32), *to = at;
+    if (!at) {
+        exit(9);
+    }
+    to += sprintf(to, is_removal ? "{\"remove\":[" : "{\"upsert\":[");
+    for (int number = 0; number < count; number++) {
+        const char *begin = number ? "," : "", *uid = "{\"type\":\"User\",\"id\":\"u";
+        to += is_removal ? sprintf(to, "%s%s%d\"}", begin, uid, number)
+                         : sprintf(to, "%s{\"uid\":%s%d\"},\"attrs\":{\"age\":1}}", begin, uid, number);
+    }
+    sprintf(to, "]}");
+    return at;
+}
+
+/* Whether an engine keeps so many changes. */
+static int is_kept(cedar_engine *engine, uint64_t wanted) {
+    uint64_t count = 7;
+    return cedar_kept_changes(engine, &count) == CEDAR_OK && count == wanted;
+}
+
+/* What is kept of changes is what docs/DATA.md says: one for each entity that they upserted, one for each entity of the file that they removed,
+ * and of other removals at most as many more and 126. */
+static void check_kept(void) {
+    enum { MANY = 1000 };
+    char *upserted = changes_of(MANY, 0), *removed = changes_of(MANY, 1);
+    cedar_engine engine = published(), other;
+    uint64_t count = 7;
+    CHECK(is_kept(&engine, 0) && changed(&engine, "{}") == CEDAR_OK && is_kept(&engine, 0));
+    CHECK(changed(&engine, UPSERT(ANN)) == CEDAR_OK && is_kept(&engine, 1) && changed(&engine, UPSERT(ANN)) == CEDAR_OK && is_kept(&engine, 1));
+    CHECK(changed(&engine, REMOVE(UID("User", "bob"))) == CEDAR_OK && is_kept(&engine, 2));
+    CHECK(changed(&engine, "[]") == CEDAR_REFUSED && is_kept(&engine, 2));
+    CHECK(cedar_new(&other) == CEDAR_OK && cedar_share(&engine, &other) == CEDAR_OK);
+    CHECK(changed(&engine, upserted) == CEDAR_OK && is_kept(&engine, MANY + 2) && is_kept(&other, 2));
+    CHECK(changed(&engine, removed) == CEDAR_OK && cedar_kept_changes(&engine, &count) == CEDAR_OK && count >= 2 && count <= 2 * 2 + 126);
+    CHECK(cedar_publish_entities(&engine, files.entities, NULL, NULL) == CEDAR_OK && is_kept(&engine, 0) && is_kept(&other, 2));
+    CHECK(cedar_publish(&other, &files, NULL, NULL) == CEDAR_OK && is_kept(&other, 0));
+    cedar_free(&engine);
+    cedar_free(&other);
+    free(upserted);
+    free(removed);
+}
+
+/* Null handles, a null count, a handle to which nothing was published, and one that was freed. */
+static void check_arguments_of_kept(void) {
+    cedar_engine none = {NULL}, engine, copy;
+    uint64_t count = 7;
+    CHECK(cedar_kept_changes(NULL, &count) == CEDAR_ARGUMENT && count == 0 && cedar_kept_changes(NULL, NULL) == CEDAR_ARGUMENT);
+    count = 7;
+    CHECK(cedar_kept_changes(&none, &count) == CEDAR_ARGUMENT && count == 0);
+    count = 7;
+    CHECK(cedar_new(&engine) == CEDAR_OK && cedar_kept_changes(&engine, &count) == CEDAR_NO_ENGINE && count == 0);
+    CHECK(cedar_kept_changes(&engine, NULL) == CEDAR_ARGUMENT);
+    copy = engine;
+    cedar_free(&engine);
+    count = 7;
+    CHECK(cedar_kept_changes(&copy, &count) == CEDAR_ARGUMENT && count == 0);
+}
+
+/* A shared engine counts the changes of its current version. */
+static void check_kept_of_shared(void) {
+    cedar_shared *shared, *other;
+    uint64_t count = 7;
+    files = (cedar_files){sizeof files, bytes_of(CHANGES_SCHEMA), bytes_of(CHANGES_POLICIES), {NULL, 0}, bytes_of(CHANGES_ENTITIES), 0, 0};
+    CHECK(cedar_shared_kept_changes(NULL, &count) == CEDAR_ARGUMENT && count == 0);
+    count = 7;
+    CHECK(cedar_shared_new(&shared) == CEDAR_OK && cedar_shared_kept_changes(shared, &count) == CEDAR_NO_ENGINE && count == 0);
+    CHECK(cedar_shared_publish(shared, &files, NULL, NULL) == CEDAR_OK && cedar_shared_kept_changes(shared, NULL) == CEDAR_ARGUMENT);
+    CHECK(cedar_shared_kept_changes(shared, &count) == CEDAR_OK && count == 0);
+    CHECK(cedar_shared_publish_changes(shared, bytes_of(UPSERT(ANN)), NULL, NULL) == CEDAR_OK);
+    CHECK(cedar_shared_kept_changes(shared, &count) == CEDAR_OK && count == 1);
+    CHECK(cedar_shared_with_changes(shared, bytes_of(REMOVE(UID("User", "bob"))), &other, NULL, NULL) == CEDAR_OK);
+    CHECK(cedar_shared_kept_changes(other, &count) == CEDAR_OK && count == 2);
+    CHECK(cedar_shared_kept_changes(shared, &count) == CEDAR_OK && count == 1);
+    CHECK(cedar_shared_publish_entities(shared, files.entities, NULL, NULL) == CEDAR_OK);
+    CHECK(cedar_shared_kept_changes(shared, &count) == CEDAR_OK && count == 0);
+    cedar_shared_free(other);
+    cedar_shared_close(shared);
+    count = 7;
+    CHECK(cedar_shared_kept_changes(shared, &count) == CEDAR_CLOSED && count == 0);
+    cedar_shared_free(shared);
+}
+
 /* Requests that bring their entities: a handle is shared, changed, asked and freed. No other request sees them. */
 static void check_requests_with_entities(void) {
     cedar_engine engine = published();
@@ -164,6 +248,9 @@ int main(void) {
     check_refusals();
     check_words();
     check_many();
+    check_kept();
+    check_arguments_of_kept();
+    check_kept_of_shared();
     check_requests_with_entities();
     return counted();
 }

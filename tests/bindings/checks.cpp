@@ -89,6 +89,28 @@ static void check_entities(const std::string &folder) {
     CHECK(thrown<cedar::Closed>([&] { cedar::Engine moved(std::move(engine)); engine.publish_entities(entities); }));
 }
 
+// What is kept of changes, as docs/DATA.md has it.
+static void check_kept_changes() {
+    std::string upserted, removed;
+    for (int i = 0; i < 1000; i++) {
+        const std::string begin = i ? "," : "", uid = R"({"type":"User","id":"u)" + std::to_string(i) + "\"}";
+        upserted += begin + R"({"uid":)" + uid + R"(,"attrs":{"age":1}})";
+        removed += begin + uid;
+    }
+    cedar::Engine engine;
+    CHECK(thrown<cedar::NoEngine>([&] { engine.kept_changes(); }));
+    engine.publish({CHANGES_SCHEMA, CHANGES_POLICIES, {}, CHANGES_ENTITIES});
+    CHECK(engine.kept_changes() == 0);
+    engine.publish_changes("{\"upsert\":[" + upserted + "]}");
+    CHECK(engine.kept_changes() == 1000 && engine.with_changes(UPSERT(ANN)).kept_changes() == 1001 && engine.kept_changes() == 1000);
+    engine.publish_changes("{\"remove\":[" + removed + "]}");
+    CHECK(engine.kept_changes() <= 126);
+    engine.publish_entities(CHANGES_ENTITIES);
+    CHECK(engine.kept_changes() == 0);
+    engine.close();
+    CHECK(thrown<cedar::Closed>([&] { engine.kept_changes(); }));
+}
+
 static void check_changes() {
     const cedar::Request ann = {{"User", "ann"}, {"Action", "view"}, {"Group", "staff"}}, bob = {{"User", "bob"}, ann.action, ann.resource};
     cedar::Engine engine;
@@ -258,6 +280,7 @@ int main(int count, char **words) {
     check_refusals(content(folder + "broken_policies.cedar"));
     check_entities(examples + "/photos/");
     check_changes();
+    check_kept_changes();
     check_lines_with_entities(examples + "/photos/");
     check_faults();
     check_room();

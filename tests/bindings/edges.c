@@ -218,9 +218,9 @@ static void check_numbers(void) {
     cedar_refusal refusal = {offsetof(cedar_refusal, wants), 7, 7, 7, 7, 7, 7, {wanted, 7}, {wanted, 7}};
     snprintf(wanted, sizeof wanted, "%d.%d.%d", CEDAR_VERSION_MAJOR, CEDAR_VERSION_MINOR, CEDAR_VERSION_PATCH);
     CHECK(cedar_version(&text) == CEDAR_OK && has(&text, bytes_of(wanted)) && cedar_abi_version() == CEDAR_ABI_VERSION);
-    for (uint32_t status = 0; status <= 10; status++) {
+    for (uint32_t status = 0; status <= CEDAR_MORE + 2; status++) {
         int is_known = strcmp(cedar_status_text(status), "an unknown status") != 0;
-        CHECK(is_known == (status <= CEDAR_CLOSED) && (status == 0 || strcmp(cedar_status_text(status), cedar_status_text(status - 1)) != 0 || !is_known));
+        CHECK(is_known == (status <= CEDAR_MORE) && (status == 0 || strcmp(cedar_status_text(status), cedar_status_text(status - 1)) != 0 || !is_known));
     }
     broken.policies = bytes_of("permit(");
     CHECK(cedar_new(&engine) == CEDAR_OK && cedar_publish(&engine, &broken, &refusal, NULL) == CEDAR_REFUSED && refusal.number == 201);

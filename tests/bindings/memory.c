@@ -86,6 +86,37 @@ static outcome validates(void) {
     return (outcome){status, status != CEDAR_OK || has(&text, report)};
 }
 
+/* A part of a report moves the place on where it is written, and otherwise leaves it as it is. */
+static outcome validates_part(void) {
+    cedar_report_place place = {.size = sizeof place, .lines = CEDAR_ALL_LINES};
+    cedar_refusal refusal = {.size = sizeof refusal, .wants = CEDAR_WANTS_WORDS};
+    cedar_buffer text = text_buffer();
+    uint32_t status = cedar_validate_part(&files, &place, &refusal, &text);
+    int is_right = status == CEDAR_OK ? has(&text, report) && place.policy > 0 : place.policy == 0 && !refusal.words.at;
+    return (outcome){status, is_right};
+}
+
+/* A part that is refused has all of its words, or the status says that memory ran out, and there are none. */
+static outcome validates_refused_part(void) {
+    cedar_report_place place = {.size = sizeof place, .lines = CEDAR_ALL_LINES};
+    cedar_refusal refusal = {.size = sizeof refusal, .wants = CEDAR_WANTS_WORDS};
+    cedar_buffer text = text_buffer();
+    cedar_files broken = files;
+    broken.policies = bytes_of("permit(");
+    uint32_t status = cedar_validate_part(&broken, &place, &refusal, &text);
+    int is_refused = status == CEDAR_REFUSED && refusal.number == 201 && refusal.words.length > 40;
+    int is_right = (is_refused || (status == CEDAR_MEMORY && !refusal.words.at)) && place.policy == 0;
+    cedar_refusal_free(&refusal);
+    return (outcome){is_refused ? CEDAR_OK : status, is_right};
+}
+
+/* Nothing was changed since entities were published. */
+static outcome counts_changes(void) {
+    uint64_t count = 7;
+    uint32_t status = cedar_kept_changes(&engine, &count);
+    return (outcome){status, count == 0};
+}
+
 /* An explanation has the same words as with ample memory, or none. */
 static outcome explains(void) {
     cedar_buffer text = text_buffer();
@@ -283,11 +314,14 @@ int main(int count, char **words) {
     try_each("publish with faults", publishes_faults);
     try_each("publish entities", publishes_entities);
     try_each("publish entities that are refused", publishes_refused_entities);
+    try_each("count changes", counts_changes);
     try_each("publish changes", publishes_changes);
     try_each("publish all entities as changes", publishes_all_as_changes);
     try_each("publish changes that are refused", publishes_refused_changes);
     try_each("explain changes", explains_changes);
     try_each("validate", validates);
+    try_each("validate a part", validates_part);
+    try_each("validate a part that is refused", validates_refused_part);
     try_explanations();
     try_each("share", shares);
     try_each("a shared engine", shares_between_threads);

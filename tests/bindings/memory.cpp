@@ -97,6 +97,14 @@ int main(int count, char **words) {
     try_each("answer lines with entities", [&] { return engine.answer_with_entities(brought) == answer + "\n" + answers && asks(); });
     try_each("ask over changes", [&] { return engine.with_changes(changes).answer(requests) == answers && asks(); });
     try_each("validate", [&] { return cedar::validate(files).accepted && cedar::explain(files).empty(); });
+    const std::string report = cedar::validate(files).text;
+    try_each("validate in parts", [&] {
+        std::string text;
+        for (const std::string &part : cedar::validate_parts(files)) {
+            text += part;
+        }
+        return text == report && engine.kept_changes() > 0;
+    });
     std::printf("%d passed, %d failed\n", passed, failed);
     return failed != 0;
 }

@@ -100,6 +100,8 @@ def main():
     try_each('answer lines with entities', answers_with_entities)
     try_each('ask over changes', asks_over_changes)
     try_each('validate', lambda _: bobbinjade.validate(*files[:2]).is_accepted and bobbinjade.explain(*files) == '')
+    report = bobbinjade.validate(*files[:2]).text
+    try_each('validate in parts', lambda _: ''.join(bobbinjade.validate_parts(*files[:2])) == report and engine.kept_changes() > 0)
     print('%d passed, %d failed' % (COUNTS[True], COUNTS[False]))
     return COUNTS[False] != 0
 

@@ -33,6 +33,8 @@ static void check_all(cedar_shared *shared, uint32_t status) {
     cedar_shared *other = engine;
     char room[] = "####";
     cedar_buffer text = {room, 4, 9};
+    uint64_t count = 7;
+    CHECK(cedar_shared_kept_changes(shared, &count) == status && count == 0);
     CHECK(cedar_shared_decide(shared, &request, &decision, &text) == status && text.written == 0);
     CHECK(decision.allow == 0 && decision.refused == 0);
     CHECK(cedar_shared_answer(shared, lines, &text) == status && cedar_shared_answer_line(shared, lines, &text) == status);
@@ -83,6 +85,7 @@ static void check_arguments(cedar_shared *shared) {
     CHECK(cedar_shared_publish_changes(shared, bytes_of("{}"), NULL, &no_room) == CEDAR_ARGUMENT && no_room.written == 0);
     CHECK(cedar_shared_with_changes(shared, bytes_of("{}"), NULL, NULL, NULL) == CEDAR_ARGUMENT);
     CHECK(cedar_shared_with_changes(shared, lost, &made, NULL, NULL) == CEDAR_ARGUMENT && !made);
+    CHECK(cedar_shared_kept_changes(shared, NULL) == CEDAR_ARGUMENT);
     CHECK(cedar_shared_answer(shared, lost, NULL) == CEDAR_ARGUMENT && cedar_shared_answer_line(shared, lost, NULL) == CEDAR_ARGUMENT);
     CHECK(cedar_shared_answer_with_entities(shared, lines, &no_room) == CEDAR_ARGUMENT);
     CHECK(cedar_shared_decide(shared, &request, &decision, NULL) == CEDAR_ARGUMENT);
@@ -180,6 +183,12 @@ static int turn_is_right(long turn) {
     return is_right && decided >= 0 && (before != begun || decided == (before % 2 == 0));
 }
 
+/* Whether the count of changes is that of a version: the publisher changes one entity of each, after its entities were published. */
+static int count_is_right(void) {
+    uint64_t count = 7;
+    return cedar_shared_kept_changes(engine, &count) == CEDAR_OK && count <= 1;
+}
+
 /* ThreadSanitizer keeps a lock for each atomic, and who writes waits for as long as anyone reads. Threads that never pause would keep a
  * publisher, or who closes the engine, waiting for ever. */
 static void pause_under_tools(void) {
@@ -191,7 +200,7 @@ static void pause_under_tools(void) {
 static void *asks(void *none) {
     long turn = 0;
     do {
-        *(turn_is_right(turn) ? &right : &wrong) += 1;
+        *(turn_is_right(turn) && count_is_right() ? &right : &wrong) += 1;
         pause_under_tools();
     } while (turn++ == 0 || !is_over);
     return none;

@@ -183,6 +183,20 @@ static void *validates(void *none) {
     return none;
 }
 
+static void *validates_a_part(void *none) {
+    cedar_buffer text = {room, sizeof room, 0};
+    cedar_report_place place = {.size = sizeof place, .lines = CEDAR_ALL_LINES};
+    uint32_t status = cedar_validate_part(&files, &place, NULL, &text);
+    is_right = (status == CEDAR_OK || status == CEDAR_FAULTS) && place.policy == 1;
+    return none;
+}
+
+static void *counts_changes(void *none) {
+    uint64_t count;
+    is_right = cedar_kept_changes(&engine, &count) == CEDAR_OK;
+    return none;
+}
+
 static void *explains(void *none) {
     cedar_buffer text = {room, sizeof room, 0};
     is_right = cedar_explain(&files, CEDAR_WORDS, &text) == CEDAR_OK;
@@ -323,6 +337,8 @@ static void check_text(uint32_t status) {
     changes = upserts(files.entities);
     on_a_stack(READING_STACK, publishes_changes);
     CHECK(is_right);
+    on_a_stack(ASKING_STACK, counts_changes);
+    CHECK(is_right);
     on_a_stack(READING_STACK, explains_changes);
     CHECK(is_right);
     check_line(status == CEDAR_OK);
@@ -392,10 +408,11 @@ static void print_least_of_entities(void) {
 }
 
 static void print_least(void) {
-    printf("| Policies | publish | validate | explain | share | free |\n|---|---|---|---|---|---|\n");
+    printf("| Policies | publish | validate | validate a part | explain | share | free |\n|---|---|---|---|---|---|---|\n");
     for (size_t i = 0; i < COUNT(policies); i++) {
         open_engine(&policies[i]);
-        printf("| %s | %zu | %zu | %zu |", policies[i].name, least(publishes), least(validates), least(explains));
+        printf("| %s | %zu | %zu | %zu |", policies[i].name, least(publishes), least(validates), least(validates_a_part));
+        printf(" %zu |", least(explains));
         fflush(stdout);
         on_a_stack(64 << 20, publishes);
         printf(" %zu |", least(shares));
@@ -420,6 +437,8 @@ static void check(const form *form) {
     on_a_stack(READING_STACK, publishes);
     CHECK(is_right);
     on_a_stack(READING_STACK, validates);
+    CHECK(is_right);
+    on_a_stack(READING_STACK, validates_a_part);
     CHECK(is_right);
     on_a_stack(READING_STACK, explains);
     CHECK(is_right);

@@ -94,6 +94,15 @@ func main() {
 	}
 	fmt.Print(string(answers))
 
+	// Policies of others: their report comes in parts, and may be left at any of them. After 100 lines only the counts go on.
+	parts := bobbinjade.ValidateParts(files, 100)
+	for parts.Next() {
+		os.Stdout.Write(parts.Text())
+	}
+	if err := parts.Err(); err != nil {
+		log.Fatal(err)
+	}
+
 	// Policies that are refused change nothing.
 	files.Policies = []byte("permit(")
 	var refusal *bobbinjade.Refusal

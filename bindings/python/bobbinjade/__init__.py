@@ -8,6 +8,7 @@ An Engine is for any number of threads. `Engine.publish` swaps the files while r
 `Engine.publish_entities` the entities alone, and `Engine.publish_changes` changes some of them."""
 from .engine import Engine, Erring, Report, Response, explain, validate, version
 from .errors import Closed, Error, Faults, OutOfMemory, Refused, RequestRefused
+from .parts import ReportParts, validate_parts
 
-__all__ = ['Closed', 'Engine', 'Erring', 'Error', 'Faults', 'OutOfMemory', 'Refused', 'Report', 'RequestRefused', 'Response', 'explain',
-           'validate', 'version']
+__all__ = ['Closed', 'Engine', 'Erring', 'Error', 'Faults', 'OutOfMemory', 'Refused', 'Report', 'ReportParts', 'RequestRefused', 'Response',
+           'explain', 'validate', 'validate_parts', 'version']

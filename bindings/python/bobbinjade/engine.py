@@ -156,6 +156,15 @@ class Engine:
         check(lambda why: LIBRARY.cedar_shared_with_changes(self._shared, given, at, why, None))
         return other
 
+    def kept_changes(self) -> int:
+        """How many changes of entities are kept over the entities that were read as a whole: 0 after `publish` and `publish_entities`. It
+        takes time in proportion to the count. Raises OutOfMemory or Closed."""
+        count = ctypes.c_uint64()
+        status = LIBRARY.cedar_shared_kept_changes(self._shared, ctypes.byref(count))
+        if status != OK:
+            raise failed(status)
+        return count.value
+
     def close(self) -> None:
         """Frees all that no running call uses. Later calls raise Closed. Closing twice is safe."""
         LIBRARY.cedar_shared_close(self._shared)

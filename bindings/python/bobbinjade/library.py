@@ -9,11 +9,11 @@ from typing import Any, Optional, Union
 
 from .errors import FILES, Closed, Error, Faults, OutOfMemory, Refused
 
-OK, MEMORY, REFUSED, FAULTS, ROOM, NO_REQUEST, CLOSED = 0, 1, 2, 3, 6, 7, 8
+OK, MEMORY, REFUSED, FAULTS, ROOM, NO_REQUEST, CLOSED, MORE = 0, 1, 2, 3, 6, 7, 8, 9
 ABI_VERSION = 1
 NAME = 'libcedar.so'
 SYSTEM_NAME = NAME + '.1'
-NO_OFFSET = 2 ** 64 - 1
+NO_OFFSET = ALL_LINES = 2 ** 64 - 1
 WORDS = ctypes.c_uint32(0)
 LINE, LINE_WITH_ENTITIES = ctypes.c_uint32(0), ctypes.c_uint32(1)
 Text = Union[str, bytes]
@@ -50,6 +50,12 @@ class Decision(ctypes.Structure):
     _fields_ = [('size', ctypes.c_size_t), ('allow', ctypes.c_uint32), ('refused', ctypes.c_uint32)]
 
 
+class Place(ctypes.Structure):
+    """cedar_report_place."""
+    _fields_ = [('size', ctypes.c_size_t), ('policies', ctypes.c_uint64), ('faults', ctypes.c_uint64), ('warnings', ctypes.c_uint64),
+                ('lines', ctypes.c_uint64)]
+
+
 class Why(ctypes.Structure):
     """cedar_refusal. It owns its texts."""
     _fields_ = [('size', ctypes.c_size_t), ('file', ctypes.c_uint32), ('number', ctypes.c_uint32), ('offset', ctypes.c_uint64),
@@ -62,9 +68,9 @@ def loaded(kind: type) -> Any:
     folder = os.environ.get('BOBBINJADE_LIB')
     beside = os.path.join(os.path.dirname(os.path.abspath(__file__)), NAME)
     library = kind(os.path.join(folder, NAME) if folder else beside if os.path.exists(beside) else SYSTEM_NAME)
-    for name in ('abi_version', 'version', 'validate_files', 'explain', 'shared_new', 'shared_publish', 'shared_publish_entities',
-                 'shared_publish_changes', 'shared_with_changes', 'shared_decide', 'shared_answer', 'shared_answer_line',
-                 'shared_answer_with_entities', 'shared_explain_line', 'shared_explain_request'):
+    for name in ('abi_version', 'version', 'validate_files', 'validate_part', 'explain', 'shared_new', 'shared_publish',
+                 'shared_publish_entities', 'shared_publish_changes', 'shared_with_changes', 'shared_kept_changes', 'shared_decide',
+                 'shared_answer', 'shared_answer_line', 'shared_answer_with_entities', 'shared_explain_line', 'shared_explain_request'):
         getattr(library, 'cedar_' + name).restype = ctypes.c_uint32
     for name in ('refusal_free', 'shared_free', 'shared_close'):
         getattr(library, 'cedar_' + name).restype = None

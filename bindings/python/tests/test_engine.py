@@ -355,6 +355,23 @@ class Changes(unittest.TestCase):
         may = [it for it in range(1000) if self.engine.decide(('User', 'u%d' % it), 'Action::"view"', 'Group::"staff"')]
         self.assertEqual((may, self.who(self.engine)), ([999], ['bob']))
 
+    def test_kept_changes(self):
+        """What is kept of changes, as docs/DATA.md has it."""
+        engine, names = self.engine, ['u%d' % it for it in range(1000)]
+        self.assertEqual(engine.kept_changes(), 0)
+        engine.publish_changes({'upsert': [self.entry('User', it, age=1) for it in names]})
+        self.assertEqual(engine.kept_changes(), 1000)
+        with engine.with_changes({'upsert': [self.ann]}) as other:
+            self.assertEqual((other.kept_changes(), engine.kept_changes()), (1001, 1000))
+        engine.publish_changes({'remove': [self.uid('User', it) for it in names]})
+        self.assertLessEqual(engine.kept_changes(), 126)
+        engine.publish_changes({'remove': [self.uid('User', 'bob')]})
+        self.assertGreaterEqual(engine.kept_changes(), 1)
+        engine.publish_entities('[]')
+        self.assertEqual(engine.kept_changes(), 0)
+        engine.close()
+        self.assertRaises(bobbinjade.Closed, engine.kept_changes)
+
     def test_requests_with_entities(self):
         for _ in range(10):
             with self.engine.with_changes({'upsert': [self.ann]}) as other:

@@ -42,6 +42,11 @@ fn main() -> Result<(), Box<dyn Error>> {
     );
     print!("{}", engine.answer_with_entities(line)?);
 
+    // Policies of others: their report comes in parts, and may be left at any of them. After 100 lines only the counts go on.
+    for part in bobbinjade::validate_parts(&files, Some(100)) {
+        print!("{}", part?);
+    }
+
     // Policies that are refused change nothing.
     if let Err(error) = engine.publish(&Files { policies: b"permit(", ..files }) {
         println!("{error}");

@@ -21,12 +21,14 @@
 
 mod answer;
 mod error;
+mod parts;
 mod raw;
 mod stack;
 
 use std::borrow::Cow;
 
 pub use error::{Error, Faults, File, Refusal, RequestRefusal};
+pub use parts::{validate_parts, ReportParts};
 use raw::{Asks, Shared, Why};
 use stack::on_enough_stack;
 
@@ -244,6 +246,19 @@ impl Engine {
     pub fn with_changes(&self, changes: &[u8]) -> Result<Engine, Error> {
         let shared = made(|why| self.shared.with_changes(changes, why))?;
         Ok(Engine { shared: shared.ok_or(Error::Memory)? })
+    }
+
+    /// How many changes of entities are kept over the entities that were read as a whole: 0 after [`Engine::publish`] and
+    /// [`Engine::publish_entities`]. It takes time in proportion to the count.
+    ///
+    /// # Errors
+    ///
+    /// [`Error::Memory`] and [`Error::Closed`].
+    pub fn kept_changes(&self) -> Result<u64, Error> {
+        match self.shared.kept_changes() {
+            (raw::OK, count) => Ok(count),
+            (status, _) => Err(Error::of(status)),
+        }
     }
 
     /// Whether a request is allowed. It makes no text, so it is the fastest call.

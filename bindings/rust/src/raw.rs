@@ -11,6 +11,10 @@ pub(crate) const REFUSED: u32 = 2;
 pub(crate) const FAULTS: u32 = 3;
 pub(crate) const NO_REQUEST: u32 = 7;
 pub(crate) const CLOSED: u32 = 8;
+pub(crate) const MORE: u32 = 9;
+
+/// `CEDAR_ALL_LINES`.
+const ALL_LINES: u64 = u64::MAX;
 
 /// `CEDAR_WANTS_WORDS`.
 const WANTS_WORDS: u32 = 1;
@@ -88,6 +92,24 @@ pub(crate) struct Decided {
     pub(crate) refused: u32,
 }
 
+/// `cedar_report_place`.
+#[repr(C)]
+#[derive(Clone, Debug)]
+pub(crate) struct Place {
+    size: usize,
+    pub(crate) policies: u64,
+    pub(crate) faults: u64,
+    pub(crate) warnings: u64,
+    lines: u64,
+}
+
+impl Place {
+    /// The beginning of a report of so many lines at most, and of the totals.
+    pub(crate) fn first(lines: Option<u64>) -> Place {
+        Place { size: std::mem::size_of::<Place>(), policies: 0, faults: 0, warnings: 0, lines: lines.unwrap_or(ALL_LINES) }
+    }
+}
+
 /// `cedar_refusal`, which owns its texts.
 #[repr(C)]
 pub(crate) struct Why {
@@ -144,6 +166,7 @@ extern "C" {
     fn cedar_status_text(status: u32) -> *const c_char;
     fn cedar_refusal_free(why: *mut Why);
     fn cedar_validate_files(files: *const RawFiles, why: *mut Why, text: *mut Buffer) -> u32;
+    fn cedar_validate_part(files: *const RawFiles, place: *mut Place, why: *mut Why, text: *mut Buffer) -> u32;
     fn cedar_explain(files: *const RawFiles, format: u32, text: *mut Buffer) -> u32;
     fn cedar_shared_new(shared: *mut *mut c_void) -> u32;
     fn cedar_shared_retain(shared: *mut c_void);
@@ -153,6 +176,7 @@ extern "C" {
     fn cedar_shared_publish_entities(shared: *mut c_void, entities: Bytes, why: *mut Why, text: *mut Buffer) -> u32;
     fn cedar_shared_publish_changes(shared: *mut c_void, changes: Bytes, why: *mut Why, text: *mut Buffer) -> u32;
     fn cedar_shared_with_changes(shared: *mut c_void, changes: Bytes, other: *mut *mut c_void, why: *mut Why, text: *mut Buffer) -> u32;
+    fn cedar_shared_kept_changes(shared: *mut c_void, count: *mut u64) -> u32;
     fn cedar_shared_decide(shared: *mut c_void, request: *const RawRequest, decided: *mut Decided, text: *mut Buffer) -> u32;
     fn cedar_shared_answer(shared: *mut c_void, lines: Bytes, text: *mut Buffer) -> u32;
     fn cedar_shared_answer_with_entities(shared: *mut c_void, lines: Bytes, text: *mut Buffer) -> u32;
@@ -242,6 +266,13 @@ impl Shared {
         (status, NonNull::new(at).map(Shared))
     }
 
+    /// How many changes of entities are kept; 0 with another status than `OK`.
+    pub(crate) fn kept_changes(&self) -> (u32, u64) {
+        let mut count = 0;
+        let status = unsafe { cedar_shared_kept_changes(self.0.as_ptr(), &mut count) };
+        (status, count)
+    }
+
     /// Decides the request of these parts. A text without room is not written.
     pub(crate) fn decide(&self, parts: &[&str; 7], text: &mut Vec<u8>) -> (u32, Decided) {
         let (request, mut decided) = (parts.into(), Decided { size: std::mem::size_of::<Decided>(), allow: 0, refused: 0 });
@@ -280,6 +311,16 @@ pub(crate) fn validate(files: &Files, why: &mut Why, text: &mut Vec<u8>) -> u32 
     grown(text, |to| unsafe {
         cedar_refusal_free(why);
         cedar_validate_files(&files, why, to)
+    })
+}
+
+/// Writes the next part of the report on the policies of files, and moves the place on.
+pub(crate) fn validate_part(files: &Files, place: &mut Place, why: &mut Why, text: &mut Vec<u8>) -> u32 {
+    let files = files.into();
+    // SAFETY: as for `validate`.
+    grown(text, |to| unsafe {
+        cedar_refusal_free(why);
+        cedar_validate_part(&files, place, why, to)
     })
 }
 

@@ -104,6 +104,26 @@ fn a_thousand_changes_come_one_after_another() {
     }
 }
 
+/// What is kept of changes, as docs/DATA.md has it.
+#[test]
+fn kept_changes_are_counted() {
+    let engine = engine();
+    let uids: Vec<_> = (0..1000).map(|number| uid("User", &format!("u{number}"))).collect();
+    let entries: Vec<_> = (0..1000).map(|number| entry("User", &format!("u{number}"), r#"{"age":1}"#, &[])).collect();
+    assert_eq!(engine.kept_changes(), Ok(0));
+    engine.publish_changes(upsert(&entries).as_bytes()).unwrap();
+    assert_eq!(engine.kept_changes(), Ok(1000));
+    assert_eq!(engine.with_changes(upsert(&[ann()]).as_bytes()).unwrap().kept_changes(), Ok(1001));
+    engine.publish_changes(remove(&uids).as_bytes()).unwrap();
+    assert!(engine.kept_changes().unwrap() <= 126);
+    engine.publish_changes(remove(&[uid("User", "bob")]).as_bytes()).unwrap();
+    assert!(engine.kept_changes().unwrap() >= 1);
+    engine.publish_entities(b"[]").unwrap();
+    assert_eq!(engine.kept_changes(), Ok(0));
+    engine.close();
+    assert_eq!(engine.kept_changes(), Err(Error::Closed));
+}
+
 #[test]
 fn a_request_brings_its_entities() {
     let engine = engine();

@@ -14,9 +14,17 @@ pub fn uids_below(alloc: Global, count: u32) -> Result<Vec<Uid>, AllocError> {
 }
 
 fn uid(alloc: Global, number: u32) -> Result<Uid, AllocError> {
-    let id = Text::new(format!(in alloc; "{number}")?);
     let ty = Name::new(alloc, Text::read(alloc, "T")?)?;
-    Ok(Uid { ty, id })
+    match format!(in alloc; "{number}") {
+        Ok(id) => Ok(Uid {
+            ty,
+            id: Text::new(id),
+        }),
+        Err(AllocError) => {
+            drop(ty);
+            Err(AllocError)
+        }
+    }
 }
 
 /// Copies of the uids that are chosen.
@@ -41,10 +49,17 @@ pub fn set_of(
     numbers: &[Option<u32>],
 ) -> Result<ValueSet, AllocError> {
     let mut members = Vec::new(alloc);
-    for uid in chosen(alloc, uids, numbers)? {
-        members.push(Value::uid(alloc, uid)?)?;
+    for number in numbers {
+        if let Some(uid) = number.and_then(|number| uids.get(number as usize)) {
+            members.push(uid_value(alloc, uid)?)?;
+        }
     }
     ValueSet::from_list(members)
+}
+
+fn uid_value(alloc: Global, uid: &Uid) -> Result<Value, AllocError> {
+    let uid = uid.try_clone(alloc)?;
+    Value::uid(alloc, uid)
 }
 
 fn attributes(alloc: Global, attribute: Option<u32>) -> Result<Record, AllocError> {
@@ -61,12 +76,34 @@ pub fn entities(alloc: Global, uids: &[Uid], entries: &[Entry]) -> Result<Vec<En
     let mut list = Vec::new(alloc);
     for entry in entries {
         if let Some(uid) = uids.get(entry.uid as usize) {
-            list.push(Entity {
-                uid: uid.try_clone(alloc)?,
-                attrs: attributes(alloc, entry.attribute)?,
-                parents: chosen(alloc, uids, &entry.parents)?,
-            })?;
+            list.push(entity(alloc, uids, uid, entry)?)?;
         }
     }
     Ok(list)
+}
+
+fn entity(alloc: Global, uids: &[Uid], uid: &Uid, entry: &Entry) -> Result<Entity, AllocError> {
+    let parents = chosen(alloc, uids, &entry.parents)?;
+    match described(alloc, uid, entry) {
+        Ok((uid, attrs)) => Ok(Entity {
+            uid,
+            attrs,
+            parents,
+        }),
+        Err(AllocError) => {
+            drop(parents);
+            Err(AllocError)
+        }
+    }
+}
+
+fn described(alloc: Global, uid: &Uid, entry: &Entry) -> Result<(Uid, Record), AllocError> {
+    let attributes = attributes(alloc, entry.attribute)?;
+    match uid.try_clone(alloc) {
+        Ok(uid) => Ok((uid, attributes)),
+        Err(AllocError) => {
+            drop(attributes);
+            Err(AllocError)
+        }
+    }
 }

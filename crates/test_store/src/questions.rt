@@ -21,56 +21,78 @@ fn are_attributes_alike(store: Option<&Record>, plain: Option<&Record>) -> bool 
 /// What an entity is below, according to the store.
 fn ancestors<'s>(alloc: Global, store: &'s Store, low: &Uid) -> Result<Vec<&'s Uid>, AllocError> {
     let mut found = Vec::new(alloc);
-    store.ancestors(low, &mut found)?;
-    Ok(found)
+    match store.ancestors(low, &mut found) {
+        Ok(()) => Ok(found),
+        Err(AllocError) => {
+            drop(found);
+            Err(AllocError)
+        }
+    }
+}
+
+/// Fails with the id of the uid of which both stores do not answer alike, if there is one.
+pub fn assert_none(rt: &impl Abort, differing: Option<&Uid>) {
+    if let Some(uid) = differing {
+        assert!(rt; false, "{}", uid.id.as_str());
+    }
 }
 
 impl Version {
-    /// Compares what both stores answer of each uid.
-    pub fn compare(
+    /// The first of the low uids of which both stores do not answer alike, or none. They are asked what it is below, among the high
+    /// ones, and whether it is below one of the set.
+    ///
+    /// # Errors
+    ///
+    /// Fails only when out of memory.
+    pub fn differing<'u>(
         &self,
-        rt: &impl Abort,
         alloc: Global,
-        uids: &[Uid],
-        highs: &ValueSet,
-    ) -> Result<(), AllocError> {
-        for low in uids {
-            self.compare_at(rt, alloc, uids, low, highs)?;
+        lows: &'u [Uid],
+        highs: &[Uid],
+        set: &ValueSet,
+    ) -> Result<Option<&'u Uid>, AllocError> {
+        for low in lows {
+            if !self.is_alike_at(alloc, low, highs, set)? {
+                return Ok(Some(low));
+            }
         }
-        Ok(())
+        Ok(None)
     }
 
-    /// Compares what both stores answer of a uid: whether it is there, its attributes, what it is below, and whether it is below
-    /// one of the set.
-    pub fn compare_at(
+    /// Whether both stores answer alike of a uid: whether it is there, its attributes, what it is below, and whether it is below one of
+    /// the set.
+    fn is_alike_at(
         &self,
-        rt: &impl Abort,
         alloc: Global,
-        uids: &[Uid],
         low: &Uid,
-        highs: &ValueSet,
-    ) -> Result<(), AllocError> {
+        highs: &[Uid],
+        set: &ValueSet,
+    ) -> Result<bool, AllocError> {
+        let found = ancestors(alloc, &self.store, low)?;
+        let is_alike = self.is_entity_alike(low, set) && self.are_above(low, highs, &found);
+        drop(found);
+        Ok(is_alike)
+    }
+
+    fn is_entity_alike(&self, low: &Uid, set: &ValueSet) -> bool {
         let (store, plain) = (&self.store, &self.plain);
-        let id = low.id.as_str();
-        assert_eq!(rt; store.has(low), plain.has(low), "{id}");
-        assert!(rt;
-            are_attributes_alike(store.attributes(low), plain.attributes(low)),
-            "{id}"
-        );
-        assert_eq!(rt;
-            store.is_below_any(low, highs),
-            plain.is_below_any(low, highs),
-            "{id}"
-        );
-        let found = ancestors(alloc, store, low)?;
+        store.has(low) == plain.has(low)
+            && are_attributes_alike(store.attributes(low), plain.attributes(low))
+            && store.is_below_any(low, set) == plain.is_below_any(low, set)
+    }
+
+    /// Whether both stores agree on what an entity is below, and each of it was found once.
+    fn are_above(&self, low: &Uid, highs: &[Uid], found: &[&Uid]) -> bool {
         let mut count = 0usize;
-        for high in uids {
-            let is_below = plain.is_below(low, high);
-            assert_eq!(rt; store.is_below(low, high), is_below, "{id}");
-            assert_eq!(rt; count_of(&found, high), is_below as usize, "{id}");
+        for high in highs {
+            let is_below = self.plain.is_below(low, high);
+            if self.store.is_below(low, high) != is_below
+                || count_of(found, high) != is_below as usize
+            {
+                return false;
+            }
             count = count.wrapping_add(is_below as usize);
         }
-        assert_eq!(rt; found.len(), count, "{id}");
-        Ok(())
+        found.len() == count
     }
 }

@@ -1,6 +1,7 @@
 //! A store that is changed again and again, and a plain store that is built anew each time: both answer each question alike.
 use crate::choices::{Change, Choices, UIDS};
 use crate::entities::{set_of, uids_below};
+use crate::questions::assert_none;
 use crate::versions::Version;
 use cedar_store::StoreFault;
 use cedar_value::{Uid, ValueSet};
@@ -53,35 +54,74 @@ impl Run {
         }
     }
 
-    /// The version after a change is compared whole, and becomes the current one.
-    fn accept(
+    /// Each change was accepted or refused, and there were over 1,000 of each.
+    fn check_counts(&self, rt: &impl Abort) {
+        let counted = self
+            .accepted
+            .wrapping_add(self.repeated)
+            .wrapping_add(self.cyclic);
+        assert_eq!(rt; counted, STEPS);
+        assert!(rt;
+            self.accepted > 1000
+                && self.repeated > 1000
+                && self.cyclic > 1000
+                && self.of_attributes > 1000,
+            "{} {} {} {}",
+            self.accepted,
+            self.repeated,
+            self.cyclic,
+            self.of_attributes
+        );
+    }
+
+    /// The version after a change becomes the current one. Gives the first uid that it or the version before answers otherwise than its
+    /// plain store, if there is one.
+    fn accept<'u>(
         &mut self,
-        rt: &impl Abort,
         alloc: Global,
-        uids: &[Uid],
-        highs: &ValueSet,
+        question: &Question<'u, '_>,
         after: Version,
-    ) -> Result<(), AllocError> {
-        after.compare(rt, alloc, uids, highs)?;
+    ) -> Result<Option<&'u Uid>, AllocError> {
+        let differing = self.differing_after(alloc, question, &after);
         self.version = after;
         self.accepted = self.accepted.wrapping_add(1);
-        Ok(())
+        differing
     }
+
+    /// The first uid that the version before or after a change answers otherwise than its plain store. The one before is asked of one
+    /// uid.
+    fn differing_after<'u>(
+        &self,
+        alloc: Global,
+        question: &Question<'u, '_>,
+        after: &Version,
+    ) -> Result<Option<&'u Uid>, AllocError> {
+        let uids = question.uids;
+        let before = self
+            .version
+            .differing(alloc, question.low, uids, question.set)?;
+        if before.is_some() {
+            return Ok(before);
+        }
+        after.differing(alloc, uids, uids, question.set)
+    }
+}
+
+/// What is asked: all uids, or one of them, which is low, and whether it is below one of the set.
+#[derive(Clone, Copy)]
+struct Question<'u, 's> {
+    uids: &'u [Uid],
+    low: &'u [Uid],
+    set: &'s ValueSet,
 }
 
 /// Makes a change. What was there before answers as before, whether the change is refused or not.
 fn step(rt: &impl Abort, alloc: Global, uids: &[Uid], run: &mut Run) -> Result<(), Fail> {
     let change = run.next_change();
-    let highs = set_of(alloc, uids, run.choices.three_uids().as_slice())?;
-    let low = run.choices.below(UIDS);
-    let changed = run.version.changed(rt, alloc, uids, &change);
-    if let Some(low) = uids.get(low as usize) {
-        run.version.compare_at(rt, alloc, uids, low, &highs)?;
-    }
-    match changed {
-        Ok(after) => run.accept(rt, alloc, uids, &highs, after)?,
-        Err(fault) => run.note_refused(fault.number()),
-    }
+    let set = set_of(alloc, uids, run.choices.three_uids().as_slice())?;
+    let differing = differing_at(rt, alloc, uids, run, &change, &set);
+    drop(set);
+    assert_none(rt, differing?);
     // The base of the changes is another one from time to time.
     if run.choices.below(32) == 0 {
         run.version.rebuild(alloc, uids)?;
@@ -89,28 +129,48 @@ fn step(rt: &impl Abort, alloc: Global, uids: &[Uid], run: &mut Run) -> Result<(
     Ok(())
 }
 
+/// Makes a change, and gives the first uid that a version answers otherwise than its plain store, if there is one.
+fn differing_at<'u>(
+    rt: &impl Abort,
+    alloc: Global,
+    uids: &'u [Uid],
+    run: &mut Run,
+    change: &Change,
+    set: &ValueSet,
+) -> Result<Option<&'u Uid>, AllocError> {
+    let low = run.choices.below(UIDS) as usize;
+    let low = uids.get(low..low.saturating_add(1)).unwrap_or(&[]);
+    let question = Question { uids, low, set };
+    match run.version.changed(rt, alloc, uids, change) {
+        Ok(after) => run.accept(alloc, &question, after),
+        Err(number) => {
+            run.note_refused(number);
+            run.version.differing(alloc, low, uids, set)
+        }
+    }
+}
+
+/// So many changes, one after another.
+fn run_of(rt: &impl Abort, alloc: Global, run: &mut Run) -> Result<(), Fail> {
+    let uids = uids_below(alloc, UIDS)?;
+    let made = make_steps(rt, alloc, &uids, run);
+    drop(uids);
+    made
+}
+
+fn make_steps(rt: &impl Abort, alloc: Global, uids: &[Uid], run: &mut Run) -> Result<(), Fail> {
+    for _step in 0..STEPS {
+        step(rt, alloc, uids, run)?;
+    }
+    run.check_counts(rt);
+    Ok(())
+}
+
 #[test]
 fn random_changes_are_as_in_a_plain_store(rt: HostRuntime) -> Result<(), Fail> {
     let alloc = rt.alloc();
-    let uids = uids_below(alloc, UIDS)?;
     let mut run = Run::new(alloc)?;
-    for _step in 0..STEPS {
-        step(&rt, alloc, &uids, &mut run)?;
-    }
-    // Each change was accepted or refused, and there were over 1,000 of each.
-    assert_eq!(rt;
-        run.accepted
-            .wrapping_add(run.repeated)
-            .wrapping_add(run.cyclic),
-        STEPS
-    );
-    assert!(rt;
-        run.accepted > 1000 && run.repeated > 1000 && run.cyclic > 1000 && run.of_attributes > 1000,
-        "{} {} {} {}",
-        run.accepted,
-        run.repeated,
-        run.cyclic,
-        run.of_attributes
-    );
-    Ok(())
+    let made = run_of(&rt, alloc, &mut run);
+    drop(run);
+    made
 }

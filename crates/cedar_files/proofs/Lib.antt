@@ -3,6 +3,7 @@ pub mod EntitiesFiles
 pub mod Found
 pub mod Holding
 pub mod Links
+pub mod NextParts
 pub mod Parts
 pub mod PolicyFiles
 pub mod Prefixes

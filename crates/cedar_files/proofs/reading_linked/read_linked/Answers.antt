@@ -1,5 +1,6 @@
 use Rattle.std.proofs.Common.{Err, inl, inr, ap}
 use Rattle.cedar_files.specs.Unprepared.{IsUnreported}
+use Rattle.cedar_files.specs.Validation.{HoldText}
 use Rattle.cedar_files.specs.declared.files.Role.TheVariants.{Schema, Policies, Links}
 use Rattle.cedar_files.proofs.Unusable.{if-refused, unusable-is}
 use Rattle.cedar_files.proofs.reading_linked.read_linked.Goals as goal
@@ -17,7 +18,7 @@ returns-in-Err-read_policies-clause-unprepared g c =
 
 pub returns-in-Err-enter_links-clause-unprepared : goal.returns-in-Err-enter_links-clause-unprepared
 returns-in-Err-enter_links-clause-unprepared g c =
-    let text = record { is_schema = c.in-Ok.ensures.found; are_policies = c.in-Ok-read_policies.ensures.found } in
+    let text : HoldText (g.F.Files.holds c.args.files.now) c.in-Ok.schema c.in-Ok-read_policies.policies = record { is_schema = c.in-Ok.ensures.found; are_policies = c.in-Ok-read_policies.ensures.found } in
     unusable-is (IsUnreported (g.F.Files.holds c.args.files.now)) Links c.in-Err-enter_links.unread _ c.unusable-in-Err-enter_links.ensures
     (if-refused _ _ c.in-Err-enter_links.unread (λ r no. (c.in-Ok.schema, c.in-Ok-read_policies.policies, text, no)) c.in-Err-enter_links.ensures.refused)
     (λ e. absurd (c.in-Err-enter_links.ensures.unnamed (ap Err e))) (λ e. inr (inr (c.in-Err-enter_links.ensures.device (ap Err e)))) tt

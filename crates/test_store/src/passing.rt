@@ -33,7 +33,7 @@ fn is_removed(number: u32) -> bool {
     number < READ && number & 1 == 1
 }
 
-/// The entries of what is read whole, or of what is not removed of it.
+/// The entries of what is read whole: all of them, or those that stay.
 fn entries_read(alloc: Global, are_all: bool) -> Result<Vec<Entry>, AllocError> {
     let mut entries = Vec::new(alloc);
     for number in 0..READ {

@@ -88,8 +88,8 @@ impl Run {
         differing
     }
 
-    /// The first uid that the version before or after a change answers otherwise than its plain store. The one before is asked of one
-    /// uid.
+    /// The first uid that the version before or after a change answers otherwise than its plain store. Before it, only the low uid is
+    /// compared.
     fn differing_after<'u>(
         &self,
         alloc: Global,
@@ -107,7 +107,7 @@ impl Run {
     }
 }
 
-/// What is asked: all uids, or one of them, which is low, and whether it is below one of the set.
+/// What is asked: each of the uids, or the low one alone, and whether it is below one of the set.
 #[derive(Clone, Copy)]
 struct Question<'u, 's> {
     uids: &'u [Uid],

@@ -1,5 +1,5 @@
 -- Lemmas on a report that is sent as it is written.
-use Rattle.std.proofs.Common.{◌≡◌, ◌≢◌, ℕ, List, [], ◌∷◌, ◌++◌, length, Option, None, Result, Ok, Err, refl, sym, ap, ap₂, subst, ◌∙◌, append_assoc, append-nil, arith}
+use Rattle.std.proofs.Common.{◌≡◌, ℕ, List, [], ◌∷◌, ◌++◌, length, Option, None, Result, Err, sym, ap, ap₂, subst, ◌∙◌, append_assoc, append-nil}
 use Rattle.std.specs.Prelude.{IfErr}
 use Rattle.std.specs.Io.KnownBytes.{Appends}
 use Rattle.std.proofs.KnownBytes.{Appends-nil, Appends-trans}
@@ -12,7 +12,7 @@ use Rattle.cedar_check_spec.specs.declared.settings.Settings.{Settings}
 use Rattle.cedar_files.specs.ReportPart.{IsReportPart, beginning, totals_text}
 use Rattle.cedar_files.specs.ReportText.{IsReportText, TellsEach, totals_line}
 use Rattle.cedar_files.specs.Validation.{BeginsReport}
-use Rattle.cedar_files.specs.Private.Reporting.{AppendsPart, BreaksOff, IsSentTo}
+use Rattle.cedar_files.specs.Private.Reporting.{AppendsPart, IsSentTo}
 use Rattle.cedar_files.specs.Private.Telling.{AppendsLines}
 use Rattle.cedar_files.specs.declared.ending.End.{End}
 use Rattle.cedar_files.specs.declared.report_place.ReportPlace.{ReportPlace}

@@ -1,9 +1,8 @@
 -- Lemmas on lines of a report, and on what is left of a report policy by policy.
-use Rattle.std.proofs.Common.{◌≡◌, ℕ, zero, suc, ◌<◌, ◌+◌, Bool, true, false, not, cond, List, [], ◌∷◌, ◌++◌, length, map, take, drop, Some, None, Result, Ok, Err, OnOk, ◌≤◌, arith, refl, sym, ap, ap₂, subst, ◌∙◌, add-one, append_assoc, append-nil, drop-cons}
+use Rattle.std.proofs.Common.{◌≡◌, ℕ, zero, suc, ◌<◌, ◌+◌, Bool, true, false, not, cond, List, [], ◌∷◌, ◌++◌, length, map, drop, Some, None, Result, Ok, Err, OnOk, arith, refl, sym, ap, ap₂, subst, ◌∙◌, add-one, append_assoc, append-nil, drop-cons}
 use Rattle.std.specs.Prelude.{filter, is_some, slice_index_or, AllPairs}
 use Rattle.std.specs.List.{slice_get, flat_map}
 use Rattle.std.specs.Str.{bytes_eq}
-use Rattle.std.proofs.lemmas.List.{flat_map_more, take_all}
 use Rattle.std.proofs.lemmas.Option.{slice_get_within, get_or_from_slice_get}
 use Rattle.std.proofs.lemmas.Slice.Eq.{bytes_eq-Decides}
 use Rattle.json.specs.Token.{Token}
@@ -19,12 +18,11 @@ use Rattle.cedar_schema_spec.specs.declared.environment.Environment.{Environment
 use Rattle.cedar_check_spec.specs.Private.Checking.{form_in_with}
 use Rattle.cedar_check_spec.specs.Private.Reporting.{faults_in_with, faults_of_with, all_faults_with, is_impossible_with, warnings_with}
 use Rattle.cedar_check_spec.specs.Reports.{FaultTree, fault_at}
-use Rattle.cedar_check_law.proofs.Reports.{are_faults, are_faults_in, are_warnings, faults_in_are, impossible, impossible_without_fault, not_impossible}
+use Rattle.cedar_check_law.proofs.Reports.{are_faults_in, faults_in_are, impossible, impossible_without_fault, not_impossible}
 use Rattle.cedar_check_spec.specs.declared.settings.Settings.{Settings}
-use Rattle.cedar_files.specs.ReportText.{ReportLine, fault_line, warning_line, totals_line, AreReported, of_none, of_satisfiable, of_impossible, Tells, TellsEach, IsReportText}
+use Rattle.cedar_files.specs.ReportText.{ReportLine, fault_line, warning_line, AreReported, of_none, of_satisfiable, of_impossible, Tells, TellsEach}
 use Rattle.cedar_files.specs.Private.Telling.{AppendsLines, faults_of_first, faults_after, begins_with}
 use Rattle.cedar_files.specs.Private.Tokens.{data_tokens}
-use Rattle.cedar_files.proofs.Prefixes.{take-next}
 
 -- ---- texts
 

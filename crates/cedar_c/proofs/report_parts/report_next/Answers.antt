@@ -1,4 +1,4 @@
-use Rattle.std.proofs.Common.{inl, inr, subst, arith}
+use Rattle.std.proofs.Common.{inr, subst}
 use Rattle.cedar_files.specs.ReportPart.{IsNextPart}
 use Rattle.cedar_files.specs.declared.report_place.ReportPlace.{ReportPlace as Place}
 use Rattle.cedar_c.specs.Texts.{held_by}

@@ -1,4 +1,4 @@
-use Rattle.std.proofs.Common.{[], None, refl, ◌∙◌, ◌<◌, ap, subst, arith}
+use Rattle.std.proofs.Common.{[], None, refl, ◌<◌, arith}
 use Rattle.std.proofs.lemmas.Result.{err_from_is_err_and}
 use Rattle.cedar_files.specs.ReportPart.{beginning}
 use Rattle.cedar_files.specs.Private.Reporting.{BreaksOff}

@@ -1,7 +1,7 @@
 use Rattle.std.proofs.Common.{◌≡◌, ◌+◌, map, take}
 use Rattle.cedar_check.specs.FaultView.{fault_view}
 use Rattle.cedar_files.specs.ReportPart.{limit_after}
-use Rattle.cedar_files.specs.ReportText.{fault_line, warning_line}
+use Rattle.cedar_files.specs.ReportText.{fault_line}
 use Rattle.cedar_files.specs.Private.Reporting.{AppendsWithin}
 use Rattle.cedar_files.proofs.report_place.ReportPlace.append_faults.Given as goal
 

@@ -1,9 +1,6 @@
-use Rattle.std.proofs.Common.{ℕ, List, [], ◌∷◌, Option, map, ap, subst, ◌∙◌, arith, ◌+◌}
+use Rattle.std.proofs.Common.{ℕ, List, [], ◌∷◌, Option, map, ap, subst}
 use Rattle.std.proofs.lemmas.List.{length-map, map-append}
-use Rattle.cedar_check.specs.FaultView.{fault_view}
-use Rattle.cedar_check.specs.declared.fault.Fault.{Fault}
-use Rattle.cedar_files.specs.ReportPart.{limit_after}
-use Rattle.cedar_files.specs.ReportText.{fault_line, warning_line}
+use Rattle.cedar_files.specs.ReportText.{warning_line}
 use Rattle.cedar_files.specs.Private.Reporting.{AppendsWithin}
 use Rattle.cedar_files.specs.declared.report_place.ReportPlace.{ReportPlace}
 use Rattle.cedar_files.proofs.Parts.{lines-next, warnings-next}

@@ -1,10 +1,9 @@
-use Rattle.std.proofs.Common.{ℕ, List, [], ◌∷◌, ap, map, refl, sym, subst, ◌∙◌, length, arith}
+use Rattle.std.proofs.Common.{List, [], ◌∷◌, ap, map, refl, sym, subst, ◌∙◌, length, arith}
 use Rattle.std.specs.Prelude.{option_copied}
 use Rattle.std.proofs.lemmas.List.{length-map}
 use Rattle.cedar_check.specs.FaultView.{fault_view}
 use Rattle.cedar_check.specs.declared.fault.Fault.{Fault}
 use Rattle.cedar_check_spec.specs.Reports.{AreFaultsWith, AreWarningsWith}
-use Rattle.cedar_ast.specs.PolicyTree.{PolicyTree}
 use Rattle.cedar_files.specs.declared.report_place.ReportPlace.{ReportPlace}
 use Rattle.cedar_files.proofs.Parts.{one-found}
 use Rattle.cedar_files.proofs.reporting.Reporting.append_next.Goals as goal

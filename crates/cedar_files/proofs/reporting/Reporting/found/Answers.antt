@@ -1,4 +1,4 @@
-use Rattle.std.proofs.Common.{ℕ, List, [], map, sym, subst}
+use Rattle.std.proofs.Common.{List, [], map, sym, subst}
 use Rattle.cedar_check.specs.FaultView.{fault_view}
 use Rattle.cedar_check.specs.declared.fault.Fault.{Fault}
 use Rattle.cedar_check_spec.specs.Reports.{AreFaultsWith, of_none, AreWarningsWith, on_none}

@@ -60,6 +60,10 @@ def read_edit(crate, path):
     """An edit from its file. Its later texts apply to what the earlier ones made, file by file."""
     with open(path, encoding='utf-8') as file:
         edit = Edit(crate, path, file.read())
+    others = [it for it in edit.text.splitlines() if it and not it.startswith(('file:', 'old:', 'new:'))]
+    if others:
+        edit.fault = 'a line of it is none of file:, old: and new:, such as %r' % others[0]
+        return edit
     for file, old, new in pairs(edit.text):
         source = os.path.join(TOP, 'crates', crate, file)
         if file not in edit.texts and os.path.isfile(source):
@@ -68,6 +72,9 @@ def read_edit(crate, path):
         text = edit.texts.get(file)
         if text is None:
             edit.fault = 'there is no crates/%s/%s' % (crate, file)
+            return edit
+        if old == new:
+            edit.fault = 'it puts the same text in place of one in crates/%s/%s' % (crate, file)
             return edit
         if text.count(old) != 1:
             edit.fault = 'its text is %d times in crates/%s/%s' % (text.count(old), crate, file)

@@ -11,6 +11,14 @@ from gate.built import named
 
 SOURCE = re.compile(r' ?\(((?:own|this project|mathematics|Cedar|cedar-spec|RFC|JSON Lines|Rust|Unicode|clap)\b[^()]*(?:\([^()]*\)[^()]*)*)\)\.?$')
 IMPORT = re.compile(r'(?:unfoldable )?(pub )?use ((?:Rattle|Prim)[^ {;]*?)(?:\.\{([^}]*)\}| as (\S+?))?;?$')
+NAME = re.compile(r'[^\W\d]')
+# Heads of lines: of what is imported, of a set for a tactic, of a mutual block, of a constructor, and of a definition.
+IMPORTS = re.compile(r'(?:unfoldable )?(?:pub )?use |(?:pub )?mod ')
+RULESET = re.compile(r'(?:pub )?ruleset ')
+MUTUAL = re.compile(r'(?:abbrev |unfoldable )*mutual$')
+MADE = re.compile(r'(\S+) :(?: |$)')
+UNFOLDED = re.compile(r'abbrev |unfoldable ')
+TYPED = re.compile(r'(?: [{(].*)? :(?: |$)')
 HEAD = re.compile(r'(?:abbrev |unfoldable )*(?:(pub) )?(?:(data|record) )?(\S+)( .*)?$')
 WORD = re.compile(r'[^\s(){}\[\],;"]+|"[^"]*"|[(){}\[\],;]')
 NOT_NAMES = frozenset('use pub data record mutual abbrev unfoldable let in elim as if then else where unfolding open λ → × ≡ : = | ↦'.split())
@@ -97,9 +105,9 @@ def head_of(line, within):
         return None
     found = HEAD.match(line.strip())
     rest = found[4] or ''
-    if found[1] or found[2] or re.match(r'abbrev |unfoldable ', line.strip()):
+    if found[1] or found[2] or UNFOLDED.match(line.strip()):
         return found
-    return found if re.match(r'(?: [{(].*)? :(?: |$)', rest) and '=' not in rest.split(' : ')[0] else None
+    return found if TYPED.match(rest) and '=' not in rest.split(' : ')[0] else None
 
 
 def read_module(top, crate, path):
@@ -119,16 +127,16 @@ def read_module(top, crate, path):
         if not bare:
             comment = []
             continue
-        if re.match(r'(?:unfoldable )?(?:pub )?use |(?:pub )?mod ', bare) and indent(line) == 0:
+        if IMPORTS.match(bare) and indent(line) == 0:
             is_head, comment = False, []
             if imported(bare):
                 module.imports.append(imported(bare))
             continue
         # A set of lemmas or codes for a tactic defines nothing.
-        if re.match(r'(?:pub )?ruleset ', line):
+        if RULESET.match(line):
             comment, unit = [], None
             continue
-        if re.match(r'(?:abbrev |unfoldable )*mutual$', line):
+        if MUTUAL.match(line):
             unit = Unit(module, is_mutual=True)
             module.units.append(unit)
             continue
@@ -144,7 +152,7 @@ def read_module(top, crate, path):
             continue
         last = unit.definitions[-1]
         last.text.append(line)
-        made = re.match(r'(\S+) :(?: |$)', bare)
+        made = MADE.match(bare)
         if last.kind == 'data' and made and not found:
             last.constructors.append(made[1])
             module.names.setdefault(made[1], last)
@@ -300,7 +308,7 @@ class House:
         for source in self.sources.values():
             for it in source.types:
                 self.types.setdefault((it.crate, it.name), it)
-        self.scopes = {}
+        self.scopes, self.resolved = {}, {}
 
     def type_of(self, crate, name, seen=()):
         """The Rust type that a crate has under this name, its own or one that it passes on."""
@@ -370,6 +378,12 @@ class House:
 
     def resolve(self, part, word):
         """What a word of a module or source names, if it names a definition or type of this repository."""
+        if (part, word) not in self.resolved:
+            self.resolved[part, word] = self.found(part, word)
+        return self.resolved[part, word]
+
+    def found(self, part, word):
+        """The same, looked up."""
         items, aliases = self.scope(part)
         first, _, rest = word.partition('.')
         if word.startswith('Rattle.'):
@@ -399,7 +413,7 @@ class House:
         """The definitions and types that a text names."""
         found, all_words = [], words(text)
         for at, word in enumerate(all_words):
-            if word in NOT_NAMES or word in bound or not re.match(r'[^\W\d]', word):
+            if word in NOT_NAMES or word in bound or not NAME.match(word):
                 continue
             following = all_words[at + 1] if at + 1 < len(all_words) else ''
             if following == '=' and at and all_words[at - 1] in ('{', ';'):

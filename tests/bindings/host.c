@@ -1,23 +1,25 @@
-/* A host in C: host FOLDER MODE, with a mode of these.
+/* A host in C: host FOLDER MODE LINES TEXT .., with four words for each job. It writes a text to the file TEXT, and prints a status. A mode
+ * is one of these.
  *
- *   batch     answers the request lines of standard input by one call
+ *   batch     answers the request lines of the file LINES by one call
  *   lines     answers each of them by a call
  *   parts     answers requests by parts: each line has seven fields, with the byte 1F between them
  *   entities  publishes the files with no entities, then the entities alone, and answers the request lines by one call
  *   changes   publishes the files with no entities, then upserts all entities, and answers the request lines by one call
  *   brought   publishes the files with no entities, and answers the request lines, which may bring entities, by one call
- *   publish   publishes the files, prints the text of the call, and ends with its status
- *   publish-entities  publishes the files with no entities, then the entities alone, prints the text of that call, and ends with its status
- *   publish-changes   publishes the files with no entities, then upserts all entities, prints the text of that call, and ends with its status
- *   validate  validates the files, prints the text of the call, and ends with its status
+ *   publish   publishes the files, and gives the text of the call and its status
+ *   publish-entities  publishes the files with no entities, then the entities alone, and gives the text of that call and its status
+ *   publish-changes   publishes the files with no entities, then upserts all entities, and gives the text of that call and its status
+ *   validate  validates the files, and gives the text of the call and its status
  *   words     explains the files in words; `json` explains them as JSON lines
  *   entities-words    explains the entities in words, by the schema alone */
 #include "files.h"
 
 static cedar_buffer text;
+static FILE *to;
 
 static int print(uint32_t status) {
-    fwrite(text.at, 1, text.written, stdout);
+    fwrite(text.at, 1, text.written, to);
     return (int)status;
 }
 
@@ -43,7 +45,7 @@ static int print_lines(cedar_engine *engine, cedar_bytes lines) {
             return (int)status;
         }
         print(status);
-        putchar('\n');
+        putc('\n', to);
         at = feed ? feed + 1 : end;
     }
     return 0;
@@ -81,7 +83,7 @@ static int print_parts(cedar_engine *engine, cedar_bytes lines) {
             return 9;
         }
         print(status);
-        putchar('\n');
+        putc('\n', to);
     }
     return 0;
 }
@@ -115,13 +117,13 @@ static uint32_t publish_for(cedar_engine *engine, const cedar_files *files, cons
     return status == CEDAR_OK && is_over ? publish_over(engine, files->entities, is(mode, "changes"), NULL) : status;
 }
 
-static int answered(const cedar_files *files, const char *mode) {
+static int answered(const cedar_files *files, const char *mode, FILE *from) {
     cedar_engine engine;
     int ended = 9;
     if (cedar_new(&engine) != CEDAR_OK || publish_for(&engine, files, mode) != CEDAR_OK) {
         return 9;
     }
-    cedar_bytes lines = read_all(stdin);
+    cedar_bytes lines = read_all(from);
     if (is(mode, "batch") || is(mode, "entities") || is(mode, "changes")) {
         ended = print_answers(&engine, lines, cedar_answer);
     } else if (is(mode, "brought")) {
@@ -163,16 +165,29 @@ static int judged(const cedar_files *files, const char *mode) {
     return print(status);
 }
 
-int main(int count, char **words) {
-    if (count != 3) {
-        return 9;
+/* Does a job. Its buffer has no room at first. */
+static int done(char **words) {
+    cedar_files files = files_of(words[0]);
+    const char *mode = words[1];
+    FILE *from = fopen(words[2], "rb");
+    to = fopen(words[3], "wb");
+    if (!from || !to) {
+        exit(9);
     }
-    cedar_files files = files_of(words[1]);
-    const char *mode = words[2];
     int is_published = strncmp(mode, "publish", 7) == 0;
     int is_judged = strcmp(mode, "validate") == 0 || strcmp(mode, "json") == 0 || strstr(mode, "words") != NULL;
-    int ended = is_published ? published(&files, mode) : is_judged ? judged(&files, mode) : answered(&files, mode);
+    int ended = is_published ? published(&files, mode) : is_judged ? judged(&files, mode) : answered(&files, mode, from);
+    fclose(from);
+    fclose(to);
     free_files(&files);
     free(text.at);
+    text = (cedar_buffer){NULL, 0, 0};
     return ended;
+}
+
+int main(int count, char **words) {
+    for (int at = 1; at + 3 < count; at += 4) {
+        printf("%d\n", done(words + at));
+    }
+    return 0;
 }

@@ -1,4 +1,4 @@
-// A host in C++, with the modes of host.c: host FOLDER MODE.
+// A host in C++, with the jobs and modes of host.c: host FOLDER MODE LINES TEXT ..
 #include "cedar.hpp"
 
 #include <fstream>
@@ -62,44 +62,40 @@ static void publish_over(cedar::Engine &engine, std::string_view entities, const
     }
 }
 
-static int answered(const cedar::Files &files, const std::string &mode) {
-    const std::string lines = all(std::cin);
+static int answered(const cedar::Files &files, const std::string &mode, const std::string &lines, std::ostream &to) {
     const bool is_over = mode == "entities" || mode == "changes", is_brought = mode == "brought";
     cedar::Engine engine(is_over || is_brought ? without_entities(files) : files);
     if (is_over) {
         publish_over(engine, files.entities, mode);
     }
     if (is_brought) {
-        std::cout << engine.answer_with_entities(lines);
+        to << engine.answer_with_entities(lines);
         return 0;
     }
     if (mode == "batch" || is_over) {
-        std::cout << engine.answer(lines);
+        to << engine.answer(lines);
         return 0;
     }
     std::vector<std::string_view> parts = split(lines, '\n');
     for (std::size_t i = 0; i + 1 < parts.size(); i++) {
-        std::cout << (mode == "lines" ? engine.answer_line(parts[i]) : answer_of(engine, parts[i])) << '\n';
+        to << (mode == "lines" ? engine.answer_line(parts[i]) : answer_of(engine, parts[i])) << '\n';
     }
     return 0;
 }
 
-int main(int count, char **words) {
-    if (count != 3) {
-        return 9;
-    }
-    const std::string folder = words[1], mode = words[2];
+// Does a job.
+static int done(const std::string &folder, const std::string &mode, const std::string &lines, std::ostream &to) {
     const std::string schema = content(folder + "/schema.json"), policies = content(folder + "/policies.cedar");
     const std::string links = content(folder + "/links.json"), entities = content(folder + "/entities.json");
     const cedar::Files files = {schema, policies, links, entities};
     try {
         if (mode == "validate") {
             cedar::Report report = cedar::validate(files);
-            std::cout << report.text;
+            to << report.text;
             return report.accepted ? 0 : 3;
         }
         if (mode == "words") {
-            std::cout << cedar::explain(files);
+            to << cedar::explain(files);
             return 0;
         }
         if (mode == "publish") {
@@ -111,12 +107,19 @@ int main(int count, char **words) {
             publish_over(engine, files.entities, mode);
             return 0;
         }
-        return answered(files, mode);
+        return answered(files, mode, lines, to);
     } catch (const cedar::Refusal &refusal) {
-        std::cout << (mode == "entities-words" ? refusal.words : refusal.text);
+        to << (mode == "entities-words" ? refusal.words : refusal.text);
         return 2;
     } catch (const cedar::Faults &faults) {
-        std::cout << faults.report;
+        to << faults.report;
         return 3;
+    }
+}
+
+int main(int count, char **words) {
+    for (int at = 1; at + 3 < count; at += 4) {
+        std::ofstream to(words[at + 3], std::ios::binary);
+        std::cout << done(words[at], words[at + 1], content(words[at + 2]), to) << '\n';
     }
 }

@@ -19,7 +19,7 @@ def objects(run, *words):
     for part in script('library').PARTS:
         path = os.path.join(run.room, '%s.%d.o' % (part, len(os.listdir(run.room))))
         source = os.path.join(TOP, 'c', part + '.c')
-        ended = run.done(['cc', '-std=c11', '-O1', '-g', '-Wall', '-Wextra', '-Wpedantic', '-Wconversion', '-Werror', *words, '-c', source, '-o', path])
+        ended = run.done(['cc', '-std=c11', '-O1', '-g1', '-Wall', '-Wextra', '-Wpedantic', '-Wconversion', '-Werror', *words, '-c', source, '-o', path])
         run.judge('c/%s.c with %s' % (part, ' '.join(words)), ended.returncode == 0, ended.stderr.decode(errors='replace'))
         made += [path] * (ended.returncode == 0)
     return made if len(made) == len(script('library').PARTS) else None

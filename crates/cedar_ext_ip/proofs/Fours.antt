@@ -72,12 +72,12 @@ four_none text h = at (whole_value (read_ipv4 text)) refl
     at (Some octets) read = absurd (h (record { octets = octets }) (whole_dotted text octets read))
 
 Lacks-decimal : (x n : ℕ) → 10 ≤ digit_value x → n < 256 → Lacks x (decimal n)
-Lacks-decimal x n no small = Lacks-digits 10 x (decimal n) no (decimal_is_IsNumeral n (omega arith)).0.1
+Lacks-decimal x n far small = Lacks-digits 10 x (decimal n) far (decimal_is_IsNumeral n (omega arith)).0.1
 
 pub Lacks-four : (x : ℕ) (text : List ℕ) (n : ℕ) → 10 ≤ digit_value x → (46 ≡ x → ⊥) → IsFour text n → Lacks x text
-Lacks-four x text n no differs h =
+Lacks-four x text n far differs h =
     let point = Lacks-one x 46 differs in
-    let a = Lacks-append x _ _ (Lacks-append x _ _ (Lacks-decimal x h.a no h.fit.0) point) (Lacks-decimal x h.b no h.fit.1) in
-    let b = Lacks-append x _ _ (Lacks-append x _ _ a point) (Lacks-decimal x h.c no h.fit.2) in
-    let all = Lacks-append x _ _ (Lacks-append x _ _ b point) (Lacks-decimal x h.d no h.fit.3) in
+    let a = Lacks-append x _ _ (Lacks-append x _ _ (Lacks-decimal x h.a far h.fit.0) point) (Lacks-decimal x h.b far h.fit.1) in
+    let b = Lacks-append x _ _ (Lacks-append x _ _ a point) (Lacks-decimal x h.c far h.fit.2) in
+    let all = Lacks-append x _ _ (Lacks-append x _ _ b point) (Lacks-decimal x h.d far h.fit.3) in
     subst (Lacks x) (sym h.text_is) all

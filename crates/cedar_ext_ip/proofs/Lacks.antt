@@ -33,11 +33,11 @@ pub Lacks-one : (x c : ℕ) → (c ≡ x → ⊥) → Lacks x (c ∷ [])
 Lacks-one x c h = record { none = from_neither (c == x) false (other x c h) refl }
 
 apart : (radix p q : ℕ) → radix ≤ q → p < radix → p ≡ q → ⊥
-apart radix p q no less same = omega arith
+apart radix p q far less same = omega arith
 
 pub Lacks-digits : (radix x : ℕ) (ds : List ℕ) → radix ≤ digit_value x → AllDigits radix ds → Lacks x ds
-Lacks-digits radix x [] no d = record { none = refl }
-Lacks-digits radix x (c ∷ ds) no d =
-    let later = Lacks-digits radix x ds no d.1 in
-    let differs : c ≡ x → ⊥ = λ e. apart radix (digit_value c) (digit_value x) no d.0 (ap digit_value e) in
+Lacks-digits radix x [] far d = record { none = refl }
+Lacks-digits radix x (c ∷ ds) far d =
+    let later = Lacks-digits radix x ds far d.1 in
+    let differs : c ≡ x → ⊥ = λ e. apart radix (digit_value c) (digit_value x) far d.0 (ap digit_value e) in
     record { none = from_neither (c == x) (list_any (λ (y : ℕ). y == x) ds) (other x c differs) later.none }

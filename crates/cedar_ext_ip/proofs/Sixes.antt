@@ -94,22 +94,22 @@ eight_groups text ns lacks (inr h) =
 -- groups have digits and colons alone
 
 Lacks-groups : (x : ℕ) (text ns : List ℕ) → 16 ≤ digit_value x → (58 ≡ x → ⊥) → IsGroups text ns → Lacks x text
-Lacks-groups x text [] no differs h = subst (Lacks x) (sym h) (Lacks-digits 16 x [] no tt)
-Lacks-groups x text (n ∷ []) no differs h = Lacks-digits 16 x text no h.0.1
-Lacks-groups x text (n ∷ m ∷ ms) no differs h =
-    let later = Lacks-groups x h.1 (m ∷ ms) no differs h.4 in
-    let here = Lacks-append x h.0 (58 ∷ []) (Lacks-digits 16 x h.0 no h.3.0.1) (Lacks-one x 58 differs) in
+Lacks-groups x text [] far differs h = subst (Lacks x) (sym h) (Lacks-digits 16 x [] far tt)
+Lacks-groups x text (n ∷ []) far differs h = Lacks-digits 16 x text far h.0.1
+Lacks-groups x text (n ∷ m ∷ ms) far differs h =
+    let later = Lacks-groups x h.1 (m ∷ ms) far differs h.4 in
+    let here = Lacks-append x h.0 (58 ∷ []) (Lacks-digits 16 x h.0 far h.3.0.1) (Lacks-one x 58 differs) in
     subst (Lacks x) (sym h.2) (Lacks-append x (h.0 ++ 58 ∷ []) h.1 here later)
 
 Lacks-eight : (x : ℕ) (text ns : List ℕ) → 16 ≤ digit_value x → (58 ≡ x → ⊥) → IsEightGroups text ns → Lacks x text
-Lacks-eight x text ns no differs (inl h) = Lacks-groups x text ns no differs h.0
-Lacks-eight x text ns no differs (inr h) =
+Lacks-eight x text ns far differs (inl h) = Lacks-groups x text ns far differs h.0
+Lacks-eight x text ns far differs (inr h) =
     let colon = Lacks-one x 58 differs in
-    let front = Lacks-append x h.before_text (58 ∷ 58 ∷ []) (Lacks-groups x h.before_text h.before no differs h.before_groups) (Lacks-append x (58 ∷ []) (58 ∷ []) colon colon) in
-    subst (Lacks x) (sym h.text_is) (Lacks-append x (h.before_text ++ 58 ∷ 58 ∷ []) h.after_text front (Lacks-groups x h.after_text h.after no differs h.after_groups))
+    let front = Lacks-append x h.before_text (58 ∷ 58 ∷ []) (Lacks-groups x h.before_text h.before far differs h.before_groups) (Lacks-append x (58 ∷ []) (58 ∷ []) colon colon) in
+    subst (Lacks x) (sym h.text_is) (Lacks-append x (h.before_text ++ 58 ∷ 58 ∷ []) h.after_text front (Lacks-groups x h.after_text h.after far differs h.after_groups))
 
 pub Lacks-six : (x : ℕ) (text : List ℕ) (n : ℕ) → 16 ≤ digit_value x → (58 ≡ x → ⊥) → IsSix text n → Lacks x text
-Lacks-six x text n no differs h = Lacks-eight x text h.0 no differs h.1
+Lacks-six x text n far differs h = Lacks-eight x text h.0 far differs h.1
 
 -- reading
 

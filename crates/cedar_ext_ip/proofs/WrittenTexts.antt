@@ -59,9 +59,7 @@ IsSix-groups high low p q =
 IsIp-written : (version : IpVersion) (n prefix : ℕ) (text : List ℕ) → IsAddress version text n → prefix ≤ width_of version → IsIp (written (width_of version) prefix text) (record { version = version; address = n; prefix = prefix })
 IsIp-written version n prefix text h le = at (prefix == width_of version) refl
   where
-    abbrev Value : IpValue
-    Value = record { version = version; address = n; prefix = prefix }
-    at : (b : Bool) → (prefix == width_of version) ≡ b → IsIp (if b then text else text ++ (codes "/" ++ decimal prefix)) Value
+    at : (b : Bool) → (prefix == width_of version) ≡ b → IsIp (if b then text else text ++ (codes "/" ++ decimal prefix)) (record { version = version; address = n; prefix = prefix })
     at true e = record { address_text = text; prefix_text = []; text_is = sym (append-nil text); address_is = h; prefix_is = inl (refl, eqb-true prefix (width_of version) e) }
     at false e = record { address_text = text; prefix_text = codes "/" ++ decimal prefix; text_is = refl; address_is = h; prefix_is = inr (refl, le) }
 

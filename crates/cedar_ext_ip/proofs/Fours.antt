@@ -1,7 +1,6 @@
 -- A text is read as an address of version 4 exactly where it is one.
-use Rattle.std.proofs.Common.{◌≡◌, ℕ, ◌+◌, ◌*◌, ◌<◌, ◌≤◌, Bool, true, false, List, [], ◌∷◌, ◌++◌, length, Option, Some, None, option_and_then, decimal, codes, refl, sym, ap, ◌∙◌, arith, append-nil, lit≤, subst, ne_eqb}
+use Rattle.std.proofs.Common.{◌≡◌, ℕ, ◌+◌, ◌*◌, ◌<◌, ◌≤◌, List, [], ◌∷◌, length, Option, Some, None, option_and_then, decimal, refl, sym, ap, ◌∙◌, arith, append-nil, lit≤, subst, ne_eqb}
 use Rattle.std.specs.Char.{digit_value}
-use Rattle.std.specs.Str.Parse.{AllDigits}
 use Rattle.std.specs.Net.Reader.{read_ipv4, whole_value}
 use Rattle.std.specs.Net.Addr.{ipv4_octets}
 use Rattle.std.specs.Net.Grammar.{IsDotted, IsIpv4Text}
@@ -9,7 +8,7 @@ use Rattle.std.specs.declared.net.ipv4_addr.Ipv4Addr.{Ipv4Addr}
 use Rattle.std.proofs.lemmas.Fmt.{decimal_is_IsNumeral}
 use Rattle.std.proofs.NetLemmas.Ipv4.{read_ipv4_complete, read_ipv4_sound}
 use Rattle.cedar_ext_ip.specs.declared.ip_version.IpVersion.{IpVersion}
-use Rattle.cedar_ext_ip.specs.declared.ip_version.IpVersion.TheVariants.{V4, V6}
+use Rattle.cedar_ext_ip.specs.declared.ip_version.IpVersion.TheVariants.{V4}
 use Rattle.cedar_ext_ip.specs.Values.{IpValue, width_of}
 use Rattle.cedar_ext_ip.specs.Texts.{IsFour}
 use Rattle.cedar_ext_ip.specs.IpOf.{of_octets, four_of}
@@ -55,6 +54,7 @@ IsFour-four_of text ip e = at (whole_value (read_ipv4 text)) refl e
         let found : Some ip ≡ Some (single V4 n) = sym k ∙ ap of_octets h.value in
         let same : ip ≡ single V4 n = cc in
         (n, record { a = h.a; b = h.b; c = h.c; d = h.d; fit = h.fit; text_is = h.spelled; number_is = refl }, same)
+
     at : (o : Option (List ℕ)) → whole_value (read_ipv4 text) ≡ o → option_and_then of_octets o ≡ Some ip → (n : ℕ) × IsFour text n × (ip ≡ single V4 n)
     at None read k = absurd (cc)
     at (Some octets) read k = spelled octets (whole_dotted text octets read) k

@@ -1,5 +1,5 @@
 -- A text is read as an IP address exactly where it is one.
-use Rattle.std.proofs.Common.{◌≡◌, ℕ, ◌+◌, ◌-◌, ◌*◌, ◌<◌, ◌≤◌, ◌==◌, nat_lt, not, Bool, true, false, List, [], ◌∷◌, ◌++◌, length, take, drop, get_or, Option, Some, None, IfSome, IfNone, option_map, option_and_then, position, decimal, codes, refl, sym, ap, ◌∙◌, subst, arith, append-nil, inl, inr, lit≤, add-one, length-append}
+use Rattle.std.proofs.Common.{◌≡◌, ℕ, ◌+◌, ◌<◌, ◌==◌, nat_lt, not, Bool, true, false, List, [], ◌∷◌, ◌++◌, length, take, drop, get_or, Option, Some, None, IfSome, IfNone, option_map, option_and_then, position, decimal, refl, sym, ap, ◌∙◌, subst, arith, append-nil, inl, inr, lit≤, add-one, length-append}
 use Rattle.std.specs.List.{position_or_len, prefix_len, list_any}
 use Rattle.std.proofs.lemmas.Bool.Decides.{nat_tests}
 use Rattle.std.proofs.Math.Seq.{take-append_seam, drop-append-add, drop-cons}
@@ -9,9 +9,9 @@ use Rattle.std.proofs.NetLemmas.Ipv6.{IsDotted-not_colon_hex}
 use Rattle.cedar_ext_ip.specs.declared.ip_version.IpVersion.{IpVersion}
 use Rattle.cedar_ext_ip.specs.declared.ip_version.IpVersion.TheVariants.{V4, V6}
 use Rattle.cedar_ext_ip.specs.Values.{IpValue, width_of}
-use Rattle.cedar_ext_ip.specs.Texts.{IsFour, IsSix, IsAddress, IsPrefix, IsIp}
+use Rattle.cedar_ext_ip.specs.Texts.{IsSix, IsAddress, IsPrefix, IsIp}
 use Rattle.cedar_ext_ip.specs.IpOf.{four_of, six_of, or_else, address_of, prefix_of, with_prefix, ip_around, ip_of}
-use Rattle.cedar_ext_ip.proofs.Lacks.{Lacks, Lacks-parts}
+use Rattle.cedar_ext_ip.proofs.Lacks.{Lacks}
 use Rattle.cedar_ext_ip.proofs.Fours.{single, dotted, four_of-IsFour, IsFour-four_of, Lacks-four}
 use Rattle.cedar_ext_ip.proofs.Sixes.{colon_hex, six_of-IsSix, IsSix-six_of, Lacks-six}
 use Rattle.cedar_ext_ip.proofs.Prefixes.{prefix_of-decimal, decimal-prefix_of}
@@ -86,11 +86,14 @@ ip_of-IsIp text ip h = at h.prefix_is
   where
     address : address_of h.address_text ≡ Some (single ip.version ip.address)
     address = address_of-IsAddress ip.version h.address_text ip.address h.address_is
+
     lacks : Lacks 47 h.address_text
     lacks = Lacks-address ip.version h.address_text ip.address h.address_is
+
     small : (version : IpVersion) → width_of version < 1000
     small V4 = omega arith
     small V6 = omega arith
+
     at : IsPrefix (width_of ip.version) h.prefix_text ip.prefix → ip_of text ≡ Some ip
     at (inl p) =
         let whole : text ≡ h.address_text = h.text_is ∙ ap (λ (t : List ℕ). h.address_text ++ t) p.0 ∙ append-nil h.address_text in
@@ -133,6 +136,7 @@ with_slash text front rest ip split e = at (address_of front) refl e
           address_is = h;
           prefix_is = inr (ap (λ (t : List ℕ). 47 ∷ t) digits.0, digits.1);
         })
+
     at : (o : Option IpValue) → address_of front ≡ o → option_and_then (with_prefix rest) o ≡ Some ip → IsIp text ip
     at None read k = absurd (cc)
     at (Some x) read k =

@@ -1,12 +1,12 @@
 -- The test of ranges decides whether each address of the one range is in the other.
 use Rattle.std.proofs.Common.{◌≡◌, ℕ, ◌+◌, ◌-◌, ◌*◌, ◌/◌, ◌%◌, ◌^◌, ◌<◌, ◌≤◌, Bool, true, false, ◌&&◌, nat_le, refl, sym, ap, ◌∙◌, arith, inl, inr, pow_pos, shr-shr}
-use Rattle.std.specs.Bool.{◌==◌, Decides}
+use Rattle.std.specs.Bool.{Decides}
 use Rattle.std.specs.Cmp.{unsigned_Decides}
 use Rattle.std.proofs.lemmas.Bool.{cases_lt}
 use Rattle.std.proofs.lemmas.Bool.Decides.{nat_tests}
 use Rattle.std.proofs.lemmas.Nat.{div-mul-add, pow_below, div-add-mod'}
 use Rattle.cedar_ext_ip.specs.Values.{IpValue, IsIpValue, width_of}
-use Rattle.cedar_ext_ip.specs.Ranges.{HasAddress, IsWithin, is_within, first_bits}
+use Rattle.cedar_ext_ip.specs.Ranges.{IsWithin, is_within, first_bits}
 use Rattle.cedar_ext_ip.specs.Private.Laws.{same_version}
 
 -- Numbers that agree without their last s bits agree without d more.

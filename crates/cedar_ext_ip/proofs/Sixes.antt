@@ -1,5 +1,5 @@
 -- A text is read as an address of version 6 exactly where it is one.
-use Rattle.std.proofs.Common.{◌≡◌, ℕ, ◌+◌, ◌*◌, ◌<◌, ◌≤◌, ◌==◌, ◌⊎◌, Bool, true, false, if◌then◌else◌, List, [], ◌∷◌, ◌++◌, length, Option, Some, None, option_map, option_and_then, decimal, codes, refl, sym, ap, ◌∙◌, subst, arith, append-nil, append_assoc, inl, inr, lit≤}
+use Rattle.std.proofs.Common.{◌≡◌, ℕ, ◌≤◌, ◌==◌, Bool, true, false, if◌then◌else◌, List, [], ◌∷◌, ◌++◌, Option, Some, None, option_map, refl, sym, ap, ◌∙◌, subst, arith, append-nil, append_assoc, inl, inr, lit≤}
 use Rattle.std.specs.List.{list_any}
 use Rattle.std.specs.Char.{digit_value}
 use Rattle.std.specs.Net.Reader.{read_ipv6, whole_value}
@@ -10,7 +10,7 @@ use Rattle.std.specs.declared.net.ipv6_addr.Ipv6Addr.{Ipv6Addr}
 use Rattle.std.proofs.NetLemmas.Ipv6.{read_ipv6_complete, read_ipv6_sound, EndsGroups-nil}
 use Rattle.cedar_ext_ip.specs.declared.ip_version.IpVersion.TheVariants.{V6}
 use Rattle.cedar_ext_ip.specs.Values.{IpValue}
-use Rattle.cedar_ext_ip.specs.Texts.{IsGroup, IsGroups, IsEightGroups, IsSix, number_after}
+use Rattle.cedar_ext_ip.specs.Texts.{IsGroups, IsEightGroups, IsSix, number_after}
 use Rattle.cedar_ext_ip.specs.IpOf.{six_of}
 use Rattle.cedar_ext_ip.proofs.Lacks.{Lacks, Lacks-append, Lacks-parts, Lacks-one, Lacks-digits}
 use Rattle.cedar_ext_ip.proofs.Fours.{single, whole_found}
@@ -44,8 +44,7 @@ plain_after ipv4 lead text n (m ∷ ms) lacks (inl h) =
     let group = h.0 in
     let rest = h.1 in
     let later = (Lacks-parts 46 (lead ++ group) rest (subst (Lacks 46) h.2 lacks)).1 in
-    let (tail, split, groups) = plain_after ipv4 (58 ∷ []) rest m ms later h.4 in
-    (
+    let (tail, split, groups) = plain_after ipv4 (58 ∷ []) rest m ms later h.4 in (
       group ++ 58 ∷ [] ++ tail,
       h.2 ∙ ap (λ (t : List ℕ). (lead ++ group) ++ t) split ∙ simp append_assoc,
       (group, tail, refl, (h.3.0.0, h.3.1, h.3.0.1), groups),

@@ -1,5 +1,5 @@
 -- What is written of a value is a text of it.
-use Rattle.std.proofs.Common.{◌≡◌, ℕ, zero, suc, ◌+◌, ◌*◌, ◌/◌, ◌%◌, ◌^◌, ◌<◌, ◌≤◌, Bool, true, false, if◌then◌else◌, List, [], ◌∷◌, ◌++◌, length, get_or, decimal, codes, All, refl, sym, ap, ◌∙◌, subst, arith, append-nil, append_assoc, inl, inr, shr-shr, eqb-true, Result, Ok, Err, IfOk}
+use Rattle.std.proofs.Common.{◌≡◌, ℕ, zero, suc, ◌+◌, ◌*◌, ◌/◌, ◌%◌, ◌^◌, ◌<◌, ◌≤◌, Bool, true, false, if◌then◌else◌, List, [], ◌++◌, decimal, codes, refl, sym, subst, arith, append-nil, inl, inr, shr-shr, eqb-true, Result, Ok, Err, IfOk}
 use Rattle.std.specs.Bool.{◌==◌}
 use Rattle.std.proofs.lemmas.List.Elements.{All-weaker}
 use Rattle.std.proofs.lemmas.List.Folds.{list_any_none}
@@ -9,7 +9,7 @@ use Rattle.std.proofs.NetLemmas.Texts.{AllSegments, IsColonHex-hex_groups_text}
 use Rattle.std.proofs.NetLemmas.Alphabet.{IsHexOrColon, All-hex_groups_text}
 use Rattle.cedar_ext_ip.specs.declared.ip_version.IpVersion.{IpVersion}
 use Rattle.cedar_ext_ip.specs.declared.ip_version.IpVersion.TheVariants.{V4, V6}
-use Rattle.cedar_ext_ip.specs.Values.{IpValue, IsIpValue, width_of}
+use Rattle.cedar_ext_ip.specs.Values.{width_of}
 use Rattle.cedar_ext_ip.specs.Texts.{IsFour, IsSix, IsAddress, IsIp, number_after}
 use Rattle.cedar_ext_ip.specs.Private.Inside.{value_of, IsInside}
 use Rattle.cedar_ext_ip.specs.Private.Written.{octets_of, groups_of, written}

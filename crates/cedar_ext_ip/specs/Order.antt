@@ -1,5 +1,5 @@
 -- The order of IP addresses, and which are the same (own: no rule of the language shows the order).
-use Rattle.std.specs.Prelude.{ℕ, ◌==◌, Bool, ◌&&◌}
+use Rattle.std.specs.Prelude.{◌==◌, Bool, ◌&&◌}
 use Rattle.std.specs.declared.cmp.Ordering.{Ordering}
 use Rattle.std.specs.Ordering.{nat_cmp, ordering_then}
 use Rattle.cedar_ext_ip.specs.Values.{IpValue, width_of}

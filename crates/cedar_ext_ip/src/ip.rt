@@ -197,9 +197,7 @@ impl PartialEq for Ip {
         ensures equal { IsTrue result ↔ (self.now ≡ other.now) }
     {
         let same_version = self.version.width() == other.version.width();
-        same_version
-            && self.address() == other.address()
-            && self.prefix == other.prefix
+        same_version && self.address() == other.address() && self.prefix == other.prefix
     }
 }
 

@@ -1,7 +1,7 @@
 -- What a value keeps in its fields: the address in two halves.
-use Rattle.std.specs.Prelude.{◌≡◌, ℕ, ◌+◌, ◌*◌, ◌/◌, ◌%◌, ◌^◌, ◌<◌, ◌≤◌}
+use Rattle.std.specs.Prelude.{◌≡◌, ◌+◌, ◌*◌, ◌/◌, ◌%◌, ◌^◌, ◌<◌}
 use Rattle.std.proofs.Common.{arith}
-use Rattle.cedar_ext_ip.specs.Values.{IpValue, IsIpValue, width_of}
+use Rattle.cedar_ext_ip.specs.Values.{IpValue, IsIpValue}
 use Rattle.cedar_ext_ip.specs.declared.ip.Ip.TheInside.{Inside}
 
 -- The value that the fields denote.

@@ -1,10 +1,10 @@
 -- The laws of the order, and of the test of equality.
-use Rattle.std.specs.Prelude.{◌≡◌, ℕ, ◌==◌, Bool, true, false, ◌&&◌, refl}
-use Rattle.std.proofs.Common.{ap, sym, ◌∙◌, arith}
+use Rattle.std.specs.Prelude.{◌≡◌, ◌==◌, Bool, true, false, ◌&&◌, refl}
+use Rattle.std.proofs.Common.{ap, ◌∙◌, arith}
 use Rattle.std.proofs.lemmas.Cmp.{on_total, then_total}
 use Rattle.std.specs.Bool.{Decides}
 use Rattle.std.specs.Cmp.{IsEquivalence, IsTotalOrder, IsPartialOrder, decided, nat_cmp_total, unsigned_Decides, unsigned_ties, both_tied, partial_order_from_agreeing_total}
-use Rattle.std.specs.Ordering.{is_eq, as_partial_cmp, nat_cmp}
+use Rattle.std.specs.Ordering.{is_eq, as_partial_cmp}
 use Rattle.cedar_ext_ip.specs.declared.ip_version.IpVersion.{IpVersion}
 use Rattle.cedar_ext_ip.specs.declared.ip_version.IpVersion.TheVariants.{V4, V6}
 use Rattle.cedar_ext_ip.specs.Values.{IpValue, width_of}
@@ -22,12 +22,13 @@ both false b p q = (λ e. absurd (cc), λ h. p.1 h.0)
 
 pub same_ip-Decides : (a b : IpValue) → Decides (same_ip a b) (a ≡ b)
 same_ip-Decides a b =
-    let d = both _ _ (both _ _ (unsigned_Decides (width_of a.version) (width_of b.version)) (unsigned_Decides a.address b.address)) (unsigned_Decides a.prefix b.prefix) in
-    (λ e.
-      let h = d.0 e in
-      let v = same_version a.version b.version h.0.0 in
-      λ i. record { version = v i; address = h.0.1 i; prefix = h.1 i },
-      λ e. d.1 ((ap (λ (x : IpValue). width_of x.version) e, ap (λ (x : IpValue). x.address) e), ap (λ (x : IpValue). x.prefix) e))
+    let d = both _ _ (both _ _ (unsigned_Decides (width_of a.version) (width_of b.version)) (unsigned_Decides a.address b.address)) (unsigned_Decides a.prefix b.prefix) in (
+      λ e.
+          let h = d.0 e in
+          let v = same_version a.version b.version h.0.0 in
+          λ i. record { version = v i; address = h.0.1 i; prefix = h.1 i },
+      λ e. d.1 ((ap (λ (x : IpValue). width_of x.version) e, ap (λ (x : IpValue). x.address) e), ap (λ (x : IpValue). x.prefix) e),
+    )
 
 pub ip_equivalence : IsEquivalence same_ip
 ip_equivalence = decided same_ip same_ip-Decides

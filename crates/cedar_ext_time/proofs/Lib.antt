@@ -1,0 +1,11 @@
+pub mod Cut
+pub mod DateTexts
+pub mod DatetimeTexts
+pub mod DurationTexts
+pub mod Midnights
+pub mod Numbers
+pub mod Runs
+pub mod Sums
+pub mod Written
+pub mod Years
+pub mod ZoneTexts

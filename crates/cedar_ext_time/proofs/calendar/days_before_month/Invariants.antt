@@ -1,0 +1,6 @@
+use Rattle.std.proofs.Common.{◌≡◌, ◌≤◌, ◌*◌}
+use Rattle.cedar_ext_time.specs.Calendar.{days_before_month}
+use Rattle.cedar_ext_time.proofs.calendar.days_before_month.Given as goal
+
+abbrev pub invariant-loop-earlier : goal.invariant-loop-earlier
+invariant-loop-earlier l = record { days_are : l.days ≡ days_before_month l.year l.earlier; within : l.days ≤ 31 * l.earlier }

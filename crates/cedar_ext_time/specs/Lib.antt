@@ -1,0 +1,10 @@
+pub mod Calendar
+pub mod DatetimeOf
+pub mod Datetimes
+pub mod Days
+pub mod Digits
+pub mod DurationOf
+pub mod Durations
+pub mod Longs
+pub mod Private
+pub mod Units

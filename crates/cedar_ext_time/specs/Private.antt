@@ -1,0 +1,2 @@
+-- What proofs and contracts within the crate cite, and nobody needs to believe.
+pub mod Capped

@@ -428,6 +428,7 @@ pub extern "C" fn cedar_raw_share(alloc: Global, place: &mut Handle, other: &mut
 #[unsafe(no_mangle)]
 pub extern "C" fn cedar_raw_kept_changes(place: &mut Handle, count: &mut u64) -> u32
     ensures same { place.new.value ≡ place.old.value }
+    ensures counted { result ≡ 0 → place.old.value ≢ Empty }
     ensures none { result ≡ 5 → place.old.value ≡ Empty }
     ensures uncounted { result ≡ 5 → count.new ≡ 0 }
     ensures known { IsOneOf (0 ∷ 5 ∷ []) result }

@@ -202,18 +202,12 @@ fn top<'a>(alloc: Global) -> Result<Command<'a>, AllocError>
 pub(crate) fn command<'a>(alloc: Global) -> Result<Command<'a>, AllocError>
     ensures { IfOk result (λ c. app_of c ≡ program) }
 {
-    let validate = validate(alloc)?;
-    let authorize = authorize(alloc)?;
-    let why = why(alloc)?;
-    let ask = ask(alloc)?;
-    let check_parse = check_parse(alloc)?;
-    let explain = explain(alloc)?;
     let program = top(alloc)?
-        .subcommand(validate)?
-        .subcommand(authorize)?
-        .subcommand(why)?
-        .subcommand(ask)?
-        .subcommand(check_parse)?
-        .subcommand(explain)?;
+        .subcommand(validate(alloc)?)?
+        .subcommand(authorize(alloc)?)?
+        .subcommand(why(alloc)?)?
+        .subcommand(ask(alloc)?)?
+        .subcommand(check_parse(alloc)?)?
+        .subcommand(explain(alloc)?)?;
     Ok(program)
 }

@@ -2,9 +2,9 @@
 use crate::running::ended;
 use base_lines::{ServeFault, StdSink, StdSource};
 use cedar_cli::Words;
-use cedar_cli_why::{WhyOptions, why};
 use cedar_files::{End, Files, NamedFiles, Role, prepare};
 use cedar_files_diagnostics::{CountingSink, Format};
+use cedar_why::{WhyOptions, why};
 use std::alloc::Global;
 use std::io;
 

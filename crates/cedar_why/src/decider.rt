@@ -1,6 +1,6 @@
 //! The part of a condition that decides how it ends.
 ghost use Rattle.std.specs.Prelude.{◌≡◌, IfOk, IfSome};
-ghost use Rattle.cedar_cli_why.specs.Ending.{ending_of};
+ghost use Rattle.cedar_why.specs.Ending.{ending_of};
 
 use crate::child::child_at;
 use crate::ending::Ending;

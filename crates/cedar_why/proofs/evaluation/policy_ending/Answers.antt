@@ -3,8 +3,8 @@ use Rattle.cedar_value.specs.World.{World}
 use Rattle.cedar_ast_expressions.specs.Evaluation.{eval}
 use Rattle.cedar_ast.specs.Condition.{condition_of}
 use Rattle.cedar_code.specs.Machine.{outcome_of}
-use Rattle.cedar_cli_why.specs.Ending.{ending_at}
-use Rattle.cedar_cli_why.proofs.evaluation.policy_ending.Goals as goal
+use Rattle.cedar_why.specs.Ending.{ending_at}
+use Rattle.cedar_why.proofs.evaluation.policy_ending.Goals as goal
 
 -- The code that is executed is that of the policy's condition.
 pub returns : goal.returns

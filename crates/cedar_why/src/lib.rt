@@ -1,7 +1,7 @@
 //! Says why a request is allowed or denied: what each policy came to, and the part of it that decided.
 //!
 //! ```rust
-//! use cedar_cli_why::{WhyOptions, why_line};
+//! use cedar_why::{WhyOptions, why_line};
 //!
 //! let options = WhyOptions { all: false, json: false };
 //! let says = why_line(alloc, &ready, policy_text, request_line, 1, options)?;

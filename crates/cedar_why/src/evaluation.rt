@@ -6,7 +6,7 @@ ghost use Rattle.cedar_ast.specs.Condition.{condition_of};
 ghost use Rattle.cedar_ast.specs.PolicyTree.{PolicyTree};
 ghost use Rattle.cedar_code.specs.Code.{code_of};
 ghost use Rattle.cedar_code.specs.Machine.{outcome_of};
-ghost use Rattle.cedar_cli_why.specs.Ending.{ending_of};
+ghost use Rattle.cedar_why.specs.Ending.{ending_of};
 
 use crate::ending::{Ending, ending_at};
 use cedar_ast_expressions::Expr;

@@ -5,8 +5,11 @@ use crate::entries::entries_of;
 use crate::json_text::json_of;
 use crate::layout::text_of;
 use crate::options::WhyOptions;
+use base_places::Draft;
 use cedar_auth::{Ready, Response};
+use cedar_conform_diagnostics::{DataFault, refused_request};
 use cedar_parser_places::StatementPlaces;
+use cedar_schema::Schema;
 use cedar_value::Request;
 use std::alloc::{AllocError, Global};
 
@@ -14,7 +17,7 @@ use std::alloc::{AllocError, Global};
 /// from, `line` the request line without its end, and `number` its number, from 1.
 ///
 /// As text it is the decision and what it is due to, the entities of the request, and a line for each policy that matters. As JSON it
-/// is one object. Of a line that is not a request the number of its refusal is said.
+/// is one object. Of a line that is not a request the number of its refusal is said, and as text what is wrong with it.
 ///
 /// # Errors
 ///
@@ -51,20 +54,52 @@ pub(crate) fn line_with_places(
         Err(fault) => {
             let refusal = fault.number();
             drop(fault);
-            of_refusal(alloc, number, refusal, options.json)
+            if refusal == 1 {
+                return Err(AllocError);
+            }
+            if options.json {
+                format!(in alloc; "{{\"line\":{number},\"refused\":{refusal}}}\n")
+            } else {
+                of_refusal(alloc, ready.validated().schema(), line, number, refusal)
+            }
         }
     }
 }
 
-// What is said of a line that is refused. Out of memory is passed on.
-fn of_refusal(alloc: Global, line: usize, refusal: u16, json: bool) -> Result<String, AllocError> {
-    if refusal == 1 {
-        return Err(AllocError);
+// What is said of a line that is refused with a number: on lines of their own, which part is wrong, and what to do about it.
+fn of_refusal(
+    alloc: Global,
+    schema: &Schema,
+    line: &[u8],
+    number: usize,
+    refusal: u16,
+) -> Result<String, AllocError> {
+    let fault = refused_request(alloc, schema, line)?;
+    let mut says = Draft::new(alloc);
+    says.add("line ");
+    says.add_display(number);
+    says.add(": refused ");
+    says.add_display(refusal);
+    says.add_char('\n');
+    if let Some(fault) = &fault {
+        add_fault(&mut says, fault);
     }
-    if json {
-        format!(in alloc; "{{\"line\":{line},\"refused\":{refusal}}}\n")
-    } else {
-        format!(in alloc; "line {line}: refused {refusal}\n")
+    says.done()
+}
+
+// Adds which part of a line is wrong, and what to do about it.
+fn add_fault(says: &mut Draft, fault: &DataFault) {
+    says.add("  ");
+    if !fault.path.is_empty() {
+        says.add_shown(fault.path.as_str());
+        says.add(": ");
+    }
+    says.add_shown(fault.says.as_str());
+    says.add_char('\n');
+    if let Some(hint) = &fault.hint {
+        says.add("  hint: ");
+        says.add_shown(hint.as_str());
+        says.add_char('\n');
     }
 }
 

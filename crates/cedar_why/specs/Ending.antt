@@ -8,8 +8,8 @@ use Rattle.cedar_ast_expressions.specs.Evaluation.{eval}
 use Rattle.cedar_code.specs.declared.outcome.Outcome.{Outcome}
 use Rattle.cedar_code.specs.declared.outcome.Outcome.TheVariants.{Value, Error, StackFault}
 use Rattle.cedar_code.specs.Machine.{outcome_of}
-use Rattle.cedar_cli_why.specs.declared.ending.Ending.{Ending}
-use Rattle.cedar_cli_why.specs.declared.ending.Ending.TheVariants.{Holds, Fails, Errs, Other}
+use Rattle.cedar_why.specs.declared.ending.Ending.{Ending}
+use Rattle.cedar_why.specs.declared.ending.Ending.TheVariants.{Holds, Fails, Errs, Other}
 
 -- The ending of an evaluation that has this value (own).
 abbrev pub ending_of_value : Datum → Ending

@@ -1,6 +1,6 @@
 //! How the evaluation of a part ends.
 ghost use Rattle.std.specs.Prelude.{◌≡◌};
-ghost use Rattle.cedar_cli_why.specs.Ending.{ending_at, ending_of_value};
+ghost use Rattle.cedar_why.specs.Ending.{ending_at, ending_of_value};
 
 use cedar_ast_expressions::EvaluationError;
 use cedar_machine::Outcome;

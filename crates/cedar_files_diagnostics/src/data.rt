@@ -12,6 +12,10 @@ const NOT_JSON: u16 = 501;
 /// The number of a line that is JSON of the wrong form.
 const WRONG_FORM: u16 = 502;
 
+/// What to do about a line that brings entities.
+const BRINGS_ENTITIES: &str =
+    "`--entities-in-lines` reads lines that bring entities; the libraries have calls for them";
+
 /// Why data is refused with a number, in words.
 pub(crate) fn reason_of(number: u16) -> Option<&'static str> {
     let reason = match number {
@@ -71,5 +75,8 @@ pub fn explain_request(
     let mut diagnostic = DiagnosticDraft::error(alloc, fault.number, reason);
     diagnostic.part.add(part);
     add_fault(&mut diagnostic, &fault);
+    if fault.number == WRONG_FORM && fault.path.as_str() == "entities" {
+        diagnostic.advise(BRINGS_ENTITIES);
+    }
     diagnostic.done().map(Some)
 }

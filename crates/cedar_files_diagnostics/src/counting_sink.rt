@@ -64,15 +64,31 @@ impl LineCounts {
         if self.lines == 1 {
             self.refused_file = refused_file(line);
         }
-        if let Some(number) = number_after(line, REFUSED) {
-            self.refused = self.refused.saturating_add(1);
-            if self.first.is_none() {
-                self.first = Some(FirstRefused {
-                    line: self.lines,
-                    number,
-                });
-            }
-        } else if let Some(number) = number_after(line, TOTALS) {
+        // The byte after `{"` tells what most lines are without a comparison.
+        match line.get(2) {
+            Some(b'r') => self.count_refused(line),
+            Some(b'f') => self.count_totals(line),
+            _ => {}
+        }
+    }
+
+    // Counts a line that may say that a request line is refused.
+    fn count_refused(&mut self, line: &[u8]) {
+        let Some(number) = number_after(line, REFUSED) else {
+            return;
+        };
+        self.refused = self.refused.saturating_add(1);
+        if self.first.is_none() {
+            self.first = Some(FirstRefused {
+                line: self.lines,
+                number,
+            });
+        }
+    }
+
+    // Takes the warnings from a line that may be the last one of a report.
+    fn count_totals(&mut self, line: &[u8]) {
+        if let Some(number) = number_after(line, TOTALS) {
             self.warnings = number;
         }
     }

@@ -8,6 +8,7 @@ mod lines;
 mod request_line;
 mod running;
 mod unnamed;
+mod validating;
 mod warning;
 mod whys;
 

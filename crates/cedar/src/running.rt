@@ -3,15 +3,15 @@ use crate::asking::run_ask;
 use crate::explaining::Explainer;
 use crate::lines::explain_lines;
 use crate::unnamed::refuse_unnamed_entities;
+use crate::validating::run_validate;
 use crate::warning::authorize_and_warn;
 use crate::whys::run_why;
 use base_lines::{SliceSource, StdSink, StdSource};
 use cedar_cli::{Subcommand, Words, check_parse};
 use cedar_cli_refusals::explain;
-use cedar_files::{End, NamedFiles, validate_keeping};
+use cedar_files::{End, NamedFiles};
 use cedar_files_diagnostics::{CountingSink, Format, RefusedFile, refused_lines};
 use std::io::{self, Read};
-use std::mem::forget;
 
 /// Prints the line for a device that failed, or for memory that ran out.
 pub fn say(rt: &HostRuntime, end: End) {
@@ -45,49 +45,6 @@ pub fn ended(
         explainer.explain(end, refused);
     }
     end.status()
-}
-
-// Explains the warnings of a report without faults in a form, if one is wanted.
-fn explain_warnings(
-    rt: &HostRuntime,
-    files: &NamedFiles<'_, HostRuntime>,
-    words: &Words<'_>,
-    format: Option<Format>,
-) {
-    if let Some(format) = format {
-        let explainer = Explainer {
-            rt,
-            files,
-            words,
-            format,
-        };
-        explainer.explain_warnings();
-    }
-}
-
-// `validate`. With `--deny-warnings` a report with warnings alone ends as one with faults.
-fn run_validate(rt: &HostRuntime, words: &Words<'_>, format: Option<Format>) -> u8 {
-    let files = NamedFiles::new(rt, words.files);
-    let mut sink = CountingSink::new(StdSink::new(io::writer(rt)));
-    let mut policies = None;
-    let end = validate_keeping(rt.alloc(), &files, &mut sink, words.settings, &mut policies);
-    if format.is_none() || (end == End::Done && sink.counts().warnings == 0) {
-        // Nothing is explained. The system takes all memory at once when the program ends.
-        forget(policies);
-    } else {
-        drop(policies);
-    }
-    let refused = sink.counts().refused_file;
-    let status = ended(rt, &files, words, format, end, refused);
-    if end != End::Done || sink.counts().warnings == 0 {
-        return status;
-    }
-    explain_warnings(rt, &files, words, format);
-    if words.deny_warnings {
-        End::Faults.status()
-    } else {
-        status
-    }
 }
 
 // The files of `authorize`. If request lines may bring entities, the entities file may be left out.
@@ -163,9 +120,15 @@ fn run_check_parse(rt: &HostRuntime, words: &Words<'_>, format: Option<Format>) 
     ended(rt, &files, words, format, end, refused)
 }
 
+// The number that a word names, perhaps after an `E`, as in `E602`; 0 where it names none.
+fn number_of(word: &str) -> u16 {
+    let digits = word.strip_prefix('E').unwrap_or(word);
+    digits.parse::<u16>().unwrap_or(0)
+}
+
 // `explain`.
 fn run_explain(rt: &HostRuntime, words: &Words<'_>) -> u8 {
-    let number = words.number.unwrap_or("").parse::<u16>().unwrap_or(0);
+    let number = number_of(words.number.unwrap_or(""));
     let end = match explain(rt.alloc(), number) {
         Ok(Some(text)) => match rt.print(text.as_str()) {
             Ok(()) => End::Done,

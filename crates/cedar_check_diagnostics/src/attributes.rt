@@ -1,4 +1,5 @@
 //! Attributes that are not declared, and attributes that may be absent.
+use crate::checking::Checking;
 use crate::listing::{add_more, is_listed};
 use crate::spot::Spot;
 use crate::type_words::entity_of;
@@ -85,20 +86,28 @@ fn add_owner(out: &mut Draft, alloc: Global, operand: &Expr, ty: &LentType<'_>) 
 pub(crate) fn absent_words(spot: Spot<'_>, words: &mut Words) -> Result<(), AllocError> {
     let ty = spot.part_type(0)?;
     match (access_of(spot.part), ty) {
-        (Some(access), Some(ty)) => absent_from(spot, words, access, &ty),
+        (Some(access), Some(ty)) => {
+            lacking_words(spot.checking, words, access.operand, access.key, &ty)
+        }
         _ => words.says.add("this attribute is not declared"),
     }
     Ok(())
 }
 
-// What is said of an attribute that this type does not declare: the attributes that there are, and the nearest one.
-fn absent_from(spot: Spot<'_>, words: &mut Words, access: Access<'_>, ty: &LentType<'_>) {
-    let alloc = spot.alloc();
-    let key = access.key.as_str();
-    add_owner(&mut words.says, alloc, access.operand, ty);
+/// What is said of an attribute that the type of an operand does not declare: the attributes that there are, and the nearest one.
+pub(crate) fn lacking_words(
+    checking: Checking<'_>,
+    words: &mut Words,
+    operand: &Expr,
+    attribute: &Text,
+    ty: &LentType<'_>,
+) {
+    let alloc = checking.alloc;
+    let key = attribute.as_str();
+    add_owner(&mut words.says, alloc, operand, ty);
     words.says.add_all(&[" has no attribute `", key, "`"]);
-    add_owner(&mut words.note, alloc, access.operand, ty);
-    let declared = match attributes_of(spot.checking.schema, ty) {
+    add_owner(&mut words.note, alloc, operand, ty);
+    let declared = match attributes_of(checking.schema, ty) {
         Some(attributes) => attributes.attributes(),
         None => &[],
     };

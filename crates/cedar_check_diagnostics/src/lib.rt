@@ -18,12 +18,16 @@
 mod attributes;
 mod before;
 mod checking;
+mod guard_places;
+mod guard_walk;
+mod guards;
 mod joins;
 mod kinds;
 mod listing;
 mod literals;
 mod looking;
 mod parts;
+mod preorder;
 mod refusal;
 mod smallest;
 mod spot;
@@ -34,4 +38,5 @@ mod way;
 mod words;
 mod written;
 
-pub use refusal::{Operand, RefusedPart, refused_part};
+pub use guards::{FalseGuards, false_guards};
+pub use refusal::{ExplainedPart, Operand, refused_part};

@@ -16,13 +16,14 @@ use cedar_check_spec::Settings;
 use cedar_schema::{Environment, Schema};
 use std::alloc::{AllocError, Global};
 
-/// The part of a condition that has no type although each of its own parts that the checker looks at has one.
+/// A part of a condition, and what is said of it: one that has no type although each of its own parts that the checker looks at has
+/// one, or a part `x has a` that is always false.
 #[derive(Drop)]
-pub struct RefusedPart {
+pub struct ExplainedPart {
     /// From the condition to the part, the number of the child at each step, from 0: of operators the operands from the left, of
     /// `if` the condition and then the branches, of a set its members, of a record its entries.
     pub path: Vec<usize>,
-    /// The number of the fault, from 601 to 607.
+    /// The number of the fault, from 601 to 607; 0 of a part `x has a`, which is not a fault.
     pub number: u16,
     /// What is wrong, for a mark under the part's name: for example that `Shop::Order` has no attribute `totl`.
     pub says: String,
@@ -57,7 +58,7 @@ pub fn refused_part<'a>(
     schema: &'a Schema,
     environment: &'a Environment,
     condition: &'a Expr,
-) -> Result<Option<RefusedPart>, AllocError>
+) -> Result<Option<ExplainedPart>, AllocError>
     ensures none { IfOk result (λ o. IfNone o (IsCondition settings schema.now environment.now condition.now)) }
     ensures found { IfOk result (λ o. IfSome o (λ r. IsRefusedAt settings schema.now environment.now condition.now r.path.items)) }
 {
@@ -99,13 +100,13 @@ fn if_any(draft: Draft) -> Result<Option<String>, AllocError> {
     Ok(Some(text))
 }
 
-// The part of a path and a number with its words.
-fn with_words(
+/// The part of a path and a number with its words.
+pub(crate) fn with_words(
     alloc: Global,
     path: Vec<usize>,
     number: u16,
     words: Words,
-) -> Result<RefusedPart, AllocError>
+) -> Result<ExplainedPart, AllocError>
     ensures { IfOk result (λ r. r.path.items ≡ path.items) }
 {
     let Words {
@@ -118,7 +119,7 @@ fn with_words(
     if let Some(note) = if_any(note)? {
         notes.push(note)?;
     }
-    Ok(RefusedPart {
+    Ok(ExplainedPart {
         path,
         number,
         says: says.done()?,
@@ -133,7 +134,7 @@ fn explained<'a>(
     checking: Checking<'a>,
     condition: &'a Expr,
     untyped: Untyped<'a>,
-) -> Result<RefusedPart, AllocError>
+) -> Result<ExplainedPart, AllocError>
     ensures { IfOk result (λ r. r.path.items ≡ untyped.entry.path.items) }
 {
     let Untyped {
@@ -160,7 +161,7 @@ fn untyped_part<'a>(
     checking: Checking<'a>,
     condition: &'a Expr,
     fault: TypeFault,
-) -> Result<RefusedPart, AllocError>
+) -> Result<ExplainedPart, AllocError>
     requires { IsTypingOf checking.settings checking.schema.now checking.environment.now [] condition.now None }
     ensures { IfOk result (λ r. IsUntypedAt checking.entry.settings checking.entry.schema.now checking.entry.environment.now condition.now r.path.items) }
 {

@@ -36,7 +36,7 @@ pub struct Subject {
 pub struct Diagnostic {
     /// How much it weighs.
     pub severity: Severity,
-    /// Its number, as standard output has it.
+    /// Its number, as standard output has it; 0 where standard output says nothing of it.
     pub number: u16,
     /// Why, in words.
     pub reason: &'static str,

@@ -4,10 +4,11 @@ use crate::own_statement::OwnStatement;
 use base_places::Place;
 use cedar_ast::{Link, Policy, PolicySet};
 use cedar_check::Fault;
-use cedar_check_diagnostics::{RefusedPart, refused_part};
+use cedar_check_diagnostics::{ExplainedPart, FalseGuards, false_guards, refused_part};
 use cedar_check_spec::Settings;
 use cedar_parser_places::PartPlace;
 use cedar_schema::{Environment, Schema};
+use cedar_value::Text;
 use std::alloc::{AllocError, Global};
 
 /// The number of an entity type or an action that is not declared.
@@ -37,16 +38,41 @@ impl<'c> Checked<'c> {
             && it.resource == fault.resource)
     }
 
-    // The policy of a fault.
-    fn policy(self, fault: &Fault) -> Option<&'c Policy> {
+    // The policy of an id.
+    fn policy(self, id: &Text) -> Option<&'c Policy> {
         for position in 0..self.policies.count() {
             if let Some(policy) = self.policies.policy(position) {
-                if policy.id() == &fault.policy {
+                if policy.id() == id {
                     return Some(policy);
                 }
             }
         }
         None
+    }
+
+    /// The parts `x has a` of a policy that are always false, of which at most so many are explained.
+    pub(crate) fn guards(
+        self,
+        alloc: Global,
+        policy: &Policy,
+        most: usize,
+    ) -> Result<FalseGuards, AllocError> {
+        let condition = policy.condition(alloc)?;
+        let found = false_guards(alloc, self.settings, self.schema, &condition, most);
+        drop(condition);
+        found
+    }
+
+    /// The first part `x has a` of the policy of an id that is always false.
+    pub(crate) fn first_guard(
+        self,
+        alloc: Global,
+        id: &Text,
+    ) -> Result<Option<ExplainedPart>, AllocError> {
+        match self.policy(id) {
+            Some(policy) => Ok(self.guards(alloc, policy, 1)?.parts.pop()),
+            None => Ok(None),
+        }
     }
 
     /// The id of the template from which the policy of an id is linked, if it is.
@@ -60,8 +86,11 @@ impl<'c> Checked<'c> {
         self,
         alloc: Global,
         fault: &Fault,
-    ) -> Result<Option<RefusedPart>, AllocError> {
-        let (Some(environment), Some(policy)) = (self.environment(fault), self.policy(fault)) else {
+    ) -> Result<Option<ExplainedPart>, AllocError> {
+        let (Some(environment), Some(policy)) = (
+            self.environment(fault),
+            self.policy(&fault.policy),
+        ) else {
             return Ok(None);
         };
         let condition = policy.condition(alloc)?;
@@ -88,7 +117,7 @@ fn mark_part(
     alloc: Global,
     diagnostic: &mut DiagnosticDraft,
     statement: OwnStatement<'_>,
-    part: &RefusedPart,
+    part: &ExplainedPart,
     place: PartPlace,
 ) -> Result<(), AllocError> {
     let text = statement.text();
@@ -118,7 +147,7 @@ pub(crate) fn mark_statement(diagnostic: &mut DiagnosticDraft, statement: OwnSta
 
 // The path of what is marked: that of the part, or of its first operand where the part is an `&&` between the sides of the scope and
 // the conditions, which is not written.
-fn marked_path(part: &RefusedPart) -> &[usize] {
+fn marked_path(part: &ExplainedPart) -> &[usize] {
     match part.operands.first() {
         Some(operand) if part.path.len() < SCOPE_STEPS && part.path.iter().all(|step| *step == 1) =>
             { operand.path.as_slice() }
@@ -131,7 +160,7 @@ pub(crate) fn add_place(
     alloc: Global,
     diagnostic: &mut DiagnosticDraft,
     statement: OwnStatement<'_>,
-    part: &RefusedPart,
+    part: &ExplainedPart,
 ) -> Result<(), AllocError> {
     match statement.part(alloc, marked_path(part))? {
         Some(place) => mark_part(alloc, diagnostic, statement, part, place),
@@ -144,7 +173,7 @@ pub(crate) fn add_place(
 }
 
 /// Adds what else is said of the part, and what to do about it.
-pub(crate) fn add_words(diagnostic: &mut DiagnosticDraft, part: &RefusedPart) {
+pub(crate) fn add_words(diagnostic: &mut DiagnosticDraft, part: &ExplainedPart) {
     for note in &part.notes {
         diagnostic.note(&[note.as_str()]);
     }

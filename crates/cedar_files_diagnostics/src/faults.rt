@@ -3,13 +3,15 @@ use crate::diagnostic::{Diagnostic, Explanation, Severity};
 use crate::diagnostic_draft::DiagnosticDraft;
 use crate::excerpt::first_of;
 use crate::fault_part::{Checked, add_place, add_words, mark_statement};
+use crate::guards::push_guards;
 use crate::own_statement::{MOST_OF_ID, OwnStatement};
 use cedar_check::{Fault, Report};
 use cedar_parser_places::StatementPlaces;
+use cedar_value::Text;
 use std::alloc::{AllocError, Global};
 
 /// How many faults and warnings are explained at most.
-const MOST: usize = 20;
+pub(crate) const MOST: usize = 20;
 
 /// The number of the warning on a policy that no request can satisfy.
 const IMPOSSIBLE: u16 = 650;
@@ -97,7 +99,7 @@ pub fn explain_faults(
     Ok(explanation)
 }
 
-// Adds what is explained of the faults and the warnings of a report.
+// Adds what is explained of the faults and the warnings of a report, and of parts that are always false.
 fn push_report<'s>(
     alloc: Global,
     explanation: &mut Explanation,
@@ -112,10 +114,9 @@ fn push_report<'s>(
         rest = others;
     }
     for policy in &report.warnings {
-        let statement = OwnStatement::new(statements, checked, policy.as_str());
-        push_warning(alloc, explanation, statement, policy.as_str())?;
+        push_warning(alloc, explanation, statements, checked, policy)?;
     }
-    Ok(())
+    push_guards(alloc, explanation, statements, checked, &report.warnings)
 }
 
 // Whether one more is explained; if not, it is counted.
@@ -127,36 +128,49 @@ fn has_room(explanation: &mut Explanation) -> bool {
     false
 }
 
-// Adds what is explained of a policy that no request can satisfy.
+// Adds what is explained of a policy that no request can satisfy: a part of its condition that is always false, if there is one, or else
+// where its scope has to be looked at.
 fn push_warning(
     alloc: Global,
     explanation: &mut Explanation,
-    statement: OwnStatement<'_>,
-    policy: &str,
+    statements: &StatementPlaces<'_>,
+    checked: Checked<'_>,
+    policy: &Text,
 ) -> Result<(), AllocError> {
     if !has_room(explanation) {
         return Ok(());
     }
+    let guard = checked.first_guard(alloc, policy)?;
+    let statement = OwnStatement::new(statements, checked, policy.as_str());
     let mut diagnostic = DiagnosticDraft::error(
         alloc,
         IMPOSSIBLE,
         "no request can satisfy this policy",
     );
     diagnostic.severity = Severity::Warning;
-    diagnostic.name("policy", policy);
-    mark_statement(&mut diagnostic, statement);
-    let id = first_of(policy, MOST_OF_ID);
+    diagnostic.name("policy", policy.as_str());
+    match &guard {
+        Some(guard) => add_place(alloc, &mut diagnostic, statement, guard)?,
+        None => mark_statement(&mut diagnostic, statement),
+    }
+    note_impossible(&mut diagnostic, statement, policy);
+    match &guard {
+        Some(guard) => add_words(&mut diagnostic, guard),
+        None => diagnostic.advise("compare its scope with `appliesTo` in the schema"),
+    }
+    explanation.diagnostics.push(diagnostic.done()?)?;
+    Ok(())
+}
+
+// Says that a policy is always false.
+fn note_impossible(diagnostic: &mut DiagnosticDraft, statement: OwnStatement<'_>, policy: &Text) {
+    let id = first_of(policy.as_str(), MOST_OF_ID);
     diagnostic.note(&[
         "policy `",
         id,
         "` is false in each environment of the schema",
     ]);
-    statement.note_link(&mut diagnostic);
-    diagnostic.advise(
-        "compare its scope with `appliesTo` in the schema, and each name after `has` with the attributes there",
-    );
-    explanation.diagnostics.push(diagnostic.done()?)?;
-    Ok(())
+    statement.note_link(diagnostic);
 }
 
 // Adds what is explained of the faults of one policy.

@@ -11,12 +11,15 @@ fn word_of(severity: Severity) -> &'static str {
     }
 }
 
-// Adds `error[NUMBER]: REASON` and the end of the line.
+// Adds `error[NUMBER]: REASON`, without a number where it has none, and the end of the line.
 fn add_heading(out: &mut Draft, diagnostic: &Diagnostic) {
     out.add(word_of(diagnostic.severity));
-    out.add_char('[');
-    out.add_display(diagnostic.number);
-    out.add("]: ");
+    if diagnostic.number > 0 {
+        out.add_char('[');
+        out.add_display(diagnostic.number);
+        out.add_char(']');
+    }
+    out.add(": ");
     out.add(diagnostic.reason);
     out.add_char('\n');
 }

@@ -104,7 +104,9 @@ fn add_diagnostic(
     }
     add_marks(alloc, json, text, &diagnostic.marks);
     add_notes(alloc, json, &diagnostic.notes);
-    json.number_at("number", usize::from(diagnostic.number));
+    if diagnostic.number > 0 {
+        json.number_at("number", usize::from(diagnostic.number));
+    }
     if !diagnostic.part.is_empty() {
         add_shown(alloc, json, "part", diagnostic.part.as_str());
     }

@@ -11,6 +11,10 @@ const NOT_JSON: usize = 501;
 /// What is said where the files that were refused are accepted, or cannot be read, the second time.
 const NOT_AGAIN: &str = "this is not explained, since a file is a pipe or has changed";
 
+/// What is said where guards that are misspelt cannot be looked for.
+const NOT_LOOKED_FOR: &str =
+    "misspelt guards are not looked for, since the schema is a pipe or has changed";
+
 /// What to do where the first line that is refused is not JSON.
 const ONE_LINE: &str =
     "each request is one line: `jq -c .` writes a request of several lines on one";
@@ -27,12 +31,27 @@ fn json_line(alloc: Global, severity: &str, reason: &str) -> Result<String, Allo
     line.done()
 }
 
+// A message as a line in a form.
+fn line_of(
+    alloc: Global,
+    format: Format,
+    severity: &str,
+    reason: &str,
+) -> Result<String, AllocError> {
+    match format {
+        Format::Human => format!(in alloc; "cedar: {reason}\n"),
+        Format::Json => json_line(alloc, severity, reason),
+    }
+}
+
 /// Says that a refusal is not explained, since the files cannot be read again.
 pub fn not_again(alloc: Global, format: Format) -> Result<String, AllocError> {
-    match format {
-        Format::Human => format!(in alloc; "cedar: {NOT_AGAIN}\n"),
-        Format::Json => json_line(alloc, "note", NOT_AGAIN),
-    }
+    line_of(alloc, format, "note", NOT_AGAIN)
+}
+
+/// Says that guards that are misspelt are not looked for, since the schema cannot be read again.
+pub fn not_looked_for(alloc: Global, format: Format) -> Result<String, AllocError> {
+    line_of(alloc, format, "note", NOT_LOOKED_FOR)
 }
 
 /// Says which file cannot be read: the option that names it, its name, and what the system says.
@@ -79,10 +98,7 @@ pub fn impossible_policies(
     says.add(if count == 1 { " policy" } else { " policies" });
     says.add(" (650): `cedar validate` says which");
     let says = says.done()?;
-    match format {
-        Format::Human => format!(in alloc; "cedar: {says}\n"),
-        Format::Json => json_line(alloc, "warning", says.as_str()),
-    }
+    line_of(alloc, format, "warning", says.as_str())
 }
 
 /// Says how many request lines were refused, and which was the first; nothing if none was.

@@ -97,9 +97,12 @@ def refusal(file):
         return 'there is no release/%s' % file
     if file != PLAYGROUND and (os.uname().sysname, os.uname().machine) != ('Linux', 'x86_64'):
         return 'release/%s is for x86-64 Linux' % file
-    if value(file + ' sources') != digest(file):
-        return 'release/%s was built from other sources than this checkout has' % file
-    return '' if value(file) == sha256(path) else 'release/%s is not what release/MANIFEST names' % file
+    try:
+        if value(file + ' sources') != digest(file):
+            return 'release/%s was built from other sources than this checkout has' % file
+        return '' if value(file) == sha256(path) else 'release/%s is not what release/MANIFEST names' % file
+    except OSError as error:
+        return 'release/%s cannot be compared with the sources: %s: %s' % (file, os.path.relpath(error.filename, TOP), error.strerror)
 
 
 def current(file='cedar'):

@@ -9,7 +9,7 @@ class Page {
     this.examples = JSON.parse(inside('examples'));
     this.numbers = JSON.parse(inside('numbers'));
     this.editors = Object.fromEntries(TEXT_NAMES.map(name => [name, new Editor(name)]));
-    this.view = new View(this.numbers, () => this.texts(), place => this.show(place));
+    this.view = new View(this.numbers, () => this.texts(), place => this.show(place), question => this.ask(question));
     this.status = new Status();
     this.anyDecimal = document.getElementById('any-decimal');
     this.example = document.getElementById('example');
@@ -20,6 +20,9 @@ class Page {
     // What the worker has said of the files that it has, and what is shown.
     this.judged = {};
     this.last = null;
+    // The questions that the worker has not replied to, by their numbers, and how many there were.
+    this.questions = new Map();
+    this.questionCount = 0;
   }
 
   // Starts the worker, and shows the texts of the link or the first example.
@@ -104,11 +107,25 @@ class Page {
     this.number += 1;
     this.sent = this.texts();
     this.late = setTimeout(() => this.status.say('Working', ''), 400);
-    this.worker.postMessage({ texts: this.sent, settings: this.anyDecimal.checked ? 1 : 0 });
+    this.worker.postMessage({ number: this.number, texts: this.sent, settings: this.anyDecimal.checked ? 1 : 0, first: ANSWERS_AT_ONCE });
   }
 
-  // Hears that the engine is ready, what it has done, or that it does not run.
-  heard({ ready, done, failed }) {
+  // Asks the worker about the texts that are shown. The promise gives null if there are others by then.
+  ask(question) {
+    const number = this.number, place = ++this.questionCount;
+    this.worker.postMessage({ ...question, question: place, number });
+    return new Promise(give => this.questions.set(place, reply => give(number === this.number ? reply : null)));
+  }
+
+  replied({ question, reply }) {
+    this.questions.get(question)(reply);
+    this.questions.delete(question);
+  }
+
+  // Hears that the engine is ready, what it has done, what it replies, or that it does not run.
+  heard(data) {
+    const { ready, done, failed } = data;
+    if (data.question) return this.replied(data);
     clearTimeout(this.late);
     this.isBusy = false;
     if (failed !== undefined) return this.fail(failed);
@@ -118,7 +135,7 @@ class Page {
     }
     if (done.report) this.judged = { report: done.report, publish: done.publish, words: done.words };
     if (this.isWaiting) return this.work();
-    this.showDone({ ...this.judged, answers: done.answers, memory: done.memory });
+    this.showDone({ ...this.judged, answers: done.answers, refused: done.refused, memory: done.memory });
   }
 
   showDone(done) {
@@ -142,14 +159,21 @@ class Page {
     }
   }
 
-  showAnswers({ answers }) {
+  showAnswers({ answers, refused: words }) {
     const list = document.getElementById('answers'), count = document.getElementById('answers-count');
     list.replaceChildren(element('li', { class: 'nothing' }, 'No request is answered.'));
     count.textContent = '';
     if (answers?.status !== 0) return;
-    const all = this.view.answers(answers.text, this.sent.requests, list), of = kind => all.filter(it => it.decision === kind).length;
+    const all = this.view.answers(answers.text, this.sent.requests, words, list, lines => this.markRequests(lines));
+    const of = kind => all.filter(it => it.decision === kind).length;
     const allowed = of('allow'), denied = of('deny'), refused = all.length - allowed - denied;
     count.textContent = `${allowed} allow, ${denied} deny${refused ? `, ${refused} refused` : ''}`;
+  }
+
+  // Marks request lines that are refused.
+  markRequests(lines) {
+    const text = this.sent.requests;
+    this.editors.requests.mark(lines.map(line => ({ ...rangeOfLine(text, line), kind: 'warning' })));
   }
 
   // Shows what the program would print, where that is open.

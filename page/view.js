@@ -8,11 +8,12 @@ const ERRORS = { overflow: 'an integer overflows', missing_entity: 'an entity is
 
 class View {
   // `numbers` is what docs/REFUSALS.md says of each number. `texts()` gives the texts as they are now, and `show(place)` shows a place in
-  // one of them: its name, from and to.
-  constructor(numbers, texts, show) {
+  // one of them: its name, from and to. `ask(question)` promises what the worker replies, or null if it has other texts by then.
+  constructor(numbers, texts, show, ask) {
     this.numbers = numbers;
     this.texts = texts;
     this.show = show;
+    this.ask = ask;
   }
 
   // A button that shows a place when it is pressed.
@@ -31,10 +32,14 @@ class View {
     const shown = element('li', { class: `finding ${kind}` }, title, element('p', {}, ...this.placesOf(finding)));
     if (part) shown.append(element('p', {}, ...sentence(part)));
     if (policy !== undefined) shown.append(element('p', {}, 'policy ', this.policyButton(policy)));
-    if (notes.length) shown.append(element('ul', { class: 'notes' }, ...notes.map(note => element('li', {}, ...sentence(note)))));
+    if (notes.length) shown.append(this.notes(notes));
     if (hint) shown.append(element('p', { class: 'hint' }, 'Hint: ', ...sentence(hint)));
     if (environments.length) shown.append(this.environments(environments));
     return shown;
+  }
+
+  notes(notes) {
+    return element('ul', { class: 'notes' }, ...notes.map(note => element('li', {}, ...sentence(note))));
   }
 
   // The places of a finding, each with what is said of it; or only the file.
@@ -56,19 +61,28 @@ class View {
     return shown;
   }
 
-  // Shows the first answers in a list, and a button for more. Gives all answers.
-  answers(text, requests, list) {
-    const answers = objectsOf(text), lines = requests.split('\n');
+  // Shows the first answers in a list, and a button for more. `refused` has the words on the first refused lines, and `mark(lines)` marks
+  // the lines of those that are shown. Gives all answers.
+  answers(text, requests, refused, list, mark) {
+    const answers = objectsOf(text), lines = requests.split('\n'), marked = [];
     let shown = 0;
-    const add = () => {
-      list.querySelector('.more')?.remove();
+    const add = refused => {
+      const words = new Map(refused.map(it => [it.place, it.words]));
       for (const end = Math.min(shown + ANSWERS_AT_ONCE, answers.length); shown < end; shown++) {
-        list.append(this.answer(answers[shown], shown + 1, lines[shown]));
+        list.append(this.answer(answers[shown], shown + 1, lines[shown], words.get(shown)));
+        if (answers[shown].refused) marked.push(shown + 1);
       }
-      if (shown < answers.length) list.append(this.moreButton(answers.length - shown, add));
+      if (shown < answers.length) list.append(this.moreButton(answers.length - shown, more));
+      mark(marked);
+    };
+    const more = async () => {
+      const refused = await this.ask({ from: shown, to: shown + ANSWERS_AT_ONCE });
+      if (!refused) return;
+      list.querySelector('.more').remove();
+      add(refused);
     };
     list.replaceChildren();
-    add();
+    add(refused);
     return answers;
   }
 
@@ -77,10 +91,10 @@ class View {
     return element('li', { class: 'more' }, element('button', { type: 'button', click: add }, label));
   }
 
-  answer(answer, line, request) {
+  answer(answer, line, request, words) {
     const kind = answer.decision ?? 'refused';
     const place = this.placeButton(`line ${line}`, () => ({ name: 'requests', ...rangeOfLine(this.texts().requests, line) }));
-    const why = answer.decision ? this.why(answer) : this.whyRefused(answer.refused);
+    const why = answer.decision ? this.why(answer) : this.whyRefused(answer.refused, words);
     return element('li', { class: `answer ${kind}` }, place, ' ', element('span', { class: 'decision' }, kind), ' ', ...why,
       element('div', { class: 'request' }, requestInShort(request)));
   }
@@ -102,10 +116,14 @@ class View {
     return ids.flatMap((id, place) => [before(place), this.policyButton(id)]);
   }
 
-  whyRefused(number) {
+  // Why a request is refused, in the words of the engine. If it has none, they are those of the number.
+  whyRefused(number, words) {
     const { when, remedy } = rowOf(this.numbers, 'requests', number);
-    const why = [element('span', { class: 'number' }, String(number)), ': ', ...sentence(when)];
-    return remedy ? [...why, element('span', { class: 'hint' }, '. Hint: ', ...sentence(remedy))] : why;
+    const { reason, notes = [], hint } = words ?? { reason: when, hint: remedy };
+    const why = [element('span', { class: 'number' }, String(number)), ': ', ...sentence(reason)];
+    if (notes.length) why.push(this.notes(notes));
+    if (hint) why.push(element('p', { class: 'hint' }, 'Hint: ', ...sentence(hint)));
+    return why;
   }
 }
 

@@ -1,5 +1,9 @@
-// The worker: it holds an engine, and works on one message at a time. The first message has the module; each later one has texts.
+// The worker: it holds an engine, and works on one message at a time. The first message has the module; each later one has texts, or a
+// question about the texts before it.
 let engine = null, published = null;
+
+// The number of the last work, its request lines and its answers.
+let last = { number: 0 };
 
 const FILES = ['schema', 'policies', 'links', 'entities'];
 
@@ -44,14 +48,38 @@ function worked({ texts, settings }) {
   return done;
 }
 
+// Why those of the lines from one place to another are refused that are: the place of each, from 0, and the words of the engine.
+function refusedLines({ from, to }) {
+  const refused = [];
+  for (let place = from; place < Math.min(to, last.answers.length) && published; place++) {
+    const number = JSON.parse(last.answers[place]).refused;
+    if (number === undefined) continue;
+    const { status, text } = engine.explainLine(new TextEncoder().encode(last.lines[place]), number);
+    if (status === 'stopped') published = null;
+    if (text !== '') refused.push({ place, words: JSON.parse(text) });
+  }
+  return refused;
+}
+
+// Works on texts, and explains the first refused lines.
+function workedAndExplained(data) {
+  const done = worked(data), isAnswered = done.answers?.status === 0;
+  last = { number: data.number, lines: data.texts.requests.split('\n'), answers: isAnswered ? done.answers.text.trimEnd().split('\n') : [] };
+  if (last.answers[0] === '') last.answers = [];
+  done.refused = refusedLines({ from: 0, to: data.first });
+  return done;
+}
+
 self.onmessage = async ({ data }) => {
   try {
     if (data.packed) {
       const began = performance.now();
       engine = new Engine(await moduleOf(data.packed));
       self.postMessage({ ready: performance.now() - began });
+    } else if (data.question) {
+      self.postMessage({ question: data.question, reply: data.number === last.number ? refusedLines(data) : null });
     } else {
-      self.postMessage({ done: worked(data) });
+      self.postMessage({ done: workedAndExplained(data) });
     }
   } catch (fault) {
     self.postMessage({ failed: String(fault.message ?? fault) });

@@ -21,6 +21,14 @@ const reader = {
   policies: () => [...document.querySelectorAll('#answers > .answer')]
     .map(answer => [...answer.querySelectorAll('.policy')].map(it => it.textContent)),
 
+  // What each refused answer says: its number, the reason, what is wrong, and the hint.
+  refused: () => [...document.querySelectorAll('#answers > .refused')].map(answer => {
+    const part = name => answer.querySelector(name)?.textContent ?? null;
+    const notes = [...answer.querySelectorAll('.notes li')].map(it => it.textContent);
+    const own = [...answer.childNodes].filter(it => it.nodeType === Node.TEXT_NODE || it.tagName === 'CODE').map(it => it.textContent);
+    return [part('.number'), own.join('').trim().replace(/^: /, ''), notes, part('.hint')];
+  }),
+
   // Presses the first button with a text. Gives the text area that has the focus then, and what is selected there.
   press(selector, text) {
     [...document.querySelectorAll(selector)].find(it => it.textContent === text).click();

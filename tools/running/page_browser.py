@@ -29,6 +29,14 @@ STOPPING = """const stop = () => { throw new RangeError('Maximum call stack size
 SECONDS = 4
 SLOW = """const answer = engine.answer.bind(engine);
   engine.answer = lines => { for (const end = performance.now() + %d; performance.now() < end;); return answer(lines); }; 0"""
+# Request lines that are refused, for the example tenants: each is wrong in another way.
+REFUSED = b'''{"principal":"Tenants::User::ann","action":"Billing::Action::\\"view\\"","resource":"x"}
+{"principal":"Tenants::User::\\"mara\\"","action":"Billing::Action::\\"vieww\\"","resource":"Billing::Invoice::\\"small\\""}
+{
+
+{"principal":"Tenants::User::\\"mara\\"","action":"Billing::Action::\\"view\\"","resource":"Billing::Invoice::\\"small\\"","context":{"tickt":1}}
+{"principal":"Tenants::User::\\"m\xc3\xa9\\u0301\\"","action":"Billing::Action::\\"view\\"","entities":[]}
+'''
 CONTROLS = ('textbox', 'combobox', 'checkbox', 'button', 'region', 'DisclosureTriangle')
 
 
@@ -57,7 +65,7 @@ class Pages:
 
     def settle(self):
         """Waits until the page shows what the engine says of its texts."""
-        self.browser.until('page.isBusy === false && page.isWaiting === false')
+        self.browser.until('page.isBusy === false && page.isWaiting === false && page.questions.size === 0')
 
     def open(self, where):
         self.where = where
@@ -189,6 +197,33 @@ class Pages:
         self.judge_shown('the warning', '#report .number', ['warning 650'])
         self.judge_done('answers beside a warning', 'answers', 0, content('notes', 'answers.jsonl').decode())
 
+    def refused(self):
+        """A refused request has the words of the program, and its line is marked."""
+        for name in example_names():
+            self.choose(name)
+            self.judge_refused(name, content(name, 'requests.jsonl'))
+        self.choose('tenants')
+        lines = REFUSED + content('tenants', 'requests.jsonl') * 15
+        self.write('requests', lines.decode())
+        self.picture('refused')
+        self.browser.value('document.querySelector("#answers .more button").click()')
+        self.settle()
+        self.judge_refused('tenants', lines)
+
+    def judge_refused(self, example, lines):
+        """Judges what is said of the refused requests of lines, all of which are shown. The program explains the first ones, and the others
+        are as these are."""
+        with tempfile.TemporaryDirectory() as folder:
+            files = write_broken(folder, example, 'policies.cedar', content(example, 'policies.cedar'))
+            ended = self.ended('authorize', folder, *files, '--explain-lines', '--diagnostics', 'json', lines=lines)
+        said = [it for it in map(json.loads, ended.stderr.splitlines()) if 'number' in it]
+        wanted = [[str(it['number']), it['reason'], it.get('notes', []), 'Hint: ' + it['hint'] if 'hint' in it else None] for it in said]
+        found, wanted = self.reader('refused'), json.loads(json.dumps(wanted).replace('`', ''))
+        is_right = found[:len(wanted)] == wanted and all(it in wanted for it in found)
+        self.judge('the refused requests of ' + example, is_right and wanted, (found, wanted))
+        refused = [line.decode() or ' ' for line, answer in zip(lines.splitlines(), ended.stdout.splitlines()) if b'"refused"' in answer]
+        self.judge_shown('the marks of refused requests of ' + example, '#requests-part mark.warning', refused)
+
     def any_decimal(self):
         """A string that is not a decimal is a fault, or with `any decimal` an error of the policy."""
         policies = self.policy('decimal(if principal == User::"ann" then "one" else "1.0") == decimal("1.0")')
@@ -267,6 +302,7 @@ class Pages:
         self.judge('26,001 answers', self.reader('done', 'answers') == [0, wanted])
         self.judge('the first answers are shown', len(self.shown('#answers .answer')) == 200)
         self.browser.value('document.querySelector("#answers .more button").click()')
+        self.settle()
         self.judge('more answers', len(self.shown('#answers .answer')) == 400)
         self.judge_shown('the others', '#answers .more button', ['Show more of the other 25,601'])
         print('26,001 lines: the page waited %.0f ms at most' % longest)
@@ -351,6 +387,6 @@ class Pages:
         for where in addresses:
             self.attempt(self.examples, where)
             self.attempt(self.links)
-        for test in (self.broken, self.faults, self.warnings, self.any_decimal, self.high, self.typing, self.slow, self.stopped, self.keyboard,
+        for test in (self.broken, self.faults, self.warnings, self.refused, self.any_decimal, self.high, self.typing, self.slow, self.stopped, self.keyboard,
                      self.looks, self.network):
             self.attempt(test)

@@ -151,7 +151,8 @@ class Page {
     const shown = findings.map(finding => this.view.finding(finding));
     if (!shown.length && publish.status === 0) shown.push(element('li', { class: 'nothing' }, 'The policies have no faults.'));
     document.getElementById('report').replaceChildren(...shown);
-    const count = [0, 3].includes(report.status) ? countOf(report.text) : '';
+    const notes = findings.filter(it => it.number === undefined).length;
+    const count = [0, 3].includes(report.status) ? countOf(report.text) + (notes ? `, ${counted(notes, 'note')}` : '') : '';
     document.getElementById('report-count').textContent = publish.status === 2 ? REFUSED[findings[0].file] : count;
     for (const [name, editor] of Object.entries(this.editors)) {
       const own = findings.filter(it => it.file === name);

@@ -28,7 +28,8 @@ class View {
 
   finding(finding) {
     const { kind, number, reason, part, notes, hint, policy, environments } = finding;
-    const title = element('h3', {}, element('span', { class: 'number' }, `${kind} ${number}`), ' ', ...sentence(reason));
+    const called = number === undefined ? kind : `${kind} ${number}`;
+    const title = element('h3', {}, element('span', { class: 'number' }, called), ' ', ...sentence(reason));
     const shown = element('li', { class: `finding ${kind}` }, title, element('p', {}, ...this.placesOf(finding)));
     if (part) shown.append(element('p', {}, ...sentence(part)));
     if (policy !== undefined) shown.append(element('p', {}, 'policy ', this.policyButton(policy)));

@@ -7,6 +7,9 @@ let last = { number: 0 };
 
 const FILES = ['schema', 'policies', 'links', 'entities'];
 
+// A policy with a fault, of which the page says nothing: the engine has words for warnings only where there is a fault.
+const FAULTY = '\n@id("of the playground") permit(principal, action, resource) when { 1 };';
+
 // The bytes of texts. A text of links that is blank means that there is no file of links, and has no bytes.
 function encoded(texts) {
   const given = { ...texts, links: texts.links.trim() === '' ? '' : texts.links };
@@ -26,6 +29,13 @@ function timed(call) {
   return { ...ended, milliseconds: performance.now() - began };
 }
 
+// The words on the warnings of policies that are accepted. If the engine stops or runs out of memory, there are none, and the answers are
+// as they are without.
+function warnings(texts, settings) {
+  const ended = timed(() => engine.explain(encoded({ ...texts, policies: texts.policies + FAULTY }), settings));
+  return ended.status === 0 ? ended : { ...ended, status: 0, text: '' };
+}
+
 // Whether the engine answers for these files already.
 const isPublished = (texts, settings) =>
   published !== null && published.settings === settings && FILES.every(name => published.texts[name] === texts[name]);
@@ -38,8 +48,9 @@ function worked({ texts, settings }) {
     published = null;
     done.report = timed(() => engine.validate(files, settings));
     done.publish = timed(() => engine.publish(files, settings));
-    done.words = done.publish.status === 0 ? { status: 0, text: '' } : timed(() => engine.explain(files, settings));
+    done.words = done.publish.status === 0 ? warnings(texts, settings) : timed(() => engine.explain(files, settings));
     if (done.publish.status !== 0) return done;
+    if (engine.handle === 0n) engine.publish(files, settings);
     published = { texts, settings };
   }
   done.answers = timed(() => engine.answer(requests));
@@ -64,8 +75,8 @@ function refusedLines({ from, to }) {
 // Works on texts, and explains the first refused lines.
 function workedAndExplained(data) {
   const done = worked(data), isAnswered = done.answers?.status === 0;
-  last = { number: data.number, lines: data.texts.requests.split('\n'), answers: isAnswered ? done.answers.text.trimEnd().split('\n') : [] };
-  if (last.answers[0] === '') last.answers = [];
+  const answers = isAnswered ? done.answers.text.split('\n').filter(line => line !== '') : [];
+  last = { number: data.number, lines: data.texts.requests.split('\n'), answers };
   done.refused = refusedLines({ from: 0, to: data.first });
   return done;
 }

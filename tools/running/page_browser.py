@@ -29,12 +29,19 @@ STOPPING = """const stop = () => { throw new RangeError('Maximum call stack size
 SECONDS = 4
 SLOW = """const answer = engine.answer.bind(engine);
   engine.answer = lines => { for (const end = performance.now() + %d; performance.now() < end;); return answer(lines); }; 0"""
+# In the place of the words of the engine: those on a part of a policy that is always false, which have no number.
+GUARDED = '''%s
+permit(principal, action, resource) when { principal has nam || principal.name == 1 };'''
+GUARD = '''{"column":58,"file":"policies.cedar","hint":"did you mean `name`?","line":LINE,"marks":[{"column":58,"end_column":61,"line":LINE,
+  "says":"`User` has no attribute `nam`"}],"notes":["policy `policy3`: it is false in each environment of the schema"],"policy":"policy3",
+  "reason":"this `has` is always false","severity":"warning"}'''.replace('\n', '')
+GUARDING = 'engine.explain = () => ({ status: 0, text: %s }); 0'
 # Request lines that are refused, for the example tenants: each is wrong in another way.
 REFUSED = b'''{"principal":"Tenants::User::ann","action":"Billing::Action::\\"view\\"","resource":"x"}
 {"principal":"Tenants::User::\\"mara\\"","action":"Billing::Action::\\"vieww\\"","resource":"Billing::Invoice::\\"small\\""}
 {
 
-{"principal":"Tenants::User::\\"mara\\"","action":"Billing::Action::\\"view\\"","resource":"Billing::Invoice::\\"small\\"","context":{"tickt":1}}
+{"principal":"Tenants::User::\\"mara\\"","action":"Billing::Action::\\"view\\"","resource":"Billing::Invoice::\\"small\\"","context":{"a":1}}
 {"principal":"Tenants::User::\\"m\xc3\xa9\\u0301\\"","action":"Billing::Action::\\"view\\"","entities":[]}
 '''
 CONTROLS = ('textbox', 'combobox', 'checkbox', 'button', 'region', 'DisclosureTriangle')
@@ -192,10 +199,32 @@ class Pages:
         self.choose('notes')
         self.write('policies', policies)
         with tempfile.TemporaryDirectory() as folder:
-            ended = self.ended('validate', folder, *write_broken(folder, 'notes', 'policies.cedar', policies.encode())[:4])
+            files = write_broken(folder, 'notes', 'policies.cedar', policies.encode())[:4]
+            ended = self.ended('validate', folder, *files, '--diagnostics', 'json')
         self.judge_done('the report with a warning', 'report', 0, ended.stdout.decode())
         self.judge_shown('the warning', '#report .number', ['warning 650'])
+        self.judge('the place of the warning', self.reader('press', '#report .place', 'policies, line 9, column 1') == ['policies', 'p'])
+        self.judge_shown('the mark of the warning', '#policies-part mark.warning', ['p'])
+        said = json.loads(ended.stderr)
+        self.judge_shown('the hint of the warning', '#report .hint', ['Hint: ' + said['hint'].replace('`', '')])
         self.judge_done('answers beside a warning', 'answers', 0, content('notes', 'answers.jsonl').decode())
+
+    def guards(self):
+        """What the words say and the report does not, a part that is always false, is a finding without a number."""
+        policies = content('notes', 'policies.cedar').decode()
+        line = policies.count('\n') + 2
+        policies = GUARDED % policies
+        self.choose('notes')
+        self.browser.in_worker(GUARDING % json.dumps(GUARD.replace('LINE', str(line)) + '\n'))
+        self.write('policies', policies.replace('principal.name == 1', 'true'))
+        self.judge_shown('a finding without a number', '#report .number', ['warning'])
+        self.judge_shown('its mark', '#policies-part mark.warning', ['nam'])
+        self.judge_shown('its policy', '#report .policy', ['policy3'])
+        self.judge_shown('its count', '#report-count', ['0 faults, 0 warnings, 1 note'])
+        self.judge_done('the files are accepted beside it', 'publish', 0, '')
+        self.write('policies', policies)
+        self.judge_shown('a finding without a number beside a fault', '#report .number', ['error 603', 'warning'])
+        self.open(self.where)
 
     def refused(self):
         """A refused request has the words of the program, and its line is marked."""
@@ -387,6 +416,6 @@ class Pages:
         for where in addresses:
             self.attempt(self.examples, where)
             self.attempt(self.links)
-        for test in (self.broken, self.faults, self.warnings, self.refused, self.any_decimal, self.high, self.typing, self.slow, self.stopped, self.keyboard,
-                     self.looks, self.network):
+        for test in (self.broken, self.faults, self.warnings, self.guards, self.refused, self.any_decimal, self.high, self.typing, self.slow,
+                     self.stopped, self.keyboard, self.looks, self.network):
             self.attempt(test)

@@ -4,6 +4,9 @@ const inside = id => document.getElementById(id).textContent;
 
 const NEEDS = 'It needs WebAssembly with a 64-bit memory, which Chromium 133, Firefox 134 and later have.';
 
+// The milliseconds after a change after which the texts are kept.
+const KEPT_AFTER = 300;
+
 class Page {
   constructor() {
     this.examples = JSON.parse(inside('examples'));
@@ -13,6 +16,12 @@ class Page {
     this.status = new Status();
     this.anyDecimal = document.getElementById('any-decimal');
     this.example = document.getElementById('example');
+    this.dialog = document.getElementById('replacing');
+    // The fragment of the address that the texts belong to; the texts that are in the link or the example there; and the wait before
+    // changed texts are kept.
+    this.fragment = '';
+    this.original = '';
+    this.keeping = null;
     // The number of the last work that was begun; whether it goes on; and whether a text has changed since.
     this.number = 0;
     this.isBusy = true;
@@ -25,13 +34,15 @@ class Page {
     this.questionCount = 0;
   }
 
-  // Starts the worker, and shows the texts of the link or the first example.
+  // Starts the worker, and shows the texts that are kept, those of the link or the first example.
   async start() {
     this.startWorker();
     document.getElementById('sum').textContent = document.getElementById('module').dataset.sum;
     this.example.append(...Object.keys(this.examples).map(name => element('option', {}, name)));
     this.example.append(element('option', { value: '', hidden: '' }, 'of your own'));
-    this.example.addEventListener('change', () => this.choose(this.example.value));
+    this.example.addEventListener('change', () => this.chosen(this.example.value));
+    this.dialog.addEventListener('click', ({ target }) => target.value && this.dialog.close(target.value));
+    window.addEventListener('pagehide', () => this.keep());
     this.anyDecimal.addEventListener('change', () => this.changed());
     Object.values(this.editors).forEach(({ area }) => area.addEventListener('input', () => this.changed()));
     document.getElementById('copy-link').addEventListener('click', () => this.copyLink());
@@ -57,31 +68,75 @@ class Page {
     return Object.fromEntries(TEXT_NAMES.map(name => [name, this.editors[name].text]));
   }
 
+  // The texts and the setting, as they are kept and put into a link.
+  state() {
+    return { texts: this.texts(), anyDecimal: this.anyDecimal.checked };
+  }
+
   // Puts texts into the page.
-  fill(texts, anyDecimal) {
+  fill({ texts, anyDecimal }) {
     for (const name of TEXT_NAMES) this.editors[name].text = texts[name];
     this.anyDecimal.checked = anyDecimal;
     document.getElementById('links-part').open = texts.links.trim() !== '';
     this.work();
   }
 
+  // Puts texts of a link or of an example into the page, which are not lost when others take their place.
+  fillOriginal(state) {
+    this.fill(state);
+    this.original = JSON.stringify(this.state());
+  }
+
   choose(name) {
     this.example.value = name;
-    this.fill(this.examples[name], false);
+    this.fillOriginal({ texts: this.examples[name], anyDecimal: false });
+  }
+
+  // Shows an example that the reader has chosen. Where that loses texts, it asks before.
+  async chosen(name) {
+    if (JSON.stringify(this.state()) !== this.original && !await this.mayReplace()) {
+      this.example.value = '';
+      return;
+    }
+    this.keep();
+    forget(this.fragment);
+    this.choose(name);
+  }
+
+  mayReplace() {
+    this.dialog.returnValue = 'keep';
+    this.dialog.showModal();
+    return new Promise(give => this.dialog.addEventListener('close', () => give(this.dialog.returnValue === 'replace'), { once: true }));
   }
 
   changed() {
     this.example.value = '';
+    clearTimeout(this.keeping);
+    this.keeping = setTimeout(() => this.keep(), KEPT_AFTER);
     this.work();
   }
 
+  // Keeps the texts, if they have changed since they were kept.
+  keep() {
+    if (this.keeping !== null) keep(this.fragment, this.state());
+    clearTimeout(this.keeping);
+    this.keeping = null;
+  }
+
   async openLink() {
+    this.keep();
+    this.fragment = location.hash;
+    const kept = keptState(this.fragment);
+    this.example.value = '';
+    this.original = '';
+    if (kept) {
+      this.status.first = 'Here are your texts again.';
+      return this.fill(kept);
+    }
     const first = Object.keys(this.examples)[0];
-    if (location.hash.length < 2) return this.choose(first);
+    if (this.fragment === '') return this.choose(first);
     try {
-      const { texts, anyDecimal } = await stateOf(location.hash);
-      this.example.value = '';
-      this.fill(texts, anyDecimal);
+      this.fillOriginal(await stateOf(this.fragment));
     } catch {
       this.status.first = 'The link holds no texts of this page, so here is an example.';
       this.choose(first);
@@ -90,7 +145,11 @@ class Page {
 
   // Puts the texts into the address of the page, and the address where it can be pasted from.
   async copyLink() {
-    history.replaceState(null, '', await fragmentOf({ texts: this.texts(), anyDecimal: this.anyDecimal.checked }));
+    this.keep();
+    const state = this.state();
+    history.replaceState(null, '', await fragmentOf(state));
+    this.fragment = location.hash;
+    this.original = JSON.stringify(state);
     try {
       await navigator.clipboard.writeText(location.href);
       this.status.say('The link is copied.', 'good');

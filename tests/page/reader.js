@@ -1,10 +1,17 @@
 // What a reader does with the playground, for tools/running/page_test, which evaluates this in the page.
 const reader = {
-  // Chooses an example.
+  // Chooses an example. Gives whether the page asks before it replaces the texts.
   choose(name) {
     const select = document.getElementById('example');
     select.value = name;
     select.dispatchEvent(new Event('change'));
+    return page.dialog.open;
+  },
+
+  // Presses a button of the dialog, and waits until the page has heard of it.
+  async answer(value) {
+    page.dialog.querySelector(`[value=${value}]`).click();
+    await new Promise(done => setTimeout(done, 50));
   },
 
   // Writes a text, as if it were typed.

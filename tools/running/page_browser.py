@@ -44,6 +44,8 @@ REFUSED = b'''{"principal":"Tenants::User::ann","action":"Billing::Action::\\"vi
 {"principal":"Tenants::User::\\"mara\\"","action":"Billing::Action::\\"view\\"","resource":"Billing::Invoice::\\"small\\"","context":{"a":1}}
 {"principal":"Tenants::User::\\"m\xc3\xa9\\u0301\\"","action":"Billing::Action::\\"view\\"","entities":[]}
 '''
+# Has the page have no storage, as in a private window.
+REFUSING = "Object.defineProperty(window, 'localStorage', { get() { throw new DOMException('refused', 'SecurityError'); } });"
 CONTROLS = ('textbox', 'combobox', 'checkbox', 'button', 'region', 'DisclosureTriangle')
 
 
@@ -78,13 +80,34 @@ class Pages:
         self.where = where
         self.opened.add(where.split('#')[0])
         self.browser.open(where)
+        self.loaded()
+
+    def reload(self):
+        self.browser.value('window.isOld = true')
+        self.browser.call('Page.reload')
+        self.browser.until('window.isOld === undefined')
+        self.loaded()
+
+    def loaded(self):
+        """Waits until the page shows texts."""
         self.browser.until('document.documentElement.dataset.shown || document.documentElement.dataset.failed')
         with open(READER, encoding='utf-8') as file:
             self.browser.value(file.read())
         self.settle()
 
+    def texts(self):
+        """The texts of the page: schema, policies, links, entities and requests."""
+        return self.browser.value('Object.values(page.texts())')
+
+    def key(self, name, code):
+        """Presses a key."""
+        for kind in ('keyDown', 'keyUp'):
+            self.browser.call('Input.dispatchKeyEvent', type=kind, key=name, code=name, windowsVirtualKeyCode=code)
+
     def choose(self, name):
-        self.reader('choose', name)
+        """Chooses an example, whatever texts it replaces."""
+        if self.reader('choose', name):
+            self.reader('answer', 'replace')
         self.settle()
 
     def write(self, name, text):
@@ -253,6 +276,76 @@ class Pages:
         refused = [line.decode() or ' ' for line, answer in zip(lines.splitlines(), ended.stdout.splitlines()) if b'"refused"' in answer]
         self.judge_shown('the marks of refused requests of ' + example, '#requests-part mark.warning', refused)
 
+    def kept(self):
+        """Changed texts are there again after a reload, and the page asks before an example replaces them."""
+        self.choose('todos')
+        self.judge('no question where nothing is lost', self.reader('choose', 'photos') is False)
+        self.settle()
+        for how, wait in (('at once', 0), ('after a while', 0.6)):
+            self.write('policies', 'permit(principal, action, resource); // ' + how)
+            self.write('links', ' []')
+            time.sleep(wait)
+            texts = self.texts()
+            self.reload()
+            self.judge('the texts after a reload ' + how, self.texts() == texts, self.texts())
+            self.judge('the page says so', self.status().startswith('Here are your texts again.'), self.status())
+        for answer in ('Escape', 'keep', 'replace'):
+            self.judge('a question before texts are replaced', self.reader('choose', 'notes') is True)
+            focus = self.browser.value('document.activeElement.textContent')
+            self.judge('where the question has the focus', focus == 'Keep my texts', focus)
+            self.picture('question')
+            if answer == 'Escape':
+                self.key('Escape', 27)
+                self.browser.until('!page.dialog.open')
+            else:
+                self.reader('answer', answer)
+            self.settle()
+            self.judge('the texts after ' + answer, (self.texts() == texts) is (answer != 'replace'), self.texts())
+            chosen = self.browser.value('document.getElementById("example").value')
+            self.judge('the choice after ' + answer, chosen == ('notes' if answer == 'replace' else ''), chosen)
+        self.reload()
+        self.judge('nothing is kept after an example', self.texts()[1] == content(example_names()[0], 'policies.cedar').decode())
+
+    def kept_links(self):
+        """The changed texts of a link are kept for this link alone."""
+        self.choose('notes')
+        self.write('entities', '[ ]')
+        self.browser.value('page.copyLink()')
+        link = self.browser.value('location.href')
+        self.judge('no question where a link has the texts', self.reader('choose', 'notes') is False)
+        self.settle()
+        self.write('entities', '[  ]')
+        self.reload()
+        self.judge('the changed texts of a link', self.texts()[3] == '[  ]', self.texts())
+        self.open(self.where.split('#')[0])
+        self.judge('the texts without the link', self.texts()[3] == '[ ]', self.texts())
+        self.open(link)
+        self.judge('the changed texts of the link again', self.texts()[3] == '[  ]', self.texts())
+        self.open(link[:-2])
+        self.judge('another link', 'no texts' in self.status(), self.status())
+        self.open(self.where.split('#')[0])
+        self.choose('notes')
+
+    def kept_nowhere(self):
+        """Where the browser refuses storage, the page is as it is with it, and nothing is kept. So it is for a text that is too large."""
+        self.choose('notes')
+        self.write('entities', '[]' + ' ' * 6000000)
+        self.reload()
+        self.judge('a text that is too large is not kept', self.texts()[3] == content('notes', 'entities.json').decode())
+        refused = self.browser.call('Page.addScriptToEvaluateOnNewDocument', source=REFUSING)['identifier']
+        self.open(self.where)
+        self.judge('the browser refuses storage', self.browser.value('(() => { try { localStorage; } catch { return true; } })()'))
+        self.write('entities', '[]')
+        self.judge('a question without storage', self.reader('choose', 'photos') is True)
+        self.reader('answer', 'replace')
+        self.settle()
+        self.judge_done('the answers without storage', 'answers', 0, content('photos', 'answers.jsonl').decode())
+        self.write('entities', '[]')
+        self.reload()
+        self.judge('nothing is kept without storage', self.texts()[3] == content(example_names()[0], 'entities.json').decode())
+        self.browser.call('Page.removeScriptToEvaluateOnNewDocument', identifier=refused)
+        self.open(self.where)
+
     def any_decimal(self):
         """A string that is not a decimal is a fault, or with `any decimal` an error of the policy."""
         policies = self.policy('decimal(if principal == User::"ann" then "one" else "1.0") == decimal("1.0")')
@@ -363,8 +456,7 @@ class Pages:
         self.choose('photos')
         reached = []
         for _ in range(14):
-            for kind in ('keyDown', 'keyUp'):
-                self.browser.call('Input.dispatchKeyEvent', type=kind, key='Tab', code='Tab', windowsVirtualKeyCode=9)
+            self.key('Tab', 9)
             reached.append(self.browser.value('document.activeElement.id || document.activeElement.tagName'))
         wanted = ['example', 'any-decimal', 'copy-link', 'policies', 'SUMMARY', 'schema', 'entities', 'requests']
         self.judge('the order of the keyboard', [it for it in reached if it in wanted][:8] == wanted, reached)
@@ -414,8 +506,8 @@ class Pages:
     def all(self, *addresses):
         """All tests: the examples and links at each address, and the others at the last one."""
         for where in addresses:
-            self.attempt(self.examples, where)
-            self.attempt(self.links)
-        for test in (self.broken, self.faults, self.warnings, self.guards, self.refused, self.any_decimal, self.high, self.typing, self.slow,
-                     self.stopped, self.keyboard, self.looks, self.network):
+            for test, *words in ((self.examples, where), (self.links,), (self.kept,)):
+                self.attempt(test, *words)
+        for test in (self.broken, self.faults, self.warnings, self.guards, self.refused, self.kept_links, self.kept_nowhere,
+                     self.any_decimal, self.high, self.typing, self.slow, self.stopped, self.keyboard, self.looks, self.network):
             self.attempt(test)

@@ -28,6 +28,25 @@ const reader = {
   policies: () => [...document.querySelectorAll('#answers > .answer')]
     .map(answer => [...answer.querySelectorAll('.policy')].map(it => it.textContent)),
 
+  // Scrolls a text to a line. Gives the numbers of the lines that are drawn beside it, and how many pixels that of this line is below it.
+  async numbers(name, line) {
+    const editor = page.editors[name], { area, numbers } = editor;
+    area.scrollTop = (line - 3) * editor.height() + 5;
+    area.scrollLeft = 40;
+    await new Promise(done => requestAnimationFrame(() => setTimeout(done)));
+    const drawn = numbers.textContent.split('\n').map(Number), place = drawn.indexOf(line);
+    const first = area.getBoundingClientRect().top + parseFloat(getComputedStyle(area).paddingTop) - area.scrollTop;
+    return [drawn, numbers.getBoundingClientRect().top - first + (place - line + 1) * editor.height()];
+  },
+
+  // What is copied where all of the page is selected.
+  copied() {
+    getSelection().selectAllChildren(document.body);
+    const copied = getSelection().toString();
+    getSelection().removeAllRanges();
+    return copied;
+  },
+
   // What each refused answer says: its number, the reason, what is wrong, and the hint.
   refused: () => [...document.querySelectorAll('#answers > .refused')].map(answer => {
     const part = name => answer.querySelector(name)?.textContent ?? null;

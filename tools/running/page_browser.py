@@ -15,8 +15,9 @@ FILES = {'schema': 'schema.json', 'policies': 'policies.cedar', 'links': 'links.
 # The size of a page on a desk and on a phone.
 WIDE, SMALL = (1280, 820), (390, 844)
 # What is written in the page, for the contrast of its colours, and the least contrast (WCAG 2.1, success criterion 1.4.3).
-WRITTEN = ('h1', 'header p', 'h2', 'h2 small', 'label', 'button', '#status', 'textarea', '.place', '.policy', '.allow .decision',
-           '.deny .decision', '.refused .decision', '.request', '.erring', '.number', '.hint', '.notes', 'summary', 'footer', 'code')
+WRITTEN = ('h1', 'header p', 'h2', 'h2 small', 'label', 'button', '#status', 'textarea', '.numbers', '.place', '.policy',
+           '.allow .decision', '.deny .decision', '.refused .decision', '.request', '.erring', '.number', '.hint', '.notes', 'summary',
+           'footer', 'code')
 LEAST_CONTRAST = 4.5
 # Shapes of high conditions: what is repeated before, in the middle, what is repeated after, and the end.
 SHAPES = {'sums': ('1 + ', '1', '', ' == 1'), 'denials': ('!(', 'true', ')', ''), 'choices': ('if true then true else ', 'true', '', ''),
@@ -41,9 +42,14 @@ REFUSED = b'''{"principal":"Tenants::User::ann","action":"Billing::Action::\\"vi
 {"principal":"Tenants::User::\\"mara\\"","action":"Billing::Action::\\"vieww\\"","resource":"Billing::Invoice::\\"small\\""}
 {
 
-{"principal":"Tenants::User::\\"mara\\"","action":"Billing::Action::\\"view\\"","resource":"Billing::Invoice::\\"small\\"","context":{"a":1}}
+{"principal":"Tenants::User::\\"sue\\"","action":"Billing::Action::\\"view\\"","resource":"Billing::Invoice::\\"small\\"","context":{"a":1}}
 {"principal":"Tenants::User::\\"m\xc3\xa9\\u0301\\"","action":"Billing::Action::\\"view\\"","entities":[]}
 '''
+MANY_LINES = 10000
+# The milliseconds of something that is done with the policies.
+TIMED = """(() => { const editor = page.editors.policies, began = performance.now();
+  for (let turn = 0; turn < 100; turn++) { %s; }
+  return (performance.now() - began) / 100; })()"""
 # Has the page have no storage, as in a private window.
 REFUSING = "Object.defineProperty(window, 'localStorage', { get() { throw new DOMException('refused', 'SecurityError'); } });"
 CONTROLS = ('textbox', 'combobox', 'checkbox', 'button', 'region', 'DisclosureTriangle')
@@ -346,6 +352,28 @@ class Pages:
         self.browser.call('Page.removeScriptToEvaluateOnNewDocument', identifier=refused)
         self.open(self.where)
 
+    def numbers(self):
+        """Beside each text are the numbers of its lines. They move with it, and of many only those in view are drawn."""
+        self.choose('photos')
+        lines = content('photos', 'policies.cedar').decode().split('\n')
+        self.judge('the first numbers', self.reader('numbers', 'policies', 1)[0][:10] == list(range(1, 11)))
+        drawn, below = self.reader('numbers', 'policies', len(lines))
+        self.judge('the last number', drawn[-1] == len(lines) and abs(below) < 1, (drawn, below))
+        self.write('policies', '\n'.join(lines) + '// a line\n' * MANY_LINES)
+        for line in (1, MANY_LINES // 2, MANY_LINES):
+            drawn, below = self.reader('numbers', 'policies', line)
+            self.judge('the number of line %d' % line, line in drawn and abs(below) < 1 and len(drawn) < 100, (drawn, below))
+        self.picture('numbers')
+        mark = self.browser.value('page.editors.policies.numbers.textContent.split("\\n")[1]')
+        copied = self.reader('copied')
+        self.judge('numbers are not copied', len(mark) == 4 and mark not in copied and 'Policies' in copied, (mark, copied))
+        nodes = self.browser.call('Accessibility.getFullAXTree')['nodes']
+        names = [it.get('name', {}).get('value', '') for it in nodes if not it.get('ignored')]
+        self.judge('numbers are not read out', len(names) > 20 and not any(mark in str(it) for it in names), mark)
+        steps = 'editor.area.scrollTop = turn * 777; editor.follow()', 'editor.count()'
+        scrolling, typing = [self.browser.value(TIMED % it) for it in steps]
+        print('%d lines: numbers cost %.1f ms in scrolling, %.1f ms for a letter' % (MANY_LINES, scrolling, typing))
+
     def any_decimal(self):
         """A string that is not a decimal is a fault, or with `any decimal` an error of the policy."""
         policies = self.policy('decimal(if principal == User::"ann" then "one" else "1.0") == decimal("1.0")')
@@ -509,5 +537,6 @@ class Pages:
             for test, *words in ((self.examples, where), (self.links,), (self.kept,)):
                 self.attempt(test, *words)
         for test in (self.broken, self.faults, self.warnings, self.guards, self.refused, self.kept_links, self.kept_nowhere,
-                     self.any_decimal, self.high, self.typing, self.slow, self.stopped, self.keyboard, self.looks, self.network):
+                     self.numbers, self.any_decimal, self.high, self.typing, self.slow, self.stopped, self.keyboard, self.looks,
+                     self.network):
             self.attempt(test)

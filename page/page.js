@@ -224,7 +224,7 @@ class Page {
     list.replaceChildren(element('li', { class: 'nothing' }, 'No request is answered.'));
     count.textContent = '';
     if (answers?.status !== 0) return;
-    const all = this.view.answers(answers.text, this.sent.requests, words, list, lines => this.markRequests(lines));
+    const all = this.view.answers(answers.text, this.sent, words, list, lines => this.markRequests(lines));
     const of = kind => all.filter(it => it.decision === kind).length;
     const allowed = of('allow'), denied = of('deny'), refused = all.length - allowed - denied;
     count.textContent = `${allowed} allow, ${denied} deny${refused ? `, ${refused} refused` : ''}`;

@@ -6,6 +6,14 @@ const ANSWERS_AT_ONCE = 200;
 // The errors of a policy in words.
 const ERRORS = { overflow: 'an integer overflows', missing_entity: 'an entity is not stored', decimal: 'a string is not a decimal' };
 
+// What a policy came to, in words.
+const RESULTS = {
+  satisfied: 'is satisfied', overridden: 'is satisfied, and overridden', erred: 'failed and was skipped', false: 'is false',
+};
+
+// The policies that are false by their scopes of which the names are shown.
+const NAMED_AT_ONCE = 20;
+
 class View {
   // `numbers` is what docs/REFUSALS.md says of each number. `texts()` gives the texts as they are now, and `show(place)` shows a place in
   // one of them: its name, from and to. `ask(question)` promises what the worker replies, or null if it has other texts by then.
@@ -64,9 +72,11 @@ class View {
 
   // Shows the first answers in a list, and a button for more. `refused` has the words on the first refused lines, and `mark(lines)` marks
   // the lines of those that are shown. Gives all answers.
-  answers(text, requests, refused, list, mark) {
-    const answers = objectsOf(text), lines = requests.split('\n'), marked = [];
+  answers(text, texts, refused, list, mark) {
+    const answers = objectsOf(text), lines = texts.requests.split('\n'), marked = [];
     let shown = 0;
+    this.answered = texts;
+    this.made = undefined;
     const add = refused => {
       const words = new Map(refused.map(it => [it.place, it.words]));
       for (const end = Math.min(shown + ANSWERS_AT_ONCE, answers.length); shown < end; shown++) {
@@ -96,8 +106,47 @@ class View {
     const kind = answer.decision ?? 'refused';
     const place = this.placeButton(`line ${line}`, () => ({ name: 'requests', ...rangeOfLine(this.texts().requests, line) }));
     const why = answer.decision ? this.why(answer) : this.whyRefused(answer.refused, words);
-    return element('li', { class: `answer ${kind}` }, place, ' ', element('span', { class: 'decision' }, kind), ' ', ...why,
+    const shown = element('li', { class: `answer ${kind}` }, place, ' ', element('span', { class: 'decision' }, kind), ' ', ...why,
       element('div', { class: 'request' }, requestInShort(request)));
+    if (answer.decision) shown.append(this.policies(answer, line - 1));
+    return shown;
+  }
+
+  // What each policy came to for the request of a place, which is found out once it is opened.
+  policies(answer, place) {
+    const shown = element('details', { class: 'policies' }, element('summary', {}, 'what each policy came to'));
+    shown.addEventListener('toggle', async () => shown.append(await this.results(answer, place)), { once: true });
+    return shown;
+  }
+
+  async results(answer, place) {
+    const says = text => element('p', {}, ...sentence(text));
+    this.made ??= madeOf(this.answered);
+    if (!this.made) return says('The policies are too long for this page: `cedar why` says it.');
+    const ended = await this.ask({ texts: this.made.texts, place });
+    if (ended?.status !== 0) return says('The engine did not find it out.');
+    const results = resultsOf(this.made.policies, answer, ended.text), others = results.filter(it => it.result === 'scope');
+    const shown = element('ul', {}, ...results.filter(it => it.result !== 'scope').map(it => this.result(it)));
+    if (others.length) shown.append(this.others(others));
+    return shown;
+  }
+
+  // The policies that are false by their scopes: how many, and the names of the first ones.
+  others(others) {
+    const named = this.named(others.slice(0, NAMED_AT_ONCE).map(it => it.id)), more = others.length > NAMED_AT_ONCE ? [' and others'] : [];
+    return element('li', { class: 'others' }, `false by scope: ${others.length.toLocaleString('en')} (`, ...named, ...more, ')');
+  }
+
+  // What a policy came to.
+  result({ id, effect, result, part, error }) {
+    const shown = element('li', { class: result }, effect, ' ', this.policyButton(id), ` ${RESULTS[result]}`);
+    if (!part) return shown;
+    const text = this.answered.policies, line = lineOf(text, part.from);
+    const column = [...text.slice(lineStart(text, line), part.from)].length + 1;
+    const place = this.placeButton(`line ${line}, column ${column}`, () => ({ name: 'policies', ...part }));
+    const ends = error ? `: ${ERRORS[error] ?? error}` : part.clause === 'unless' ? ' is true' : ' is false';
+    shown.append(': ', place, ' ', element('code', {}, text.slice(part.from, part.to).replace(/\s+/g, ' ')), ends);
+    return shown;
   }
 
   // Why a request is decided as it is, in the words of `cedar why`.

@@ -2,8 +2,9 @@
 // question about the texts before it.
 let engine = null, published = null;
 
-// The number of the last work, its request lines and its answers.
-let last = { number: 0 };
+// The number of the last work, its settings, its request lines and its answers; and an engine for other policies, once there was a
+// question for one.
+let last = { number: 0 }, apart = null;
 
 const FILES = ['schema', 'policies', 'links', 'entities'];
 
@@ -76,9 +77,27 @@ function refusedLines({ from, to }) {
 function workedAndExplained(data) {
   const done = worked(data), isAnswered = done.answers?.status === 0;
   const answers = isAnswered ? done.answers.text.split('\n').filter(line => line !== '') : [];
-  last = { number: data.number, lines: data.texts.requests.split('\n'), answers };
+  last = { number: data.number, settings: data.settings, lines: data.texts.requests.split('\n'), answers };
+  apart = null;
   done.refused = refusedLines({ from: 0, to: data.first });
   return done;
+}
+
+// What an engine of their own answers for other texts to the request line of a place.
+function answeredApart({ texts, place }) {
+  if (apart === null) {
+    const other = new Engine(engine.module);
+    apart = { other, publish: other.publish(encoded(texts), last.settings) };
+  }
+  const { other, publish } = apart, answer = publish.status === 0 ? other.answer(new TextEncoder().encode(last.lines[place])) : publish;
+  if (answer.status !== 0) apart = null;
+  return answer;
+}
+
+// The reply to a question about the last work: why some lines are refused, or the answer to a line for other texts.
+function replied(data) {
+  if (data.number !== last.number) return null;
+  return data.texts ? answeredApart(data) : refusedLines(data);
 }
 
 self.onmessage = async ({ data }) => {
@@ -88,7 +107,7 @@ self.onmessage = async ({ data }) => {
       engine = new Engine(await moduleOf(data.packed));
       self.postMessage({ ready: performance.now() - began });
     } else if (data.question) {
-      self.postMessage({ question: data.question, reply: data.number === last.number ? refusedLines(data) : null });
+      self.postMessage({ question: data.question, reply: replied(data) });
     } else {
       self.postMessage({ done: workedAndExplained(data) });
     }

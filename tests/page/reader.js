@@ -28,6 +28,23 @@ const reader = {
   policies: () => [...document.querySelectorAll('#answers > .answer')]
     .map(answer => [...answer.querySelectorAll('.policy')].map(it => it.textContent)),
 
+  // Opens what each policy came to, of each answer.
+  openPolicies() {
+    for (const it of document.querySelectorAll('#answers .policies')) it.open = true;
+  },
+
+  // What each answer says of policies, once that is there: of each its id, effect, result and the range of the part, if it names one; and
+  // how many are false by their scopes.
+  results: () => [...document.querySelectorAll('#answers .policies')].map(it => [
+    [...it.querySelectorAll('li:not(.others)')].map(row => {
+      const place = row.querySelector('.place'), { policies } = page.editors;
+      place?.click();
+      const [from, to] = [policies.area.selectionStart, policies.area.selectionEnd];
+      return [row.querySelector('.policy').textContent, row.firstChild.textContent.trim(), row.className, ...place ? [[from, to]] : []];
+    }),
+    Number(it.querySelector('.others')?.firstChild.textContent.match(/\d+/)[0] ?? 0),
+  ]),
+
   // Scrolls a text to a line. Gives the numbers of the lines that are drawn beside it, and how many pixels that of this line is below it.
   async numbers(name, line) {
     const editor = page.editors[name], { area, numbers } = editor;

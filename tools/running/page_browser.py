@@ -1,6 +1,7 @@
 """What tools/running/page_test does with the playground in a browser, as a reader would (tests/page/reader.js)."""
 import json
 import os
+import re
 import subprocess
 import sys
 import tempfile
@@ -50,6 +51,17 @@ MANY_LINES = 10000
 TIMED = """(() => { const editor = page.editors.policies, began = performance.now();
   for (let turn = 0; turn < 100; turn++) { %s; }
   return (performance.now() - began) / 100; })()"""
+# The row of a policy in what `cedar why` says of a request.
+WHY_ROW = re.compile(r'^  (\S+) +(?:permit|forbid) ', re.M)
+# Policies for the example todos, cut in ways that its own are not.
+WHYS = {
+    'sides': '''@permit("x") @id("a\\"b") forbid (principal is User, action, resource is List) // when { "a && b }
+when { resource has owner && resource.owner == principal && !(resource has readers && resource has editors) }
+unless { resource has editors || resource has readers } when { true && "&& || }" != "a" };
+permit (principal, action, resource) when { if context has lists then context.lists * 9223372036854775807 > 0 && true else false };
+permit (principal, action, resource) unless { context has lists && context.lists > 0 || [1, 2].contains(3) || {a: 1}.a == 1 };
+''',
+}
 # Has the page have no storage, as in a private window.
 REFUSING = "Object.defineProperty(window, 'localStorage', { get() { throw new DOMException('refused', 'SecurityError'); } });"
 CONTROLS = ('textbox', 'combobox', 'checkbox', 'button', 'region', 'DisclosureTriangle')
@@ -281,6 +293,42 @@ class Pages:
         self.judge('the refused requests of ' + example, is_right and wanted, (found, wanted))
         refused = [line.decode() or ' ' for line, answer in zip(lines.splitlines(), ended.stdout.splitlines()) if b'"refused"' in answer]
         self.judge_shown('the marks of refused requests of ' + example, '#requests-part mark.warning', refused)
+
+    def whys(self):
+        """What each policy came to is what `cedar why` says, and the part that is shown has the part that the program shows."""
+        for name in example_names():
+            self.choose(name)
+            policies = content(name, 'policies.cedar').decode()
+            self.judge_whys(name, policies, content(name, 'requests.jsonl'))
+            self.picture('why-' + name)
+        for name, policies in WHYS.items():
+            self.choose('todos')
+            self.write('policies', policies)
+            self.judge_whys(name, policies, content('todos', 'requests.jsonl'), 'todos')
+        self.choose('notes')
+
+    def judge_whys(self, name, policies, requests, example=None):
+        """Judges what is said of each policy for the requests of an example."""
+        with tempfile.TemporaryDirectory() as folder:
+            files = write_broken(folder, example or name, 'policies.cedar', policies.encode())
+            ended = self.ended('why', folder, *files, '--json', lines=requests)
+            words = self.ended('why', folder, *files, lines=requests).stdout.decode()
+        wanted = [it for it in map(json.loads, ended.stdout.splitlines()) if 'decision' in it]
+        orders = [WHY_ROW.findall(it) for it in words.split('\n\n') if ' refused ' not in it.split('\n')[0]]
+        self.reader('openPolicies')
+        self.settle()
+        found = self.reader('results')
+        self.judge('the answers with policies of ' + name, len(found) == len(wanted) > 3, (len(found), ended))
+        for answer, order, (rows, others) in zip(wanted, orders, found):
+            policies_of = sorted(answer['policies'], key=lambda it: order.index(it['policy']))
+            said = [[it['policy'], it['effect'], it['result']] for it in policies_of]
+            where = 'line %d of %s' % (answer['line'], name)
+            self.judge('the policies of ' + where, [it[:3] for it in rows] == said, (rows, said))
+            self.judge('the policies that are false by their scopes of ' + where, others == answer['false_by_scope'], (others, answer))
+            for row, policy in zip(rows, policies_of):
+                if policy['result'] in ('false', 'erred') and 'line' in policy:
+                    begin = sum(map(len, policies.splitlines(True)[:policy['line'] - 1])) + policy['column'] - 1
+                    self.judge('the part of ' + where, len(row) == 4 and row[3][0] <= begin < row[3][1], (row, policy, begin))
 
     def kept(self):
         """Changed texts are there again after a reload, and the page asks before an example replaces them."""
@@ -536,7 +584,7 @@ class Pages:
         for where in addresses:
             for test, *words in ((self.examples, where), (self.links,), (self.kept,)):
                 self.attempt(test, *words)
-        for test in (self.broken, self.faults, self.warnings, self.guards, self.refused, self.kept_links, self.kept_nowhere,
+        for test in (self.broken, self.faults, self.warnings, self.guards, self.refused, self.whys, self.kept_links, self.kept_nowhere,
                      self.numbers, self.any_decimal, self.high, self.typing, self.slow, self.stopped, self.keyboard, self.looks,
                      self.network):
             self.attempt(test)

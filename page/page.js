@@ -98,11 +98,13 @@ class Page {
       this.example.value = '';
       return;
     }
-    this.keep();
+    clearTimeout(this.keeping);
+    this.keeping = null;
     forget(this.fragment);
     this.choose(name);
   }
 
+  // Asks whether an example may replace the texts. The promise gives the answer.
   mayReplace() {
     this.dialog.returnValue = 'keep';
     this.dialog.showModal();

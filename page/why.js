@@ -4,8 +4,9 @@
 
 const WORDS = /\/\/[^\n]*|"(?:[^"\\]|\\[^])*"|[A-Za-z_]\w*|&&|\|\||[^\s]/g;
 
-// The most UTF-16 units of the policies that are made.
+// The most UTF-16 units of the policies and links that are made, and how many are reckoned for a link.
 const MOST_MADE = 4000000;
+const FOR_LINK = 200;
 
 // The words of a statement, each with its range and with how many brackets are around it. The two brackets of a pair have the same number.
 function wordsOf(text, { from, to }) {
@@ -57,23 +58,23 @@ function permitsOf(text, key, parts) {
 
 // The policies of texts, each with its id, effect, parts and key, and the texts that the engine is asked about. Null if they are too long.
 function madeOf(texts) {
+  if (texts.policies.length + texts.links.length > MOST_MADE) return null;
   const statements = statementsOf(texts.policies).map(it => ({ ...it, ...policyOf(texts.policies, it) }));
   const links = texts.links.trim() === '' ? [] : JSON.parse(texts.links), linked = new Set(links.map(it => it.template_id));
-  const policies = statements.map((it, key) => ({ ...it, key: String(key) })), used = [], made = [];
-  let length = 0;
-  for (const it of policies.filter(it => !it.isTemplate || linked.has(it.id))) {
-    used.push(permitsOf(texts.policies, it.key, it.parts));
-    length += used.at(-1).length;
-    if (length > MOST_MADE) return null;
-  }
-  const own = links.map(({ template_id: id, link_id, args }, place) => {
-    const template = policies.find(it => it.id === id), key = `link${place}`;
-    template.parts.forEach((_, part) => made.push({ template_id: `${template.key}.${part}`, link_id: `${key}.${part}`, args }));
-    return { ...template, id: link_id, key };
-  });
-  const asked = { ...texts, policies: used.join(''), links: links.length ? JSON.stringify(made) : '', requests: '' };
+  const policies = statements.map((it, key) => ({ ...it, key: String(key) }));
+  const used = policies.filter(it => !it.isTemplate || linked.has(it.id));
+  const templates = new Map(used.map(it => [it.id, it]));
+  const own = links.map((it, place) => ({ ...templates.get(it.template_id), id: it.link_id, key: `link${place}`, args: it.args }));
+  const length = sum(used, it => it.parts.length * (it.to - it.from)) + sum(own, it => it.parts.length * FOR_LINK);
+  if (length > MOST_MADE) return null;
+  const made = own.flatMap(({ key, args, parts }, place) => parts.map((_, part) =>
+    ({ template_id: `${templates.get(links[place].template_id).key}.${part}`, link_id: `${key}.${part}`, args })));
+  const permits = used.map(it => permitsOf(texts.policies, it.key, it.parts)).join('');
+  const asked = { ...texts, policies: permits, links: links.length ? JSON.stringify(made) : '', requests: '' };
   return { policies: [...policies.filter(it => !it.isTemplate), ...own], texts: asked };
 }
+
+const sum = (all, number) => all.reduce((before, it) => before + number(it), 0);
 
 // What a policy came to, for the answer to the permits: satisfied, or false or erred with the part that decided, and its place.
 function resultOf(policy, { determining, erring }) {

@@ -55,13 +55,16 @@ TIMED = """(() => { const editor = page.editors.policies, began = performance.no
 WHY_ROW = re.compile(r'^  (\S+) +(?:permit|forbid) ', re.M)
 # Policies for the example todos, cut in ways that its own are not.
 WHYS = {
-    'sides': '''@permit("x") @id("a\\"b") forbid (principal is User, action, resource is List) // when { "a && b }
+    'sides': '''@permit("x") @ // a comment
+id ("a\\"b") forbid (principal is User, action, resource is List) // when { "a && b }
 when { resource has owner && resource.owner == principal && !(resource has readers && resource has editors) }
 unless { resource has editors || resource has readers } when { true && "&& || }" != "a" };
 permit (principal, action, resource) when { if context has lists then context.lists * 9223372036854775807 > 0 && true else false };
 permit (principal, action, resource) unless { context has lists && context.lists > 0 || [1, 2].contains(3) || {a: 1}.a == 1 };
 ''',
 }
+# A policy whose permits would be too long.
+LONG_POLICY = 'permit (principal, action, resource) when { %s };' % ' && '.join(['"%s" != ""' % ('x' * 2000)] * 60)
 # Has the page have no storage, as in a private window.
 REFUSING = "Object.defineProperty(window, 'localStorage', { get() { throw new DOMException('refused', 'SecurityError'); } });"
 CONTROLS = ('textbox', 'combobox', 'checkbox', 'button', 'region', 'DisclosureTriangle')
@@ -305,6 +308,12 @@ class Pages:
             self.choose('todos')
             self.write('policies', policies)
             self.judge_whys(name, policies, content('todos', 'requests.jsonl'), 'todos')
+        self.choose('todos')
+        self.write('policies', LONG_POLICY)
+        self.reader('openPolicies')
+        self.settle()
+        said = self.shown('#answers .policies p')
+        self.judge('a policy that is too long', len(said) > 3 and 'too long' in said[0], said)
         self.choose('notes')
 
     def judge_whys(self, name, policies, requests, example=None):

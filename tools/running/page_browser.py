@@ -536,8 +536,10 @@ class Pages:
         self.judge_done('the engine that takes its place', 'answers', 0, content('todos', 'answers.jsonl').decode())
 
     def keyboard(self):
-        """The keyboard reaches each control, and each has a name."""
+        """The keyboard reaches each control, and each has a name. No question has moved the focus before."""
         self.open(self.where)
+        self.choose('photos')
+        self.reload()
         self.choose('photos')
         reached = []
         for _ in range(14):

@@ -47,6 +47,7 @@ class View {
     return shown;
   }
 
+  // The notes of a finding or on a refused request.
   notes(notes) {
     return element('ul', { class: 'notes' }, ...notes.map(note => element('li', {}, ...sentence(note))));
   }
@@ -77,8 +78,8 @@ class View {
     let shown = 0;
     this.answered = texts;
     this.made = undefined;
-    const add = refused => {
-      const words = new Map(refused.map(it => [it.place, it.words]));
+    const add = found => {
+      const words = new Map(found.map(it => [it.place, it.words]));
       for (const end = Math.min(shown + ANSWERS_AT_ONCE, answers.length); shown < end; shown++) {
         list.append(this.answer(answers[shown], shown + 1, lines[shown], words.get(shown)));
         if (answers[shown].refused) marked.push(shown + 1);
@@ -87,10 +88,10 @@ class View {
       mark(marked);
     };
     const more = async () => {
-      const refused = await this.ask({ from: shown, to: shown + ANSWERS_AT_ONCE });
-      if (!refused) return;
+      const from = shown, found = await this.ask({ from, to: from + ANSWERS_AT_ONCE });
+      if (!found || shown !== from) return;
       list.querySelector('.more').remove();
-      add(refused);
+      add(found);
     };
     list.replaceChildren();
     add(refused);
@@ -125,6 +126,7 @@ class View {
     if (!this.made) return says('The policies are too long for this page: `cedar why` says it.');
     const ended = await this.ask({ texts: this.made.texts, place });
     if (ended?.status !== 0) return says('The engine did not find it out.');
+    if (!this.made.policies.length) return says('There are no policies.');
     const results = resultsOf(this.made.policies, answer, ended.text), others = results.filter(it => it.result === 'scope');
     const shown = element('ul', {}, ...results.filter(it => it.result !== 'scope').map(it => this.result(it)));
     if (others.length) shown.append(this.others(others));

@@ -393,9 +393,9 @@ class Pages:
     def kept_nowhere(self):
         """Where the browser refuses storage, the page is as it is with it, and nothing is kept. So it is for a text that is too large."""
         self.choose('notes')
-        self.write('entities', '[]' + ' ' * 6000000)
+        self.write('links', ' ' * 6000000)
         self.reload()
-        self.judge('a text that is too large is not kept', self.texts()[3] == content('notes', 'entities.json').decode())
+        self.judge('a text that is too large is not kept', self.texts()[2] == '')
         refused = self.browser.call('Page.addScriptToEvaluateOnNewDocument', source=REFUSING)['identifier']
         self.open(self.where)
         self.judge('the browser refuses storage', self.browser.value('(() => { try { localStorage; } catch { return true; } })()'))

@@ -8,10 +8,11 @@ const reader = {
     return page.dialog.open;
   },
 
-  // Presses a button of the dialog, and waits until the page has heard of it.
+  // Presses a button of the dialog, and waits until the page has heard of it, which takes until the next picture of the browser.
   async answer(value) {
+    const closed = new Promise(done => page.dialog.addEventListener('close', () => setTimeout(done), { once: true }));
     page.dialog.querySelector(`[value=${value}]`).click();
-    await new Promise(done => setTimeout(done, 50));
+    await closed;
   },
 
   // Writes a text, as if it were typed.

@@ -1,10 +1,16 @@
-// A text area in which ranges are marked. The marks are drawn below the text, line by line, and move with it.
+// A text area with the numbers of its lines, in which ranges are marked. The marks are drawn below the text, line by line, and move with
+// it. Of the numbers only those in view are drawn, so they cost the same for every length of the text.
 class Editor {
   constructor(name) {
     this.name = name;
     this.area = document.getElementById(name);
-    this.marks = this.area.parentElement.querySelector('.marks');
+    this.box = this.area.parentElement;
+    this.marks = this.box.querySelector('.marks');
+    this.numbers = this.box.querySelector('.numbers');
+    this.lines = 1;
     this.area.addEventListener('scroll', () => this.follow());
+    this.area.addEventListener('input', () => this.count());
+    new ResizeObserver(() => this.follow()).observe(this.area);
   }
 
   get text() {
@@ -15,6 +21,14 @@ class Editor {
     this.area.value = text;
     this.area.scrollTop = 0;
     this.area.scrollLeft = 0;
+    this.count();
+  }
+
+  // Counts the lines, and makes room for the digits of the last number.
+  count() {
+    this.lines = lineOf(this.text, Infinity);
+    this.box.style.setProperty('--digits', Math.max(2, String(this.lines).length));
+    this.follow();
   }
 
   // Marks ranges, each with a kind: error, warning, or also for what is beside them. A range of several lines is marked in its first.
@@ -32,13 +46,25 @@ class Editor {
     return row;
   }
 
+  // Moves what is drawn below the text with it, and draws the numbers that are in view.
   follow() {
-    this.marks.style.transform = `translate(${-this.area.scrollLeft}px, ${-this.area.scrollTop}px)`;
+    const { scrollLeft, scrollTop, clientHeight } = this.area, height = this.height();
+    const first = Math.max(0, Math.floor(scrollTop / height) - 1);
+    const last = Math.min(this.lines, Math.ceil((scrollTop + clientHeight) / height) + 1);
+    const drawn = Array.from({ length: Math.max(0, last - first) }, (_, place) => first + place + 1).join('\n');
+    if (this.numbers.textContent !== drawn) this.numbers.textContent = drawn;
+    this.numbers.style.transform = `translateY(${first * height - scrollTop}px)`;
+    this.marks.style.transform = `translate(${-scrollLeft}px, ${-scrollTop}px)`;
+  }
+
+  // The height of a line in pixels.
+  height() {
+    return parseFloat(getComputedStyle(this.area).lineHeight);
   }
 
   // Selects a range and brings it into view.
   show(from, to) {
-    const height = parseFloat(getComputedStyle(this.area).lineHeight), line = lineOf(this.text, from);
+    const height = this.height(), line = lineOf(this.text, from);
     const details = this.area.closest('details');
     if (details) details.open = true;
     this.area.focus();

@@ -44,6 +44,11 @@ class Engine {
     return this.call((put, text) => this.exports.cedar_raw_answer(this.made(), ...put(lines), ...text));
   }
 
+  // Why a request line is refused with a number: a JSON object. Nothing if it is not.
+  explainLine(line, number) {
+    return this.call((put, text) => this.exports.cedar_raw_explain_line(this.made(), ...put(line), 0, number, 1, ...text));
+  }
+
   // Frees the handle, and what it leads to.
   free() {
     if (this.handle === 0n) return;

@@ -39,14 +39,20 @@ const isAboutEnvironments = (note, policy) => note.startsWith(`policy \`${policy
 // The findings of a report: its groups, each with the words of the engine if it has words for it.
 function findingsOfReport(report, words, texts, numbers) {
   return groupsOf(report).map(group => {
-    const isOfGroup = it => it.number === group.number && (it.notes ?? []).some(note => isAboutEnvironments(note, group.policy));
-    const said = words.find(isOfGroup), row = rowOf(numbers, 'faults', group.number);
+    const said = words.find(it => it.number === group.number && it.policy === group.policy), row = rowOf(numbers, 'faults', group.number);
     return {
       ...group, file: 'policies', part: '', reason: said?.reason ?? row.when, hint: said ? said.hint : row.remedy,
       marks: said ? rangesOf(texts.policies, said) : [],
       notes: (said?.notes ?? []).filter(note => !isAboutEnvironments(note, group.policy)),
     };
   });
+}
+
+// The findings of words that have no number, since the report says nothing of them: a part of a policy that is always false.
+function findingsWithoutNumber(words, texts) {
+  return words.filter(it => it.reason && it.number === undefined).map(({ severity, policy, reason, hint, notes = [], ...said }) => ({
+    kind: severity, file: 'policies', part: '', environments: [], policy, reason, hint, notes, marks: rangesOf(texts.policies, said),
+  }));
 }
 
 // The finding of a refusal: its line, with the words of the engine if it has words for it.
@@ -58,9 +64,11 @@ function findingOfRefusal(line, words, texts, numbers) {
   };
 }
 
-// The findings of what the worker has done.
+// The findings of what the worker has done. Of files that are accepted the words have warnings, and a fault that the worker put in.
 function findingsOf(done, texts, numbers) {
   const words = done.words.status === 0 ? objectsOf(done.words.text) : [];
   if (done.publish.status === 2) return [findingOfRefusal(objectsOf(done.publish.text)[0], words, texts, numbers)];
-  return [0, 3].includes(done.report.status) ? findingsOfReport(done.report.text, words, texts, numbers) : [];
+  if (![0, 3].includes(done.report.status)) return [];
+  const own = done.publish.status === 0 ? words.filter(it => it.severity === 'warning') : words;
+  return [...findingsOfReport(done.report.text, own, texts, numbers), ...findingsWithoutNumber(own, texts)];
 }

@@ -4,15 +4,24 @@ const inside = id => document.getElementById(id).textContent;
 
 const NEEDS = 'It needs WebAssembly with a 64-bit memory, which Chromium 133, Firefox 134 and later have.';
 
+// The milliseconds after a change after which the texts are kept.
+const KEPT_AFTER = 300;
+
 class Page {
   constructor() {
     this.examples = JSON.parse(inside('examples'));
     this.numbers = JSON.parse(inside('numbers'));
     this.editors = Object.fromEntries(TEXT_NAMES.map(name => [name, new Editor(name)]));
-    this.view = new View(this.numbers, () => this.texts(), place => this.show(place));
+    this.view = new View(this.numbers, () => this.texts(), place => this.show(place), question => this.ask(question));
     this.status = new Status();
     this.anyDecimal = document.getElementById('any-decimal');
     this.example = document.getElementById('example');
+    this.dialog = document.getElementById('replacing');
+    // The fragment of the address that the texts belong to; the texts that are in the link or the example there; and the wait before
+    // changed texts are kept.
+    this.fragment = '';
+    this.original = '';
+    this.keeping = null;
     // The number of the last work that was begun; whether it goes on; and whether a text has changed since.
     this.number = 0;
     this.isBusy = true;
@@ -20,15 +29,20 @@ class Page {
     // What the worker has said of the files that it has, and what is shown.
     this.judged = {};
     this.last = null;
+    // The questions that the worker has not replied to, by their numbers, and how many there were.
+    this.questions = new Map();
+    this.questionCount = 0;
   }
 
-  // Starts the worker, and shows the texts of the link or the first example.
+  // Starts the worker, and shows the texts that are kept, those of the link or the first example.
   async start() {
     this.startWorker();
     document.getElementById('sum').textContent = document.getElementById('module').dataset.sum;
     this.example.append(...Object.keys(this.examples).map(name => element('option', {}, name)));
     this.example.append(element('option', { value: '', hidden: '' }, 'of your own'));
-    this.example.addEventListener('change', () => this.choose(this.example.value));
+    this.example.addEventListener('change', () => this.chosen(this.example.value));
+    this.dialog.addEventListener('click', ({ target }) => target.value && this.dialog.close(target.value));
+    window.addEventListener('pagehide', () => this.keep());
     this.anyDecimal.addEventListener('change', () => this.changed());
     Object.values(this.editors).forEach(({ area }) => area.addEventListener('input', () => this.changed()));
     document.getElementById('copy-link').addEventListener('click', () => this.copyLink());
@@ -54,31 +68,77 @@ class Page {
     return Object.fromEntries(TEXT_NAMES.map(name => [name, this.editors[name].text]));
   }
 
+  // The texts and the setting, as they are kept and put into a link.
+  state() {
+    return { texts: this.texts(), anyDecimal: this.anyDecimal.checked };
+  }
+
   // Puts texts into the page.
-  fill(texts, anyDecimal) {
+  fill({ texts, anyDecimal }) {
     for (const name of TEXT_NAMES) this.editors[name].text = texts[name];
     this.anyDecimal.checked = anyDecimal;
     document.getElementById('links-part').open = texts.links.trim() !== '';
     this.work();
   }
 
+  // Puts texts of a link or of an example into the page, which are not lost when others take their place.
+  fillOriginal(state) {
+    this.fill(state);
+    this.original = JSON.stringify(this.state());
+  }
+
   choose(name) {
     this.example.value = name;
-    this.fill(this.examples[name], false);
+    this.fillOriginal({ texts: this.examples[name], anyDecimal: false });
+  }
+
+  // Shows an example that the reader has chosen. Where that loses texts, it asks before.
+  async chosen(name) {
+    if (JSON.stringify(this.state()) !== this.original && !await this.mayReplace()) {
+      this.example.value = '';
+      return;
+    }
+    clearTimeout(this.keeping);
+    this.keeping = null;
+    forget(this.fragment);
+    this.choose(name);
+  }
+
+  // Asks whether an example may replace the texts. The promise gives the answer.
+  mayReplace() {
+    this.dialog.returnValue = 'keep';
+    this.dialog.showModal();
+    return new Promise(give => this.dialog.addEventListener('close', () => give(this.dialog.returnValue === 'replace'), { once: true }));
   }
 
   changed() {
     this.example.value = '';
+    clearTimeout(this.keeping);
+    this.keeping = setTimeout(() => this.keep(), KEPT_AFTER);
     this.work();
   }
 
+  // Keeps the texts, if they have changed since they were kept.
+  keep() {
+    if (this.keeping !== null) keep(this.fragment, this.state());
+    clearTimeout(this.keeping);
+    this.keeping = null;
+  }
+
   async openLink() {
+    this.keep();
+    this.fragment = location.hash;
+    const kept = keptState(this.fragment);
+    this.example.value = '';
+    this.original = '';
+    if (kept) {
+      this.status.first = 'Here are your texts again.';
+      return this.fill(kept);
+    }
     const first = Object.keys(this.examples)[0];
-    if (location.hash.length < 2) return this.choose(first);
+    if (this.fragment === '') return this.choose(first);
     try {
-      const { texts, anyDecimal } = await stateOf(location.hash);
-      this.example.value = '';
-      this.fill(texts, anyDecimal);
+      this.fillOriginal(await stateOf(this.fragment));
     } catch {
       this.status.first = 'The link holds no texts of this page, so here is an example.';
       this.choose(first);
@@ -87,7 +147,11 @@ class Page {
 
   // Puts the texts into the address of the page, and the address where it can be pasted from.
   async copyLink() {
-    history.replaceState(null, '', await fragmentOf({ texts: this.texts(), anyDecimal: this.anyDecimal.checked }));
+    this.keep();
+    const state = this.state();
+    history.replaceState(null, '', await fragmentOf(state));
+    this.fragment = location.hash;
+    this.original = JSON.stringify(state);
     try {
       await navigator.clipboard.writeText(location.href);
       this.status.say('The link is copied.', 'good');
@@ -104,11 +168,25 @@ class Page {
     this.number += 1;
     this.sent = this.texts();
     this.late = setTimeout(() => this.status.say('Working', ''), 400);
-    this.worker.postMessage({ texts: this.sent, settings: this.anyDecimal.checked ? 1 : 0 });
+    this.worker.postMessage({ number: this.number, texts: this.sent, settings: this.anyDecimal.checked ? 1 : 0, first: ANSWERS_AT_ONCE });
   }
 
-  // Hears that the engine is ready, what it has done, or that it does not run.
-  heard({ ready, done, failed }) {
+  // Asks the worker about the texts that are shown. The promise gives null if there are others by then.
+  ask(question) {
+    const number = this.number, place = ++this.questionCount;
+    this.worker.postMessage({ ...question, question: place, number });
+    return new Promise(give => this.questions.set(place, reply => give(number === this.number ? reply : null)));
+  }
+
+  replied({ question, reply }) {
+    this.questions.get(question)(reply);
+    this.questions.delete(question);
+  }
+
+  // Hears that the engine is ready, what it has done, what it replies, or that it does not run.
+  heard(data) {
+    const { ready, done, failed } = data;
+    if (data.question) return this.replied(data);
     clearTimeout(this.late);
     this.isBusy = false;
     if (failed !== undefined) return this.fail(failed);
@@ -118,7 +196,7 @@ class Page {
     }
     if (done.report) this.judged = { report: done.report, publish: done.publish, words: done.words };
     if (this.isWaiting) return this.work();
-    this.showDone({ ...this.judged, answers: done.answers, memory: done.memory });
+    this.showDone({ ...this.judged, answers: done.answers, refused: done.refused, memory: done.memory });
   }
 
   showDone(done) {
@@ -134,7 +212,8 @@ class Page {
     const shown = findings.map(finding => this.view.finding(finding));
     if (!shown.length && publish.status === 0) shown.push(element('li', { class: 'nothing' }, 'The policies have no faults.'));
     document.getElementById('report').replaceChildren(...shown);
-    const count = [0, 3].includes(report.status) ? countOf(report.text) : '';
+    const notes = findings.filter(it => it.number === undefined).length;
+    const count = [0, 3].includes(report.status) ? countOf(report.text) + (notes ? `, ${counted(notes, 'note')}` : '') : '';
     document.getElementById('report-count').textContent = publish.status === 2 ? REFUSED[findings[0].file] : count;
     for (const [name, editor] of Object.entries(this.editors)) {
       const own = findings.filter(it => it.file === name);
@@ -142,14 +221,21 @@ class Page {
     }
   }
 
-  showAnswers({ answers }) {
+  showAnswers({ answers, refused: words }) {
     const list = document.getElementById('answers'), count = document.getElementById('answers-count');
     list.replaceChildren(element('li', { class: 'nothing' }, 'No request is answered.'));
     count.textContent = '';
     if (answers?.status !== 0) return;
-    const all = this.view.answers(answers.text, this.sent.requests, list), of = kind => all.filter(it => it.decision === kind).length;
+    const all = this.view.answers(answers.text, this.sent, words, list, lines => this.markRequests(lines));
+    const of = kind => all.filter(it => it.decision === kind).length;
     const allowed = of('allow'), denied = of('deny'), refused = all.length - allowed - denied;
     count.textContent = `${allowed} allow, ${denied} deny${refused ? `, ${refused} refused` : ''}`;
+  }
+
+  // Marks request lines that are refused.
+  markRequests(lines) {
+    const text = this.sent.requests;
+    this.editors.requests.mark(lines.map(line => ({ ...rangeOfLine(text, line), kind: 'warning' })));
   }
 
   // Shows what the program would print, where that is open.

@@ -1,6 +1,7 @@
 // Where things are in the texts. The engine counts lines and characters from 1, and bytes from 0; a text area counts UTF-16 units from 0.
 
-const TOKENS = /\/\/[^\n]*|@\s*id\s*\(\s*("(?:[^"\\]|\\[^])*")\s*\)|"(?:[^"\\]|\\[^])*"|;|[^\s/]|\//g;
+const GAP = String.raw`(?:\s|//[^\n]*\n)*`, STRING = String.raw`"(?:[^"\\]|\\[^])*"`;
+const TOKENS = new RegExp(String.raw`//[^\n]*|@${GAP}id${GAP}\(${GAP}(${STRING})${GAP}\)|${STRING}|;|[^\s/]|/`, 'g');
 
 const ESCAPES = { n: '\n', r: '\r', t: '\t', 0: '\0' };
 

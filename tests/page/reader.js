@@ -1,10 +1,18 @@
 // What a reader does with the playground, for tools/running/page_test, which evaluates this in the page.
 const reader = {
-  // Chooses an example.
+  // Chooses an example. Gives whether the page asks before it replaces the texts.
   choose(name) {
     const select = document.getElementById('example');
     select.value = name;
     select.dispatchEvent(new Event('change'));
+    return page.dialog.open;
+  },
+
+  // Presses a button of the dialog, and waits until the page has heard of it, which takes until the next picture of the browser.
+  async answer(value) {
+    const closed = new Promise(done => page.dialog.addEventListener('close', () => setTimeout(done), { once: true }));
+    page.dialog.querySelector(`[value=${value}]`).click();
+    await closed;
   },
 
   // Writes a text, as if it were typed.
@@ -20,6 +28,50 @@ const reader = {
   // The policies that each answer names.
   policies: () => [...document.querySelectorAll('#answers > .answer')]
     .map(answer => [...answer.querySelectorAll('.policy')].map(it => it.textContent)),
+
+  // Opens what each policy came to, of each answer.
+  openPolicies() {
+    for (const it of document.querySelectorAll('#answers .policies')) it.open = true;
+  },
+
+  // What each answer says of policies, once that is there: of each its id, effect, result and the range of the part, if it names one; and
+  // how many are false by their scopes.
+  results: () => [...document.querySelectorAll('#answers .policies')].map(it => [
+    [...it.querySelectorAll('li:not(.others)')].map(row => {
+      const place = row.querySelector('.place'), { policies } = page.editors;
+      place?.click();
+      const [from, to] = [policies.area.selectionStart, policies.area.selectionEnd];
+      return [row.querySelector('.policy').textContent, row.firstChild.textContent.trim(), row.className, ...place ? [[from, to]] : []];
+    }),
+    Number(it.querySelector('.others')?.firstChild.textContent.match(/\d+/)[0] ?? 0),
+  ]),
+
+  // Scrolls a text to a line. Gives the numbers of the lines that are drawn beside it, and how many pixels that of this line is below it.
+  async numbers(name, line) {
+    const editor = page.editors[name], { area, numbers } = editor;
+    area.scrollTop = (line - 3) * editor.height() + 5;
+    area.scrollLeft = 40;
+    await new Promise(done => requestAnimationFrame(() => setTimeout(done)));
+    const drawn = numbers.textContent.split('\n').map(Number), place = drawn.indexOf(line);
+    const first = area.getBoundingClientRect().top + parseFloat(getComputedStyle(area).paddingTop) - area.scrollTop;
+    return [drawn, numbers.getBoundingClientRect().top - first + (place - line + 1) * editor.height()];
+  },
+
+  // What is copied where all of the page is selected.
+  copied() {
+    getSelection().selectAllChildren(document.body);
+    const copied = getSelection().toString();
+    getSelection().removeAllRanges();
+    return copied;
+  },
+
+  // What each refused answer says: its number, the reason, what is wrong, and the hint.
+  refused: () => [...document.querySelectorAll('#answers > .refused')].map(answer => {
+    const part = name => answer.querySelector(name)?.textContent ?? null;
+    const notes = [...answer.querySelectorAll('.notes li')].map(it => it.textContent);
+    const own = [...answer.childNodes].filter(it => it.nodeType === Node.TEXT_NODE || it.tagName === 'CODE').map(it => it.textContent);
+    return [part('.number'), own.join('').trim().replace(/^: /, ''), notes, part('.hint')];
+  }),
 
   // Presses the first button with a text. Gives the text area that has the focus then, and what is selected there.
   press(selector, text) {

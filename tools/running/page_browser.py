@@ -1,6 +1,7 @@
 """What tools/running/page_test does with the playground in a browser, as a reader would (tests/page/reader.js)."""
 import json
 import os
+import re
 import subprocess
 import sys
 import tempfile
@@ -15,8 +16,9 @@ FILES = {'schema': 'schema.json', 'policies': 'policies.cedar', 'links': 'links.
 # The size of a page on a desk and on a phone.
 WIDE, SMALL = (1280, 820), (390, 844)
 # What is written in the page, for the contrast of its colours, and the least contrast (WCAG 2.1, success criterion 1.4.3).
-WRITTEN = ('h1', 'header p', 'h2', 'h2 small', 'label', 'button', '#status', 'textarea', '.place', '.policy', '.allow .decision',
-           '.deny .decision', '.refused .decision', '.request', '.erring', '.number', '.hint', '.notes', 'summary', 'footer', 'code')
+WRITTEN = ('h1', 'header p', 'h2', 'h2 small', 'label', 'button', '#status', 'textarea', '.numbers', '.place', '.policy',
+           '.allow .decision', '.deny .decision', '.refused .decision', '.request', '.erring', '.number', '.hint', '.notes', 'summary',
+           'footer', 'code')
 LEAST_CONTRAST = 4.5
 # Shapes of high conditions: what is repeated before, in the middle, what is repeated after, and the end.
 SHAPES = {'sums': ('1 + ', '1', '', ' == 1'), 'denials': ('!(', 'true', ')', ''), 'choices': ('if true then true else ', 'true', '', ''),
@@ -29,6 +31,42 @@ STOPPING = """const stop = () => { throw new RangeError('Maximum call stack size
 SECONDS = 4
 SLOW = """const answer = engine.answer.bind(engine);
   engine.answer = lines => { for (const end = performance.now() + %d; performance.now() < end;); return answer(lines); }; 0"""
+# In the place of the words of the engine: those on a part of a policy that is always false, which have no number.
+GUARDED = '''%s
+permit(principal, action, resource) when { principal has nam || principal.name == 1 };'''
+GUARD = '''{"column":58,"file":"policies.cedar","hint":"did you mean `name`?","line":LINE,"marks":[{"column":58,"end_column":61,"line":LINE,
+  "says":"`User` has no attribute `nam`"}],"notes":["policy `policy3`: it is false in each environment of the schema"],"policy":"policy3",
+  "reason":"this `has` is always false","severity":"warning"}'''.replace('\n', '')
+GUARDING = 'engine.explain = () => ({ status: 0, text: %s }); 0'
+# Request lines that are refused, for the example tenants: each is wrong in another way.
+REFUSED = b'''{"principal":"Tenants::User::ann","action":"Billing::Action::\\"view\\"","resource":"x"}
+{"principal":"Tenants::User::\\"mara\\"","action":"Billing::Action::\\"vieww\\"","resource":"Billing::Invoice::\\"small\\""}
+{
+
+{"principal":"Tenants::User::\\"sue\\"","action":"Billing::Action::\\"view\\"","resource":"Billing::Invoice::\\"small\\"","context":{"a":1}}
+{"principal":"Tenants::User::\\"m\xc3\xa9\\u0301\\"","action":"Billing::Action::\\"view\\"","entities":[]}
+'''
+MANY_LINES = 10000
+# The milliseconds of something that is done with the policies.
+TIMED = """(() => { const editor = page.editors.policies, began = performance.now();
+  for (let turn = 0; turn < 100; turn++) { %s; }
+  return (performance.now() - began) / 100; })()"""
+# The row of a policy in what `cedar why` says of a request.
+WHY_ROW = re.compile(r'^  (\S+) +(?:permit|forbid) ', re.M)
+# Policies for the example todos, cut in ways that its own are not.
+WHYS = {
+    'sides': '''@permit("x") @ // a comment
+id ("a\\"b") forbid (principal is User, action, resource is List) // when { "a && b }
+when { resource has owner && resource.owner == principal && !(resource has readers && resource has editors) }
+unless { resource has editors || resource has readers } when { true && "&& || }" != "a" };
+permit (principal, action, resource) when { if context has lists then context.lists * 9223372036854775807 > 0 && true else false };
+permit (principal, action, resource) unless { context has lists && context.lists > 0 || [1, 2].contains(3) || {a: 1}.a == 1 };
+''',
+}
+# A policy whose permits would be too long.
+LONG_POLICY = 'permit (principal, action, resource) when { %s };' % ' && '.join(['"%s" != ""' % ('x' * 2000)] * 60)
+# Has the page have no storage, as in a private window.
+REFUSING = "Object.defineProperty(window, 'localStorage', { get() { throw new DOMException('refused', 'SecurityError'); } });"
 CONTROLS = ('textbox', 'combobox', 'checkbox', 'button', 'region', 'DisclosureTriangle')
 
 
@@ -57,19 +95,40 @@ class Pages:
 
     def settle(self):
         """Waits until the page shows what the engine says of its texts."""
-        self.browser.until('page.isBusy === false && page.isWaiting === false')
+        self.browser.until('page.isBusy === false && page.isWaiting === false && page.questions.size === 0')
 
     def open(self, where):
         self.where = where
         self.opened.add(where.split('#')[0])
         self.browser.open(where)
+        self.loaded()
+
+    def reload(self):
+        self.browser.value('window.isOld = true')
+        self.browser.call('Page.reload')
+        self.browser.until('window.isOld === undefined')
+        self.loaded()
+
+    def loaded(self):
+        """Waits until the page shows texts."""
         self.browser.until('document.documentElement.dataset.shown || document.documentElement.dataset.failed')
         with open(READER, encoding='utf-8') as file:
             self.browser.value(file.read())
         self.settle()
 
+    def texts(self):
+        """The texts of the page: schema, policies, links, entities and requests."""
+        return self.browser.value('Object.values(page.texts())')
+
+    def key(self, name, code):
+        """Presses a key."""
+        for kind in ('keyDown', 'keyUp'):
+            self.browser.call('Input.dispatchKeyEvent', type=kind, key=name, code=name, windowsVirtualKeyCode=code)
+
     def choose(self, name):
-        self.reader('choose', name)
+        """Chooses an example, whatever texts it replaces."""
+        if self.reader('choose', name):
+            self.reader('answer', 'replace')
         self.settle()
 
     def write(self, name, text):
@@ -184,10 +243,194 @@ class Pages:
         self.choose('notes')
         self.write('policies', policies)
         with tempfile.TemporaryDirectory() as folder:
-            ended = self.ended('validate', folder, *write_broken(folder, 'notes', 'policies.cedar', policies.encode())[:4])
+            files = write_broken(folder, 'notes', 'policies.cedar', policies.encode())[:4]
+            ended = self.ended('validate', folder, *files, '--diagnostics', 'json')
         self.judge_done('the report with a warning', 'report', 0, ended.stdout.decode())
         self.judge_shown('the warning', '#report .number', ['warning 650'])
+        self.judge('the place of the warning', self.reader('press', '#report .place', 'policies, line 9, column 1') == ['policies', 'p'])
+        self.judge_shown('the mark of the warning', '#policies-part mark.warning', ['p'])
+        said = json.loads(ended.stderr)
+        self.judge_shown('the hint of the warning', '#report .hint', ['Hint: ' + said['hint'].replace('`', '')])
         self.judge_done('answers beside a warning', 'answers', 0, content('notes', 'answers.jsonl').decode())
+
+    def guards(self):
+        """What the words say and the report does not, a part that is always false, is a finding without a number."""
+        policies = content('notes', 'policies.cedar').decode()
+        line = policies.count('\n') + 2
+        policies = GUARDED % policies
+        self.choose('notes')
+        self.browser.in_worker(GUARDING % json.dumps(GUARD.replace('LINE', str(line)) + '\n'))
+        self.write('policies', policies.replace('principal.name == 1', 'true'))
+        self.judge_shown('a finding without a number', '#report .number', ['warning'])
+        self.judge_shown('its mark', '#policies-part mark.warning', ['nam'])
+        self.judge_shown('its policy', '#report .policy', ['policy3'])
+        self.judge_shown('its count', '#report-count', ['0 faults, 0 warnings, 1 note'])
+        self.judge_done('the files are accepted beside it', 'publish', 0, '')
+        self.write('policies', policies)
+        self.judge_shown('a finding without a number beside a fault', '#report .number', ['error 603', 'warning'])
+        self.open(self.where)
+
+    def refused(self):
+        """A refused request has the words of the program, and its line is marked."""
+        for name in example_names():
+            self.choose(name)
+            self.judge_refused(name, content(name, 'requests.jsonl'))
+        self.choose('tenants')
+        lines = REFUSED + content('tenants', 'requests.jsonl') * 15
+        self.write('requests', lines.decode())
+        self.picture('refused')
+        self.browser.value('document.querySelector("#answers .more button").click()')
+        self.settle()
+        self.judge_refused('tenants', lines)
+
+    def judge_refused(self, example, lines):
+        """Judges what is said of the refused requests of lines, all of which are shown. The program explains the first ones, and the others
+        are as these are."""
+        with tempfile.TemporaryDirectory() as folder:
+            files = write_broken(folder, example, 'policies.cedar', content(example, 'policies.cedar'))
+            ended = self.ended('authorize', folder, *files, '--explain-lines', '--diagnostics', 'json', lines=lines)
+        said = [it for it in map(json.loads, ended.stderr.splitlines()) if 'number' in it]
+        wanted = [[str(it['number']), it['reason'], it.get('notes', []), 'Hint: ' + it['hint'] if 'hint' in it else None] for it in said]
+        found, wanted = self.reader('refused'), json.loads(json.dumps(wanted).replace('`', ''))
+        is_right = found[:len(wanted)] == wanted and all(it in wanted for it in found)
+        self.judge('the refused requests of ' + example, is_right and wanted, (found, wanted))
+        refused = [line.decode() or ' ' for line, answer in zip(lines.splitlines(), ended.stdout.splitlines()) if b'"refused"' in answer]
+        self.judge_shown('the marks of refused requests of ' + example, '#requests-part mark.warning', refused)
+
+    def whys(self):
+        """What each policy came to is what `cedar why` says, and the part that is shown has the part that the program shows."""
+        for name in example_names():
+            self.choose(name)
+            policies = content(name, 'policies.cedar').decode()
+            self.judge_whys(name, policies, content(name, 'requests.jsonl'))
+            self.picture('why-' + name)
+        for name, policies in WHYS.items():
+            self.choose('todos')
+            self.write('policies', policies)
+            self.judge_whys(name, policies, content('todos', 'requests.jsonl'), 'todos')
+        self.choose('todos')
+        for policies, wanted in ((LONG_POLICY, 'too long'), ('', 'no policies')):
+            self.write('policies', policies)
+            self.reader('openPolicies')
+            self.settle()
+            said = self.shown('#answers .policies p')
+            self.judge('what each policy came to: ' + wanted, len(said) > 3 and wanted in said[0], said)
+        self.choose('notes')
+
+    def judge_whys(self, name, policies, requests, example=None):
+        """Judges what is said of each policy for the requests of an example."""
+        with tempfile.TemporaryDirectory() as folder:
+            files = write_broken(folder, example or name, 'policies.cedar', policies.encode())
+            ended = self.ended('why', folder, *files, '--json', lines=requests)
+            words = self.ended('why', folder, *files, lines=requests).stdout.decode()
+        wanted = [it for it in map(json.loads, ended.stdout.splitlines()) if 'decision' in it]
+        orders = [WHY_ROW.findall(it) for it in words.split('\n\n') if ' refused ' not in it.split('\n')[0]]
+        self.reader('openPolicies')
+        self.settle()
+        found = self.reader('results')
+        self.judge('the answers with policies of ' + name, len(found) == len(wanted) > 3, (len(found), ended))
+        for answer, order, (rows, others) in zip(wanted, orders, found):
+            policies_of = sorted(answer['policies'], key=lambda it: order.index(it['policy']))
+            said = [[it['policy'], it['effect'], it['result']] for it in policies_of]
+            where = 'line %d of %s' % (answer['line'], name)
+            self.judge('the policies of ' + where, [it[:3] for it in rows] == said, (rows, said))
+            self.judge('the policies that are false by their scopes of ' + where, others == answer['false_by_scope'], (others, answer))
+            for row, policy in zip(rows, policies_of):
+                if policy['result'] in ('false', 'erred') and 'line' in policy:
+                    begin = sum(map(len, policies.splitlines(True)[:policy['line'] - 1])) + policy['column'] - 1
+                    self.judge('the part of ' + where, len(row) == 4 and row[3][0] <= begin < row[3][1], (row, policy, begin))
+
+    def kept(self):
+        """Changed texts are there again after a reload, and the page asks before an example replaces them."""
+        self.choose('todos')
+        self.judge('no question where nothing is lost', self.reader('choose', 'photos') is False)
+        self.settle()
+        for how, wait in (('at once', 0), ('after a while', 0.6)):
+            self.write('policies', 'permit(principal, action, resource); // ' + how)
+            self.write('links', ' []')
+            time.sleep(wait)
+            texts = self.texts()
+            self.reload()
+            self.judge('the texts after a reload ' + how, self.texts() == texts, self.texts())
+            self.judge('the page says so', self.status().startswith('Here are your texts again.'), self.status())
+        for answer in ('Escape', 'keep', 'replace'):
+            self.judge('a question before texts are replaced', self.reader('choose', 'notes') is True)
+            focus = self.browser.value('document.activeElement.textContent')
+            self.judge('where the question has the focus', focus == 'Keep my texts', focus)
+            self.picture('question')
+            if answer == 'Escape':
+                self.key('Escape', 27)
+                self.browser.until('!page.dialog.open')
+            else:
+                self.reader('answer', answer)
+            self.settle()
+            self.judge('the texts after ' + answer, (self.texts() == texts) is (answer != 'replace'), self.texts())
+            chosen = self.browser.value('document.getElementById("example").value')
+            self.judge('the choice after ' + answer, chosen == ('notes' if answer == 'replace' else ''), chosen)
+        self.reload()
+        self.judge('nothing is kept after an example', self.texts()[1] == content(example_names()[0], 'policies.cedar').decode())
+
+    def kept_links(self):
+        """The changed texts of a link are kept for this link alone."""
+        self.choose('notes')
+        self.write('entities', '[ ]')
+        self.browser.value('page.copyLink()')
+        link = self.browser.value('location.href')
+        self.judge('no question where a link has the texts', self.reader('choose', 'notes') is False)
+        self.settle()
+        self.write('entities', '[  ]')
+        self.reload()
+        self.judge('the changed texts of a link', self.texts()[3] == '[  ]', self.texts())
+        self.open(self.where.split('#')[0])
+        self.judge('the texts without the link', self.texts()[3] == '[ ]', self.texts())
+        self.open(link)
+        self.judge('the changed texts of the link again', self.texts()[3] == '[  ]', self.texts())
+        self.open(link[:-2])
+        self.judge('another link', 'no texts' in self.status(), self.status())
+        self.open(self.where.split('#')[0])
+        self.choose('notes')
+
+    def kept_nowhere(self):
+        """Where the browser refuses storage, the page is as it is with it, and nothing is kept. So it is for a text that is too large."""
+        self.choose('notes')
+        self.write('links', ' ' * 6000000)
+        self.reload()
+        self.judge('a text that is too large is not kept', self.texts()[2] == '')
+        refused = self.browser.call('Page.addScriptToEvaluateOnNewDocument', source=REFUSING)['identifier']
+        self.open(self.where)
+        self.judge('the browser refuses storage', self.browser.value('(() => { try { localStorage; } catch { return true; } })()'))
+        self.write('entities', '[]')
+        self.judge('a question without storage', self.reader('choose', 'photos') is True)
+        self.reader('answer', 'replace')
+        self.settle()
+        self.judge_done('the answers without storage', 'answers', 0, content('photos', 'answers.jsonl').decode())
+        self.write('entities', '[]')
+        self.reload()
+        self.judge('nothing is kept without storage', self.texts()[3] == content(example_names()[0], 'entities.json').decode())
+        self.browser.call('Page.removeScriptToEvaluateOnNewDocument', identifier=refused)
+        self.open(self.where)
+
+    def numbers(self):
+        """Beside each text are the numbers of its lines. They move with it, and of many only those in view are drawn."""
+        self.choose('photos')
+        lines = content('photos', 'policies.cedar').decode().split('\n')
+        self.judge('the first numbers', self.reader('numbers', 'policies', 1)[0][:10] == list(range(1, 11)))
+        drawn, below = self.reader('numbers', 'policies', len(lines))
+        self.judge('the last number', drawn[-1] == len(lines) and abs(below) < 1, (drawn, below))
+        self.write('policies', '\n'.join(lines) + '// a line\n' * MANY_LINES)
+        for line in (1, MANY_LINES // 2, MANY_LINES):
+            drawn, below = self.reader('numbers', 'policies', line)
+            self.judge('the number of line %d' % line, line in drawn and abs(below) < 1 and len(drawn) < 100, (drawn, below))
+        self.picture('numbers')
+        mark = self.browser.value('page.editors.policies.numbers.textContent.split("\\n")[1]')
+        copied = self.reader('copied')
+        self.judge('numbers are not copied', len(mark) == 4 and mark not in copied and 'Policies' in copied, (mark, copied))
+        nodes = self.browser.call('Accessibility.getFullAXTree')['nodes']
+        names = [it.get('name', {}).get('value', '') for it in nodes if not it.get('ignored')]
+        self.judge('numbers are not read out', len(names) > 20 and not any(mark in str(it) for it in names), mark)
+        steps = 'editor.area.scrollTop = turn * 777; editor.follow()', 'editor.count()'
+        scrolling, typing = [self.browser.value(TIMED % it) for it in steps]
+        print('%d lines: numbers cost %.1f ms in scrolling, %.1f ms for a letter' % (MANY_LINES, scrolling, typing))
 
     def any_decimal(self):
         """A string that is not a decimal is a fault, or with `any decimal` an error of the policy."""
@@ -266,7 +509,8 @@ class Pages:
         wanted = content('photos', 'answers.jsonl').decode() * 2000 + '{"refused":501}\n'
         self.judge('26,001 answers', self.reader('done', 'answers') == [0, wanted])
         self.judge('the first answers are shown', len(self.shown('#answers .answer')) == 200)
-        self.browser.value('document.querySelector("#answers .more button").click()')
+        self.browser.value('(it => { it.click(); it.click(); })(document.querySelector("#answers .more button"))')
+        self.settle()
         self.judge('more answers', len(self.shown('#answers .answer')) == 400)
         self.judge_shown('the others', '#answers .more button', ['Show more of the other 25,601'])
         print('26,001 lines: the page waited %.0f ms at most' % longest)
@@ -293,13 +537,14 @@ class Pages:
         self.judge_done('the engine that takes its place', 'answers', 0, content('todos', 'answers.jsonl').decode())
 
     def keyboard(self):
-        """The keyboard reaches each control, and each has a name."""
+        """The keyboard reaches each control, and each has a name. No question has moved the focus before."""
         self.open(self.where)
+        self.choose('photos')
+        self.reload()
         self.choose('photos')
         reached = []
         for _ in range(14):
-            for kind in ('keyDown', 'keyUp'):
-                self.browser.call('Input.dispatchKeyEvent', type=kind, key='Tab', code='Tab', windowsVirtualKeyCode=9)
+            self.key('Tab', 9)
             reached.append(self.browser.value('document.activeElement.id || document.activeElement.tagName'))
         wanted = ['example', 'any-decimal', 'copy-link', 'policies', 'SUMMARY', 'schema', 'entities', 'requests']
         self.judge('the order of the keyboard', [it for it in reached if it in wanted][:8] == wanted, reached)
@@ -349,8 +594,9 @@ class Pages:
     def all(self, *addresses):
         """All tests: the examples and links at each address, and the others at the last one."""
         for where in addresses:
-            self.attempt(self.examples, where)
-            self.attempt(self.links)
-        for test in (self.broken, self.faults, self.warnings, self.any_decimal, self.high, self.typing, self.slow, self.stopped, self.keyboard,
-                     self.looks, self.network):
+            for test, *words in ((self.examples, where), (self.links,), (self.kept,)):
+                self.attempt(test, *words)
+        for test in (self.broken, self.faults, self.warnings, self.guards, self.refused, self.whys, self.kept_links, self.kept_nowhere,
+                     self.numbers, self.any_decimal, self.high, self.typing, self.slow, self.stopped, self.keyboard, self.looks,
+                     self.network):
             self.attempt(test)

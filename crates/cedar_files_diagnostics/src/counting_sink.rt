@@ -64,7 +64,7 @@ impl LineCounts {
         if self.lines == 1 {
             self.refused_file = refused_file(line);
         }
-        // The byte after `{"` tells what most lines are without a comparison.
+        // The byte after `{"` says what most lines are without a comparison.
         match line.get(2) {
             Some(b'r') => self.count_refused(line),
             Some(b'f') => self.count_totals(line),

@@ -81,6 +81,14 @@ impl<'c> Checked<'c> {
         Some(link.template.as_str())
     }
 
+    /// The id of the template from which the policy at a position is linked, if it is. Policies that the links give come last, in the order
+    /// of the links.
+    pub(crate) fn template_at(self, position: usize) -> Option<&'c str> {
+        let before = self.policies.count().saturating_sub(self.links.len());
+        let link = self.links.get(position.checked_sub(before)?)?;
+        Some(link.template.as_str())
+    }
+
     /// The part of the policy's condition that has the fault.
     pub(crate) fn part(
         self,

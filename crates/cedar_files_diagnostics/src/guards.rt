@@ -83,7 +83,7 @@ pub(crate) fn push_guards<'s>(
                 continue;
             }
         }
-        if let Some(template) = checked.template_of(policy.id().as_str()) {
+        if let Some(template) = checked.template_at(position) {
             if !templates.insert(template)? {
                 continue;
             }
@@ -104,8 +104,8 @@ fn push_guards_of<'s>(
     let room = MOST.saturating_sub(explanation.diagnostics.len());
     let guards = checked.guards(alloc, policy, room)?;
     let id = policy.id().as_str();
-    let statement = OwnStatement::new(statements, checked, id);
     for guard in &guards.parts {
+        let statement = OwnStatement::new(statements, checked, id);
         push_guard(alloc, explanation, statement, guard, id)?;
     }
     explanation.more = explanation.more.saturating_add(guards.more);

@@ -1,9 +1,12 @@
 //! What is explained on standard error after the work has ended. Nothing is said when out of memory.
+use cedar_ast::PolicySet;
 use cedar_cli::Words;
 use cedar_files::{End, NamedFiles, Role};
 use cedar_files_diagnostics::{
-    Explanation, Format, RefusedFile, explain_file, explain_policy_faults, not_again, unreadable,
+    Explanation, Format, RefusedFile, explain_file, explain_policy_faults, explain_report,
+    not_again, unreadable,
 };
+use cedar_schema::Schema;
 use std::alloc::{AllocError, Global};
 
 /// What files are to the program, in the order in which it reads them.
@@ -30,6 +33,8 @@ pub struct Explainer<'a> {
     pub words: &'a Words<'a>,
     /// The form of what is explained.
     pub format: Format,
+    /// The schema and the policies that the run has read, if they are kept.
+    pub read: Option<&'a (Schema, PolicySet)>,
 }
 
 impl<'a> Explainer<'a> {
@@ -78,13 +83,22 @@ impl<'a> Explainer<'a> {
     // Which faults the policies have.
     fn faults(self, alloc: Global) -> Result<String, AllocError> {
         let name = self.files.name(Role::Policies).unwrap_or("");
-        let explained = explain_policy_faults(alloc, self.files, name, self.words.settings)?;
+        let settings = self.words.settings;
+        let explained = match self.read {
+            Some((schema, policies)) => {
+                explain_report(alloc, self.files, name, schema, policies, settings)?
+            }
+            None => explain_policy_faults(alloc, self.files, name, settings)?,
+        };
         self.text_of(alloc, explained)
     }
 
-    // Whether each file can be read again.
+    // Whether each file that is read again can be.
     fn are_regular(self) -> bool {
-        ROLES.iter().all(|role| self.files.is_regular(*role))
+        let has_schema = self.read.is_some();
+        ROLES
+            .iter()
+            .all(|role| (has_schema && *role == Role::Schema) || self.files.is_regular(*role))
     }
 
     /// Explains why a run ended as it did: which file cannot be read, why a file is refused, or which faults the policies have.

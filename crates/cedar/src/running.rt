@@ -41,6 +41,7 @@ pub fn ended(
             files,
             words,
             format,
+            read: None,
         };
         explainer.explain(end, refused);
     }
@@ -105,6 +106,7 @@ fn run_kept_lines(rt: &HostRuntime, words: &Words<'_>, format: Option<Format>) -
             files: &files,
             words,
             format,
+            read: None,
         };
         explain_lines(explainer, &input);
     }

@@ -1,59 +1,45 @@
 //! `validate`: the report on policies, and what is to be warned of.
 use crate::explaining::Explainer;
-use crate::running::ended;
+use crate::running::say;
 use base_lines::StdSink;
 use cedar_ast::PolicySet;
 use cedar_cli::Words;
-use cedar_files::{End, NamedFiles, Role, validate_keeping};
-use cedar_files_diagnostics::{CountingSink, Format, has_false_guard, not_looked_for};
+use cedar_files::{End, NamedFiles, validate_keeping};
+use cedar_files_diagnostics::{CountingSink, Format, LineCounts, has_false_guard};
+use cedar_schema::Schema;
 use std::alloc::AllocError;
 use std::io;
 use std::mem::forget;
 
-// Explains the warnings of a report without faults in a form, if one is wanted.
-fn explain_warnings(
-    rt: &HostRuntime,
-    files: &NamedFiles<'_, HostRuntime>,
-    words: &Words<'_>,
-    format: Option<Format>,
-) {
-    if let Some(format) = format {
-        let explainer = Explainer {
-            rt,
-            files,
-            words,
-            format,
-        };
-        explainer.explain_warnings();
-    }
-}
-
 // Whether the policies that `validate` accepted have a part `x has a` that is always false. Such parts are not looked for where neither
-// standard error nor the status would say so. Nor are they where the schema is a pipe, which is said with `--deny-warnings`.
+// standard error nor the status would say so.
 fn is_guard_false(
     rt: &HostRuntime,
-    files: &NamedFiles<'_, HostRuntime>,
     words: &Words<'_>,
     format: Option<Format>,
-    policies: &Option<PolicySet>,
+    read: &Option<(Schema, PolicySet)>,
 ) -> Result<bool, AllocError> {
-    let Some(policies) = policies else {
+    let Some((schema, policies)) = read else {
         return Ok(false);
     };
     if format.is_none() && !words.deny_warnings {
         return Ok(false);
     }
-    let found = if files.is_regular(Role::Schema) {
-        has_false_guard(rt.alloc(), files, policies, words.settings)?
-    } else {
-        None
-    };
-    if let (None, Some(format), true) = (found, format, words.deny_warnings) {
-        let says = not_looked_for(rt.alloc(), format)?;
-        // Where standard error is gone, the line is lost.
-        let _ = rt.eprint(says.as_str());
+    has_false_guard(rt.alloc(), schema, policies, words.settings)
+}
+
+// Whether there is something to warn of after a run that ended so.
+fn warns(
+    rt: &HostRuntime,
+    words: &Words<'_>,
+    format: Option<Format>,
+    counts: LineCounts,
+    read: &Option<(Schema, PolicySet)>,
+) -> Result<bool, AllocError> {
+    if counts.warnings > 0 {
+        return Ok(true);
     }
-    Ok(found.unwrap_or(false))
+    is_guard_false(rt, words, format, read)
 }
 
 /// `validate`. With `--deny-warnings` a report with warnings alone ends as one with faults, and so do policies with a part `x has a` that
@@ -61,30 +47,36 @@ fn is_guard_false(
 pub fn run_validate(rt: &HostRuntime, words: &Words<'_>, format: Option<Format>) -> u8 {
     let files = NamedFiles::new(rt, words.files);
     let mut sink = CountingSink::new(StdSink::new(io::writer(rt)));
-    let mut policies = None;
-    let mut end = validate_keeping(rt.alloc(), &files, &mut sink, words.settings, &mut policies);
-    let mut warns = end == End::Done && sink.counts().warnings > 0;
-    if end == End::Done && !warns {
-        match is_guard_false(rt, &files, words, format, &policies) {
-            Ok(found) => warns = found,
+    let mut read = None;
+    let mut end = validate_keeping(rt.alloc(), &files, &mut sink, words.settings, &mut read);
+    let counts = sink.counts();
+    let mut is_warned_of = false;
+    if end == End::Done {
+        match warns(rt, words, format, counts, &read) {
+            Ok(found) => is_warned_of = found,
             Err(AllocError) => end = End::Memory,
         }
     }
-    if format.is_none() || (end == End::Done && !warns) {
-        // Nothing is explained. The system takes all memory at once when the program ends.
-        forget(policies);
-    } else {
-        drop(policies);
+    say(rt, end);
+    if let Some(format) = format {
+        let explainer = Explainer {
+            rt,
+            files: &files,
+            words,
+            format,
+            read: read.as_ref(),
+        };
+        if is_warned_of {
+            explainer.explain_warnings();
+        } else {
+            explainer.explain(end, counts.refused_file);
+        }
     }
-    let refused = sink.counts().refused_file;
-    let status = ended(rt, &files, words, format, end, refused);
-    if !warns {
-        return status;
-    }
-    explain_warnings(rt, &files, words, format);
-    if words.deny_warnings {
+    // The system takes all memory at once when the program ends.
+    forget(read);
+    if is_warned_of && words.deny_warnings {
         End::Faults.status()
     } else {
-        status
+        end.status()
     }
 }

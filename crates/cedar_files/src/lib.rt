@@ -40,6 +40,7 @@ pub use linking::enter_links;
 pub use preparing::prepare;
 pub use reading::{Unread, read_changed, read_over, read_policies, read_ready, read_schema};
 pub use reading_all::read_all;
+pub use reading_linked::read_linked;
 pub use refusal::{FileRefusal, refusal_line, refuse};
 pub use report::report_text;
 pub use report_parts::{ReportPart, report_part};

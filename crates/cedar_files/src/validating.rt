@@ -157,13 +157,14 @@ fn report_to<K: Sink>(
     }
 }
 
-/// Like [`validate`], and puts the policies on which it reports into `kept`. A program that ends then need not free them.
+/// Like [`validate`], and puts the schema and the policies on which it reports into `kept`, so that they can be explained without reading
+/// them again.
 pub fn validate_keeping<F: Files, K: Sink>(
     alloc: Global,
     files: &F,
     sink: &mut K,
     settings: Settings,
-    kept: &mut Option<PolicySet>,
+    kept: &mut Option<(Schema, PolicySet)>,
 ) -> End
     requires { K.failed sink.old < 2 ^ 64 - 1 }
     ensures ends { Validates settings (F.holds files.now) (K.failed sink.old < K.failed sink.new) (K.written sink.old) (K.written sink.new) result }
@@ -172,7 +173,7 @@ pub fn validate_keeping<F: Files, K: Sink>(
     match read_linked(alloc, files) {
         Ok((schema, policies)) => {
             let end = report_to(alloc, &schema, &policies, settings, sink);
-            *kept = Some(policies);
+            *kept = Some((schema, policies));
             end
         }
         Err(Unprepared::Refused(role, refusal)) => refuse(alloc, role, refusal, sink),

@@ -1,7 +1,7 @@
 //! What is explained of files, for a host that has them in memory.
 use crate::diagnostic::Explanation;
 use crate::explain::explain_file;
-use crate::faulty::explain_policy_faults;
+use crate::faulty::explain_report;
 use crate::format::Format;
 use crate::refused::RefusedFile;
 use cedar_check_spec::Settings;
@@ -35,8 +35,17 @@ fn explained<F: Files>(
             explain_file(alloc, files, name, RefusedFile { role, refusal })
         }
         Err(Unprepared::Faults(refused)) => {
+            let name = name_of(names, Role::Policies);
+            let explained = explain_report(
+                alloc,
+                files,
+                name,
+                &refused.schema,
+                &refused.policies,
+                settings,
+            );
             drop(refused);
-            explain_policy_faults(alloc, files, name_of(names, Role::Policies), settings)
+            explained
         }
         Err(Unprepared::Unnamed | Unprepared::Device) => Ok(None),
         Err(Unprepared::Memory) => Err(AllocError),

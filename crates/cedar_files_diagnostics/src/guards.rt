@@ -1,5 +1,4 @@
 //! Parts `x has a` of policies that are always false.
-use crate::again::schema_again;
 use crate::diagnostic::{Explanation, Severity};
 use crate::diagnostic_draft::DiagnosticDraft;
 use crate::excerpt::first_of;
@@ -9,7 +8,6 @@ use crate::own_statement::{MOST_OF_ID, OwnStatement};
 use cedar_ast::{Policy, PolicySet};
 use cedar_check_diagnostics::ExplainedPart;
 use cedar_check_spec::Settings;
-use cedar_files::Files;
 use cedar_parser_places::StatementPlaces;
 use cedar_schema::Schema;
 use cedar_value::Text;
@@ -20,27 +18,11 @@ use std::collections::BTreeSet;
 const REASON: &str = "this `has` is always false";
 
 /// Whether one of these policies has a part `x has a` that is always false, since no type of `x` declares `a` where the policy applies.
-/// None where the schema file cannot be read again.
 ///
 /// # Errors
 ///
 /// Fails only when out of memory.
-pub fn has_false_guard<F: Files>(
-    alloc: Global,
-    files: &F,
-    policies: &PolicySet,
-    settings: Settings,
-) -> Result<Option<bool>, AllocError> {
-    let Some(schema) = schema_again(alloc, files)? else {
-        return Ok(None);
-    };
-    let found = any_has(alloc, &schema, policies, settings);
-    drop(schema);
-    found.map(Some)
-}
-
-// Whether one of the policies has such a part.
-fn any_has(
+pub fn has_false_guard(
     alloc: Global,
     schema: &Schema,
     policies: &PolicySet,

@@ -11,10 +11,6 @@ const NOT_JSON: usize = 501;
 /// What is said where the files that were refused are accepted, or cannot be read, the second time.
 const NOT_AGAIN: &str = "this is not explained, since a file is a pipe or has changed";
 
-/// What is said where guards that are misspelt cannot be looked for.
-const NOT_LOOKED_FOR: &str =
-    "misspelt guards are not looked for, since the schema is a pipe or has changed";
-
 /// What to do where the first line that is refused is not JSON.
 const ONE_LINE: &str =
     "each request is one line: `jq -c .` writes a request of several lines on one";
@@ -47,11 +43,6 @@ fn line_of(
 /// Says that a refusal is not explained, since the files cannot be read again.
 pub fn not_again(alloc: Global, format: Format) -> Result<String, AllocError> {
     line_of(alloc, format, "note", NOT_AGAIN)
-}
-
-/// Says that guards that are misspelt are not looked for, since the schema cannot be read again.
-pub fn not_looked_for(alloc: Global, format: Format) -> Result<String, AllocError> {
-    line_of(alloc, format, "note", NOT_LOOKED_FOR)
 }
 
 /// Says which file cannot be read: the option that names it, its name, and what the system says.

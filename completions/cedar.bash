@@ -3,46 +3,47 @@
 # The subcommands.
 _cedar_subcommands='validate authorize why ask check-parse explain help'
 
-# Prints the options of a subcommand, or of the program where the name is empty.
+# Prints the options of a subcommand, or of the program where the name is empty. A comma is between the names of one.
 _cedar_options() {
   case $1 in
-    '') printf ' %s' -h --help -V --version ;;
-    validate) printf ' %s' --schema --policies --links --any-decimal --deny-warnings --quiet --diagnostics -h --help ;;
-    authorize) printf ' %s' --schema --policies --links --entities --any-decimal --entities-in-lines --explain-lines --quiet --diagnostics -h --help ;;
-    why) printf ' %s' --schema --policies --links --entities --any-decimal --all --json --quiet --diagnostics -h --help ;;
-    ask) printf ' %s' --schema --policies --links --entities --any-decimal --principal --action --resource --context --quiet --diagnostics -h --help ;;
-    check-parse) printf ' %s' --policies --quiet --diagnostics -h --help ;;
-    explain) printf ' %s' -h --help ;;
+    '') printf ' %s' -h,--help -V,--version ;;
+    validate) printf ' %s' -s,--schema -p,--policies -l,--links --any-decimal --deny-warnings --report --quiet --diagnostics -h,--help ;;
+    authorize) printf ' %s' -s,--schema -p,--policies -l,--links -e,--entities --any-decimal --entities-in-lines --explain-lines --quiet --diagnostics -h,--help ;;
+    why) printf ' %s' -s,--schema -p,--policies -l,--links -e,--entities --any-decimal --all --json --quiet --diagnostics -h,--help ;;
+    ask) printf ' %s' -s,--schema -p,--policies -l,--links -e,--entities --any-decimal --principal --action --resource -c,--context --quiet --diagnostics -h,--help ;;
+    check-parse) printf ' %s' -p,--policies --quiet --diagnostics -h,--help ;;
+    explain) printf ' %s' -h,--help ;;
   esac
 }
 
 # Prints what completes the value of an option of a subcommand: words, or `/` for files. Ends with 1 where it takes no value.
 _cedar_value() {
   case "$1 $2" in
-    'validate --schema') echo / ;;
-    'validate --policies') echo / ;;
-    'validate --links') echo / ;;
+    'validate -s' | 'validate --schema') echo / ;;
+    'validate -p' | 'validate --policies') echo / ;;
+    'validate -l' | 'validate --links') echo / ;;
+    'validate --report') echo 'human json' ;;
     'validate --diagnostics') echo 'human json none' ;;
-    'authorize --schema') echo / ;;
-    'authorize --policies') echo / ;;
-    'authorize --links') echo / ;;
-    'authorize --entities') echo / ;;
+    'authorize -s' | 'authorize --schema') echo / ;;
+    'authorize -p' | 'authorize --policies') echo / ;;
+    'authorize -l' | 'authorize --links') echo / ;;
+    'authorize -e' | 'authorize --entities') echo / ;;
     'authorize --diagnostics') echo 'human json none' ;;
-    'why --schema') echo / ;;
-    'why --policies') echo / ;;
-    'why --links') echo / ;;
-    'why --entities') echo / ;;
+    'why -s' | 'why --schema') echo / ;;
+    'why -p' | 'why --policies') echo / ;;
+    'why -l' | 'why --links') echo / ;;
+    'why -e' | 'why --entities') echo / ;;
     'why --diagnostics') echo 'human json none' ;;
-    'ask --schema') echo / ;;
-    'ask --policies') echo / ;;
-    'ask --links') echo / ;;
-    'ask --entities') echo / ;;
+    'ask -s' | 'ask --schema') echo / ;;
+    'ask -p' | 'ask --policies') echo / ;;
+    'ask -l' | 'ask --links') echo / ;;
+    'ask -e' | 'ask --entities') echo / ;;
     'ask --principal') ;;
     'ask --action') ;;
     'ask --resource') ;;
-    'ask --context') echo / ;;
+    'ask -c' | 'ask --context') echo / ;;
     'ask --diagnostics') echo 'human json none' ;;
-    'check-parse --policies') echo / ;;
+    'check-parse -p' | 'check-parse --policies') echo / ;;
     'check-parse --diagnostics') echo 'human json none' ;;
     *) return 1 ;;
   esac
@@ -56,11 +57,15 @@ _cedar_argument() {
   esac
 }
 
-# Prints these options but for those given.
+# Prints the names of these options, but for those of which a name is given.
 _cedar_left() {
-  local option
-  for option in $1; do
-    [[ $2 == *" $option "* ]] || printf '%s\n' "$option"
+  local names name is_given
+  for names in $1; do
+    is_given=
+    for name in ${names//,/ }; do
+      [[ $2 != *" $name "* ]] || is_given=yes
+    done
+    [[ -n $is_given ]] || printf '%s\n' ${names//,/ }
   done
 }
 

@@ -96,16 +96,15 @@ impl<'a> Explainer<'a> {
     // Whether each file that is read again can be.
     fn are_regular(self) -> bool {
         let has_schema = self.read.is_some();
-        ROLES
-            .iter()
-            .all(|role| (has_schema && *role == Role::Schema) || self.files.is_regular(*role))
+        ROLES.iter().all(|role| (has_schema && *role == Role::Schema)
+            || self.files.is_regular(*role))
     }
 
-    /// Explains why a run ended as it did: which file cannot be read, why a file is refused, or which faults the policies have.
+    /// Why a run ended as it did: which file cannot be read, why a file is refused, or which faults the policies have; or nothing.
     /// `refused` is the file that standard output says is refused.
-    pub fn explain(self, end: End, refused: Option<RefusedFile>) {
+    pub fn text(self, end: End, refused: Option<RefusedFile>) -> Result<String, AllocError> {
         let alloc = self.rt.alloc();
-        let says = match (end, refused) {
+        match (end, refused) {
             (End::Device, _) => self.unreadable(alloc),
             (End::Refused | End::Faults, _) if !self.are_regular() => {
                 not_again(alloc, self.format)
@@ -113,20 +112,18 @@ impl<'a> Explainer<'a> {
             (End::Refused, Some(refused)) => self.refusal(alloc, refused),
             (End::Refused, None) => not_again(alloc, self.format),
             (End::Faults, _) => self.faults(alloc),
-            (End::Done | End::Memory | End::CommandLine, _) => return,
-        };
-        self.say(says);
+            (End::Done | End::Memory | End::CommandLine, _) => Ok(String::new(alloc)),
+        }
     }
 
-    /// Explains the warnings of a report without faults.
-    pub fn explain_warnings(self) {
+    /// The warnings of a report without faults.
+    pub fn warnings(self) -> Result<String, AllocError> {
         let alloc = self.rt.alloc();
-        let says = if self.are_regular() {
+        if self.are_regular() {
             self.faults(alloc)
         } else {
             not_again(alloc, self.format)
-        };
-        self.say(says);
+        }
     }
 
     /// Prints what was explained, if there was memory for it.

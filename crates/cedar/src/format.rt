@@ -1,10 +1,29 @@
-//! The form in which the command line wants explanations.
+//! The forms in which the command line wants explanations and reports.
 use cedar_cli::Words;
 use cedar_files_diagnostics::Format;
 
-/// The form in which the words want explanations on standard error; none where they want none. The error is a word that names no
-/// form.
-pub fn format_of<'a>(words: &Words<'a>) -> Result<Option<Format>, &'a str> {
+/// The forms in which the program writes.
+#[derive(Clone, Copy)]
+pub struct Forms {
+    /// That of explanations on standard error; none where none are wanted.
+    pub explanations: Option<Format>,
+    /// That of a report on standard output.
+    pub report: Format,
+}
+
+/// A value that its option does not take.
+#[derive(Clone, Copy)]
+pub struct WrongValue<'a> {
+    /// The value.
+    pub value: &'a str,
+    /// The option, as the help writes it.
+    pub option: &'static str,
+    /// The values that it takes.
+    pub values: &'static str,
+}
+
+// The form of explanations.
+fn explanations_of<'a>(words: &Words<'a>) -> Result<Option<Format>, WrongValue<'a>> {
     match words.diagnostics {
         Some("human") | None if words.quiet => Ok(None),
         Some("human") | None => Ok(Some(Format::Human)),
@@ -14,6 +33,31 @@ pub fn format_of<'a>(words: &Words<'a>) -> Result<Option<Format>, &'a str> {
             Some(Format::Json)
         }),
         Some("none") => Ok(None),
-        Some(other) => Err(other),
+        Some(value) => Err(WrongValue {
+            value,
+            option: "--diagnostics <FORMAT>",
+            values: "human, json, none",
+        }),
     }
+}
+
+// The form of a report.
+fn report_of<'a>(words: &Words<'a>) -> Result<Format, WrongValue<'a>> {
+    match words.report {
+        Some("human") => Ok(Format::Human),
+        Some("json") | None => Ok(Format::Json),
+        Some(value) => Err(WrongValue {
+            value,
+            option: "--report <FORM>",
+            values: "human, json",
+        }),
+    }
+}
+
+/// The forms that the words want. The error is a word that names no form.
+pub fn forms_of<'a>(words: &Words<'a>) -> Result<Forms, WrongValue<'a>> {
+    Ok(Forms {
+        explanations: explanations_of(words)?,
+        report: report_of(words)?,
+    })
 }

@@ -2,19 +2,22 @@
 #![tactic(auto)]
 
 mod asking;
+mod discarding;
 mod explaining;
 mod format;
 mod lines;
 mod request_line;
 mod running;
+mod tips;
 mod unnamed;
 mod validating;
 mod warning;
 mod whys;
 
-use crate::format::format_of;
+use crate::format::{WrongValue, forms_of};
 use crate::running::{run_words, say};
-use base_places::push_shown;
+use crate::tips::tip;
+use base_places::Draft;
 use cedar_cli::words;
 use cedar_files::End;
 use clap::error::ErrorKind;
@@ -22,12 +25,17 @@ use std::alloc::{AllocError, Global};
 use std::process::ExitCode;
 use std::{env, io};
 
-/// Prints what `clap` says of a command line that gives no words: a refusal, or the help that the user wanted.
-fn tell(rt: &HostRuntime, error: &clap::Error) -> io::Result<End> {
+/// Prints what `clap` says of a command line that gives no words: a refusal, with a tip if there is one, or the help that the user wanted.
+fn tell(rt: &HostRuntime, error: &clap::Error, words: &[&str]) -> io::Result<End> {
     if error.kind() == ErrorKind::OutOfMemory {
         return Ok(End::Memory);
     }
     error.print(rt)?;
+    match tip(rt.alloc(), error.kind(), words) {
+        Ok(Some(tip)) => rt.eprint(tip.as_str())?,
+        Ok(None) => {}
+        Err(_) => return Ok(End::Memory),
+    }
     Ok(if error.use_stderr() {
         End::CommandLine
     } else {
@@ -45,17 +53,24 @@ fn refuse_words(rt: &HostRuntime, error: &io::Error) -> io::Result<End> {
     Ok(End::CommandLine)
 }
 
-// What is said of a word that names no form of explanations.
-fn says_of_format(alloc: Global, word: &str) -> Result<String, AllocError> {
-    let mut says = String::from_str(alloc, "error: invalid value '")?;
-    push_shown(&mut says, word)?;
-    says.push_str("' for '--diagnostics <FORMAT>'\n  [possible values: human, json, none]\n")?;
-    Ok(says)
+// What is said of a value that its option does not take.
+fn says_of_value(alloc: Global, wrong: WrongValue<'_>) -> Result<String, AllocError> {
+    let mut says = Draft::new(alloc);
+    says.add("error: invalid value '");
+    says.add_shown(wrong.value);
+    says.add_all(&[
+        "' for '",
+        wrong.option,
+        "'\n  [possible values: ",
+        wrong.values,
+        "]\n",
+    ]);
+    says.done()
 }
 
-/// Says that there is no such form of explanations. The command line is then refused.
-fn refuse_format(rt: &HostRuntime, word: &str) -> io::Result<End> {
-    match says_of_format(rt.alloc(), word) {
+/// Says that an option does not take a value. The command line is then refused.
+fn refuse_value(rt: &HostRuntime, wrong: WrongValue<'_>) -> io::Result<End> {
+    match says_of_value(rt.alloc(), wrong) {
         Ok(says) => {
             rt.eprint(says.as_str())?;
             Ok(End::CommandLine)
@@ -78,11 +93,11 @@ fn run(rt: &HostRuntime) -> io::Result<u8> {
     }
     let words = match words(alloc, &texts) {
         Ok(words) => words,
-        Err(error) => return said(rt, tell(rt, &error)?),
+        Err(error) => return said(rt, tell(rt, &error, &texts)?),
     };
-    match format_of(&words) {
-        Ok(format) => Ok(run_words(rt, &words, format)),
-        Err(word) => said(rt, refuse_format(rt, word)?),
+    match forms_of(&words) {
+        Ok(forms) => Ok(run_words(rt, &words, forms)),
+        Err(wrong) => said(rt, refuse_value(rt, wrong)?),
     }
 }
 

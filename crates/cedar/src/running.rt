@@ -1,6 +1,7 @@
 //! Runs the subcommands.
 use crate::asking::run_ask;
 use crate::explaining::Explainer;
+use crate::format::Forms;
 use crate::lines::explain_lines;
 use crate::unnamed::refuse_unnamed_entities;
 use crate::validating::run_validate;
@@ -43,7 +44,7 @@ pub fn ended(
             format,
             read: None,
         };
-        explainer.explain(end, refused);
+        explainer.say(explainer.text(end, refused));
     }
     end.status()
 }
@@ -152,10 +153,11 @@ fn lacks_entities(words: &Words<'_>) -> bool {
     words.files.entities.is_none() && !words.entities_in_lines
 }
 
-/// Runs the subcommand of a command line, explains in a form, if one is wanted, how it ended, and gives the exit status.
-pub fn run_words(rt: &HostRuntime, words: &Words<'_>, format: Option<Format>) -> u8 {
+/// Runs the subcommand of a command line, which writes in these forms, and gives the exit status.
+pub fn run_words(rt: &HostRuntime, words: &Words<'_>, forms: Forms) -> u8 {
+    let format = forms.explanations;
     match words.subcommand {
-        Subcommand::Validate => run_validate(rt, words, format),
+        Subcommand::Validate => run_validate(rt, words, forms),
         Subcommand::Authorize if lacks_entities(words) => refuse_unnamed_entities(rt),
         Subcommand::Authorize if words.explain_lines => run_kept_lines(rt, words, format),
         Subcommand::Authorize => run_authorize(rt, words, format),

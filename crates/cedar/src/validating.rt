@@ -1,64 +1,137 @@
 //! `validate`: the report on policies, and what is to be warned of.
+use crate::discarding::Discarding;
 use crate::explaining::Explainer;
+use crate::format::Forms;
 use crate::running::say;
-use base_lines::StdSink;
+use base_lines::{Sink, StdSink};
+use base_places::Draft;
 use cedar_ast::PolicySet;
 use cedar_cli::Words;
-use cedar_files::{End, NamedFiles, validate_keeping};
+use cedar_files::{End, NamedFiles, Role, validate_keeping};
 use cedar_files_diagnostics::{CountingSink, Format, LineCounts, has_false_guard};
 use cedar_schema::Schema;
 use std::alloc::AllocError;
 use std::io;
 use std::mem::forget;
 
+// How a run ended.
+#[derive(Clone, Copy)]
+struct Ran {
+    end: End,
+    // What its lines say.
+    counts: LineCounts,
+    // Whether there is something to warn of, and nothing worse.
+    warns: bool,
+}
+
 // Whether the policies that `validate` accepted have a part `x has a` that is always false. Such parts are not looked for where neither
-// standard error nor the status would say so.
+// words nor the status would say so.
 fn is_guard_false(
     rt: &HostRuntime,
     words: &Words<'_>,
-    format: Option<Format>,
+    forms: Forms,
     read: &Option<(Schema, PolicySet)>,
 ) -> Result<bool, AllocError> {
     let Some((schema, policies)) = read else {
         return Ok(false);
     };
-    if format.is_none() && !words.deny_warnings {
+    if !words.deny_warnings && words_of(forms).is_none() {
         return Ok(false);
     }
     has_false_guard(rt.alloc(), schema, policies, words.settings)
 }
 
-// Whether there is something to warn of after a run that ended so.
-fn warns(
-    rt: &HostRuntime,
-    words: &Words<'_>,
-    format: Option<Format>,
-    counts: LineCounts,
-    read: &Option<(Schema, PolicySet)>,
-) -> Result<bool, AllocError> {
-    if counts.warnings > 0 {
-        return Ok(true);
+// The form of what is said in words: on standard output where the report is for people, or else on standard error.
+fn words_of(forms: Forms) -> Option<Format> {
+    match forms.report {
+        Format::Human => Some(Format::Human),
+        Format::Json => forms.explanations,
     }
-    is_guard_false(rt, words, format, read)
+}
+
+// Writes the report to a sink, keeps what was read, and says how that ended.
+fn report_to<K: Sink + Drop>(
+    rt: &HostRuntime,
+    files: &NamedFiles<'_, HostRuntime>,
+    words: &Words<'_>,
+    forms: Forms,
+    sink: K,
+    read: &mut Option<(Schema, PolicySet)>,
+) -> Ran {
+    let mut sink = CountingSink::new(sink);
+    let end = validate_keeping(rt.alloc(), files, &mut sink, words.settings, read);
+    let counts = sink.counts();
+    let warns = match end {
+        End::Done if counts.warnings == 0 => is_guard_false(rt, words, forms, read),
+        other => Ok(other == End::Done),
+    };
+    match warns {
+        Ok(warns) => Ran { end, counts, warns },
+        Err(AllocError) => Ran {
+            end: End::Memory,
+            counts,
+            warns: false,
+        },
+    }
+}
+
+// What the report for people says of a run: its faults and warnings, or that there are none.
+fn says(explainer: Explainer<'_>, ran: Ran) -> Result<String, AllocError> {
+    if ran.warns {
+        return explainer.warnings();
+    }
+    if ran.end != End::Done {
+        return explainer.text(ran.end, ran.counts.refused_file);
+    }
+    let mut says = Draft::new(explainer.rt.alloc());
+    says.add_shown(explainer.files.name(Role::Policies).unwrap_or(""));
+    says.add(": no faults, no warnings\n");
+    says.done()
+}
+
+// Prints the report for people, and says how that ended.
+fn print_report(explainer: Explainer<'_>, ran: Ran) -> End {
+    match says(explainer, ran) {
+        Ok(says) => match explainer.rt.print(says.as_str()) {
+            Ok(()) => ran.end,
+            Err(_) => End::Device,
+        },
+        Err(AllocError) => End::Memory,
+    }
+}
+
+// Says in words what the run found, where it is to be said, and how the program then ends. A file that cannot be read is named on
+// standard error.
+fn explained(explainer: Explainer<'_>, forms: Forms, ran: Ran) -> End {
+    match (forms.report, ran.end) {
+        (Format::Human, End::Done | End::Faults | End::Refused) => print_report(explainer, ran),
+        _ if forms.explanations.is_none() => ran.end,
+        _ => {
+            explainer.say(if ran.warns {
+                explainer.warnings()
+            } else {
+                explainer.text(ran.end, ran.counts.refused_file)
+            });
+            ran.end
+        }
+    }
 }
 
 /// `validate`. With `--deny-warnings` a report with warnings alone ends as one with faults, and so do policies with a part `x has a` that
 /// is always false.
-pub fn run_validate(rt: &HostRuntime, words: &Words<'_>, format: Option<Format>) -> u8 {
+pub fn run_validate(rt: &HostRuntime, words: &Words<'_>, forms: Forms) -> u8 {
     let files = NamedFiles::new(rt, words.files);
-    let mut sink = CountingSink::new(StdSink::new(io::writer(rt)));
     let mut read = None;
-    let mut end = validate_keeping(rt.alloc(), &files, &mut sink, words.settings, &mut read);
-    let counts = sink.counts();
-    let mut is_warned_of = false;
-    if end == End::Done {
-        match warns(rt, words, format, counts, &read) {
-            Ok(found) => is_warned_of = found,
-            Err(AllocError) => end = End::Memory,
+    let ran = match forms.report {
+        Format::Json => {
+            let sink = StdSink::new(io::writer(rt));
+            report_to(rt, &files, words, forms, sink, &mut read)
         }
-    }
-    say(rt, end);
-    if let Some(format) = format {
+        Format::Human => report_to(rt, &files, words, forms, Discarding, &mut read),
+    };
+    say(rt, ran.end);
+    let mut end = ran.end;
+    if let Some(format) = words_of(forms) {
         let explainer = Explainer {
             rt,
             files: &files,
@@ -66,15 +139,14 @@ pub fn run_validate(rt: &HostRuntime, words: &Words<'_>, format: Option<Format>)
             format,
             read: read.as_ref(),
         };
-        if is_warned_of {
-            explainer.explain_warnings();
-        } else {
-            explainer.explain(end, counts.refused_file);
-        }
+        end = explained(explainer, forms, ran);
     }
     // The system takes all memory at once when the program ends.
     forget(read);
-    if is_warned_of && words.deny_warnings {
+    if end != ran.end {
+        say(rt, end);
+    }
+    if end == End::Done && ran.warns && words.deny_warnings {
         End::Faults.status()
     } else {
         end.status()

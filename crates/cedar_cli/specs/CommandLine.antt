@@ -1,5 +1,6 @@
 -- The command line of the program, in `clap`'s own terms.
 use Rattle.std.specs.Prelude.{Bool, false, true, codes, Some}
+use Rattle.std.specs.List.{slice_get}
 use Rattle.clap.specs.Words.{App, Rule, Text, new_app, new_rule, with_rule, with_subcommand}
 use Rattle.clap.specs.Simple.{on_top}
 use Rattle.clap.specs.declared.builder.action.ArgAction.TheVariants.{SetTrue}
@@ -7,6 +8,10 @@ use Rattle.clap.specs.declared.builder.action.ArgAction.TheVariants.{SetTrue}
 -- The option `--name VALUE`, which takes one value, and has to be there where it is required (clap, `Arg::long`).
 abbrev pub option_rule : Text → Bool → Rule
 option_rule name required = record (new_rule name) { long = Some name; value_names = 1; required = required }
+
+-- The option `-L FILE` or `--name FILE`, where `L` is a letter (clap, `Arg::short`).
+abbrev pub file_rule : (letter name : Text) → Bool → Rule
+file_rule letter name required = record (option_rule name required) { short = slice_get letter 0 }
 
 -- The flag `--name`, which takes no value (clap, `ArgAction::SetTrue`).
 abbrev pub flag_rule : Text → Rule
@@ -20,19 +25,21 @@ word_rule name = record (new_rule name) { value_names = 1; required = true }
 abbrev pub explained : App → App
 explained a = with_rule (with_rule a (flag_rule (codes "quiet"))) (option_rule (codes "diagnostics") false)
 
--- A subcommand `NAME --schema FILE --policies FILE [--links FILE]` (own).
+-- A subcommand `NAME -s|--schema FILE -p|--policies FILE [-l|--links FILE]` (own).
 abbrev pub over_policies : Text → App
 over_policies name =
-    with_rule (with_rule (with_rule (new_app name) (option_rule (codes "schema") true)) (option_rule (codes "policies") true))
-    (option_rule (codes "links") false)
+    with_rule (with_rule (with_rule (new_app name) (file_rule (codes "s") (codes "schema") true)) (file_rule (codes "p") (codes "policies") true))
+    (file_rule (codes "l") (codes "links") false)
 
--- A subcommand over policies, with `--entities FILE`, which has to be there where it is required, and `[--any-decimal]` (own).
+-- A subcommand over policies, with `-e|--entities FILE`, which has to be there where it is required, and `[--any-decimal]` (own).
 abbrev pub over_entities : Text → Bool → App
-over_entities name required = with_rule (with_rule (over_policies name) (option_rule (codes "entities") required)) (flag_rule (codes "any-decimal"))
+over_entities name required = with_rule (with_rule (over_policies name) (file_rule (codes "e") (codes "entities") required)) (flag_rule (codes "any-decimal"))
 
--- The subcommand `validate`, over policies, with `[--any-decimal] [--deny-warnings]` (own).
+-- The subcommand `validate`, over policies, with `[--any-decimal] [--deny-warnings] [--report FORM]` (own).
 abbrev pub validate_app : App
-validate_app = explained (with_rule (with_rule (over_policies (codes "validate")) (flag_rule (codes "any-decimal"))) (flag_rule (codes "deny-warnings")))
+validate_app =
+    explained (with_rule (with_rule (with_rule (over_policies (codes "validate")) (flag_rule (codes "any-decimal"))) (flag_rule (codes "deny-warnings")))
+    (option_rule (codes "report") false))
 
 -- The subcommand `authorize`, over entities if `--entities` is used, with `[--entities-in-lines] [--explain-lines]` (own).
 abbrev pub authorize_app : App
@@ -43,19 +50,19 @@ authorize_app =
 abbrev pub why_app : App
 why_app = explained (with_rule (with_rule (over_entities (codes "why") true) (flag_rule (codes "all"))) (flag_rule (codes "json")))
 
--- A subcommand with the options `--principal UID --action UID --resource UID [--context FILE]` after its own (own).
+-- A subcommand with the options `--principal UID --action UID --resource UID [-c|--context FILE]` after its own (own).
 abbrev pub over_request : App → App
 over_request a =
     with_rule (with_rule (with_rule (with_rule a (option_rule (codes "principal") true)) (option_rule (codes "action") true)) (option_rule (codes "resource") true))
-    (option_rule (codes "context") false)
+    (file_rule (codes "c") (codes "context") false)
 
 -- The subcommand `ask`, over entities and a request (own).
 abbrev pub ask_app : App
 ask_app = explained (over_request (over_entities (codes "ask") true))
 
--- The subcommand `check-parse --policies FILE` (own).
+-- The subcommand `check-parse -p|--policies FILE` (own).
 abbrev pub check_parse_app : App
-check_parse_app = explained (with_rule (new_app (codes "check-parse")) (option_rule (codes "policies") true))
+check_parse_app = explained (with_rule (new_app (codes "check-parse")) (file_rule (codes "p") (codes "policies") true))
 
 -- The subcommand `explain NUMBER` (own).
 abbrev pub explain_app : App

@@ -49,6 +49,7 @@ pub record AreGiven (words : List Text) (w : Words) : Type 0 where
   pub request : AreAsked rows w.request
   pub number : first_of (codes "number") rows ≡ option_map (λ s. s.now) w.number
   pub diagnostics : first_of (codes "diagnostics") rows ≡ option_map (λ s. s.now) w.diagnostics
+  pub report : first_of (codes "report") rows ≡ option_map (λ s. s.now) w.report
   pub any_decimal : IsFlag (one_of (codes "any-decimal") rows) w.settings.any_decimal
   pub quiet : IsFlag (one_of (codes "quiet") rows) w.quiet
   pub deny_warnings : IsFlag (one_of (codes "deny-warnings") rows) w.deny_warnings

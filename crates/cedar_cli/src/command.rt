@@ -1,8 +1,8 @@
 //! The command line, as `clap` reads it.
-ghost use Rattle.std.specs.Prelude.{◌≡◌, false, IfOk};
+ghost use Rattle.std.specs.Prelude.{◌≡◌, ◌∷◌, [], false, IfOk};
 ghost use Rattle.clap.specs.Words.{app_of, rule_of};
 ghost use Rattle.clap.specs.declared.builder.Command.TheViews.{out-Command as fields_of};
-ghost use Rattle.cedar_cli.specs.CommandLine.{ask_app, authorize_app, check_parse_app, explain_app, explained, flag_rule, option_rule, over_entities, over_policies, over_request, program, top, validate_app, why_app, word_rule};
+ghost use Rattle.cedar_cli.specs.CommandLine.{ask_app, authorize_app, check_parse_app, explain_app, explained, file_rule, flag_rule, option_rule, over_entities, over_policies, over_request, program, top, validate_app, why_app, word_rule};
 
 use crate::help;
 use clap::{Arg, ArgAction, Command};
@@ -29,12 +29,12 @@ fn option<'a>(
         .required(required)
 }
 
-// `--name FILE`
-fn file<'a>(alloc: Global, name: &'a str, help: &'a str, required: bool) -> Arg<'a>
-    ensures rule { rule_of result ≡ option_rule name.entry.now required }
+// `-L FILE` or `--name FILE`, where `L` is the letter
+fn file<'a>(alloc: Global, letter: char, name: &'a str, help: &'a str, required: bool) -> Arg<'a>
+    ensures rule { rule_of result ≡ file_rule (letter ∷ []) name.entry.now required }
     ensures local { result.global ≡ false }
 {
-    option(alloc, name, "FILE", help, required)
+    option(alloc, name, "FILE", help, required).short(letter)
 }
 
 // `--name`
@@ -85,7 +85,7 @@ fn over_request<'a>(alloc: Global, command: Command<'a>) -> Result<Command<'a>, 
         .arg(option(alloc, "principal", "UID", help::PRINCIPAL, true))?
         .arg(option(alloc, "action", "UID", help::ACTION, true))?
         .arg(option(alloc, "resource", "UID", help::RESOURCE, true))?
-        .arg(file(alloc, "context", help::CONTEXT, false))?;
+        .arg(file(alloc, 'c', "context", help::CONTEXT, false))?;
     Ok(command)
 }
 
@@ -95,9 +95,9 @@ fn over_policies<'a>(alloc: Global, name: &'a str) -> Result<Command<'a>, AllocE
     ensures local { IfOk result (λ c. (fields_of c).has_globals ≡ false) }
 {
     let command = Command::new(alloc, name)
-        .arg(file(alloc, "schema", help::SCHEMA, true))?
-        .arg(file(alloc, "policies", help::POLICIES, true))?
-        .arg(file(alloc, "links", help::LINKS, false))?;
+        .arg(file(alloc, 's', "schema", help::SCHEMA, true))?
+        .arg(file(alloc, 'p', "policies", help::POLICIES, true))?
+        .arg(file(alloc, 'l', "links", help::LINKS, false))?;
     Ok(command)
 }
 
@@ -111,7 +111,7 @@ fn over_entities<'a>(
     ensures local { IfOk result (λ c. (fields_of c).has_globals ≡ false) }
 {
     let command = over_policies(alloc, name)?
-        .arg(file(alloc, "entities", help::ENTITIES, required))?
+        .arg(file(alloc, 'e', "entities", help::ENTITIES, required))?
         .arg(flag(alloc, "any-decimal", help::ANY_DECIMAL))?;
     Ok(command)
 }
@@ -124,7 +124,8 @@ fn validate<'a>(alloc: Global) -> Result<Command<'a>, AllocError>
         .about(help::VALIDATE)
         .after_help(help::VALIDATE_EXAMPLE)
         .arg(flag(alloc, "any-decimal", help::ANY_DECIMAL))?
-        .arg(flag(alloc, "deny-warnings", help::DENY_WARNINGS))?;
+        .arg(flag(alloc, "deny-warnings", help::DENY_WARNINGS))?
+        .arg(option(alloc, "report", "FORM", help::REPORT, false))?;
     explained(alloc, command)
 }
 
@@ -170,7 +171,7 @@ fn check_parse<'a>(alloc: Global) -> Result<Command<'a>, AllocError>
     let command = Command::new(alloc, "check-parse")
         .about(help::CHECK_PARSE)
         .after_help(help::CHECK_PARSE_EXAMPLE)
-        .arg(file(alloc, "policies", help::POLICIES, true))?;
+        .arg(file(alloc, 'p', "policies", help::POLICIES, true))?;
     explained(alloc, command)
 }
 

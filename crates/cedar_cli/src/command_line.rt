@@ -72,6 +72,7 @@ pub fn words<'a>(alloc: Global, words: &'a [&'a str]) -> Result<Words<'a>, Words
         },
         number: found.get_str("number"),
         diagnostics: found.get_str("diagnostics"),
+        report: found.get_str("report"),
         settings: Settings {
             any_decimal: found.get_flag("any-decimal"),
         },

@@ -161,6 +161,10 @@ pub(crate) const ANY_DECIMAL: &str =
 /// Of `--deny-warnings`.
 pub(crate) const DENY_WARNINGS: &str = "End with 3 where there are warnings, too";
 
+/// Of `--report`.
+pub(crate) const REPORT: &str =
+    "The report on standard output: json (an object a line) or human, which says all there [default: json]";
+
 /// Of `--entities-in-lines`.
 pub(crate) const ENTITIES_IN_LINES: &str =
     "Take request lines with a key entities, a list of entities for that line alone; --entities may then be left out";

@@ -46,6 +46,8 @@ pub struct Words<'a> {
     pub number: Option<&'a str>,
     /// The form of what is explained on standard error, after `--diagnostics`.
     pub diagnostics: Option<&'a str>,
+    /// The form of the report of `validate`, after `--report`.
+    pub report: Option<&'a str>,
     /// The choices beyond strict validation: `--any-decimal` turns `any_decimal` on.
     pub settings: Settings,
     /// `--quiet`: nothing is explained on standard error.

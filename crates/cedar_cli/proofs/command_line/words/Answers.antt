@@ -33,6 +33,7 @@ returns-clause-ok c =
       };
       number = sym (c.get_str-9.ensures ∙ first_value-rows (found_of found) _);
       diagnostics = sym (c.get_str-10.ensures ∙ first_value-rows (found_of found) _);
+      report = sym (c.get_str-11.ensures ∙ first_value-rows (found_of found) _);
       any_decimal = record {
         none = λ e. c.get_flag.ensures.none (one_text-rows (found_of found) _ ∙ e);
         used = λ e. c.get_flag.ensures.value (one_text-rows (found_of found) _ ∙ e);

@@ -3,8 +3,8 @@ use cedar_ast::PolicySet;
 use cedar_cli::Words;
 use cedar_files::{End, NamedFiles, Role};
 use cedar_files_diagnostics::{
-    Explanation, Format, RefusedFile, explain_file, explain_policy_faults, explain_report,
-    not_again, unreadable,
+    Explanation, Format, RefusedFile, count_unlinked, explain_file, explain_policy_faults,
+    explain_report, not_again, unlinked_templates, unreadable,
 };
 use cedar_schema::Schema;
 use std::alloc::{AllocError, Global};
@@ -22,6 +22,9 @@ fn option_of(role: Role) -> &'static str {
     }
 }
 
+/// The schema and the policies that a run has read, if they are kept.
+pub type Read<'r> = Option<&'r (Schema, PolicySet)>;
+
 /// Explains on standard error how a run over files ended.
 #[derive(Clone, Copy)]
 pub struct Explainer<'a> {
@@ -33,8 +36,6 @@ pub struct Explainer<'a> {
     pub words: &'a Words<'a>,
     /// The form of what is explained.
     pub format: Format,
-    /// The schema and the policies that the run has read, if they are kept.
-    pub read: Option<&'a (Schema, PolicySet)>,
 }
 
 impl<'a> Explainer<'a> {
@@ -81,48 +82,63 @@ impl<'a> Explainer<'a> {
     }
 
     // Which faults the policies have.
-    fn faults(self, alloc: Global) -> Result<String, AllocError> {
+    fn faults(self, alloc: Global, read: Read<'_>) -> Result<String, AllocError> {
         let name = self.files.name(Role::Policies).unwrap_or("");
         let settings = self.words.settings;
-        let explained = match self.read {
-            Some((schema, policies)) => {
-                explain_report(alloc, self.files, name, schema, policies, settings)?
-            }
+        let explained = match read {
+            Some(read) => explain_report(alloc, self.files, name, &read.0, &read.1, settings)?,
             None => explain_policy_faults(alloc, self.files, name, settings)?,
         };
         self.text_of(alloc, explained)
     }
 
     // Whether each file that is read again can be.
-    fn are_regular(self) -> bool {
-        let has_schema = self.read.is_some();
+    fn are_regular(self, read: Read<'_>) -> bool {
+        let has_schema = read.is_some();
         ROLES.iter().all(|role| (has_schema && *role == Role::Schema)
             || self.files.is_regular(*role))
     }
 
     /// Why a run ended as it did: which file cannot be read, why a file is refused, or which faults the policies have; or nothing.
     /// `refused` is the file that standard output says is refused.
-    pub fn text(self, end: End, refused: Option<RefusedFile>) -> Result<String, AllocError> {
+    pub fn text(
+        self,
+        end: End,
+        refused: Option<RefusedFile>,
+        read: Read<'_>,
+    ) -> Result<String, AllocError> {
         let alloc = self.rt.alloc();
         match (end, refused) {
             (End::Device, _) => self.unreadable(alloc),
-            (End::Refused | End::Faults, _) if !self.are_regular() => {
+            (End::Refused | End::Faults, _) if !self.are_regular(read) => {
                 not_again(alloc, self.format)
             }
             (End::Refused, Some(refused)) => self.refusal(alloc, refused),
             (End::Refused, None) => not_again(alloc, self.format),
-            (End::Faults, _) => self.faults(alloc),
+            (End::Faults, _) => self.faults(alloc, read),
             (End::Done | End::Memory | End::CommandLine, _) => Ok(String::new(alloc)),
         }
     }
 
     /// The warnings of a report without faults.
-    pub fn warnings(self) -> Result<String, AllocError> {
+    pub fn warnings(self, read: Read<'_>) -> Result<String, AllocError> {
         let alloc = self.rt.alloc();
-        if self.are_regular() {
-            self.faults(alloc)
+        if self.are_regular(read) {
+            self.faults(alloc, read)
         } else {
             not_again(alloc, self.format)
+        }
+    }
+
+    /// How many templates of the policies that were read have no link; nothing if there is none.
+    pub fn unlinked(self, read: Read<'_>) -> Result<String, AllocError> {
+        let alloc = self.rt.alloc();
+        match read {
+            Some(read) if self.files.is_regular(Role::Links) => {
+                let count = count_unlinked(alloc, self.files, &read.1)?;
+                unlinked_templates(alloc, self.format, count)
+            }
+            _ => Ok(String::new(alloc)),
         }
     }
 

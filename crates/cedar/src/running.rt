@@ -42,9 +42,8 @@ pub fn ended(
             files,
             words,
             format,
-            read: None,
         };
-        explainer.say(explainer.text(end, refused));
+        explainer.say(explainer.text(end, refused, None));
     }
     end.status()
 }
@@ -107,7 +106,6 @@ fn run_kept_lines(rt: &HostRuntime, words: &Words<'_>, format: Option<Format>) -
             files: &files,
             words,
             format,
-            read: None,
         };
         explain_lines(explainer, &input);
     }

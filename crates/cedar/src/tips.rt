@@ -26,13 +26,13 @@ const OPTIONS: [(&str, &str, &str); 3] = [
 
 // The first word that is neither a subcommand, an option nor the value of one.
 fn plain_word<'w>(words: &[&'w str]) -> Option<&'w str> {
-    let mut before = "--quiet";
+    let mut is_value = false;
     for word in words.iter().skip(2) {
-        let takes_value = before.starts_with('-') && !before.contains('=');
-        if !word.starts_with('-') && (!takes_value || FLAGS.contains(&before)) {
+        let is_option = word.starts_with('-');
+        if !is_option && !is_value {
             return Some(*word);
         }
-        before = *word;
+        is_value = is_option && !word.contains('=') && !FLAGS.contains(word);
     }
     None
 }

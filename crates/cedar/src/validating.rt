@@ -1,6 +1,8 @@
 //! `validate`: the report on policies, and what is to be warned of.
+ghost use Rattle.std.specs.Prelude.{◌-◌, ◌<◌, ◌^◌};
+
 use crate::discarding::Discarding;
-use crate::explaining::Explainer;
+use crate::explaining::{Explainer, Read};
 use crate::format::Forms;
 use crate::running::say;
 use base_lines::{Sink, StdSink};
@@ -57,7 +59,9 @@ fn report_to<K: Sink + Drop>(
     forms: Forms,
     sink: K,
     read: &mut Option<(Schema, PolicySet)>,
-) -> Ran {
+) -> Ran
+    requires { K.failed sink < 2 ^ 64 - 1 }
+{
     let mut sink = CountingSink::new(sink);
     let end = validate_keeping(rt.alloc(), files, &mut sink, words.settings, read);
     let counts = sink.counts();
@@ -75,25 +79,34 @@ fn report_to<K: Sink + Drop>(
     }
 }
 
-// What the report for people says of a run: its faults and warnings, or that there are none.
-fn says(explainer: Explainer<'_>, ran: Ran) -> Result<String, AllocError> {
-    if ran.warns {
-        return explainer.warnings();
+// What is said of a run: why it ended so, which faults and warnings there are, and which templates were not looked at. The report for
+// people says, too, that there is nothing to say.
+fn text_of(
+    explainer: Explainer<'_>,
+    forms: Forms,
+    ran: Ran,
+    read: Read<'_>,
+) -> Result<String, AllocError> {
+    let explained = if ran.warns {
+        explainer.warnings(read)?
+    } else {
+        explainer.text(ran.end, ran.counts.refused_file, read)?
+    };
+    let mut says = Draft::from_text(explained);
+    if forms.report == Format::Human && ran.end == End::Done && !ran.warns {
+        says.add_shown(explainer.files.name(Role::Policies).unwrap_or(""));
+        says.add(": no faults, no warnings\n");
     }
-    if ran.end != End::Done {
-        return explainer.text(ran.end, ran.counts.refused_file);
-    }
-    let mut says = Draft::new(explainer.rt.alloc());
-    says.add_shown(explainer.files.name(Role::Policies).unwrap_or(""));
-    says.add(": no faults, no warnings\n");
+    let unlinked = explainer.unlinked(read)?;
+    says.add(unlinked.as_str());
     says.done()
 }
 
 // Prints the report for people, and says how that ended.
-fn print_report(explainer: Explainer<'_>, ran: Ran) -> End {
-    match says(explainer, ran) {
+fn print_report(explainer: Explainer<'_>, says: Result<String, AllocError>, end: End) -> End {
+    match says {
         Ok(says) => match explainer.rt.print(says.as_str()) {
-            Ok(()) => ran.end,
+            Ok(()) => end,
             Err(_) => End::Device,
         },
         Err(AllocError) => End::Memory,
@@ -102,16 +115,30 @@ fn print_report(explainer: Explainer<'_>, ran: Ran) -> End {
 
 // Says in words what the run found, where it is to be said, and how the program then ends. A file that cannot be read is named on
 // standard error.
-fn explained(explainer: Explainer<'_>, forms: Forms, ran: Ran) -> End {
+fn explained(
+    rt: &HostRuntime,
+    files: &NamedFiles<'_, HostRuntime>,
+    words: &Words<'_>,
+    forms: Forms,
+    ran: Ran,
+    read: Read<'_>,
+) -> End {
+    let Some(format) = words_of(forms) else {
+        return ran.end;
+    };
+    let explainer = Explainer {
+        rt,
+        files,
+        words,
+        format,
+    };
     match (forms.report, ran.end) {
-        (Format::Human, End::Done | End::Faults | End::Refused) => print_report(explainer, ran),
+        (Format::Human, End::Done | End::Faults | End::Refused) => {
+            print_report(explainer, text_of(explainer, forms, ran, read), ran.end)
+        }
         _ if forms.explanations.is_none() => ran.end,
         _ => {
-            explainer.say(if ran.warns {
-                explainer.warnings()
-            } else {
-                explainer.text(ran.end, ran.counts.refused_file)
-            });
+            explainer.say(text_of(explainer, forms, ran, read));
             ran.end
         }
     }
@@ -130,17 +157,7 @@ pub fn run_validate(rt: &HostRuntime, words: &Words<'_>, forms: Forms) -> u8 {
         Format::Human => report_to(rt, &files, words, forms, Discarding, &mut read),
     };
     say(rt, ran.end);
-    let mut end = ran.end;
-    if let Some(format) = words_of(forms) {
-        let explainer = Explainer {
-            rt,
-            files: &files,
-            words,
-            format,
-            read: read.as_ref(),
-        };
-        end = explained(explainer, forms, ran);
-    }
+    let end = explained(rt, &files, words, forms, ran, read.as_ref());
     // The system takes all memory at once when the program ends.
     forget(read);
     if end != ran.end {

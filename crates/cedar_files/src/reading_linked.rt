@@ -18,10 +18,7 @@ use std::alloc::Global;
 ///
 /// `Refused` at the first file that is refused, `Unnamed` where no schema or no policies are named, `Device` where a file can't be
 /// read, and `Memory` when out of memory. Never `Faults`, since nothing is validated.
-pub fn read_linked<F: Files>(
-    alloc: Global,
-    files: &F,
-) -> Result<(Schema, PolicySet), Unprepared>
+pub fn read_linked<F: Files>(alloc: Global, files: &F) -> Result<(Schema, PolicySet), Unprepared>
     ensures held { IfOk result (λ read. Hold (F.holds files.now) read.0 read.1) }
     ensures unprepared { IfErr result (IsUnreported (F.holds files.now)) }
 {

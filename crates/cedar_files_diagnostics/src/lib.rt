@@ -48,6 +48,7 @@ mod second_place;
 mod syntax_hint;
 mod token_words;
 mod unexpected;
+mod unlinked;
 mod words;
 
 pub use brought::explain_request_with_entities;
@@ -63,7 +64,8 @@ pub use faulty::{explain_policy_faults, explain_report};
 pub use format::Format;
 pub use guards::has_false_guard;
 pub use json_text::{explain_json, json_offset};
-pub use messages::{impossible_policies, not_again, refused_lines, unreadable};
+pub use messages::{impossible_policies, not_again, refused_lines, unlinked_templates, unreadable};
 pub use policy_text::{PolicyPlace, explain_policies, policy_place};
 pub use refused::RefusedFile;
+pub use unlinked::count_unlinked;
 pub use words::explain_number;

@@ -92,6 +92,26 @@ pub fn impossible_policies(
     line_of(alloc, format, "warning", says.as_str())
 }
 
+/// Says how many templates were not validated, since they have no link; nothing if each has one.
+pub fn unlinked_templates(
+    alloc: Global,
+    format: Format,
+    count: usize,
+) -> Result<String, AllocError> {
+    if count == 0 {
+        return Ok(String::new(alloc));
+    }
+    let mut says = Draft::new(alloc);
+    says.add_display(count);
+    says.add(if count == 1 {
+        " template has no link, so it was not validated"
+    } else {
+        " templates have no link, so they were not validated"
+    });
+    let says = says.done()?;
+    line_of(alloc, format, "note", says.as_str())
+}
+
 /// Says how many request lines were refused, and which was the first; nothing if none was.
 pub fn refused_lines(
     alloc: Global,

@@ -3,7 +3,7 @@
 
   tools/gate/built.py [FILE]               prints the path of a file: of that of release/, if it was built from these sources and is for this
                                            machine; or else of the one that was built here, if no source of it is newer
-  tools/gate/built.py --released [FILE]    only the one of release/: `cedar`, `test_cases`, `libcedar_c.a` or `playground.html`
+  tools/gate/built.py --released [FILE]    only the one of release/: `cedar`, `libcedar_c.a` or `playground.html`
   tools/gate/built.py --current [FILE]     only the one that was built here: one of these, the program of another crate, or CRATE_tests
   tools/gate/built.py --digest [FILE]      prints the SHA-256 of the sources of a file: of the lines of its crates in crates.txt, and of the
                                            SHA-256 and the path of each file of their src, specs and proofs

@@ -1,5 +1,4 @@
-"""What tools/running/bindings has the bindings answer and refuse: the examples of examples/, broken files, and the cases of answers of
-crates/test_cases."""
+"""What tools/running/bindings has the bindings answer and refuse: the examples of examples/, broken files, and worked answers."""
 import collections
 import glob
 import json
@@ -8,11 +7,12 @@ import re
 
 TOP = os.path.dirname(os.path.dirname(os.path.dirname(os.path.abspath(__file__))))
 EXAMPLES = os.path.join(TOP, 'examples')
-CASES = os.path.join(TOP, 'crates', 'test_cases', 'data')
+# The worked runs of the program, and the cases of the kind `answer`.
+WORKED = ('tests/program/*.jsonl', 'tests/unproved/cases/data/answers.jsonl')
 FILES = ('schema.json', 'policies.cedar', 'links.json', 'entities.json')
 # The text of a case of the kind `answer`: the decision, the determining policies, and after `!` each error with its policy.
 ANSWER = re.compile(r'(allow|deny)((?: \w+)*)((?:!\w+ \w+)*)')
-ANY_DECIMAL = '--any-decimal'
+ANY_DECIMAL, IN_LINES = '--any-decimal', '--entities-in-lines'
 UID = re.compile(r'(\w+(?:::\w+)*)::"([^"\\]*)"')
 # Broken files: the example, the file, and in its place a file of the example or a text.
 BROKEN = [('notes', 'policies.cedar', 'broken_policies.cedar'), ('tenants', 'policies.cedar', 'broken_policies.cedar'),
@@ -76,8 +76,8 @@ def write_broken(folder, example, changed, text):
 
 
 def cases_of_answers():
-    """The cases of crates/test_cases that are runs of `cedar authorize`, and those that are answers."""
-    for path in sorted(glob.glob(os.path.join(CASES, '*.jsonl'))):
+    """The worked runs of `cedar authorize`, and the cases that are answers."""
+    for path in sorted(path for it in WORKED for path in glob.glob(os.path.join(TOP, it))):
         with open(path, encoding='utf-8') as file:
             yield from (it for it in map(json.loads, file) if it['kind'] in ('authorize', 'answer'))
 
@@ -100,7 +100,7 @@ def why_left_out(case):
         return 'a file is missing, and only the program looks for one'
     if text_of(case, 'links') == b'':
         return 'a binding takes links of no bytes for no file'
-    if set(case.get('args', ())) - {ANY_DECIMAL}:
+    if set(case.get('args', ())) - {ANY_DECIMAL, IN_LINES}:
         return 'an option is only of the program'
     if 'stdout' not in case:
         return 'only a part of the wanted text is known'
@@ -138,7 +138,7 @@ def write_case(folder, case):
         if text is not None:
             with open(os.path.join(folder, file), 'wb') as to:
                 to.write(text)
-    settings = ANY_DECIMAL in case.get('args', ()), case.get('entities_in_lines', False)
+    settings = (it in case.get('args', ()) for it in (ANY_DECIMAL, IN_LINES))
     return '%s %d %d %d\n' % (case['name'], 0 if is_answer else case['status'], *settings)
 
 

@@ -1,5 +1,4 @@
 """What tools/running/page_test gives to the module of the playground: rows of texts, from tests and made at random."""
-import glob
 import json
 import os
 import random
@@ -51,33 +50,11 @@ def row_of(name, words, files, lines):
 def cases():
     """The rows of tools/running/cases: the row, the subcommand, the standard output and the status that are wanted, and None for the words."""
     found = script('cases')
-    for case in (*found.examples(), *found.tried(), *found.refusals(), *found.data(), *found.any_decimal(), *found.sizes()):
+    for case in (*found.examples(), *found.tried(), *found.refusals(), *found.data(), *found.any_decimal(), *found.sizes(),
+                 *found.worked()):
         row = row_of(case.name, case.words, case.files, case.lines) if case.words[0] in ('validate', 'authorize') else None
-        if row and not case.lacks_memory and not case.holds:
+        if row and not case.lacks_memory and not case.holds and case.status != 4:
             yield row, case.words[0], case.stdout, case.status, None
-
-
-def worked():
-    """The rows of crates/test_cases/data that are runs of `validate` and `authorize`, as those of `cases`. The page takes no lines that
-    bring entities."""
-    for path in sorted(glob.glob(os.path.join(TOP, 'crates', 'test_cases', 'data', '*.jsonl'))):
-        with open(path, encoding='utf-8') as file:
-            found = [json.loads(line) for line in file]
-        for case in found:
-            texts = {name: text_of(case, name) for name in (*FILES, 'stdin') if text_of(case, name) is not None}
-            needed = {'validate': {'schema', 'policies'}, 'authorize': {'schema', 'policies', 'entities'}}.get(case['kind'])
-            if needed and needed <= set(texts) and not case.get('entities_in_lines'):
-                settings = int('--any-decimal' in case.get('args', []))
-                row = Row(case['name'], {'entities': b'[]', 'requests': texts.get('stdin', b''), **texts}, settings)
-                yield row, case['kind'], case['stdout'].encode(), case['status'], None
-
-
-def text_of(case, name):
-    """The bytes of an input of a case, or None."""
-    text = case.get(name)
-    if isinstance(text, dict):
-        return bytes(text['bytes'])
-    return text.encode() if isinstance(text, str) else None
 
 
 def diagnosed():

@@ -5,7 +5,7 @@
 
 Each folder is a module of one crate, `examples`, which is made in a copy of the repository. Its files end in .rt.in, since the gate
 refuses a file that ends in .rt and is in no crate; `crate::` in them is the folder. A folder with `data/` has cases, JSON Lines with
-one case a line: each line is a test, which calls the folder's `check`."""
+one case a line: each file is a test, which calls the folder's `check`."""
 import json
 import os
 import re
@@ -51,23 +51,27 @@ def data_of(folder):
     return paths(folder + '/data/*.jsonl')
 
 
+def lines_of(files):
+    """The lines of files, each with its place."""
+    return [('%s:%d' % (path, at), line) for path in files for at, line in enumerate(read(path), 1) if line]
+
+
 def cases_of(folder):
     """The cases of a folder, each with its place."""
-    return [('%s:%d' % (path, at), line) for path in data_of(folder) for at, line in enumerate(read(path), 1) if line]
+    return lines_of(data_of(folder))
 
 
-def literal(line):
-    """The bytes of a line, as Rattle writes them."""
-    return 'b"%s"' % ''.join(chr(it) if 32 <= it < 127 and it not in b'"\\' else '\\x%02x' % it for it in line.encode())
+def literal(text):
+    """The bytes of a text, as Rattle writes them."""
+    return 'b"%s"' % ''.join(chr(it) if 32 <= it < 127 and it not in b'"\\' else '\\x%02x' % it for it in text.encode())
 
 
 def tests_of_cases(name, folder):
-    """The module of the tests that the cases of a folder are, each line with its place."""
+    """The module of the tests that the files of cases of a folder are, each line with its place."""
     made = [('', 'use crate::%s::check;' % name)]
-    for place, line in cases_of(folder):
-        function = re.sub(r'\W', '_', json.loads(line)['name']).lower()
-        made += [(place, it) for it in ('', '#[test]', 'fn case_%s(rt: HostRuntime) {' % function,
-                                        '    check(&rt, rt.alloc(), %s);' % literal(line), '}')]
+    for path in data_of(folder):
+        made += [(path, it) for it in ('', '#[test]', 'fn %s(rt: HostRuntime) {' % os.path.basename(path).removesuffix('.jsonl'),
+                                       '    check(&rt, rt.alloc(), %s);' % literal('\n'.join(read(path))), '}')]
     return made
 
 
@@ -91,15 +95,25 @@ def modules(only=None):
     return made
 
 
+def tests_in(lines):
+    """The functions of a module that are tests, each with its place."""
+    return [(lines[at + 1][1].split('(')[0].removeprefix('fn '), lines[at + 1][0])
+            for at, (_, line) in enumerate(lines) if line.strip() == '#[test]']
+
+
+def counted(place):
+    """The places that a test denotes, by its own: those of its cases, or that place."""
+    return [it for it, _ in lines_of([place])] if place.endswith('.jsonl') else [place]
+
+
 def count_tests(made):
-    """How many tests modules have."""
-    return sum(line.strip() == '#[test]' for lines in made.values() for _, line in lines)
+    """How many tests modules have. Each case is one."""
+    return sum(len(counted(place)) for lines in made.values() for _, place in tests_in(lines))
 
 
 def place_of(made, test_module, function):
     """The place of a test."""
-    lines = made.get(test_module.replace('::', '/'), [])
-    return next((place for place, line in lines if line.startswith('fn %s(' % function)), test_module)
+    return dict(tests_in(made.get(test_module.replace('::', '/'), []))).get(function, test_module)
 
 
 def used_by(made):

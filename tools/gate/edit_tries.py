@@ -25,7 +25,9 @@ PLACED = re.compile(r'^(?:note: )?(?:\./)?(src/\S+?):(\d+):\d+: .*?\(`([^`]+)`\)
 REJECTED = re.compile(r'^(?:\./)?(src/\S+?):(\d+):\d+: error\[[\w-]+\]', re.M)
 # An error in a proof file, and what the prover says where the file names what an edit took away, which says nothing of a contract.
 IN_PROOF = re.compile(r'^(?:note: )?(?:\./)?proofs/(\S+)/\w+\.antt:\d+:\d+: (.*)$', re.M)
-LOST_NAME = re.compile(r'has no field|is not in scope|has no `|was not admitted')
+LOST_NAME = re.compile(r'has no field|is not in scope|has no `|was not admitted|was rejected')
+# An error in a lemma of a file that belongs to no function.
+IN_LEMMA = re.compile(r'^(?:\./)?proofs/\w+\.antt:\d+:\d+: error: `(\w+)`: (.*)$', re.M)
 # The head of an impl: its parameters, its trait and its type; a parameter; and a name that is neither a lifetime nor a module.
 HEAD = re.compile(r'(?:unsafe )?impl(<.*?(?<!-)>)? (?:(.*) for )?(.*)')
 PARAMETER = re.compile(r'[<,] *(\w+)(?=[:,>])')
@@ -80,7 +82,8 @@ class Check:
         for folder, said in IN_PROOF.findall(self.said):
             errors.setdefault(folder.replace('/', '::'), []).append(said)
         return [(name, goal[1]) for name, said in VERDICT.findall(self.said) for goal in [GOAL.search(said)] if goal] + \
-               [(name, 'proof') for name, said in errors.items() if not all(map(LOST_NAME.search, said))]
+               [(name, 'proof') for name, said in errors.items() if not all(map(LOST_NAME.search, said))] + \
+               [(name, 'proof') for name, said in IN_LEMMA.findall(self.said) if not LOST_NAME.search(said)]
 
 
 def path_in(function):

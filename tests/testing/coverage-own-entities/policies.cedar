@@ -1,0 +1,1 @@
+permit(principal, action, resource) when { principal.age > 17 };

@@ -1,0 +1,2 @@
+@id("typo")
+permit (principal, action, resource) when { resource.nam == "x" };

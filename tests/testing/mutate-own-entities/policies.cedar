@@ -1,0 +1,1 @@
+permit (principal in Team::"staff", action, resource) when { principal.age > 17 };

@@ -1,0 +1,2 @@
+permit(principal, action, resource)
+when { "é😀" != "x" && principal == User::"bob" };// a comment permit(principal,action,resource) when { principal == User::"zoe" };

@@ -1,0 +1,90 @@
+"""The command line of cedar-test."""
+import difflib
+from dataclasses import dataclass, field
+
+from testing.printable import Stop, printable
+
+USAGE = 'Usage: cedar-test [OPTIONS] --schema <FILE> --policies <FILE> <CASES>...'
+LETTERS = {'s': 'schema', 'p': 'policies', 'l': 'links', 'e': 'entities'}
+VALUES = ('schema', 'policies', 'links', 'entities', 'junit', 'program')
+FLAGS = ('any-decimal', 'json', 'all', 'coverage', 'mutate', 'strict', 'help', 'test')
+
+
+@dataclass
+class Options:
+    """What the command line says."""
+    schema: str = None
+    policies: str = None
+    links: str = None
+    entities: str = None
+    junit: str = None
+    program: str = None
+    any_decimal: bool = False
+    json: bool = False
+    all: bool = False
+    coverage: bool = False
+    mutate: bool = False
+    strict: bool = False
+    help: bool = False
+    test: bool = False
+    cases: list = field(default_factory=list)
+
+
+def refused(words, tip=None):
+    """The end for a command line that is refused."""
+    tip = '\n\n  tip: %s' % tip if tip else ''
+    return Stop(4, "error: %s%s\n\n%s\n\nFor more information, try '--help'." % (words, tip, USAGE))
+
+
+def name_of(word):
+    """The option that a word names, and its value after `=` or a letter, or None."""
+    if not word.startswith('--'):
+        name = {**LETTERS, 'h': 'help'}.get(word[1])
+        return name, (word[2:].removeprefix('=') or None)
+    name, equals, value = word[2:].partition('=')
+    return (name if name in VALUES + FLAGS else None), (value if equals else None)
+
+
+def unknown(word):
+    """The end for an option that there is not."""
+    near = difflib.get_close_matches(word.partition('=')[0], ['--' + it for it in VALUES + FLAGS], 1)
+    return refused("unexpected argument '%s' found" % printable(word), "a similar argument exists: '%s'" % near[0] if near else None)
+
+
+def read_words(words):
+    """The options that the words give."""
+    options, words = Options(), list(words)
+    while words:
+        word = words.pop(0)
+        if word == '--':
+            options.cases += words
+            break
+        if word == '-' or not word.startswith('-'):
+            options.cases.append(word)
+            continue
+        name, value = name_of(word)
+        if name is None:
+            raise unknown(word)
+        if name in FLAGS and value is not None:
+            raise refused("unexpected value for '--%s' found; it takes none" % name)
+        if name in VALUES and value is None:
+            if not words or words[0].startswith('-') and words[0] != '-':
+                raise refused("a value is required for '--%s <FILE>' but none was supplied" % name)
+            value = words.pop(0)
+        if name not in FLAGS and name != 'program' and getattr(options, name) is not None:
+            raise refused("the argument '--%s <FILE>' cannot be used multiple times" % name)
+        setattr(options, name.replace('-', '_'), True if name in FLAGS else value)
+    return checked(options)
+
+
+def checked(options):
+    """The options, if they fit together."""
+    if options.help or options.test:
+        return options
+    missing = ['--%s <FILE>' % it for it in ('schema', 'policies') if not getattr(options, it)]
+    missing += [] if options.cases else ['<CASES>...']
+    if missing:
+        raise refused('the following required arguments were not provided:\n  ' + '\n  '.join(missing))
+    if options.strict and not (options.coverage or options.mutate):
+        raise refused("the argument '--strict' needs '--coverage' or '--mutate'")
+    return options

@@ -5,6 +5,8 @@
 #
 # tools/gate/built.py compares program and sources, which takes a fifth of a second. What it found is kept in .cedar with the inode, the
 # size and the times of each file that it read. It compares again where one of these differs, and where nothing could be kept.
+#
+# `./cedar test` runs tools/cedar-test, which tests policies, with that program.
 set -eu
 script=${BASH_SOURCE[0]}
 [ ! -L "$script" ] || script=$(readlink -f -- "$script")
@@ -16,9 +18,16 @@ fail() {
   exit 1
 }
 
+# Tests policies in place of this script.
+run_tests() {
+  command -v python3 > /dev/null || fail "python3 is not on the path, and runs tools/cedar-test: install it"
+  exec python3 "$top/tools/cedar-test" "$@"
+}
+
 # Runs a program in place of this script.
 run() {
   [ -x "$1" ] || fail "$1 cannot be executed: run chmod +x, or copy it to a file system that is not mounted with noexec"
+  [ "${2:-}" != test ] || run_tests --program "$1" "${@:3}"
   exec "$@"
 }
 
@@ -45,6 +54,9 @@ if found=$(python3 "$top/tools/gate/built.py" 2> /dev/null); then
   fi
   run "$top/$program" "$@"
 fi
+
+# Nothing is built for tests of policies: the script says what it lacks, and may be given a program.
+[ "${1:-}" != test ] || run_tests "${@:2}"
 
 # Before anything is built, a command line or a file that the program would refuse is refused.
 python3 "$top/tools/running/command_line" "$@" || exit $?

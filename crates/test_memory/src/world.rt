@@ -1,8 +1,10 @@
-//! A schema of documents, policies and a link, and entities that conform to it, which are made ready by two calls at most.
+//! A schema of documents, policies and a link, and entities that conform to it, each read and made ready by two calls at most.
 use crate::again::again;
-use cedar_auth::Ready;
-use cedar_check::Settings;
-use cedar_files::{MemoryFiles, Unprepared, read_all};
+use cedar_ast::{Link, PolicySet};
+use cedar_auth::{NotReady, NotValidated, Ready, Validated};
+use cedar_conform::read_links;
+use cedar_parser::parse;
+use cedar_schema::Schema;
 use std::alloc::Global;
 use std::test::Fail;
 
@@ -39,33 +41,116 @@ pub const ANN: &[u8] =
 pub const DELETE: &[u8] =
     br#"{"principal":"User::\"ann\"","action":"Action::\"delete\"","resource":"Doc::\"d\""}"#;
 
-// What is ready by these files.
-fn read<'f>(alloc: Global, policies: &'f str, links: &'f [u8]) -> Result<Ready, Unprepared> {
-    let files = MemoryFiles {
-        schema: Some(DOCUMENTS),
-        policies: Some(policies.as_bytes()),
-        links: Some(links),
-        entities: Some(ENTITIES),
-    };
-    read_all(alloc, &files, Settings::default())
-}
-
-// The number of memory, where it was refused.
-fn number_of(unprepared: &Unprepared) -> u16 {
-    match unprepared {
-        Unprepared::Memory => 1,
-        _ => 0,
+fn schema(alloc: Global) -> Result<Schema, Fail> {
+    match Schema::read(alloc, DOCUMENTS) {
+        Ok(schema) => Ok(schema),
+        Err(fault) => {
+            let number = fault.number();
+            drop(fault);
+            again(number, Schema::read(alloc, DOCUMENTS))
+        }
     }
 }
 
-/// The policies of the text, with those that the links make, ready to answer over the entities.
-pub fn ready(alloc: Global, policies: &str, links: &[u8]) -> Result<Ready, Fail> {
-    match read(alloc, policies, links) {
-        Ok(ready) => Ok(ready),
-        Err(unprepared) => {
-            let number = number_of(&unprepared);
-            drop(unprepared);
-            again(number, read(alloc, policies, links))
+fn policies(alloc: Global, text: &str) -> Result<PolicySet, Fail> {
+    match parse(alloc, text) {
+        Ok(policies) => Ok(policies),
+        Err(fault) => {
+            let number = fault.number();
+            drop(fault);
+            again(number, parse(alloc, text))
         }
+    }
+}
+
+fn links(alloc: Global, bytes: &[u8]) -> Result<Vec<Link>, Fail> {
+    match read_links(alloc, bytes) {
+        Ok(links) => Ok(links),
+        Err(fault) => {
+            let number = fault.number();
+            drop(fault);
+            again(number, read_links(alloc, bytes))
+        }
+    }
+}
+
+fn enter(policies: &mut PolicySet, link: &Link) -> Result<(), Fail> {
+    match policies.link(link.template.as_str(), link.id.as_str(), &link.slots) {
+        Ok(()) => Ok(()),
+        Err(fault) => {
+            let number = fault.number();
+            drop(fault);
+            let second = policies.link(link.template.as_str(), link.id.as_str(), &link.slots);
+            again(number, second)
+        }
+    }
+}
+
+fn enter_all(policies: &mut PolicySet, links: &[Link]) -> Result<(), Fail> {
+    for link in links {
+        enter(policies, link)?;
+    }
+    Ok(())
+}
+
+// The policies of the text, and those that the links make.
+fn linked(alloc: Global, text: &str, bytes: &[u8]) -> Result<PolicySet, Fail> {
+    let links = links(alloc, bytes)?;
+    let linked = linked_by(alloc, text, &links);
+    drop(links);
+    linked
+}
+
+fn linked_by(alloc: Global, text: &str, links: &[Link]) -> Result<PolicySet, Fail> {
+    let mut policies = policies(alloc, text)?;
+    let entered = enter_all(&mut policies, links);
+    match entered {
+        Ok(()) => Ok(policies),
+        Err(failure) => {
+            drop(policies);
+            Err(failure)
+        }
+    }
+}
+
+// The second call, by what the first handed back.
+fn validated_again(alloc: Global, refused: NotValidated) -> Result<Validated, Fail> {
+    let number = refused.fault.number().unwrap_or(0);
+    again(
+        number,
+        Validated::new(alloc, refused.schema, refused.policies),
+    )
+}
+
+fn validated(alloc: Global, text: &str, links: &[u8]) -> Result<Validated, Fail> {
+    let schema = schema(alloc)?;
+    match linked(alloc, text, links) {
+        Ok(policies) => validated_by(alloc, schema, policies),
+        Err(failure) => {
+            drop(schema);
+            Err(failure)
+        }
+    }
+}
+
+fn validated_by(alloc: Global, schema: Schema, policies: PolicySet) -> Result<Validated, Fail> {
+    match Validated::new(alloc, schema, policies) {
+        Ok(validated) => Ok(validated),
+        Err(refused) => validated_again(alloc, refused),
+    }
+}
+
+// The second call, by what the first handed back.
+fn ready_again(alloc: Global, refused: NotReady) -> Result<Ready, Fail> {
+    let number = refused.fault.number();
+    again(number, Ready::new(alloc, refused.validated, ENTITIES))
+}
+
+/// The policies of the text, with those that the links make, ready to answer over the entities.
+pub fn ready(alloc: Global, text: &str, links: &[u8]) -> Result<Ready, Fail> {
+    let validated = validated(alloc, text, links)?;
+    match Ready::new(alloc, validated, ENTITIES) {
+        Ok(ready) => Ok(ready),
+        Err(refused) => ready_again(alloc, refused),
     }
 }

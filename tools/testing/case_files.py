@@ -7,9 +7,11 @@ from dataclasses import dataclass
 
 import cedar_forms
 from cedar_forms import NoJson, Notes, Number
+from testing import hints
 from testing.printable import Stop, printable, shortened
 
 KEYS = ('name', 'request', 'entities', 'decision', 'reason', 'errors', 'num_errors', 'refused')
+REQUEST_KEYS = ('principal', 'action', 'resource', 'context')
 DECISIONS = ('allow', 'deny')
 SPACE = re.compile(r'[ \t\r\n]*')
 ENDINGS = ('.json', '.jsonl')
@@ -41,7 +43,18 @@ class Wrong(Exception):
 
 
 class Broken(Exception):
-    """A fault that ends the reading of a file: the offset of its place, and words."""
+    """A fault that ends the reading of a file: the offset of its place, words, and whether the offset has a column or just a line."""
+
+    def __init__(self, at, words, has_column=False):
+        super().__init__(words)
+        self.at, self.words, self.has_column = at, words, has_column
+
+    def place(self, text):
+        """The line and perhaps the column of the fault in its text, as the end of the name of a file."""
+        if self.at is None:
+            return ''
+        line, column = text.count('\n', 0, self.at) + 1, self.at - text.rfind('\n', 0, self.at)
+        return ':%d:%d' % (line, column) if self.has_column else ':%d' % line
 
 
 def decoded(text, at):
@@ -49,12 +62,13 @@ def decoded(text, at):
     try:
         return cedar_forms.DECODER.raw_decode(text, at)
     except NoJson as fault:
-        raise Broken(at, str(fault)) from fault
+        place = hints.place_of_constant(text, at, str(fault))
+        raise Broken(at if place is None else place, str(fault), place is not None) from fault
     except RecursionError as fault:
         raise Broken(at, 'the JSON is nested too deeply') from fault
     except ValueError as fault:
-        place = getattr(fault, 'pos', at)
-        raise Broken(place, 'invalid JSON: unexpected end of input' if not text[place:].strip() else 'invalid JSON here') from fault
+        place = hints.place_of_fault(text, getattr(fault, 'pos', at))
+        raise Broken(place, hints.words_of_fault(text, place, getattr(fault, 'msg', '')), True) from fault
 
 
 def values_in(text):
@@ -70,12 +84,12 @@ def values_in(text):
         if is_list and at < len(text):
             ended = text[at] == ']'
             if text[at] not in ',]':
-                raise Broken(at, 'invalid JSON here: expected `,` or `]`')
+                raise Broken(at, 'invalid JSON here: expected `,` or `]`', True)
             at = at if ended else SPACE.match(text, at + 1).end()
     if is_list and not ended:
-        raise Broken(at, 'invalid JSON: unexpected end of input')
+        raise Broken(at, 'invalid JSON: unexpected end of input', True)
     if is_list and SPACE.match(text, at + 1).end() < len(text):
-        raise Broken(SPACE.match(text, at + 1).end(), 'expected nothing after the list of cases')
+        raise Broken(SPACE.match(text, at + 1).end(), 'expected nothing after the list of cases', True)
 
 
 def shown(value):
@@ -157,7 +171,8 @@ def case_of(node, file, line, number):
         raise Wrong('a case must be an object, not %s' % shown(node))
     for key in node:
         if key not in KEYS:
-            tip = near(key, KEYS) or '; its keys are ' + ', '.join(KEYS)
+            tip = '; write it in `request`' if key in REQUEST_KEYS else near(key, KEYS)
+            tip = tip or '; its keys are ' + ', '.join(KEYS)
             raise Wrong('a case has no key `%s`%s' % (shortened(printable(key), 40), tip))
     if 'request' not in node:
         raise Wrong('the key `request` is missing')
@@ -215,37 +230,41 @@ class Reader:
     def __init__(self):
         self.cases, self.faults, self.places = [], [], {}
 
-    def fault(self, file, line, words):
+    def fault(self, file, place, words):
         """Notes a fault of a file."""
-        self.faults.append('%s%s: %s' % (printable(file), '' if line is None else ':%d' % line, words))
+        self.faults.append('%s%s: %s' % (printable(file), place, words))
 
     def enter(self, node, file, line, number):
         """Enters a case, or what is wrong with it."""
         try:
             case = case_of(node, file, line, number)
         except Wrong as fault:
-            self.fault(file, line, 'case %d: %s' % (number, fault))
+            self.fault(file, ':%d' % line, 'case %d: %s' % (number, fault))
             return
         if case.name in self.places:
-            self.fault(file, line, 'case %d: the name `%s` is that of the case at %s, too' % (
+            self.fault(file, ':%d' % line, 'case %d: the name `%s` is that of the case at %s, too' % (
                 number, shortened(printable(case.name), 60), self.places[case.name]))
         self.places.setdefault(case.name, '%s:%d' % (printable(file), line))
         self.cases.append(case)
 
     def read(self, path):
         """Reads a file."""
-        name, line, before, number = 'standard input' if path == '-' else path, 1, 0, 0
+        name, line, before, number, text = 'standard input' if path == '-' else path, 1, 0, 0, ''
         try:
             text = content(path)
             for at, node in values_in(text):
                 line, before, number = line + text.count('\n', before, at), at, number + 1
+                other = hints.other_kind(node) if number == 1 else None
+                if other:
+                    self.fault(name, '', other)
+                    return
                 self.enter(node, name, line, number)
         except Broken as fault:
-            at, words = fault.args
-            self.fault(name, None if at is None else text.count('\n', 0, at) + 1, words)
+            other = hints.other_text(text) if not number else None
+            self.fault(name, '' if other else fault.place(text), other or fault.words)
         else:
             if not number:
-                self.fault(name, None, 'there is no case in this file')
+                self.fault(name, '', 'there is no case in this file')
 
 
 def read_cases(paths, most=20):

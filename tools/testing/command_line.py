@@ -8,6 +8,13 @@ USAGE = 'Usage: cedar-test [OPTIONS] --schema <FILE> --policies <FILE> <CASES>..
 LETTERS = {'s': 'schema', 'p': 'policies', 'l': 'links', 'e': 'entities'}
 VALUES = ('schema', 'policies', 'links', 'entities', 'junit', 'program')
 FLAGS = ('any-decimal', 'json', 'all', 'coverage', 'mutate', 'strict', 'help', 'test')
+# What to write in place of an option of another tool.
+OF_CASES, OF_LINKS = 'files of cases have no option: write their names alone', "write '--links <FILE>'"
+OF_FORM, OF_MORE = "'--json' writes JSON, and '--junit <FILE>' a report", "'--all' shows each policy of a case that differs"
+TIPS = {'--verbose': OF_MORE, '-v': OF_MORE, '--cases': OF_CASES, '--tests': OF_CASES, '-t': OF_CASES,
+        '--template-linked': OF_LINKS, '-k': OF_LINKS, '--format': OF_FORM, '--output': OF_FORM,
+        '--schema-format': 'a schema is always JSON: leave it out',
+        '--policy-format': 'policies are always written as text: leave it out'}
 
 
 @dataclass
@@ -47,8 +54,15 @@ def name_of(word):
 
 def unknown(word):
     """The end for an option that there is not."""
-    near = difflib.get_close_matches(word.partition('=')[0], ['--' + it for it in VALUES + FLAGS], 1)
-    return refused("unexpected argument '%s' found" % printable(word), "a similar argument exists: '%s'" % near[0] if near else None)
+    name = word.partition('=')[0]
+    near = difflib.get_close_matches(name, ['--' + it for it in VALUES + FLAGS], 1, 0.7)
+    tip = TIPS.get(name) or ("a similar argument exists: '%s'" % near[0] if near else None)
+    return refused("unexpected argument '%s' found" % printable(word), tip)
+
+
+def has_one_dash(word):
+    """Whether a word is a long option with one dash."""
+    return word[1:].partition('=')[0] in VALUES + FLAGS
 
 
 def read_words(words):
@@ -62,6 +76,9 @@ def read_words(words):
         if word == '-' or not word.startswith('-'):
             options.cases.append(word)
             continue
+        if has_one_dash(word):
+            tip = "a long option has two dashes: '-%s'" % word.partition('=')[0]
+            raise refused("unexpected argument '%s' found" % printable(word), tip)
         name, value = name_of(word)
         if name is None:
             raise unknown(word)

@@ -60,6 +60,12 @@ def spans(policy, places):
             yield part, places.of(part[0].start), places.of(part[-1].end)
 
 
+def unlinked(statements, links):
+    """The ids of the templates that have no link."""
+    linked = {template for _, template in links}
+    return [it.id for it in statements if it.is_template() and it.id not in linked]
+
+
 def covered(statements, links, reasons, places):
     """The coverage of cases."""
     results, deciding = decided(reasons)
@@ -76,6 +82,4 @@ def covered(statements, links, reasons, places):
         for kind, holds, place, words in checks:
             counts[kind].append(holds)
             missed += [] if holds else [(policy.id, place, words)]
-    linked = {template for _, template in links}
-    return Coverage(missed, *((sum(it), len(it)) for it in counts.values()),
-                    [it.id for it in statements if it.is_template() and it.id not in linked])
+    return Coverage(missed, *((sum(it), len(it)) for it in counts.values()), unlinked(statements, links))

@@ -20,7 +20,7 @@ def coverage_lines(file, coverage):
     for policy, (line, column), words in coverage.missed:
         yield '%s:%d:%d: %s: %s' % (printable(file), line, column, printable(policy), words)
     for template in coverage.unlinked:
-        yield '%s: the template has no link, so it is not counted' % printable(template)
+        yield '%s: the template has no link, so it has no effect' % printable(template)
     yield from coverage.counts()
 
 
@@ -42,6 +42,16 @@ def last_line(outcomes):
     """The counts of cases, for people."""
     differing = sum(it.differs for it in outcomes)
     return '%s: %d as wanted, %s' % (counted(len(outcomes), 'case'), len(outcomes) - differing, counted(differing, 'differs', 'differ'))
+
+
+def notes(outcomes, options, unlinked):
+    """What is said on standard error beside the cases: that so many templates have no link, and that cases which differ lack entities."""
+    if unlinked:
+        has_no = '%s no link, so %s no effect' % (('has', 'it has') if unlinked == 1 else ('have', 'they have'))
+        tip = '' if options.links else ': `--links` names the file of links'
+        yield '%s %s%s' % (counted(unlinked, 'template'), has_no, tip)
+    if not options.entities and any(it.differs and it.case.entities is None for it in outcomes):
+        yield 'no --entities: where a case brings none, nothing is stored'
 
 
 def lines_for_people(outcomes, file, coverage, mutation):

@@ -1,10 +1,11 @@
 //! `ask`: one request, from the command line.
+use crate::host_files::{HostFiles, NAME, STANDARD_INPUT, standard_input};
+use crate::output::{Output, output_failed};
 use crate::request_line::request_line;
 use crate::running::{ended, say};
-use base_lines::StdSink;
 use cedar_ast::Decision;
 use cedar_cli::{Words, ask};
-use cedar_files::{End, NamedFiles, read_schema};
+use cedar_files::{End, read_schema};
 use cedar_files_diagnostics::{
     CountingSink, Explanation, Format, explain_json, explain_request, unreadable,
 };
@@ -27,13 +28,18 @@ fn explain(rt: &HostRuntime, says: Result<String, AllocError>) {
     }
 }
 
-// Says that the context file cannot be read.
+// What the context file is called.
+fn shown(name: &str) -> &str {
+    if name == STANDARD_INPUT { NAME } else { name }
+}
+
+// Says that the context file cannot be read, and gives the exit status.
 fn refuse_unreadable(
     rt: &HostRuntime,
     format: Option<Format>,
     name: &str,
     error: &io::Error,
-) -> End {
+) -> u8 {
     let alloc = rt.alloc();
     say(rt, End::Device);
     if let Some(format) = format {
@@ -44,46 +50,54 @@ fn refuse_unreadable(
             );
         }
     }
-    End::Device
+    End::Device.status()
 }
 
-// Says that the context file is not JSON.
-fn refuse_context(rt: &HostRuntime, format: Option<Format>, name: &str, bytes: Vec<u8>) -> End {
+// Says that the context file is not JSON, and gives the exit status.
+fn refuse_context(rt: &HostRuntime, format: Option<Format>, name: &str, bytes: Vec<u8>) -> u8 {
     let alloc = rt.alloc();
-    if rt
-        .println("{\"file\":\"context\",\"refused\":501}")
-        .is_err()
-    {
-        return End::Device;
+    if let Err(error) = rt.println("{\"file\":\"context\",\"refused\":501}") {
+        return output_failed(rt, &error);
     }
     if let Some(format) = format {
         if let Ok(Some(explained)) = explain_json(alloc, name, NOT_JSON, bytes) {
             explain(rt, explained.to_text(alloc, format));
         }
     }
-    End::Refused
+    End::Refused.status()
 }
 
-// The context of the request, if a file is named; or how the program ends where it cannot be used.
+// What the context file holds; or the exit status where it cannot be read.
+fn context_bytes(rt: &HostRuntime, format: Option<Format>, name: &str) -> Result<Vec<u8>, u8> {
+    if name == STANDARD_INPUT {
+        return standard_input(rt).map_err(|end| {
+            say(rt, end);
+            end.status()
+        });
+    }
+    match fs::read(rt, name) {
+        Ok(bytes) => Ok(bytes),
+        Err(error) => Err(refuse_unreadable(rt, format, name, &error)),
+    }
+}
+
+// The context of the request, if a file is named; or the exit status where it cannot be used.
 fn read_context(
     rt: &HostRuntime,
     format: Option<Format>,
     name: Option<&str>,
-) -> Result<Option<Value>, End> {
+) -> Result<Option<Value>, u8> {
     let Some(name) = name else {
         return Ok(None);
     };
-    let bytes = match fs::read(rt, name) {
-        Ok(bytes) => bytes,
-        Err(error) => return Err(refuse_unreadable(rt, format, name, &error)),
-    };
+    let bytes = context_bytes(rt, format, name)?;
     match Value::from_slice(rt.alloc(), &bytes) {
         Ok(value) => Ok(Some(value)),
         Err(error) if error.is_memory() => {
             say(rt, End::Memory);
-            Err(End::Memory)
+            Err(End::Memory.status())
         }
-        Err(_) => Err(refuse_context(rt, format, name, bytes)),
+        Err(_) => Err(refuse_context(rt, format, shown(name), bytes)),
     }
 }
 
@@ -103,12 +117,7 @@ fn text_of_request(
 }
 
 // Explains why the request is refused.
-fn explain_refused(
-    rt: &HostRuntime,
-    files: &NamedFiles<'_, HostRuntime>,
-    format: Format,
-    line: &[u8],
-) {
+fn explain_refused(rt: &HostRuntime, files: &HostFiles<'_>, format: Format, line: &[u8]) {
     let alloc = rt.alloc();
     if let Ok(schema) = read_schema(alloc, files) {
         explain(rt, text_of_request(alloc, &schema, format, line));
@@ -117,30 +126,38 @@ fn explain_refused(
 }
 
 /// Answers the request of a command line: the exit status is 0 for allow and 5 for deny.
-pub fn run_ask(rt: &HostRuntime, words: &Words<'_>, format: Option<Format>) -> u8 {
+pub fn run_ask(
+    rt: &HostRuntime,
+    files: &HostFiles<'_>,
+    words: &Words<'_>,
+    format: Option<Format>,
+) -> u8 {
     let alloc = rt.alloc();
     let context = match read_context(rt, format, words.request.context) {
         Ok(context) => context,
-        Err(end) => return end.status(),
+        Err(status) => return status,
     };
     let Ok(line) = request_line(alloc, words.request, context) else {
         say(rt, End::Memory);
         return End::Memory.status();
     };
-    let files = NamedFiles::new(rt, words.files);
-    let mut sink = CountingSink::new(StdSink::new(io::writer(rt)));
-    match ask(alloc, &files, line.as_bytes(), &mut sink, words.settings) {
+    let mut fault = None;
+    let mut sink = CountingSink::new(Output::new(io::writer(rt), &mut fault));
+    let answered = ask(alloc, files, line.as_bytes(), &mut sink, words.settings);
+    let counts = sink.counts();
+    drop(sink);
+    if let Some(error) = &fault {
+        return output_failed(rt, error);
+    }
+    match answered {
         Ok(Decision::Allow) => End::Done.status(),
         Ok(Decision::Deny) => DENIED,
-        Err(end) if sink.counts().refused > 0 => {
+        Err(end) if counts.refused > 0 => {
             if let Some(format) = format {
-                explain_refused(rt, &files, format, line.as_bytes());
+                explain_refused(rt, files, format, line.as_bytes());
             }
             end.status()
         }
-        Err(end) => {
-            let refused = sink.counts().refused_file;
-            ended(rt, &files, words, format, end, refused)
-        }
+        Err(end) => ended(rt, files, words, format, end, counts.refused_file),
     }
 }

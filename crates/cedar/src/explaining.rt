@@ -1,26 +1,14 @@
 //! What is explained on standard error after the work has ended. Nothing is said when out of memory.
+use crate::host_files::{HostFiles, ROLES, option_of};
 use cedar_ast::PolicySet;
 use cedar_cli::Words;
-use cedar_files::{End, NamedFiles, Role};
+use cedar_files::{End, Role};
 use cedar_files_diagnostics::{
     Explanation, Format, RefusedFile, count_unlinked, explain_file, explain_policy_faults,
     explain_report, not_again, unlinked_templates, unreadable,
 };
 use cedar_schema::Schema;
 use std::alloc::{AllocError, Global};
-
-/// What files are to the program, in the order in which it reads them.
-const ROLES: [Role; 4] = [Role::Schema, Role::Policies, Role::Links, Role::Entities];
-
-// The option that names a file.
-fn option_of(role: Role) -> &'static str {
-    match role {
-        Role::Schema => "--schema",
-        Role::Policies => "--policies",
-        Role::Links => "--links",
-        Role::Entities => "--entities",
-    }
-}
 
 /// The schema and the policies that a run has read, if they are kept.
 pub type Read<'r> = Option<&'r (Schema, PolicySet)>;
@@ -31,7 +19,7 @@ pub struct Explainer<'a> {
     /// The host.
     pub rt: &'a HostRuntime,
     /// The files of the run.
-    pub files: &'a NamedFiles<'a, HostRuntime>,
+    pub files: &'a HostFiles<'a>,
     /// What the command line says.
     pub words: &'a Words<'a>,
     /// The form of what is explained.
@@ -92,13 +80,6 @@ impl<'a> Explainer<'a> {
         self.text_of(alloc, explained)
     }
 
-    // Whether each file that is read again can be.
-    fn are_regular(self, read: Read<'_>) -> bool {
-        let has_schema = read.is_some();
-        ROLES.iter().all(|role| (has_schema && *role == Role::Schema)
-            || self.files.is_regular(*role))
-    }
-
     /// Why a run ended as it did: which file cannot be read, why a file is refused, or which faults the policies have; or nothing.
     /// `refused` is the file that standard output says is refused.
     pub fn text(
@@ -110,9 +91,6 @@ impl<'a> Explainer<'a> {
         let alloc = self.rt.alloc();
         match (end, refused) {
             (End::Device, _) => self.unreadable(alloc),
-            (End::Refused | End::Faults, _) if !self.are_regular(read) => {
-                not_again(alloc, self.format)
-            }
             (End::Refused, Some(refused)) => self.refusal(alloc, refused),
             (End::Refused, None) => not_again(alloc, self.format),
             (End::Faults, _) => self.faults(alloc, read),
@@ -122,23 +100,18 @@ impl<'a> Explainer<'a> {
 
     /// The warnings of a report without faults.
     pub fn warnings(self, read: Read<'_>) -> Result<String, AllocError> {
-        let alloc = self.rt.alloc();
-        if self.are_regular(read) {
-            self.faults(alloc, read)
-        } else {
-            not_again(alloc, self.format)
-        }
+        self.faults(self.rt.alloc(), read)
     }
 
     /// How many templates of the policies that were read have no link; nothing if there is none.
     pub fn unlinked(self, read: Read<'_>) -> Result<String, AllocError> {
         let alloc = self.rt.alloc();
         match read {
-            Some(read) if self.files.is_regular(Role::Links) => {
+            Some(read) => {
                 let count = count_unlinked(alloc, self.files, &read.1)?;
                 unlinked_templates(alloc, self.format, count)
             }
-            _ => Ok(String::new(alloc)),
+            None => Ok(String::new(alloc)),
         }
     }
 

@@ -1,5 +1,6 @@
 //! `authorize --explain-lines`: the lines are kept, and those that are refused are explained after they were answered.
 use crate::explaining::Explainer;
+use crate::host_files::NAME;
 use cedar_auth::Ready;
 use cedar_files::{read_all, read_schema};
 use cedar_files_diagnostics::{
@@ -10,9 +11,6 @@ use std::alloc::{AllocError, Global};
 
 /// How many lines are explained at most.
 const MOST: usize = 20;
-
-/// What standard input is called.
-const NAME: &str = "standard input";
 
 // What lines are read according to.
 #[derive(Clone, Copy)]

@@ -5,9 +5,12 @@ mod asking;
 mod discarding;
 mod explaining;
 mod format;
+mod host_files;
 mod lines;
+mod output;
 mod request_line;
 mod running;
+mod standard_input;
 mod tips;
 mod unnamed;
 mod validating;
@@ -15,6 +18,7 @@ mod warning;
 mod whys;
 
 use crate::format::{WrongValue, forms_of};
+use crate::output::output_failed;
 use crate::running::{run_words, say};
 use crate::tips::tip;
 use base_places::Draft;
@@ -107,23 +111,19 @@ fn said(rt: &HostRuntime, end: End) -> io::Result<u8> {
     Ok(end.status())
 }
 
-/// How the program ends where a call of the host failed.
-fn end_of(error: &io::Error) -> End {
+/// Says why a call of the host failed, and gives the exit status.
+fn failed(rt: &HostRuntime, error: &io::Error) -> u8 {
     if error.kind() == io::ErrorKind::OutOfMemory {
-        End::Memory
-    } else {
-        End::Device
+        say(rt, End::Memory);
+        return End::Memory.status();
     }
+    output_failed(rt, error)
 }
 
 fn main(rt: HostRuntime) -> ExitCode {
     let status = match run(&rt) {
         Ok(status) => status,
-        Err(error) => {
-            let end = end_of(&error);
-            say(&rt, end);
-            end.status()
-        }
+        Err(error) => failed(&rt, &error),
     };
     ExitCode::from(status)
 }

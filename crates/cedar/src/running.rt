@@ -2,17 +2,20 @@
 use crate::asking::run_ask;
 use crate::explaining::Explainer;
 use crate::format::Forms;
+use crate::host_files::{HostFiles, standard_input};
 use crate::lines::explain_lines;
+use crate::output::{Output, output_failed};
+use crate::standard_input::wanted_twice;
 use crate::unnamed::refuse_unnamed_entities;
 use crate::validating::run_validate;
 use crate::warning::authorize_and_warn;
 use crate::whys::run_why;
-use base_lines::{SliceSource, StdSink, StdSource};
+use base_lines::{SliceSource, StdSource};
 use cedar_cli::{Subcommand, Words, check_parse};
 use cedar_cli_refusals::explain;
-use cedar_files::{End, NamedFiles};
+use cedar_files::End;
 use cedar_files_diagnostics::{CountingSink, Format, RefusedFile, refused_lines};
-use std::io::{self, Read};
+use std::io;
 
 /// Prints the line for a device that failed, or for memory that ran out.
 pub fn say(rt: &HostRuntime, end: End) {
@@ -29,7 +32,7 @@ pub fn say(rt: &HostRuntime, end: End) {
 /// standard output says is refused.
 pub fn ended(
     rt: &HostRuntime,
-    files: &NamedFiles<'_, HostRuntime>,
+    files: &HostFiles<'_>,
     words: &Words<'_>,
     format: Option<Format>,
     end: End,
@@ -48,32 +51,25 @@ pub fn ended(
     end.status()
 }
 
-// The files of `authorize`. If request lines may bring entities, the entities file may be left out.
-fn files_to_authorize<'a>(rt: &'a HostRuntime, words: &Words<'a>) -> NamedFiles<'a, HostRuntime> {
-    let files = NamedFiles::new(rt, words.files);
-    if words.entities_in_lines {
-        files.with_optional_entities()
-    } else {
-        files
-    }
-}
-
 // `authorize`. The lines are counted where it is to be said how many were refused.
-fn run_authorize(rt: &HostRuntime, words: &Words<'_>, format: Option<Format>) -> u8 {
-    let alloc = rt.alloc();
-    let files = files_to_authorize(rt, words);
+fn run_authorize(
+    rt: &HostRuntime,
+    files: &HostFiles<'_>,
+    words: &Words<'_>,
+    format: Option<Format>,
+) -> u8 {
+    let mut fault = None;
     let mut source = StdSource::new(rt.reader());
-    let mut sink = StdSink::new(io::writer(rt));
-    let Some(form) = format else {
-        let end = authorize_and_warn(rt, &files, &mut source, &mut sink, words, format);
-        return ended(rt, &files, words, format, end, None);
-    };
-    let mut counting = CountingSink::new(sink);
-    let end = authorize_and_warn(rt, &files, &mut source, &mut counting, words, format);
-    let refused = counting.counts().refused_file;
-    let status = ended(rt, &files, words, format, end, refused);
-    if end == End::Done {
-        if let Ok(says) = refused_lines(alloc, form, counting.counts()) {
+    let mut sink = CountingSink::new(Output::new(io::writer(rt), &mut fault));
+    let end = authorize_and_warn(rt, files, &mut source, &mut sink, words, format);
+    let counts = sink.counts();
+    drop(sink);
+    if let Some(error) = &fault {
+        return output_failed(rt, error);
+    }
+    let status = ended(rt, files, words, format, end, counts.refused_file);
+    if let (End::Done, Some(format)) = (end, format) {
+        if let Ok(says) = refused_lines(rt.alloc(), format, counts) {
             // Where standard error is gone, the line is lost.
             let _ = rt.eprint(says.as_str());
         }
@@ -81,44 +77,66 @@ fn run_authorize(rt: &HostRuntime, words: &Words<'_>, format: Option<Format>) ->
     status
 }
 
+// Explains the lines that were refused, which are kept.
+fn explain_kept(
+    rt: &HostRuntime,
+    files: &HostFiles<'_>,
+    words: &Words<'_>,
+    format: Format,
+    input: &[u8],
+) {
+    let explainer = Explainer {
+        rt,
+        files,
+        words,
+        format,
+    };
+    explain_lines(explainer, input);
+}
+
 // `authorize --explain-lines`: all lines are read before the first is answered.
-fn run_kept_lines(rt: &HostRuntime, words: &Words<'_>, format: Option<Format>) -> u8 {
-    let alloc = rt.alloc();
-    let files = files_to_authorize(rt, words);
-    let mut input = Vec::new(alloc);
-    let mut reader = rt.reader();
-    if let Err(error) = reader.read_to_end(&mut input) {
-        let end = if error.kind() == io::ErrorKind::OutOfMemory {
-            End::Memory
-        } else {
-            End::Device
-        };
-        return ended(rt, &files, words, format, end, None);
-    }
+fn run_kept_lines(
+    rt: &HostRuntime,
+    files: &HostFiles<'_>,
+    words: &Words<'_>,
+    format: Option<Format>,
+) -> u8 {
+    let input = match standard_input(rt) {
+        Ok(input) => input,
+        Err(end) => return ended(rt, files, words, format, end, None),
+    };
+    let mut fault = None;
     let mut source = SliceSource::new(&input);
-    let mut sink = CountingSink::new(StdSink::new(io::writer(rt)));
-    let end = authorize_and_warn(rt, &files, &mut source, &mut sink, words, format);
+    let mut sink = CountingSink::new(Output::new(io::writer(rt), &mut fault));
+    let end = authorize_and_warn(rt, files, &mut source, &mut sink, words, format);
     let refused = sink.counts().refused_file;
-    let status = ended(rt, &files, words, format, end, refused);
+    drop(sink);
+    if let Some(error) = &fault {
+        return output_failed(rt, error);
+    }
+    let status = ended(rt, files, words, format, end, refused);
     if let (End::Done, Some(format)) = (end, format) {
-        let explainer = Explainer {
-            rt,
-            files: &files,
-            words,
-            format,
-        };
-        explain_lines(explainer, &input);
+        explain_kept(rt, files, words, format, &input);
     }
     status
 }
 
 // `check-parse`.
-fn run_check_parse(rt: &HostRuntime, words: &Words<'_>, format: Option<Format>) -> u8 {
-    let files = NamedFiles::new(rt, words.files);
-    let mut sink = CountingSink::new(StdSink::new(io::writer(rt)));
-    let end = check_parse(rt.alloc(), &files, &mut sink);
+fn run_check_parse(
+    rt: &HostRuntime,
+    files: &HostFiles<'_>,
+    words: &Words<'_>,
+    format: Option<Format>,
+) -> u8 {
+    let mut fault = None;
+    let mut sink = CountingSink::new(Output::new(io::writer(rt), &mut fault));
+    let end = check_parse(rt.alloc(), files, &mut sink);
     let refused = sink.counts().refused_file;
-    ended(rt, &files, words, format, end, refused)
+    drop(sink);
+    match &fault {
+        Some(error) => output_failed(rt, error),
+        None => ended(rt, files, words, format, end, refused),
+    }
 }
 
 // The number that a word names, perhaps after an `E`, as in `E602`; 0 where it names none.
@@ -133,7 +151,7 @@ fn run_explain(rt: &HostRuntime, words: &Words<'_>) -> u8 {
     let end = match explain(rt.alloc(), number) {
         Ok(Some(text)) => match rt.print(text.as_str()) {
             Ok(()) => End::Done,
-            Err(_) => End::Device,
+            Err(error) => return output_failed(rt, &error),
         },
         Ok(None) => {
             // Where standard error is gone, the line is lost.
@@ -151,17 +169,42 @@ fn lacks_entities(words: &Words<'_>) -> bool {
     words.files.entities.is_none() && !words.entities_in_lines
 }
 
-/// Runs the subcommand of a command line, which writes in these forms, and gives the exit status.
-pub fn run_words(rt: &HostRuntime, words: &Words<'_>, forms: Forms) -> u8 {
+// Runs a subcommand over files.
+fn run_over_files(rt: &HostRuntime, words: &Words<'_>, forms: Forms) -> u8 {
+    let files = match HostFiles::new(rt, words) {
+        Ok(files) => files,
+        Err(end) => {
+            say(rt, end);
+            return end.status();
+        }
+    };
     let format = forms.explanations;
     match words.subcommand {
-        Subcommand::Validate => run_validate(rt, words, forms),
-        Subcommand::Authorize if lacks_entities(words) => refuse_unnamed_entities(rt),
-        Subcommand::Authorize if words.explain_lines => run_kept_lines(rt, words, format),
-        Subcommand::Authorize => run_authorize(rt, words, format),
-        Subcommand::Why => run_why(rt, words, format),
-        Subcommand::Ask => run_ask(rt, words, format),
-        Subcommand::CheckParse => run_check_parse(rt, words, format),
+        Subcommand::Validate => run_validate(rt, &files, words, forms),
+        Subcommand::Authorize if words.explain_lines => run_kept_lines(rt, &files, words, format),
+        Subcommand::Authorize => run_authorize(rt, &files, words, format),
+        Subcommand::Why => run_why(rt, &files, words, format),
+        Subcommand::Ask => run_ask(rt, &files, words, format),
+        Subcommand::CheckParse => run_check_parse(rt, &files, words, format),
         Subcommand::Explain => run_explain(rt, words),
+    }
+}
+
+/// Runs the subcommand of a command line, which writes in these forms, and gives the exit status.
+pub fn run_words(rt: &HostRuntime, words: &Words<'_>, forms: Forms) -> u8 {
+    if words.subcommand == Subcommand::Authorize && lacks_entities(words) {
+        return refuse_unnamed_entities(rt);
+    }
+    match wanted_twice(rt.alloc(), words) {
+        Ok(None) => run_over_files(rt, words, forms),
+        Ok(Some(says)) => {
+            // Where standard error is gone, the refusal is lost.
+            let _ = rt.eprint(says.as_str());
+            End::CommandLine.status()
+        }
+        Err(_) => {
+            say(rt, End::Memory);
+            End::Memory.status()
+        }
     }
 }

@@ -4,12 +4,14 @@ ghost use Rattle.std.specs.Prelude.{◌-◌, ◌<◌, ◌^◌};
 use crate::discarding::Discarding;
 use crate::explaining::{Explainer, Read};
 use crate::format::Forms;
+use crate::host_files::HostFiles;
+use crate::output::{Output, output_failed};
 use crate::running::say;
-use base_lines::{Sink, StdSink};
+use base_lines::Sink;
 use base_places::Draft;
 use cedar_ast::PolicySet;
 use cedar_cli::Words;
-use cedar_files::{End, NamedFiles, Role, validate_keeping};
+use cedar_files::{End, Role, validate_keeping};
 use cedar_files_diagnostics::{CountingSink, Format, LineCounts, has_false_guard};
 use cedar_schema::Schema;
 use std::alloc::AllocError;
@@ -52,18 +54,17 @@ fn words_of(forms: Forms) -> Option<Format> {
 }
 
 // Writes the report to a sink, keeps what was read, and says how that ended.
-fn report_to<K: Sink + Drop>(
+fn report_to<K: Sink>(
     rt: &HostRuntime,
-    files: &NamedFiles<'_, HostRuntime>,
+    files: &HostFiles<'_>,
     words: &Words<'_>,
     forms: Forms,
-    sink: K,
+    sink: &mut CountingSink<K>,
     read: &mut Option<(Schema, PolicySet)>,
 ) -> Ran
-    requires { K.failed sink < 2 ^ 64 - 1 }
+    requires { K.failed sink.old < 2 ^ 64 - 1 }
 {
-    let mut sink = CountingSink::new(sink);
-    let end = validate_keeping(rt.alloc(), files, &mut sink, words.settings, read);
+    let end = validate_keeping(rt.alloc(), files, sink, words.settings, read);
     let counts = sink.counts();
     let warns = match end {
         End::Done if counts.warnings == 0 => is_guard_false(rt, words, forms, read),
@@ -102,29 +103,32 @@ fn text_of(
     says.done()
 }
 
-// Prints the report for people, and says how that ended.
-fn print_report(explainer: Explainer<'_>, says: Result<String, AllocError>, end: End) -> End {
+// Prints the report for people, and gives the exit status, which is that of the run if nothing fails.
+fn print_report(explainer: Explainer<'_>, says: Result<String, AllocError>, end: End) -> u8 {
     match says {
         Ok(says) => match explainer.rt.print(says.as_str()) {
-            Ok(()) => end,
-            Err(_) => End::Device,
+            Ok(()) => end.status(),
+            Err(error) => output_failed(explainer.rt, &error),
         },
-        Err(AllocError) => End::Memory,
+        Err(AllocError) => {
+            say(explainer.rt, End::Memory);
+            End::Memory.status()
+        }
     }
 }
 
-// Says in words what the run found, where it is to be said, and how the program then ends. A file that cannot be read is named on
-// standard error.
+// Says in words what the run found, where it is to be said, and gives the exit status. A file that cannot be read is named on standard
+// error.
 fn explained(
     rt: &HostRuntime,
-    files: &NamedFiles<'_, HostRuntime>,
+    files: &HostFiles<'_>,
     words: &Words<'_>,
     forms: Forms,
     ran: Ran,
     read: Read<'_>,
-) -> End {
+) -> u8 {
     let Some(format) = words_of(forms) else {
-        return ran.end;
+        return ran.end.status();
     };
     let explainer = Explainer {
         rt,
@@ -136,36 +140,59 @@ fn explained(
         (Format::Human, End::Done | End::Faults | End::Refused) => {
             print_report(explainer, text_of(explainer, forms, ran, read), ran.end)
         }
-        _ if forms.explanations.is_none() => ran.end,
+        _ if forms.explanations.is_none() => ran.end.status(),
         _ => {
             explainer.say(text_of(explainer, forms, ran, read));
-            ran.end
+            ran.end.status()
         }
     }
 }
 
-/// `validate`. With `--deny-warnings` a report with warnings alone ends as one with faults, and so do policies with a part `x has a` that
-/// is always false.
-pub fn run_validate(rt: &HostRuntime, words: &Words<'_>, forms: Forms) -> u8 {
-    let files = NamedFiles::new(rt, words.files);
-    let mut read = None;
-    let ran = match forms.report {
-        Format::Json => {
-            let sink = StdSink::new(io::writer(rt));
-            report_to(rt, &files, words, forms, sink, &mut read)
-        }
-        Format::Human => report_to(rt, &files, words, forms, Discarding, &mut read),
-    };
+// Says how a run ended whose report is written, and gives the exit status. With `--deny-warnings` a report with warnings alone ends as one
+// with faults, and so do policies with a part `x has a` that is always false.
+fn end_run(
+    rt: &HostRuntime,
+    files: &HostFiles<'_>,
+    words: &Words<'_>,
+    forms: Forms,
+    ran: Ran,
+    read: Read<'_>,
+) -> u8 {
     say(rt, ran.end);
-    let end = explained(rt, &files, words, forms, ran, read.as_ref());
-    // The system takes all memory at once when the program ends.
-    forget(read);
-    if end != ran.end {
-        say(rt, end);
-    }
-    if end == End::Done && ran.warns && words.deny_warnings {
+    let status = explained(rt, files, words, forms, ran, read);
+    if status == End::Done.status() && ran.warns && words.deny_warnings {
         End::Faults.status()
     } else {
-        end.status()
+        status
     }
+}
+
+/// `validate`.
+pub fn run_validate(
+    rt: &HostRuntime,
+    files: &HostFiles<'_>,
+    words: &Words<'_>,
+    forms: Forms,
+) -> u8 {
+    let mut read = None;
+    let mut fault = None;
+    let ran = match forms.report {
+        Format::Json => {
+            let mut sink = CountingSink::new(Output::new(io::writer(rt), &mut fault));
+            let ran = report_to(rt, files, words, forms, &mut sink, &mut read);
+            drop(sink);
+            ran
+        }
+        Format::Human => {
+            let mut sink = CountingSink::new(Discarding);
+            report_to(rt, files, words, forms, &mut sink, &mut read)
+        }
+    };
+    let status = match &fault {
+        Some(error) => output_failed(rt, error),
+        None => end_run(rt, files, words, forms, ran, read.as_ref()),
+    };
+    // The system takes all memory at once when the program ends.
+    forget(read);
+    status
 }

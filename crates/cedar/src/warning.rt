@@ -1,10 +1,11 @@
 //! The note of `authorize` on policies that no request can satisfy.
 ghost use Rattle.std.specs.Prelude.{◌-◌, ◌<◌, ◌^◌};
 
+use crate::host_files::HostFiles;
 use base_lines::{Sink, Source};
 use cedar_auth::Ready;
 use cedar_cli::{Observer, Words, authorize, authorize_with_entities};
-use cedar_files::{End, NamedFiles};
+use cedar_files::End;
 use cedar_files_diagnostics::{Format, impossible_policies};
 use std::mem::forget;
 
@@ -40,7 +41,7 @@ impl<'a> Observer for Warner<'a> {
 /// request can satisfy.
 pub fn authorize_and_warn<S: Source, K: Sink>(
     rt: &HostRuntime,
-    files: &NamedFiles<'_, HostRuntime>,
+    files: &HostFiles<'_>,
     source: &mut S,
     sink: &mut K,
     words: &Words<'_>,

@@ -1,15 +1,19 @@
 //! `why`: what each request line comes to, policy by policy.
+ghost use Rattle.std.specs.Prelude.{◌-◌, ◌<◌, ◌^◌};
+
+use crate::host_files::HostFiles;
+use crate::output::{Output, output_failed};
 use crate::running::ended;
-use base_lines::{ServeFault, StdSink, StdSource};
+use base_lines::{ServeFault, Sink, StdSource};
 use cedar_cli::Words;
-use cedar_files::{End, Files, NamedFiles, Role, prepare};
+use cedar_files::{End, Files, Role, prepare};
 use cedar_files_diagnostics::{CountingSink, Format};
 use cedar_why::{WhyOptions, why};
 use std::alloc::Global;
 use std::io;
 
 // The policy text, of which places are said; nothing where it cannot be read again.
-fn policy_text(alloc: Global, files: &NamedFiles<'_, HostRuntime>) -> String {
+fn policy_text(alloc: Global, files: &HostFiles<'_>) -> String {
     match files.read(alloc, Role::Policies) {
         Ok(Some(bytes)) => match String::from_utf8(bytes) {
             Ok(text) => text,
@@ -22,37 +26,50 @@ fn policy_text(alloc: Global, files: &NamedFiles<'_, HostRuntime>) -> String {
     }
 }
 
-/// Says why each request line of standard input is allowed or denied, and gives the exit status.
-pub fn run_why(rt: &HostRuntime, words: &Words<'_>, format: Option<Format>) -> u8 {
+// Answers the request lines with what each policy comes to, and says how that ended.
+fn why_lines<K: Sink>(
+    rt: &HostRuntime,
+    files: &HostFiles<'_>,
+    words: &Words<'_>,
+    sink: &mut K,
+) -> End
+    requires { K.failed sink.old < 2 ^ 64 - 1 }
+{
     let alloc = rt.alloc();
-    let files = NamedFiles::new(rt, words.files);
-    let mut sink = CountingSink::new(StdSink::new(io::writer(rt)));
-    let ready = match prepare(alloc, &files, &mut sink, words.settings) {
+    let ready = match prepare(alloc, files, sink, words.settings) {
         Ok(ready) => ready,
-        Err(end) => {
-            let refused = sink.counts().refused_file;
-            return ended(rt, &files, words, format, end, refused);
-        }
+        Err(end) => return end,
     };
     let options = WhyOptions {
         all: words.all,
         json: words.json,
     };
-    let text = policy_text(alloc, &files);
+    let text = policy_text(alloc, files);
     let mut source = StdSource::new(rt.reader());
-    let end = match why(
-        alloc,
-        &ready,
-        text.as_str(),
-        options,
-        &mut source,
-        &mut sink,
-    ) {
+    let end = match why(alloc, &ready, text.as_str(), options, &mut source, sink) {
         Ok(()) => End::Done,
         Err(ServeFault::OutOfMemory) => End::Memory,
         Err(ServeFault::ReadFailed | ServeFault::WriteFailed) => End::Device,
     };
     drop(text);
     drop(ready);
-    ended(rt, &files, words, format, end, None)
+    end
+}
+
+/// Says why each request line of standard input is allowed or denied, and gives the exit status.
+pub fn run_why(
+    rt: &HostRuntime,
+    files: &HostFiles<'_>,
+    words: &Words<'_>,
+    format: Option<Format>,
+) -> u8 {
+    let mut fault = None;
+    let mut sink = CountingSink::new(Output::new(io::writer(rt), &mut fault));
+    let end = why_lines(rt, files, words, &mut sink);
+    let refused = sink.counts().refused_file;
+    drop(sink);
+    match &fault {
+        Some(error) => output_failed(rt, error),
+        None => ended(rt, files, words, format, end, refused),
+    }
 }

@@ -4,6 +4,7 @@
 mod asking;
 mod discarding;
 mod explaining;
+mod foreign;
 mod format;
 mod host_files;
 mod lines;
@@ -17,13 +18,14 @@ mod validating;
 mod warning;
 mod whys;
 
-use crate::format::{WrongValue, forms_of};
+use crate::format::{Forms, WrongValue, forms_of};
 use crate::output::output_failed;
 use crate::running::{run_words, say};
-use crate::tips::tip;
+use crate::tips::{file_tip, tip};
 use base_places::Draft;
-use cedar_cli::words;
+use cedar_cli::{Words, words};
 use cedar_files::End;
+use cedar_files_diagnostics::Format;
 use clap::error::ErrorKind;
 use std::alloc::{AllocError, Global};
 use std::process::ExitCode;
@@ -83,6 +85,19 @@ fn refuse_value(rt: &HostRuntime, wrong: WrongValue<'_>) -> io::Result<End> {
     }
 }
 
+/// Runs the subcommand of these words, and gives the exit status. Where a file cannot be read, it says after that what to write in its place,
+/// if that is known. `given` is the command line as it was written.
+fn run_and_tell(rt: &HostRuntime, words: &Words<'_>, forms: Forms, given: &[&str]) -> u8 {
+    let status = run_words(rt, words, forms);
+    if status == End::Device.status() && matches!(forms.explanations, Some(Format::Human)) {
+        if let Ok(Some(tip)) = file_tip(rt.alloc(), words, given) {
+            // Where standard error is gone, the tip is lost.
+            let _ = rt.eprint(tip.as_str());
+        }
+    }
+    status
+}
+
 /// Runs the subcommand of the command line, and gives the exit status.
 fn run(rt: &HostRuntime) -> io::Result<u8> {
     let alloc = rt.alloc();
@@ -100,7 +115,7 @@ fn run(rt: &HostRuntime) -> io::Result<u8> {
         Err(error) => return said(rt, tell(rt, &error, &texts)?),
     };
     match forms_of(&words) {
-        Ok(forms) => Ok(run_words(rt, &words, forms)),
+        Ok(forms) => Ok(run_and_tell(rt, &words, forms, &texts)),
         Err(wrong) => said(rt, refuse_value(rt, wrong)?),
     }
 }

@@ -51,24 +51,32 @@ pub fn ended(
     end.status()
 }
 
-// `authorize`. The lines are counted where it is to be said how many were refused.
-fn run_authorize(
-    rt: &HostRuntime,
-    files: &HostFiles<'_>,
-    words: &Words<'_>,
-    format: Option<Format>,
-) -> u8 {
+// `authorize` that says nothing of the lines that were refused, so they are not counted.
+fn run_quiet(rt: &HostRuntime, files: &HostFiles<'_>, words: &Words<'_>) -> u8 {
+    let mut fault = None;
+    let mut source = StdSource::new(rt.reader());
+    let mut sink = Output::new(io::writer(rt), &mut fault);
+    let end = authorize_and_warn(rt, files, &mut source, &mut sink, words, None);
+    drop(sink);
+    match &fault {
+        Some(error) => output_failed(rt, error),
+        None => ended(rt, files, words, None, end, None),
+    }
+}
+
+// `authorize` that says in a form how many lines were refused.
+fn run_counting(rt: &HostRuntime, files: &HostFiles<'_>, words: &Words<'_>, format: Format) -> u8 {
     let mut fault = None;
     let mut source = StdSource::new(rt.reader());
     let mut sink = CountingSink::new(Output::new(io::writer(rt), &mut fault));
-    let end = authorize_and_warn(rt, files, &mut source, &mut sink, words, format);
+    let end = authorize_and_warn(rt, files, &mut source, &mut sink, words, Some(format));
     let counts = sink.counts();
     drop(sink);
     if let Some(error) = &fault {
         return output_failed(rt, error);
     }
-    let status = ended(rt, files, words, format, end, counts.refused_file);
-    if let (End::Done, Some(format)) = (end, format) {
+    let status = ended(rt, files, words, Some(format), end, counts.refused_file);
+    if let End::Done = end {
         if let Ok(says) = refused_lines(rt.alloc(), format, counts) {
             // Where standard error is gone, the line is lost.
             let _ = rt.eprint(says.as_str());
@@ -182,7 +190,10 @@ fn run_over_files(rt: &HostRuntime, words: &Words<'_>, forms: Forms) -> u8 {
     match words.subcommand {
         Subcommand::Validate => run_validate(rt, &files, words, forms),
         Subcommand::Authorize if words.explain_lines => run_kept_lines(rt, &files, words, format),
-        Subcommand::Authorize => run_authorize(rt, &files, words, format),
+        Subcommand::Authorize => match format {
+            Some(format) => run_counting(rt, &files, words, format),
+            None => run_quiet(rt, &files, words),
+        },
         Subcommand::Why => run_why(rt, &files, words, format),
         Subcommand::Ask => run_ask(rt, &files, words, format),
         Subcommand::CheckParse => run_check_parse(rt, &files, words, format),

@@ -1,8 +1,5 @@
-//! The conditions of a policy.
-ghost use Rattle.std.specs.Prelude.{◌≡◌, IfOk};
-
+//! One condition of a policy.
 use cedar_ast_expressions::Expr;
-use std::alloc::{AllocError, Global};
 
 /// Whether a condition is to hold or not to hold.
 #[derive(Clone, Copy, Debug, PartialEq, Eq)]
@@ -20,16 +17,4 @@ pub struct Condition {
     pub kind: ConditionKind,
     /// The expression between the braces.
     pub body: Expr,
-}
-
-impl Condition {
-    /// A copy, equal to the original.
-    pub(crate) fn try_clone(&self, alloc: Global) -> Result<Self, AllocError>
-        ensures { IfOk result (λ condition. condition ≡ self.now) }
-    {
-        Ok(Condition {
-            kind: self.kind,
-            body: self.body.try_clone(alloc)?,
-        })
-    }
 }

@@ -18,6 +18,7 @@
 mod add_fault;
 mod annotation;
 mod condition;
+mod conditions;
 mod decision;
 mod effect;
 mod entity_reference;
@@ -34,10 +35,11 @@ mod uids;
 pub use add_fault::AddFault;
 pub use annotation::Annotation;
 pub use cedar_ast_expressions::{
-    BinaryOperator, Entries, EvaluationError, Expr, ExprKind, Keys, RecordFault, UnaryOperator,
-    Variable, first_repeated,
+    BinaryMethod, BinaryOperator, Entries, EvaluationError, Expr, ExprKind, ExtensionType, Keys,
+    RecordFault, UnaryOperator, Variable, first_repeated,
 };
 pub use condition::{Condition, ConditionKind};
+pub use conditions::Conditions;
 pub use decision::Decision;
 pub use effect::Effect;
 pub use entity_reference::EntityReference;

@@ -3,7 +3,6 @@ ghost use Rattle.std.specs.Prelude.{◌≡◌, ◌↔◌, IfOk, IsTrue};
 ghost use Rattle.cedar_ast.specs.Linking.{entity_of, entity_scope_linked, has_slot, scope_linked, link_of, HasExtraSlot};
 
 use crate::annotation::Annotation;
-use crate::condition::Condition;
 use crate::entity_reference::EntityReference;
 use crate::policy::{Policy, Template};
 use crate::scope::{EntityScope, Scope};
@@ -37,7 +36,7 @@ pub(crate) fn linked(
     ensures { IfOk result (λ policy. policy ≡ link_of template.now id.now slots.now) }
 {
     let annotations = copy_annotations(alloc, template.annotations())?;
-    let conditions = copy_conditions(alloc, template.conditions())?;
+    let conditions = template.conditions().share()?;
     let id = Text::read(alloc, id)?;
     let Some(scope) = linked_scope(alloc, template.scope(), slots)? else {
         return Ok(None);
@@ -55,16 +54,6 @@ fn copy_annotations(
     let mut copies = Vec::new(alloc);
     for annotation in annotations {
         copies.push(annotation.try_clone(alloc)?)?;
-    }
-    Ok(copies)
-}
-
-fn copy_conditions(alloc: Global, conditions: &[Condition]) -> Result<Vec<Condition>, AllocError>
-    ensures { IfOk result (λ copies. copies.items ≡ conditions.now) }
-{
-    let mut copies = Vec::new(alloc);
-    for condition in conditions {
-        copies.push(condition.try_clone(alloc)?)?;
     }
     Ok(copies)
 }

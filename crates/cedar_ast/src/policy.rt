@@ -5,6 +5,7 @@ ghost use Rattle.cedar_ast_expressions.specs.Expression.{and, unary, variable};
 
 use crate::annotation::Annotation;
 use crate::condition::{Condition, ConditionKind};
+use crate::conditions::Conditions;
 use crate::effect::Effect;
 use crate::entity_reference::EntityReference;
 use crate::scope::{ActionScope, EntityScope, Scope};
@@ -22,7 +23,7 @@ pub struct PolicyOver<S> {
     annotations: Vec<Annotation>,
     effect: Effect,
     scope: S,
-    conditions: Vec<Condition>,
+    conditions: Conditions,
 }
 
 /// A policy, which contracts see as a `PolicyTree` (Cedar language reference, policies).
@@ -46,7 +47,7 @@ impl<S> Model for PolicyOver<S> {
       annotations = p.annotations.items;
       effect = p.effect;
       scope = p.scope;
-      conditions = p.conditions.items;
+      conditions = p.conditions;
     } };
 }
 
@@ -57,13 +58,13 @@ impl<S> PolicyOver<S> {
         annotations: Vec<Annotation>,
         effect: Effect,
         scope: S,
-        conditions: Vec<Condition>,
+        conditions: Conditions,
     ) -> Self
         ensures id { result.id ≡ id }
         ensures annotations { result.annotations ≡ annotations.items }
         ensures effect { result.effect ≡ effect }
         ensures scope { result.scope ≡ scope }
-        ensures conditions { result.conditions ≡ conditions.items }
+        ensures conditions { result.conditions ≡ conditions }
     {
         PolicyOver {
             id,
@@ -95,8 +96,8 @@ impl<S> PolicyOver<S> {
         self.effect
     }
 
-    /// The conditions in order, lent (Cedar language reference, policy conditions).
-    pub(crate) fn conditions(&self) -> &[Condition]
+    /// The conditions, lent (Cedar language reference, policy conditions).
+    pub(crate) fn conditions(&self) -> &Conditions
         ensures { result.now ≡ self.now.conditions }
     {
         &self.conditions
@@ -116,7 +117,7 @@ impl PolicyOver<Scope<Uid>> {
     pub fn condition(&self, alloc: Global) -> Result<Expr, AllocError>
         ensures { IfOk result (λ e. e ≡ condition_of self.now) }
     {
-        let rest = from_action(alloc, &self.scope, &self.conditions)?;
+        let rest = from_action(alloc, &self.scope, self.conditions.as_slice())?;
         let principal = entity_scope(alloc, Variable::Principal, &self.scope.principal)?;
         Expr::and(alloc, principal, rest)
     }

@@ -4,13 +4,16 @@ use Rattle.std.proofs.Common.{◌≡◌, ℕ, ℤ, pos, negsuc, Bool, true, fals
 use Rattle.std.specs.Prelude.{Ok, Err}
 use Rattle.cedar_ext.specs.declared.pattern.Element.TheVariants.{Character, Star}
 use Rattle.cedar_ext.specs.Matching.{is_match}
-use Rattle.cedar_value.specs.Datum.{Datum, boolean, long, text, uid, set, decimal, members_of}
+use Rattle.cedar_value.specs.Datum.{Datum, boolean, long, text, uid, set, extension, members_of}
 use Rattle.cedar_value.specs.World.{World, EntityTree}
 use Rattle.cedar_value.specs.World.{leads}
 use Rattle.cedar_value.specs.World as above
 use Rattle.cedar_value.specs.declared.uid.Uid.{Uid}
 use Rattle.cedar_value.specs.declared.request.Request.{Request}
 use Rattle.cedar_ast_expressions.specs.declared.variable.Variable.TheVariants as variable_named
+use Rattle.cedar_ext.specs.declared.extension.Extension.TheVariants as ext
+use Rattle.cedar_ext.specs.declared.extension.ExtensionType.TheVariants as constructor
+use Rattle.cedar_ext.specs.declared.method.BinaryMethod.TheVariants as method
 use Rattle.cedar_ast_expressions.specs.declared.operator.UnaryOperator.TheVariants as one
 use Rattle.cedar_ast_expressions.specs.declared.operator.BinaryOperator.TheVariants as two
 use Rattle.cedar_ast_expressions.specs.declared.error.EvaluationError.TheVariants.{Overflow, MissingEntity, MissingAttribute, «Type», Decimal}
@@ -310,44 +313,44 @@ is_number : value (unary (one.Is (85 ∷ [])) (number 1)) ≡ Err «Type»
 is_number = refl
 
 -- `decimal`: "1.0" and "1.00" are the same, and "1." is none
-decimal_one : value (unary one.Decimal (literal (text (49 ∷ 46 ∷ 48 ∷ [])))) ≡ Ok (decimal (pos 10000))
+decimal_one : value (unary (one.Construct constructor.Decimal) (literal (text (49 ∷ 46 ∷ 48 ∷ [])))) ≡ Ok (extension (ext.Decimal (pos 10000)))
 decimal_one = refl
 
-decimal_same : value (unary one.Decimal (literal (text (49 ∷ 46 ∷ 48 ∷ 48 ∷ [])))) ≡ Ok (decimal (pos 10000))
+decimal_same : value (unary (one.Construct constructor.Decimal) (literal (text (49 ∷ 46 ∷ 48 ∷ 48 ∷ [])))) ≡ Ok (extension (ext.Decimal (pos 10000)))
 decimal_same = refl
 
-decimal_none : value (unary one.Decimal (literal (text (49 ∷ 46 ∷ [])))) ≡ Err Decimal
+decimal_none : value (unary (one.Construct constructor.Decimal) (literal (text (49 ∷ 46 ∷ [])))) ≡ Err Decimal
 decimal_none = refl
 
-decimal_number : value (unary one.Decimal (number 1)) ≡ Err «Type»
+decimal_number : value (unary (one.Construct constructor.Decimal) (number 1)) ≡ Err «Type»
 decimal_number = refl
 
 -- the comparisons of decimals
 abbrev units : ℤ → Expression
-units z = literal (decimal z)
+units z = literal (extension (ext.Decimal z))
 
-decimal_less : value (binary two.DecimalLess (units (negsuc 0)) (units (pos 0))) ≡ Ok (boolean true)
+decimal_less : value (binary (two.Call method.LessThan) (units (negsuc 0)) (units (pos 0))) ≡ Ok (boolean true)
 decimal_less = refl
 
-decimal_less_equal : value (binary two.DecimalLessEqual (units (pos 0)) (units (pos 0))) ≡ Ok (boolean true)
+decimal_less_equal : value (binary (two.Call method.LessThanOrEqual) (units (pos 0)) (units (pos 0))) ≡ Ok (boolean true)
 decimal_less_equal = refl
 
-decimal_greater : value (binary two.DecimalGreater (units (pos 0)) (units (pos 0))) ≡ Ok (boolean false)
+decimal_greater : value (binary (two.Call method.GreaterThan) (units (pos 0)) (units (pos 0))) ≡ Ok (boolean false)
 decimal_greater = refl
 
-decimal_greater_equal : value (binary two.DecimalGreaterEqual (units (pos 0)) (units (pos 1))) ≡ Ok (boolean false)
+decimal_greater_equal : value (binary (two.Call method.GreaterThanOrEqual) (units (pos 0)) (units (pos 1))) ≡ Ok (boolean false)
 decimal_greater_equal = refl
 
-decimal_less_number : value (binary two.DecimalLess (units (pos 0)) (number 1)) ≡ Err «Type»
+decimal_less_number : value (binary (two.Call method.LessThan) (units (pos 0)) (number 1)) ≡ Err «Type»
 decimal_less_number = refl
 
-number_decimal_less_equal : value (binary two.DecimalLessEqual (number 1) (units (pos 0))) ≡ Err «Type»
+number_decimal_less_equal : value (binary (two.Call method.LessThanOrEqual) (number 1) (units (pos 0))) ≡ Err «Type»
 number_decimal_less_equal = refl
 
-decimal_greater_text : value (binary two.DecimalGreater (units (pos 0)) a_text) ≡ Err «Type»
+decimal_greater_text : value (binary (two.Call method.GreaterThan) (units (pos 0)) a_text) ≡ Err «Type»
 decimal_greater_text = refl
 
-text_decimal_greater_equal : value (binary two.DecimalGreaterEqual a_text (units (pos 0))) ≡ Err «Type»
+text_decimal_greater_equal : value (binary (two.Call method.GreaterThanOrEqual) a_text (units (pos 0))) ≡ Err «Type»
 text_decimal_greater_equal = refl
 
 -- sets and records: the members and the entries from left to right

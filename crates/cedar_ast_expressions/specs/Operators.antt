@@ -2,9 +2,15 @@
 use Rattle.std.specs.Prelude.{ℕ, ℤ, pos, negsuc, ◌+ℤ◌, ◌-ℤ◌, ◌*ℤ◌, Bool, true, false, not, ◌&&◌, ◌||◌, if◌then◌else◌, int_lt, int_le, List, [], ◌∷◌, Option, Some, None, is_some, Ok, Err}
 use Rattle.std.specs.List.{list_all, list_any}
 use Rattle.std.specs.Str.{bytes_eq, chars}
+use Rattle.cedar_ext.specs.declared.extension.Extension.{Extension}
+use Rattle.cedar_ext.specs.declared.extension.ExtensionType.{ExtensionType}
+use Rattle.cedar_ext.specs.declared.method.BinaryMethod.{BinaryMethod}
+use Rattle.cedar_ext.specs.declared.scalar.Scalar.{Scalar}
+use Rattle.cedar_ext.specs.declared.scalar.Scalar.TheVariants as scalar
+use Rattle.cedar_ext.specs.Extensions.{extension_of}
 use Rattle.cedar_ext.specs.Matching.{is_match}
-use Rattle.cedar_ext.specs.DecimalOf.{decimal_of}
-use Rattle.cedar_value.specs.Datum.{Datum, boolean, long, text, uid, set, record_of, decimal, same, same_uid, list_of, pairs_of}
+use Rattle.cedar_ext.specs.Methods.{call_of}
+use Rattle.cedar_value.specs.Datum.{Datum, boolean, long, text, uid, set, record_of, extension, same, same_uid, list_of, pairs_of}
 use Rattle.cedar_value.specs.Sets.{has_member}
 use Rattle.cedar_value.specs.Records.{value_at}
 use Rattle.cedar_value.specs.World.{World, attributes_of, below}
@@ -80,15 +86,15 @@ abbrev pub is_of : List ℕ → Datum → Answer Datum
 is_of ty (uid u) = Ok (boolean (bytes_eq u.ty ty))
 is_of ty _ = Err error.«Type»
 
--- A decimal, else the error decimal (Cedar language reference, decimal).
-abbrev pub decimal_or_error : Option ℤ → Answer Datum
-decimal_or_error None = Err error.Decimal
-decimal_or_error (Some z) = Ok (decimal z)
+-- A value of an extension type, else the error decimal (Cedar language reference, functions).
+abbrev pub extension_or_error : Option Extension → Answer Datum
+extension_or_error None = Err error.Decimal
+extension_or_error (Some e) = Ok (extension e)
 
--- `decimal`, which takes a string that writes a decimal (Cedar language reference, decimal).
-abbrev pub decimal_of_value : Datum → Answer Datum
-decimal_of_value (text s) = decimal_or_error (decimal_of s)
-decimal_of_value _ = Err error.«Type»
+-- The constructor of an extension type, which takes a string that writes a value of the type (Cedar language reference, functions).
+abbrev pub constructed : ExtensionType → Datum → Answer Datum
+constructed t (text s) = extension_or_error (extension_of t s)
+constructed t _ = Err error.«Type»
 
 -- The test's answer for a set, else the error type (Cedar language reference, set operators).
 abbrev pub of_set : (List Datum → Bool) → Datum → Answer Datum
@@ -108,7 +114,7 @@ unary_of w (operator.Has a) x = has_in a (source w x)
 unary_of w (operator.Get a) x = get_in a (source w x)
 unary_of w (operator.Like p) x = like_of x (is_match p)
 unary_of w (operator.Is ty) x = is_of ty x
-unary_of w operator.Decimal x = decimal_of_value x
+unary_of w (operator.Construct t) x = constructed t x
 unary_of w operator.IsEmpty x = of_set is_empty x
 
 -- The operation's answer for two numbers, else the error type (Cedar language reference, operators).
@@ -116,10 +122,20 @@ abbrev pub of_longs : (ℤ → ℤ → Answer Datum) → Datum → Datum → Ans
 of_longs f (long m) (long n) = f m n
 of_longs f _ _ = Err error.«Type»
 
--- The test's answer for two decimals, else the error type (Cedar language reference, decimal).
-abbrev pub of_decimals : (ℤ → ℤ → Bool) → Datum → Datum → Answer Datum
-of_decimals f (decimal m) (decimal n) = Ok (boolean (f m n))
-of_decimals f _ _ = Err error.«Type»
+-- The value that a method of an extension type gives (Cedar language reference, functions).
+abbrev pub datum_of_scalar : Scalar → Datum
+datum_of_scalar (scalar.Boolean b) = boolean b
+datum_of_scalar (scalar.Extension e) = extension e
+
+-- What a method of an extension type gives, else the error type (Cedar language reference, functions).
+abbrev pub scalar_or_error : Option Scalar → Answer Datum
+scalar_or_error None = Err error.«Type»
+scalar_or_error (Some v) = Ok (datum_of_scalar v)
+
+-- A method of an extension type, which takes two values of extension types (Cedar language reference, functions).
+abbrev pub called : BinaryMethod → Datum → Datum → Answer Datum
+called m (extension a) (extension b) = scalar_or_error (call_of m a b)
+called m _ _ = Err error.«Type»
 
 -- The test's answer for two sets, else the error type (Cedar language reference, set operators).
 abbrev pub of_sets : (List Datum → List Datum → Bool) → Datum → Datum → Answer Datum
@@ -156,7 +172,4 @@ binary_of w binary_operator.In x y = in_of w x y
 binary_of w binary_operator.Contains x y = of_set (λ ms. has_member ms y) x
 binary_of w binary_operator.ContainsAll x y = of_sets (λ ms ns. list_all (has_member ms) ns) x y
 binary_of w binary_operator.ContainsAny x y = of_sets (λ ms ns. list_any (has_member ms) ns) x y
-binary_of w binary_operator.DecimalLess x y = of_decimals int_lt x y
-binary_of w binary_operator.DecimalLessEqual x y = of_decimals int_le x y
-binary_of w binary_operator.DecimalGreater x y = of_decimals (λ m n. int_lt n m) x y
-binary_of w binary_operator.DecimalGreaterEqual x y = of_decimals (λ m n. int_le n m) x y
+binary_of w (binary_operator.Call m) x y = called m x y

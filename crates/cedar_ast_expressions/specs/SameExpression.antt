@@ -1,12 +1,15 @@
 -- When two expressions are the same (Cedar language reference, expressions).
 use Rattle.std.specs.Prelude.{Bool, true, false, ◌&&◌}
 use Rattle.std.specs.Str.{bytes_eq}
+use Rattle.cedar_ext.specs.Extensions.{same_type}
 use Rattle.cedar_ext.specs.SamePattern.{same_pattern}
 use Rattle.cedar_value.specs.Datum.{same}
 use Rattle.cedar_ast_expressions.specs.declared.variable.Variable.{Variable}
 use Rattle.cedar_ast_expressions.specs.declared.variable.Variable.TheVariants.{Principal, Action, Resource, Context}
+use Rattle.cedar_ext.specs.declared.method.BinaryMethod.{BinaryMethod}
+use Rattle.cedar_ext.specs.declared.method.BinaryMethod.TheVariants as method
 use Rattle.cedar_ast_expressions.specs.declared.operator.UnaryOperator.{UnaryOperator}
-use Rattle.cedar_ast_expressions.specs.declared.operator.UnaryOperator.TheVariants.{Not, Negate, Has, Get, Like, Is, Decimal, IsEmpty}
+use Rattle.cedar_ast_expressions.specs.declared.operator.UnaryOperator.TheVariants.{Not, Negate, Has, Get, Like, Is, Construct, IsEmpty}
 use Rattle.cedar_ast_expressions.specs.declared.operator.BinaryOperator.{BinaryOperator}
 use Rattle.cedar_ast_expressions.specs.declared.operator.BinaryOperator.TheVariants as operator
 use Rattle.cedar_ast_expressions.specs.Expression.{Expression, literal, variable, and, or, if_else, unary, binary, set_with, record_with, Expressions, no_more, and_then, Entries, no_entries, entry}
@@ -19,6 +22,14 @@ same_variable Resource Resource = true
 same_variable Context Context = true
 same_variable _ _ = false
 
+-- Whether two methods are the same (Cedar language reference, functions).
+abbrev pub same_method : BinaryMethod → BinaryMethod → Bool
+same_method method.LessThan method.LessThan = true
+same_method method.LessThanOrEqual method.LessThanOrEqual = true
+same_method method.GreaterThan method.GreaterThan = true
+same_method method.GreaterThanOrEqual method.GreaterThanOrEqual = true
+same_method _ _ = false
+
 -- Whether two operators on one operand are the same, with one key, pattern or name (Cedar language reference, operators).
 unfoldable pub same_unary : UnaryOperator → UnaryOperator → Bool
 same_unary Not Not = true
@@ -27,7 +38,7 @@ same_unary (Has a) (Has b) = bytes_eq a b
 same_unary (Get a) (Get b) = bytes_eq a b
 same_unary (Like p) (Like q) = same_pattern p q
 same_unary (Is t) (Is u) = bytes_eq t u
-same_unary Decimal Decimal = true
+same_unary (Construct c) (Construct d) = same_type c d
 same_unary IsEmpty IsEmpty = true
 same_unary _ _ = false
 
@@ -43,10 +54,7 @@ same_binary operator.In operator.In = true
 same_binary operator.Contains operator.Contains = true
 same_binary operator.ContainsAll operator.ContainsAll = true
 same_binary operator.ContainsAny operator.ContainsAny = true
-same_binary operator.DecimalLess operator.DecimalLess = true
-same_binary operator.DecimalLessEqual operator.DecimalLessEqual = true
-same_binary operator.DecimalGreater operator.DecimalGreater = true
-same_binary operator.DecimalGreaterEqual operator.DecimalGreaterEqual = true
+same_binary (operator.Call m) (operator.Call n) = same_method m n
 same_binary _ _ = false
 
 -- Whether two expressions are the same tree: of one form, and the same part by part (Cedar language reference,

@@ -1,7 +1,7 @@
 //! Operators.
 ghost use Rattle.std.specs.Prelude.{◌≡◌, ◌↔◌, IfOk, IsTrue};
 
-use cedar_ext::Pattern;
+use cedar_ext::{BinaryMethod, ExtensionType, Pattern};
 use cedar_value::{Name, Text};
 use std::alloc::{AllocError, Global};
 
@@ -20,8 +20,8 @@ pub enum UnaryOperator {
     Like(Pattern),
     /// `is T`, of an entity.
     Is(Name),
-    /// `decimal(s)`, of a string.
-    Decimal,
+    /// The constructor of an extension type, such as `decimal(s)`, of a string.
+    Construct(ExtensionType),
     /// `isEmpty()`, of a set.
     IsEmpty,
 }
@@ -38,7 +38,7 @@ impl UnaryOperator {
             UnaryOperator::Get(key) => Ok(UnaryOperator::Get(key.try_clone(alloc)?)),
             UnaryOperator::Like(pattern) => Ok(UnaryOperator::Like(pattern.try_clone(alloc)?)),
             UnaryOperator::Is(ty) => Ok(UnaryOperator::Is(ty.try_clone(alloc)?)),
-            UnaryOperator::Decimal => Ok(UnaryOperator::Decimal),
+            UnaryOperator::Construct(ty) => Ok(UnaryOperator::Construct(*ty)),
             UnaryOperator::IsEmpty => Ok(UnaryOperator::IsEmpty),
         }
     }
@@ -75,12 +75,12 @@ pub(crate) fn same_operator(one: &UnaryOperator, two: &UnaryOperator) -> bool
     match (one, two) {
         (UnaryOperator::Not, UnaryOperator::Not) => true,
         (UnaryOperator::Negate, UnaryOperator::Negate) => true,
-        (UnaryOperator::Decimal, UnaryOperator::Decimal) => true,
         (UnaryOperator::IsEmpty, UnaryOperator::IsEmpty) => true,
         (UnaryOperator::Has(first), UnaryOperator::Has(second)) => first == second,
         (UnaryOperator::Get(first), UnaryOperator::Get(second)) => first == second,
         (UnaryOperator::Is(first), UnaryOperator::Is(second)) => first == second,
         (UnaryOperator::Like(first), UnaryOperator::Like(second)) => first == second,
+        (UnaryOperator::Construct(first), UnaryOperator::Construct(second)) => first.same(*second),
         _ => false,
     }
 }
@@ -109,12 +109,6 @@ pub enum BinaryOperator {
     ContainsAll,
     /// `containsAny`, of sets.
     ContainsAny,
-    /// `lessThan`, of decimals.
-    DecimalLess,
-    /// `lessThanOrEqual`, of decimals.
-    DecimalLessEqual,
-    /// `greaterThan`, of decimals.
-    DecimalGreater,
-    /// `greaterThanOrEqual`, of decimals.
-    DecimalGreaterEqual,
+    /// A method of an extension type, such as `lessThan`.
+    Call(BinaryMethod),
 }

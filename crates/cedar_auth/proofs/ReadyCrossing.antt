@@ -11,6 +11,9 @@ use Rattle.std.specs.contracts.hash.FoldHasher as fold
 use Rattle.indexmap.proofs.map.IndexMap.TheSendSync as map
 use Rattle.base_search.proofs.row.Row.TheSendSync as row
 use Rattle.cedar_ext.proofs.decimal.Decimal.TheSendSync as decimal
+use Rattle.cedar_ext.proofs.extension.Extension.TheSendSync as extension
+use Rattle.cedar_ext.proofs.extension.ExtensionType.TheSendSync as extension_type
+use Rattle.cedar_ext.proofs.method.BinaryMethod.TheSendSync as method
 use Rattle.cedar_value.proofs.name.Name.TheSendSync as name
 use Rattle.cedar_value.proofs.text.Text.TheSendSync as text
 use Rattle.cedar_value.proofs.uid.Uid.TheSendSync as uid
@@ -52,11 +55,11 @@ use Rattle.cedar_auth.specs.contracts.compiled.Compiled as Compiled
 use Rattle.cedar_auth.specs.contracts.ready.Ready as Ready
 use Rattle.cedar_auth.specs.contracts.validated.Validated as Validated
 
--- strings, names and uids
-ruleset names = (text.the_send, text.the_sync, shared.the_send, shared.the_sync, name.the_send, name.the_sync, uid.the_send, uid.the_sync, uid.the_field_send, uid.the_field_sync)
+-- strings, names, uids, and values of extension types
+ruleset names = (decimal.the_send, decimal.the_sync, extension.the_send, extension.the_sync, extension.the_field_send, extension.the_field_sync, extension_type.the_send, extension_type.the_sync, extension_type.the_field_send, extension_type.the_field_sync, text.the_send, text.the_sync, shared.the_send, shared.the_sync, name.the_send, name.the_sync, uid.the_send, uid.the_sync, uid.the_field_send, uid.the_field_sync)
 
 -- what stands in an expression or a code beside values
-ruleset words = (unary.the_send, unary.the_sync, unary.the_field_send, unary.the_field_sync, binary.the_send, binary.the_sync, binary.the_field_send, binary.the_field_sync, variable.the_send, variable.the_sync, variable.the_field_send, variable.the_field_sync, keys.the_send, keys.the_sync, decimal.the_send, decimal.the_sync)
+ruleset words = (unary.the_send, unary.the_sync, unary.the_field_send, unary.the_field_sync, binary.the_send, binary.the_sync, binary.the_field_send, binary.the_field_sync, variable.the_send, variable.the_sync, variable.the_field_send, variable.the_field_sync, keys.the_send, keys.the_sync, method.the_send, method.the_sync, method.the_field_send, method.the_field_sync)
 
 value-send : IsSend Value.the_row
 value-send = search (value.send-Value, names, sendable, crosses) depth 40
@@ -84,10 +87,16 @@ expr-sync = let v = value-sync in search (expr.sync-Expr, names, words, sendable
 
 module _ (S : RattleType) where
   policy-send : IsSend S → IsSend (Over.the_row S)
-  policy-send s = let e = expr-send in search (annotation.the_send, names, sendable, crosses) depth 40
+  policy-send s =
+      let e = expr-send in
+      let y = expr-sync in
+      search (annotation.the_send, names, sendable, crosses) depth 40
 
   policy-sync : IsSync S → IsSync (Over.the_row S)
-  policy-sync s = let e = expr-sync in search (annotation.the_sync, names, sendable, crosses) depth 40
+  policy-sync s =
+      let e = expr-send in
+      let y = expr-sync in
+      search (annotation.the_sync, names, sendable, crosses) depth 40
 
 module _ (E : RattleType) where
   scope-send : IsSend E → IsSend (Scope.the_row E Uid.the_row)

@@ -4,8 +4,10 @@ use Rattle.std.specs.List.{AllByRecursion}
 use Rattle.std.specs.Option.{option_map, option_and_then}
 use Rattle.serde_json.specs.Data.{Num, Data, Items, no_items, item, Members, no_members, member}
 use Rattle.serde_json.specs.Find.{get, as_bool, as_number, as_str, as_array, as_object, as_i64}
-use Rattle.cedar_ext.specs.DecimalOf.{decimal_of}
-use Rattle.cedar_value.specs.Datum.{long, decimal}
+use Rattle.cedar_ext.specs.declared.extension.Extension.{Extension}
+use Rattle.cedar_ext.specs.declared.extension.ExtensionType.{ExtensionType}
+use Rattle.cedar_ext.specs.Extensions.{extension_of}
+use Rattle.cedar_value.specs.Datum.{long, extension}
 use Rattle.cedar_value.specs.declared.uid.Uid.{Uid}
 use Rattle.cedar_schema_types.specs.declared.truth.Truth.{Truth}
 use Rattle.cedar_schema_types.specs.Types.{TypeTree, Attributes, no_attributes, attribute, names_of}
@@ -14,7 +16,7 @@ use Rattle.cedar_conform_values.specs.declared.conform_fault.ConformFault.{Confo
 use Rattle.cedar_conform_values.specs.declared.conform_fault.ConformFault.TheVariants.{OutOfMemory, WrongType, MissingAttribute, ExtraAttribute, NumberRange}
 use Rattle.cedar_conform_values.specs.Faults.{fault_if}
 use Rattle.cedar_conform_values.specs.Uids.{uid_object}
-use Rattle.cedar_conform_values.specs.Values.{Read, FieldsRead, fine, needed, truth_read, long_read, text_read, entity_read, decimal_text, all_read, set_read, field_read, is_declared, extra_faults, record_read, value_read, fields_read}
+use Rattle.cedar_conform_values.specs.Values.{Read, FieldsRead, fine, needed, truth_read, long_read, text_read, entity_read, extension_text, extension_read, all_read, set_read, field_read, is_declared, extra_faults, record_read, value_read, fields_read}
 
 -- each fault is another than out of memory
 abbrev pub Others : List ConformFault → Type 0
@@ -60,9 +62,13 @@ of_entity : (n : List ℕ) (o : Option Uid) → Others (entity_read n o).faults
 of_entity n None = (wrong, tt)
 of_entity n (Some u) = tested _ WrongType wrong
 
-of_units : (o : Option ℤ) → Others (needed WrongType (λ z. fine (decimal z)) o).faults
-of_units None = (wrong, tt)
-of_units (Some z) = tt
+of_read : (o : Option Extension) → Others (needed WrongType (λ e. fine (extension e)) o).faults
+of_read None = (wrong, tt)
+of_read (Some e) = tt
+
+of_extension : (t : ExtensionType) (o : Option (List ℕ)) → Others (extension_read t o).faults
+of_extension t None = (wrong, tt)
+of_extension t (Some s) = of_read (extension_of t s)
 
 of_all : (f : Data → Read) → ((d : Data) → Others (f d).faults) → (ds : Items) → Others (all_read f ds).faults
 unfolding all_read
@@ -95,7 +101,7 @@ mutual
   of_value (kind.entity n) d = of_entity n (uid_object d)
   of_value (kind.set t) d = of_set (value_read t) (λ x. of_value t x) (as_array d)
   of_value (kind.record_of a) d = of_record (names_of a) (fields_read a d) (of_fields a d) (as_object d)
-  of_value kind.decimal d = of_units (option_and_then decimal_of (decimal_text d))
+  of_value (kind.extension t) d = of_extension t (extension_text t d)
 
   of_fields : (a : Attributes) (d : Data) → Others (fields_read a d).faults
   of_fields no_attributes d = tt

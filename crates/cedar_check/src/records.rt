@@ -18,7 +18,7 @@ fn owned_type<'a>(alloc: Global, ty: LentType<'a>) -> Result<Type, AllocError>
         LentType::Boolean(truth) => Ok(Type::new(TypeKind::Boolean(truth))),
         LentType::Long => Ok(Type::new(TypeKind::Long)),
         LentType::String => Ok(Type::new(TypeKind::String)),
-        LentType::Decimal => Ok(Type::new(TypeKind::Decimal)),
+        LentType::Extension(extension) => Ok(Type::new(TypeKind::Extension(extension))),
         LentType::Entity(name) => Ok(Type::new(TypeKind::Entity(name.try_clone(alloc)?))),
         LentType::Lent(ty) => ty.try_clone(alloc),
         LentType::Made(ty) => Ok(ty),

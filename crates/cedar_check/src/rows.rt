@@ -46,7 +46,7 @@ pub(crate) fn literal_type<'a>(alloc: Global, schema: &Schema, value: &'a Value)
         ValueKind::Long(_) => Typing::plain(alloc, LentType::Long),
         ValueKind::String(_) => Typing::plain(alloc, LentType::String),
         ValueKind::Uid(uid) => uid_type(alloc, schema, uid),
-        ValueKind::Set(_) | ValueKind::Record(_) | ValueKind::Decimal(_) => {
+        ValueKind::Set(_) | ValueKind::Record(_) | ValueKind::Extension(_) => {
             Typing::Refused(TypeFault::OperandKind)
         }
     }
@@ -159,15 +159,15 @@ pub(crate) fn or_right<'a>(
     }
 }
 
-// Why an operator on a refused operand has no type. Where `decimal` takes literals alone, an operand that is not a literal is
-// itself the fault.
+// Why an operator on a refused operand has no type. Where a constructor takes literals alone, an operand that is not a literal
+// is itself the fault.
 fn unary_fault(settings: Settings, operator: &UnaryOperator, fault: TypeFault) -> TypeFault {
     match operator {
-        UnaryOperator::Decimal => {
-            if settings.any_decimal {
+        UnaryOperator::Construct(made) => {
+            if settings.takes_any_string(*made) {
                 fault
             } else {
-                TypeFault::NoDecimal
+                TypeFault::NoLiteral
             }
         }
         _ => fault,

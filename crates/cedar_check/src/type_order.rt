@@ -3,6 +3,7 @@ ghost use Rattle.std.specs.Prelude.{◌≡◌};
 ghost use Rattle.std.specs.declared.cmp.Ordering.TheVariants.{Equal};
 ghost use Rattle.cedar_schema_types.specs.TypeKind.{attributes_of};
 
+use cedar_ext::ExtensionType;
 use cedar_schema::{Attribute, Truth, Type, TypeKind};
 use cedar_value::Name;
 use std::cmp::Ordering;
@@ -16,7 +17,7 @@ pub(crate) fn order_types(left: &Type, right: &Type) -> Ordering
         (TypeKind::Boolean(one), TypeKind::Boolean(two)) => order_truths(*one, *two),
         (TypeKind::Long, TypeKind::Long) => Ordering::Equal,
         (TypeKind::String, TypeKind::String) => Ordering::Equal,
-        (TypeKind::Decimal, TypeKind::Decimal) => Ordering::Equal,
+        (TypeKind::Extension(one), TypeKind::Extension(two)) => order_extensions(*one, *two),
         (TypeKind::Entity(one), TypeKind::Entity(two)) => order_names(one, two),
         (TypeKind::Set(one), TypeKind::Set(two)) => order_types(one, two),
         (TypeKind::Record(one), TypeKind::Record(two)) => {
@@ -79,6 +80,15 @@ fn order_truths(left: Truth, right: Truth) -> Ordering
     unlike(truth_rank(left) < truth_rank(right))
 }
 
+fn order_extensions(left: ExtensionType, right: ExtensionType) -> Ordering
+    ensures { result ≡ Equal → left ≡ right }
+{
+    if left.same(right) {
+        return Ordering::Equal;
+    }
+    unlike(extension_rank(left) < extension_rank(right))
+}
+
 // The order of two that are not equal.
 fn unlike(is_less: bool) -> Ordering
     ensures { ¬ (result ≡ Equal) }
@@ -98,6 +108,12 @@ fn truth_rank(truth: Truth) -> u8 {
     }
 }
 
+fn extension_rank(ty: ExtensionType) -> u8 {
+    match ty {
+        ExtensionType::Decimal => 0,
+    }
+}
+
 fn kind_rank(kind: &TypeKind) -> u8 {
     match kind {
         TypeKind::Boolean(_) => 0,
@@ -106,6 +122,6 @@ fn kind_rank(kind: &TypeKind) -> u8 {
         TypeKind::Entity(_) => 3,
         TypeKind::Set(_) => 4,
         TypeKind::Record(_) => 5,
-        TypeKind::Decimal => 6,
+        TypeKind::Extension(_) => 6,
     }
 }

@@ -9,7 +9,7 @@ use Rattle.cedar_schema_types.specs.Types as kind
 use Rattle.cedar_schema_spec.specs.declared.environment.Environment.{Environment}
 use Rattle.cedar_schema_spec.specs.SchemaTree.{SchemaTree}
 use Rattle.cedar_check_spec.specs.Capabilities.{Capabilities}
-use Rattle.cedar_check_spec.specs.Typing.{TypesWith}
+use Rattle.cedar_check_spec.specs.Typing.{TypesWith, takes_any_string}
 use Rattle.cedar_check_spec.specs.declared.settings.Settings.{Settings}
 use Rattle.cedar_check_diagnostics.specs.Paths.{IsStep}
 
@@ -60,10 +60,10 @@ abbrev pub IsJoined : Settings → SchemaTree → Environment → Capabilities �
 IsJoined settings s env held None = Unit {0}
 IsJoined settings s env held (Some a) = HasType settings s env held a
 
--- The operand of `decimal` is a part like others only under the setting that allows any string: else `decimal` takes a literal, and
--- is itself at fault (Cedar documentation, strict validation: decimal; own: the setting).
+-- The operand of a constructor such as `decimal` is a part like others only where the settings have it take any string: else it
+-- takes a literal, and is itself at fault (Cedar documentation, strict validation: extension functions; own: the settings).
 abbrev pub MayLookInto : Settings → Expression → Type 0
-MayLookInto settings (unary operator.Decimal a) = IsTrue settings.any_decimal
+MayLookInto settings (unary (operator.Construct c) a) = IsTrue (takes_any_string settings c)
 MayLookInto settings _ = Unit {0}
 
 -- The checker looks at the part of this number, where these capabilities are gained before it: the part's guard may be true, what is

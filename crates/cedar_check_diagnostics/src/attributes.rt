@@ -1,10 +1,12 @@
 //! Attributes that are not declared, and attributes that may be absent.
 use crate::checking::Checking;
+use crate::kinds::is_not;
 use crate::listing::{add_more, is_listed};
+use crate::quoting::Quote;
 use crate::spot::Spot;
 use crate::type_words::entity_of;
 use crate::words::Words;
-use crate::written::{has_opposite, written, written_guard};
+use crate::written::{written, written_guard};
 use base_names::Nearest;
 use base_places::Draft;
 use cedar_ast_expressions::{Expr, ExprKind, UnaryOperator};
@@ -143,35 +145,38 @@ fn nearest_in<'a>(search: Nearest<'_, &'a str>, declared: &'a [Attribute]) -> Op
 }
 
 // Whether an expression is needed to read a part of it as a Boolean.
-fn goes_on(around: &Expr, part: &Expr) -> bool {
+fn goes_on(around: &Expr) -> bool {
     match around.kind() {
-        ExprKind::Unary(operator, _) => match operator {
-            UnaryOperator::Not => has_opposite(part),
-            _ => true,
-        },
+        ExprKind::Unary(_, _) => true,
         ExprKind::Binary(_, _, _) => true,
         _ => false,
     }
 }
 
-// The Boolean that an attribute is read for.
-fn whole_of<'a>(spot: Spot<'a>) -> &'a Expr {
-    let mut whole = spot.part;
+// The hint to write this guard of an attribute before the Boolean that the attribute is read for.
+fn quote_of(spot: Spot<'_>, guard: &str, key: &str) -> Result<Quote, AllocError> {
+    let mut level = spot.path.len();
+    let mut path = spot.path;
+    let mut goes = true;
+    let mut denied = false;
     for around in spot.above.iter().rev() {
-        if !goes_on(*around, whole) {
-            return whole;
+        level = level.saturating_sub(1);
+        goes = goes && goes_on(*around);
+        if goes {
+            path = spot.path.get(..level).unwrap_or(spot.path);
+        } else {
+            denied = denied || is_not(*around);
         }
-        whole = *around;
     }
-    whole
+    Quote::guarded(spot.alloc(), path, guard, key, denied)
 }
 
 /// What is said of an attribute that may be absent, where no `has` guards it.
-pub(crate) fn optional_words(spot: Spot<'_>, words: &mut Words) {
+pub(crate) fn optional_words(spot: Spot<'_>, words: &mut Words) -> Result<(), AllocError> {
     let alloc = spot.alloc();
     let Some(access) = access_of(spot.part) else {
         words.says.add("this attribute may be absent");
-        return;
+        return Ok(());
     };
     let key = access.key.as_str();
     match written(alloc, access.operand) {
@@ -184,28 +189,16 @@ pub(crate) fn optional_words(spot: Spot<'_>, words: &mut Words) {
             .says
             .add_all(&["the attribute `", key, "` may be absent"]),
     }
-    match written_guard(alloc, access.operand, key) {
-        Some(guard) => add_guard(&mut words.hint, guard, written(alloc, whole_of(spot))),
-        None => words
+    let Some(draft) = written_guard(alloc, access.operand, key) else {
+        words
             .hint
-            .add("guard it with `has`, for example `x has a && x.a ..`"),
-    }
-}
-
-// Adds the hint to write this guard, before the Boolean that it guards where that has few words.
-fn add_guard(hint: &mut Draft, guard: Draft, whole: Option<Draft>) {
-    match whole {
-        Some(whole) => {
-            hint.add("write `");
-            hint.add_made(guard.done());
-            hint.add(" && ");
-            hint.add_made(whole.done());
-            hint.add_char('`');
-        }
-        None => {
-            hint.add("guard it with `");
-            hint.add_made(guard.done());
-            hint.add(" && ..`");
-        }
-    }
+            .add("guard it with `has`, for example `x has a && x.a ..`");
+        return Ok(());
+    };
+    let guard = draft.done()?;
+    words
+        .hint
+        .add_all(&["guard it with `", guard.as_str(), " && ..`"]);
+    words.quote = Some(quote_of(spot, guard.as_str(), key)?);
+    Ok(())
 }

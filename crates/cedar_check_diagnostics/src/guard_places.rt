@@ -1,41 +1,62 @@
-//! Where in a condition the parts `x has a` are.
+//! Where in a condition the tests are that types may decide.
 use crate::parts::{count_of, part_of};
 use crate::preorder::Preorder;
-use cedar_ast_expressions::{Expr, ExprKind, UnaryOperator};
+use cedar_ast_expressions::{BinaryOperator, Expr, ExprKind, UnaryOperator};
 use std::alloc::{AllocError, Global};
 
-/// The places of the parts `x has a` of a condition. They are numbered from 0 in the order in which they are written. The place of a part
-/// is its position among the parts of the condition, each before its own parts, from 0.
+/// How many steps lead past the scope of a condition `principal && (action && (resource && conditions))`.
+const SCOPE_STEPS: usize = 3;
+
+/// The places of the tests that types may decide, which are not in the scope: `x has a`, `x is T`, `x == y` and `x in y`. They are
+/// numbered from 0 in the order in which they are written. The place of a part is its position among the parts of the condition, each
+/// before its own parts, from 0.
 #[derive(Drop)]
 pub(crate) struct GuardPlaces {
     // The number of nodes of each part of the condition.
     sizes: Vec<usize>,
-    // For each part of the condition, and for the end, how many parts `x has a` are before it.
+    // For each part of the condition, and for the end, how many tests are before it.
     before: Vec<usize>,
     // The place of each.
     places: Vec<usize>,
 }
 
-// Whether a part is `x has a`.
-fn is_guard(part: &Expr) -> bool {
+// Whether a part is a test that types may decide.
+fn is_test(part: &Expr) -> bool {
     match part.kind() {
         ExprKind::Unary(operator, _) => match operator {
             UnaryOperator::Has(_) => true,
+            UnaryOperator::Is(_) => true,
+            _ => false,
+        },
+        ExprKind::Binary(operator, _, _) => match operator {
+            BinaryOperator::Equal => true,
+            BinaryOperator::In => true,
             _ => false,
         },
         _ => false,
     }
 }
 
+// The place of the conditions, on the right of the parts of the scope, where the parts of the whole have these sizes.
+fn place_of_conditions(sizes: &[usize]) -> usize {
+    let mut place = 0usize;
+    for _ in 0..SCOPE_STEPS {
+        let left = place.saturating_add(1);
+        place = left.saturating_add(sizes.get(left).copied().unwrap_or(0));
+    }
+    place
+}
+
 impl GuardPlaces {
-    /// The places in a condition.
+    /// The places in the whole condition of a policy.
     pub(crate) fn of(alloc: Global, condition: &Expr) -> Result<Self, AllocError> {
         let Preorder { parts, sizes } = Preorder::of(alloc, condition)?;
+        let conditions = place_of_conditions(&sizes);
         let mut before = Vec::new(alloc);
         let mut places = Vec::new(alloc);
         for (place, part) in parts.iter().enumerate() {
             before.push(places.len())?;
-            if is_guard(*part) {
+            if place >= conditions && is_test(*part) {
                 places.push(place)?;
             }
         }
@@ -62,7 +83,12 @@ impl GuardPlaces {
         self.before.get(place).copied().unwrap_or(self.places.len())
     }
 
-    /// Whether the part at a place of the condition is `x has a`, or has such a part.
+    /// Whether the part at a place of the condition is one of the tests.
+    pub(crate) fn is_one(&self, place: usize) -> bool {
+        self.number_at(place) < self.number_at(place.saturating_add(1))
+    }
+
+    /// Whether the part at a place of the condition is one of the tests, or has one.
     pub(crate) fn has_any(&self, place: usize) -> bool {
         let end = place.saturating_add(self.size(place));
         self.number_at(place) < self.number_at(end)

@@ -1,24 +1,21 @@
-//! The parts `x has a` of a condition that the checker looks at in an environment.
+//! The tests of a condition that the checker looks at in an environment.
 use crate::checking::Checking;
 use crate::guard_places::GuardPlaces;
 use crate::parts::{count_of, part_of};
-use cedar_ast_expressions::{Expr, ExprKind, UnaryOperator};
+use cedar_ast_expressions::{Expr, ExprKind};
 use cedar_check_operators::{Capability, Typing, extended, together};
 use cedar_schema::Truth;
-use cedar_value::Text;
 use std::alloc::{AllocError, Global};
 
-/// A part `x has a` that the checker looks at.
+/// A test that the checker looks at.
 #[derive(Drop)]
 pub(crate) struct Guard<'a> {
     /// Its number among those of the condition.
     pub(crate) number: usize,
     /// What is known of it.
     pub(crate) truth: Option<Truth>,
-    /// The operand.
-    pub(crate) operand: &'a Expr,
-    /// The attribute.
-    pub(crate) key: &'a Text,
+    /// The test.
+    pub(crate) part: &'a Expr,
     /// What is held there.
     pub(crate) held: Vec<Capability<'a>>,
 }
@@ -130,7 +127,7 @@ impl<'a, 'g> GuardWalk<'a, 'g> {
         Ok(walk)
     }
 
-    /// The next part `x has a` that is looked at; none at the end.
+    /// The next test that is looked at; none at the end.
     pub(crate) fn next(&mut self) -> Result<Option<Guard<'a>>, AllocError> {
         for _ in 0..u64::MAX {
             let Some(mut row) = self.rows.pop() else {
@@ -167,35 +164,31 @@ impl<'a, 'g> GuardWalk<'a, 'g> {
         }
     }
 
-    // Goes into a part, and gives it if it is `x has a`.
+    // Goes into a part, and gives it if it is a test.
     fn open(
         &mut self,
         here: Placed<'a>,
         held: Vec<Capability<'a>>,
         truth: Option<Truth>,
     ) -> Result<Option<Guard<'a>>, AllocError> {
+        let mut found = None;
+        if self.places.is_one(here.place) {
+            found = Some(Guard {
+                number: self.places.number_at(here.place),
+                truth,
+                part: here.part,
+                held: extended(self.checking.alloc, &held, &[])?,
+            });
+        }
         match here.part.kind() {
             ExprKind::And(_, _) => self.push_chain(Joint::And, here, held)?,
             ExprKind::Or(_, _) => self.push_chain(Joint::Or, here, held)?,
             ExprKind::If(condition, first, second) => {
                 self.open_if(here.place, condition, first, second, held)?
             }
-            ExprKind::Unary(operator, operand) => {
-                let inner = extended(self.checking.alloc, &held, &[])?;
-                self.push_one(self.first_of(here.place, operand), inner)?;
-                if let UnaryOperator::Has(key) = operator {
-                    return Ok(Some(Guard {
-                        number: self.places.number_at(here.place),
-                        truth,
-                        operand,
-                        key,
-                        held,
-                    }));
-                }
-            }
             _ => self.push_parts(here, held)?,
         }
-        Ok(None)
+        Ok(found)
     }
 
     // Goes into `if`: its condition, and each branch that may be evaluated.
@@ -282,7 +275,7 @@ impl<'a, 'g> GuardWalk<'a, 'g> {
         Ok(())
     }
 
-    // Adds the parts of a part that have `x has a` as a row.
+    // Adds the parts of a part that have a test as a row.
     fn push_parts(
         &mut self,
         here: Placed<'a>,

@@ -1,26 +1,35 @@
-//! Parts `x has a` of a condition that are always false.
-use crate::attributes::lacking_words;
+//! Tests of a condition that are always false.
 use crate::checking::Checking;
 use crate::guard_places::GuardPlaces;
 use crate::guard_walk::{Guard, GuardWalk};
+use crate::guard_words::why_false;
 use crate::refusal::{ExplainedPart, with_words};
+use crate::spot::Spot;
 use crate::words::Words;
 use cedar_ast_expressions::Expr;
-use cedar_check_operators::Typing;
 use cedar_check_spec::Settings;
 use cedar_schema::{Environment, Schema, Truth};
 use std::alloc::{AllocError, Global};
 
-/// The parts `x has a` of a condition that are always false.
+/// The tests of a condition that are always false.
 #[derive(Drop)]
 pub struct FalseGuards {
     /// The first of them, in the order in which they are written.
-    pub parts: Vec<ExplainedPart>,
+    pub parts: Vec<FalseGuard>,
     /// How many more there are.
     pub more: usize,
 }
 
-// What the environments so far say of a part `x has a`.
+/// A test that is always false.
+#[derive(Drop)]
+pub struct FalseGuard {
+    /// The test, and why it is false.
+    pub part: ExplainedPart,
+    /// Whether it is `x has a`.
+    pub is_has: bool,
+}
+
+// What the environments so far say of a test.
 #[derive(Clone, Copy, PartialEq, Eq)]
 enum Verdict {
     // It was looked at in none.
@@ -32,7 +41,7 @@ enum Verdict {
 }
 
 impl Verdict {
-    // The verdict after one more environment, at this position, in which the part is looked at.
+    // The verdict after one more environment, at this position, in which the test is looked at.
     fn after(self, is_false: bool, position: usize) -> Verdict {
         match self {
             _ if !is_false => Verdict::MayHold,
@@ -43,7 +52,7 @@ impl Verdict {
     }
 }
 
-// A condition whose parts `x has a` are judged, and what it is typed against.
+// A condition whose tests are judged, and what it is typed against.
 #[derive(Clone, Copy)]
 struct Judging<'j> {
     alloc: Global,
@@ -67,7 +76,7 @@ impl<'j> Judging<'j> {
         }
     }
 
-    // What all environments say of each part.
+    // What all environments say of each test.
     fn verdicts(self) -> Result<Vec<Verdict>, AllocError> {
         let mut verdicts = Vec::new(self.alloc);
         for _ in 0..self.places.count() {
@@ -82,7 +91,7 @@ impl<'j> Judging<'j> {
         Ok(verdicts)
     }
 
-    // Notes what the environment at a position says of each part that is looked at.
+    // Notes what the environment at a position says of each test that is looked at.
     fn judge_in(
         self,
         environment: &Environment,
@@ -99,20 +108,25 @@ impl<'j> Judging<'j> {
         )
     }
 
-    // The part of a number, which is false in an environment, and why it is.
-    fn explained(
-        self,
-        environment: &Environment,
-        number: usize,
-    ) -> Result<ExplainedPart, AllocError> {
+    // The test of a number, which is false in an environment, and why it is.
+    fn explained(self, environment: &Environment, number: usize) -> Result<FalseGuard, AllocError> {
         let typed = self.condition.with_action(self.alloc, &environment.action)?;
-        let words = words_of(self.checking(environment), self.places, &typed, number)?;
-        drop(typed);
         let path = self.places.path_to(self.alloc, self.condition, number)?;
-        with_words(self.alloc, path, 0, words)
+        let mut words = Words::new(self.alloc);
+        let is_has = add_why(
+            self.checking(environment),
+            self.places,
+            &typed,
+            number,
+            &path,
+            &mut words,
+        )?;
+        drop(typed);
+        let part = with_words(self.alloc, path, 0, words)?;
+        Ok(FalseGuard { part, is_has })
     }
 
-    // The first parts with the verdict that they are false, at most so many, and how many more there are.
+    // The first tests with the verdict that they are false, at most so many, and how many more there are.
     fn false_ones(self, verdicts: &[Verdict], most: usize) -> Result<FalseGuards, AllocError> {
         let mut found = FalseGuards {
             parts: Vec::new(self.alloc),
@@ -134,7 +148,7 @@ impl<'j> Judging<'j> {
     }
 }
 
-// Notes what the environment at a position says of each part of a condition that is looked at. The environment's action is in place of
+// Notes what the environment at a position says of each test of a condition that is looked at. The environment's action is in place of
 // the variable.
 fn judge_all(
     checking: Checking<'_>,
@@ -156,46 +170,49 @@ fn judge_all(
     Ok(())
 }
 
-// Why the part of a number is false in an environment, whose action is in place of the variable: which attribute the type of its operand
-// lacks.
-fn words_of(
+// Where a test is, to which a path leads.
+fn spot_of<'s, 'g>(checking: Checking<'s>, guard: &'s Guard<'g>, path: &'s [usize]) -> Spot<'s>
+where
+    'g: 's,
+{
+    Spot {
+        checking,
+        held: &guard.held,
+        part: guard.part,
+        above: &[],
+        path,
+    }
+}
+
+// Says why the test of a number, to which a path leads, is false in an environment, whose action is in place of the variable. Returns
+// whether the test is `x has a`.
+fn add_why(
     checking: Checking<'_>,
     places: &GuardPlaces,
     condition: &Expr,
     number: usize,
-) -> Result<Words, AllocError> {
-    let mut words = Words::new(checking.alloc);
+    path: &[usize],
+    words: &mut Words,
+) -> Result<bool, AllocError> {
     let mut walk = GuardWalk::new(checking, places, condition)?;
     for _ in 0..u64::MAX {
         let Some(guard) = walk.next()? else {
             break;
         };
         if guard.number == number {
-            add_lacking(checking, &guard, &mut words)?;
-            break;
+            return why_false(spot_of(checking, &guard, path), words);
         }
     }
-    Ok(words)
+    Ok(false)
 }
 
-// Says which attribute the type of a guard's operand lacks.
-fn add_lacking(
-    checking: Checking<'_>,
-    guard: &Guard<'_>,
-    words: &mut Words,
-) -> Result<(), AllocError> {
-    if let Typing::Typed(x) = checking.typing(&guard.held, guard.operand)? {
-        lacking_words(checking, words, guard.operand, guard.key, &x.ty);
-    }
-    Ok(())
-}
-
-/// The parts `x has a` of a policy's condition that are false in each environment of the schema in which the checker looks at them: no
-/// type of `x` declares `a` there, so that most likely the name is misspelt. A part that is looked at in no environment is none of
-/// them. The first ones are explained, at most `most` of them.
+/// The tests of a policy's whole condition that are false in each environment of the schema in which the checker looks at them: `x has a`
+/// where no type of `x` declares `a`, and `x is T`, `x == y` and `x in y` that the types decide. Most likely a name or a type is not the
+/// one that was meant. Those of the scope are left out, and those that are looked at in no environment. The first ones are explained, at
+/// most `most` of them.
 ///
-/// Time is that of a few typings of the condition in each environment, until each part may be true in one, and for each part that is
-/// explained that of a few more. A condition without `has` is not typed.
+/// Time is that of a few typings of the condition in each environment, until each test may be true in one, and for each test that is
+/// explained that of a few more. A condition without tests is not typed.
 ///
 /// # Errors
 ///

@@ -1,6 +1,6 @@
 //! Types that have no type in common.
 use crate::spot::Spot;
-use crate::type_words::{Kind, entity_of, kind_of};
+use crate::type_words::{Kind, entity_of, kind_of, written_as};
 use crate::words::Words;
 use base_places::Draft;
 use cedar_ast_expressions::{BinaryOperator, Expr, ExprKind};
@@ -76,14 +76,18 @@ fn advise(words: &mut Words, left: &LentType<'_>, right: &LentType<'_>) {
         add_entity(&mut words.hint, left);
     } else if one == Kind::String && two == Kind::Entity {
         add_entity(&mut words.hint, right);
-    } else if is_beside_decimal(one, two) || is_beside_decimal(two, one) {
-        words.hint.add("write a decimal as `decimal(\"1.5\")`");
+    } else if let Some(advice) = meant_for(one, two) {
+        words.hint.add(advice);
     }
 }
 
-// Whether a decimal was likely meant by the first of two kinds, since the second is that of decimals.
-fn is_beside_decimal(one: Kind, two: Kind) -> bool {
-    two == Kind::Decimal && (one == Kind::Long || one == Kind::String)
+// How a value is written that was likely meant by a number or a string, since the other kind is that of such values.
+fn meant_for(one: Kind, two: Kind) -> Option<&'static str> {
+    match (one, two) {
+        (Kind::Long | Kind::String, Kind::Extension(ty)) => Some(written_as(ty)),
+        (Kind::Extension(ty), Kind::Long | Kind::String) => Some(written_as(ty)),
+        _ => None,
+    }
 }
 
 // Adds how an entity of a type is written.

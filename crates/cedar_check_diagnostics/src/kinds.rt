@@ -1,9 +1,11 @@
 //! Operands of the wrong type.
 use crate::spot::Spot;
-use crate::type_words::{Kind, add_type, kind_of};
+use crate::type_words::{Kind, add_type, kind_of, written_as};
 use crate::words::Words;
-use cedar_ast_expressions::{BinaryOperator, Expr, ExprKind, UnaryOperator};
+use base_places::Draft;
+use cedar_ast_expressions::{BinaryMethod, BinaryOperator, Expr, ExprKind, UnaryOperator};
 use cedar_check_operators::LentType;
+use cedar_ext::ExtensionType;
 use std::alloc::AllocError;
 
 /// What is said of operands of the wrong type.
@@ -26,11 +28,11 @@ pub(crate) fn operand_words(spot: Spot<'_>, words: &mut Words) -> Result<(), All
             of_one(spot, words)
         }
         ExprKind::Unary(operator, _) => {
-            words.says.add(taken_by_one(spot, operator));
+            add_taken_by_one(words, operator);
             of_one(spot, words)
         }
         ExprKind::Binary(operator, _, _) => {
-            words.says.add(taken_by_two(spot, *operator));
+            add_taken_by_two(words, spot, *operator);
             of_two(spot, words, *operator)
         }
         _ => {
@@ -46,44 +48,63 @@ pub(crate) fn other_condition(words: &mut Words, ty: &LentType<'_>) {
     add_type(&mut words.says, ty);
 }
 
-// What an operator on one operand takes.
-fn taken_by_one(spot: Spot<'_>, operator: &UnaryOperator) -> &'static str {
-    match operator {
-        UnaryOperator::Not => {
-            if spot.is_joint() {
-                "`!` and `unless` take a Boolean"
-            } else {
-                "`!` takes a Boolean"
-            }
-        }
+// Adds what an operator on one operand takes. A `!` may be written as `unless`.
+fn add_taken_by_one(words: &mut Words, operator: &UnaryOperator) {
+    if matches!(operator, UnaryOperator::Not) {
+        words.turned.add("`unless` takes a Boolean");
+    }
+    let taken = match operator {
+        UnaryOperator::Not => "`!` takes a Boolean",
         UnaryOperator::Negate => "`-` takes a Long",
         UnaryOperator::Has(_) => "`has` takes a record or an entity",
         UnaryOperator::Get(_) => "only a record or an entity has attributes",
         UnaryOperator::Like(_) => "`like` takes a String",
         UnaryOperator::Is(_) => "`is` takes an entity",
-        UnaryOperator::Decimal => "`decimal` takes a String",
+        UnaryOperator::Construct(made) => {
+            return words
+                .says
+                .add_all(&["`", made.constructor(), "` takes ", Kind::String.one()]);
+        }
         UnaryOperator::IsEmpty => "`isEmpty` takes a set",
-    }
+    };
+    words.says.add(taken);
 }
 
-// Whether an expression is `!` of its part.
-fn is_not(expression: &Expr) -> bool {
+/// Whether an expression is `!` of its part.
+pub(crate) fn is_not(expression: &Expr) -> bool {
     match expression.kind() {
         ExprKind::Unary(operator, _) => matches!(operator, UnaryOperator::Not),
         _ => false,
     }
 }
 
-// What an operator on two operands takes. After a `!` the operator may be written as its opposite.
-fn taken_by_two(spot: Spot<'_>, operator: BinaryOperator) -> &'static str {
+// Adds what a method of an extension type takes.
+fn add_taken_by_method(says: &mut Draft, method: BinaryMethod) {
+    let row = method.row();
+    says.add_all(&["`", method.name(), "` takes "]);
+    if row.left == row.right {
+        says.add_all(&["two ", row.left.many()]);
+    } else {
+        says.add_all(&[row.left.one(), " and ", row.right.one()]);
+    }
+}
+
+// Adds what an operator on two operands takes. After a `!` the operator may be written as its opposite.
+fn add_taken_by_two(words: &mut Words, spot: Spot<'_>, operator: BinaryOperator) {
     let denied = match spot.parent() {
         Some(around) => is_not(around),
         None => false,
     };
-    match operator {
-        BinaryOperator::Less if denied => "`<` and `>=` take two Longs",
+    if denied {
+        match operator {
+            BinaryOperator::Less => words.turned.add("`>=` takes two Longs"),
+            BinaryOperator::LessEqual => words.turned.add("`>` takes two Longs"),
+            _ => {}
+        }
+    }
+    let taken = match operator {
+        BinaryOperator::Call(method) => return add_taken_by_method(&mut words.says, method),
         BinaryOperator::Less => "`<` takes two Longs",
-        BinaryOperator::LessEqual if denied => "`<=` and `>` take two Longs",
         BinaryOperator::LessEqual => "`<=` takes two Longs",
         BinaryOperator::Add => "`+` takes two Longs",
         BinaryOperator::Subtract => "`-` takes two Longs",
@@ -92,12 +113,9 @@ fn taken_by_two(spot: Spot<'_>, operator: BinaryOperator) -> &'static str {
         BinaryOperator::Contains => "`contains` takes a set and a value",
         BinaryOperator::ContainsAll => "`containsAll` takes two sets",
         BinaryOperator::ContainsAny => "`containsAny` takes two sets",
-        BinaryOperator::DecimalLess => "`lessThan` takes two decimals",
-        BinaryOperator::DecimalLessEqual => "`lessThanOrEqual` takes two decimals",
-        BinaryOperator::DecimalGreater => "`greaterThan` takes two decimals",
-        BinaryOperator::DecimalGreaterEqual => "`greaterThanOrEqual` takes two decimals",
         BinaryOperator::Equal => "`==` takes two values of one type",
-    }
+    };
+    words.says.add(taken);
 }
 
 // Adds the first operand of `&&` or `||` that is not a Boolean.
@@ -133,21 +151,15 @@ fn of_two(spot: Spot<'_>, words: &mut Words, operator: BinaryOperator) -> Result
 // What to do about operands of these kinds, where one thing is likely.
 fn advice_of(operator: BinaryOperator, left: Kind, right: Kind) -> Option<&'static str> {
     match operator {
-        BinaryOperator::Less | BinaryOperator::LessEqual => {
-            either(
-                left,
-                right,
-                Kind::Decimal,
+        BinaryOperator::Less | BinaryOperator::LessEqual => match extension_in(left, right)? {
+            ExtensionType::Decimal => Some(
                 "compare decimals with `.lessThan(..)`, `.lessThanOrEqual(..)`, `.greaterThan(..)` or `.greaterThanOrEqual(..)`",
-            )
-        }
+            ),
+        },
         BinaryOperator::Add | BinaryOperator::Subtract | BinaryOperator::Multiply => {
-            either(
-                left,
-                right,
-                Kind::Decimal,
-                "there is no arithmetic on decimals",
-            )
+            match extension_in(left, right)? {
+                ExtensionType::Decimal => Some("there is no arithmetic on decimals"),
+            }
         }
         BinaryOperator::In => advice_of_in(left, right),
         BinaryOperator::Contains if left == Kind::String => Some(
@@ -156,10 +168,16 @@ fn advice_of(operator: BinaryOperator, left: Kind, right: Kind) -> Option<&'stat
         BinaryOperator::ContainsAll | BinaryOperator::ContainsAny if left == Kind::Set => Some(
             "`contains` takes one member",
         ),
-        BinaryOperator::DecimalLess
-        | BinaryOperator::DecimalLessEqual
-        | BinaryOperator::DecimalGreater
-        | BinaryOperator::DecimalGreaterEqual => advice_of_decimals(left, right),
+        BinaryOperator::Call(method) => advice_of_method(method, left, right),
+        _ => None,
+    }
+}
+
+// The extension type of one of the two, the left one first.
+fn extension_in(left: Kind, right: Kind) -> Option<ExtensionType> {
+    match (left, right) {
+        (Kind::Extension(ty), _) => Some(ty),
+        (_, Kind::Extension(ty)) => Some(ty),
         _ => None,
     }
 }
@@ -187,11 +205,14 @@ fn advice_of_in(left: Kind, right: Kind) -> Option<&'static str> {
     }
 }
 
-// What to do about operands of a comparison of decimals.
-fn advice_of_decimals(left: Kind, right: Kind) -> Option<&'static str> {
+// What to do about operands of a method of an extension type.
+fn advice_of_method(method: BinaryMethod, left: Kind, right: Kind) -> Option<&'static str> {
+    let row = method.row();
     if left == Kind::Long && right == Kind::Long {
         Some("compare Longs with `<`, `<=`, `>` or `>=`")
+    } else if left != Kind::Extension(row.left) {
+        Some(written_as(row.left))
     } else {
-        Some("write a decimal as `decimal(\"1.5\")`")
+        Some(written_as(row.right))
     }
 }

@@ -1,31 +1,37 @@
-//! Empty sets, and operands of `decimal`.
+//! Empty sets, and operands of constructors such as `decimal`.
+use crate::quoting::Quote;
 use crate::spot::Spot;
 use crate::type_words::{Kind, kind_of};
 use crate::words::Words;
 use crate::written::written;
 use cedar_ast_expressions::{BinaryOperator, Expr, ExprKind, UnaryOperator};
+use cedar_ext::ExtensionType;
 use cedar_value::{Value, ValueKind};
 use std::alloc::AllocError;
 
-// How decimals are written.
-const FORM: &str = "write digits, a point and one to four digits, for example `decimal(\"1.5\")`";
-
-/// What is said of an empty set.
-pub(crate) fn empty_words(spot: Spot<'_>, words: &mut Words) {
-    words.says.add("this set is empty");
-    if let Some(other) = compared_with(spot) {
-        if let Some(text) = written(spot.alloc(), other) {
-            words.hint.add(if is_denied(spot) {
-                "write `!"
-            } else {
-                "write `"
-            });
-            words.hint.add_made(text.done());
-            words.hint.add(".isEmpty()`");
-            return;
+// How the string of the constructor of a type is written.
+fn form_of(made: ExtensionType) -> &'static str {
+    match made {
+        ExtensionType::Decimal => {
+            "write digits, a point and one to four digits, for example `decimal(\"1.5\")`"
         }
     }
+}
+
+/// What is said of an empty set.
+pub(crate) fn empty_words(spot: Spot<'_>, words: &mut Words) -> Result<(), AllocError> {
+    words.says.add("this set is empty");
     words.hint.add("`x.isEmpty()` tests whether a set is empty");
+    let Some(other) = compared_with(spot) else {
+        return Ok(());
+    };
+    if let Some(draft) = written(spot.alloc(), other) {
+        let set = draft.done()?;
+        if let Some((_, around)) = spot.path.split_last() {
+            words.quote = Some(Quote::emptiness(spot.alloc(), around, set.as_str())?);
+        }
+    }
+    Ok(())
 }
 
 // What the part is compared with by `==`, where that is an attribute.
@@ -57,35 +63,32 @@ fn attribute(expression: &Expr) -> Option<&Expr> {
     }
 }
 
-// Whether the comparison around the part has a `!` before it.
-fn is_denied(spot: Spot<'_>) -> bool {
-    let mut denied = false;
-    let mut level = 0usize;
-    for around in spot.above.iter().rev() {
-        if level == 1 {
-            denied = match around.kind() {
-                ExprKind::Unary(operator, _) => matches!(operator, UnaryOperator::Not),
-                _ => false,
-            };
-        }
-        level = level.saturating_add(1);
-    }
-    denied
-}
-
-/// What is said of the operand of `decimal`.
-pub(crate) fn decimal_words(spot: Spot<'_>, words: &mut Words) -> Result<(), AllocError> {
-    if let Some(value) = operand_of(spot.part) {
-        of_literal(words, value);
+/// What is said of the operand of a constructor.
+pub(crate) fn constructor_words(spot: Spot<'_>, words: &mut Words) -> Result<(), AllocError> {
+    let Some((made, operand)) = call_of(spot.part) else {
+        words.says.add("this is not a literal");
+        return Ok(());
+    };
+    if let ExprKind::Literal(value) = operand.kind() {
+        of_literal(words, made, value);
         return Ok(());
     }
-    words.says.add("`decimal` takes a string literal");
+    takes_a_literal(words, made);
     words.hint.add(if is_string(spot)? {
-        "the option `--any-decimal` allows any String"
+        match made {
+            ExtensionType::Decimal => "the option `--any-decimal` allows any String",
+        }
     } else {
-        FORM
+        form_of(made)
     });
     Ok(())
+}
+
+// Says what a constructor takes.
+fn takes_a_literal(words: &mut Words, made: ExtensionType) {
+    words
+        .says
+        .add_all(&["`", made.constructor(), "` takes a string literal"]);
 }
 
 // Whether the operand is a string.
@@ -96,11 +99,11 @@ fn is_string(spot: Spot<'_>) -> Result<bool, AllocError> {
     }
 }
 
-// The literal that `decimal` is called with.
-fn operand_of(part: &Expr) -> Option<&Value> {
+// The type whose constructor a part calls, and its operand.
+fn call_of(part: &Expr) -> Option<(ExtensionType, &Expr)> {
     match part.kind() {
-        ExprKind::Unary(_, operand) => match operand.kind() {
-            ExprKind::Literal(value) => Some(value),
+        ExprKind::Unary(operator, operand) => match operator {
+            UnaryOperator::Construct(made) => Some((*made, operand)),
             _ => None,
         },
         _ => None,
@@ -117,18 +120,22 @@ fn are_digits(text: &str) -> bool {
     !text.is_empty()
 }
 
-// What is said of `decimal` of a literal.
-fn of_literal(words: &mut Words, value: &Value) {
+// What is said of a constructor of a literal.
+fn of_literal(words: &mut Words, made: ExtensionType, value: &Value) {
     let ValueKind::String(content) = value.kind() else {
-        words.says.add("`decimal` takes a string literal");
-        words.hint.add(FORM);
+        takes_a_literal(words, made);
+        words.hint.add(form_of(made));
         return;
     };
     let text = content.as_str();
-    words.says.add("this string is not a decimal");
-    if are_digits(text) && text.len() < 16 {
-        words.hint.add_all(&["write `decimal(\"", text, ".0\")`"]);
+    words.says.add_all(&["this string is not ", made.one()]);
+    let is_whole = match made {
+        ExtensionType::Decimal => are_digits(text) && text.len() < 16,
+    };
+    if is_whole {
+        words.hint.add_all(&["write `", made.constructor(), "(\""]);
+        words.hint.add_all(&[text, ".0\")`"]);
     } else {
-        words.hint.add(FORM);
+        words.hint.add(form_of(made));
     }
 }

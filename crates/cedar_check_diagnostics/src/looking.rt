@@ -83,7 +83,7 @@ fn may_look_into(settings: Settings, expression: &Expr) -> bool
 {
     match expression.kind() {
         ExprKind::Unary(operator, _) => match operator {
-            UnaryOperator::Decimal => settings.any_decimal,
+            UnaryOperator::Construct(constructor) => settings.takes_any_string(*constructor),
             _ => true,
         },
         _ => true,

@@ -6,6 +6,7 @@ ghost use Rattle.cedar_check_diagnostics.specs.Refusals.{IsCondition, IsRefusedA
 use crate::checking::Checking;
 use crate::kinds::other_condition;
 use crate::parts::around;
+use crate::quoting::Quote;
 use crate::smallest::{Untyped, smallest};
 use crate::spot::Spot;
 use crate::words::{Words, add_words};
@@ -27,12 +28,16 @@ pub struct ExplainedPart {
     pub number: u16,
     /// What is wrong, for a mark under the part's name: for example that `Shop::Order` has no attribute `totl`.
     pub says: String,
+    /// What is wrong in other words, where the part is written with `>=`, `>` or `unless`, which mean a `!`.
+    pub says_turned: Option<String>,
     /// For 604 and 606 the operands with their types.
     pub operands: Vec<Operand>,
     /// What helps to see why, for example which attributes `Shop::Order` has.
     pub notes: Vec<String>,
     /// What to do, where one thing is likely.
     pub hint: Option<String>,
+    /// What to do in better words, with a part as it is written.
+    pub quote: Option<Quote>,
 }
 
 /// An operand of a part that has no type.
@@ -111,9 +116,11 @@ pub(crate) fn with_words(
 {
     let Words {
         says,
+        turned,
         operands,
         note,
         hint,
+        quote,
     } = words;
     let mut notes = Vec::new(alloc);
     if let Some(note) = if_any(note)? {
@@ -123,9 +130,11 @@ pub(crate) fn with_words(
         path,
         number,
         says: says.done()?,
+        says_turned: if_any(turned)?,
         operands,
         notes,
         hint: if_any(hint)?,
+        quote,
     })
 }
 

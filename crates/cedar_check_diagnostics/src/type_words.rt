@@ -1,6 +1,7 @@
 //! Types in words.
 use base_places::Draft;
 use cedar_check_operators::LentType;
+use cedar_ext::ExtensionType;
 use cedar_schema::{Type, TypeKind};
 use cedar_value::Name;
 
@@ -20,7 +21,7 @@ fn add_named(says: &mut Draft, words: &str, name: &Name) {
     says.add_all(&[words, "`", name.as_str(), "`"]);
 }
 
-// Adds the name of the values of a type, for example `Longs`.
+// Adds several values of a type in words, for example `Longs`.
 fn add_many(says: &mut Draft, ty: &Type) {
     let mut inner = ty;
     for _ in 0..MOST_NESTED {
@@ -31,42 +32,30 @@ fn add_many(says: &mut Draft, ty: &Type) {
         inner = member;
     }
     match inner.kind() {
-        TypeKind::Boolean(_) => says.add("Booleans"),
-        TypeKind::Long => says.add("Longs"),
-        TypeKind::String => says.add("Strings"),
-        TypeKind::Decimal => says.add("decimals"),
         TypeKind::Entity(name) => add_named(says, "entities of type ", name),
-        TypeKind::Set(_) => says.add("sets"),
-        TypeKind::Record(_) => says.add("records"),
+        _ => says.add(kind_in(inner).many()),
     }
 }
 
-// Adds the name of one value of a type, for example `a Long`.
+// Adds one value of a type in words, for example `a Long`.
 fn add_one(says: &mut Draft, ty: &Type) {
     match ty.kind() {
-        TypeKind::Boolean(_) => says.add("a Boolean"),
-        TypeKind::Long => says.add("a Long"),
-        TypeKind::String => says.add("a String"),
-        TypeKind::Decimal => says.add("a decimal"),
         TypeKind::Entity(name) => add_named(says, "an entity of type ", name),
         TypeKind::Set(member) => {
             says.add("a set of ");
             add_many(says, member);
         }
-        TypeKind::Record(_) => says.add("a record"),
+        _ => says.add(kind_in(ty).one()),
     }
 }
 
 /// Adds a type in words, as one value of it: for example `a Long`, or `a set of Strings`.
 pub(crate) fn add_type(says: &mut Draft, ty: &LentType<'_>) {
     match ty {
-        LentType::Boolean(_) => says.add("a Boolean"),
-        LentType::Long => says.add("a Long"),
-        LentType::String => says.add("a String"),
-        LentType::Decimal => says.add("a decimal"),
         LentType::Entity(name) => add_named(says, "an entity of type ", name),
         LentType::Lent(ty) => add_one(says, ty),
         LentType::Made(ty) => add_one(says, ty),
+        _ => says.add(kind_of(ty).one()),
     }
 }
 
@@ -79,8 +68,8 @@ pub(crate) enum Kind {
     Long,
     /// Strings.
     String,
-    /// Decimals.
-    Decimal,
+    /// The values of an extension type.
+    Extension(ExtensionType),
     /// Entities.
     Entity,
     /// Sets.
@@ -89,13 +78,48 @@ pub(crate) enum Kind {
     Record,
 }
 
+impl Kind {
+    /// One value of the kind, in words.
+    pub(crate) fn one(self) -> &'static str {
+        match self {
+            Kind::Boolean => "a Boolean",
+            Kind::Long => "a Long",
+            Kind::String => "a String",
+            Kind::Extension(ty) => ty.one(),
+            Kind::Entity => "an entity",
+            Kind::Set => "a set",
+            Kind::Record => "a record",
+        }
+    }
+
+    /// Several values of the kind, in words.
+    pub(crate) fn many(self) -> &'static str {
+        match self {
+            Kind::Boolean => "Booleans",
+            Kind::Long => "Longs",
+            Kind::String => "Strings",
+            Kind::Extension(ty) => ty.many(),
+            Kind::Entity => "entities",
+            Kind::Set => "sets",
+            Kind::Record => "records",
+        }
+    }
+}
+
+/// How to write a value of an extension type, where one is wanted.
+pub(crate) fn written_as(ty: ExtensionType) -> &'static str {
+    match ty {
+        ExtensionType::Decimal => "write a decimal as `decimal(\"1.5\")`",
+    }
+}
+
 // The kind of a type of the schema.
 fn kind_in(ty: &Type) -> Kind {
     match ty.kind() {
         TypeKind::Boolean(_) => Kind::Boolean,
         TypeKind::Long => Kind::Long,
         TypeKind::String => Kind::String,
-        TypeKind::Decimal => Kind::Decimal,
+        TypeKind::Extension(ty) => Kind::Extension(*ty),
         TypeKind::Entity(_) => Kind::Entity,
         TypeKind::Set(_) => Kind::Set,
         TypeKind::Record(_) => Kind::Record,
@@ -108,7 +132,7 @@ pub(crate) fn kind_of(ty: &LentType<'_>) -> Kind {
         LentType::Boolean(_) => Kind::Boolean,
         LentType::Long => Kind::Long,
         LentType::String => Kind::String,
-        LentType::Decimal => Kind::Decimal,
+        LentType::Extension(ty) => Kind::Extension(*ty),
         LentType::Entity(_) => Kind::Entity,
         LentType::Lent(ty) => kind_in(ty),
         LentType::Made(ty) => kind_in(ty),

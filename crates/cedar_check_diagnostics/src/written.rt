@@ -1,7 +1,7 @@
-//! Expressions as they are written.
+//! Short expressions as they are written.
 use base_places::Draft;
-use cedar_ast_expressions::{BinaryOperator, Expr, ExprKind, UnaryOperator, Variable};
-use cedar_value::{Uid, Value, ValueKind};
+use cedar_ast_expressions::{Expr, ExprKind, UnaryOperator, Variable};
+use cedar_value::{Uid, ValueKind};
 use std::alloc::Global;
 
 // How many bytes of an expression are written at most.
@@ -65,19 +65,6 @@ pub(crate) fn add_uid(out: &mut Draft, uid: &Uid) {
     }
 }
 
-// Adds a literal. Returns whether it can be written.
-fn add_literal(out: &mut Draft, value: &Value) -> bool {
-    match value.kind() {
-        ValueKind::Boolean(true) => out.add("true"),
-        ValueKind::Boolean(false) => out.add("false"),
-        ValueKind::Long(number) => out.add_display(*number),
-        ValueKind::String(text) => return add_quoted(out, text.as_str()),
-        ValueKind::Uid(uid) => return add_plain_uid(out, uid),
-        _ => return false,
-    }
-    true
-}
-
 // Adds `.key`, or `["key"]`. Returns whether the key can be written.
 fn add_access(out: &mut Draft, key: &str) -> bool {
     if is_identifier(key) {
@@ -100,130 +87,22 @@ fn add_has(out: &mut Draft, key: &str) -> bool {
     add_quoted(out, key)
 }
 
-// Adds a variable, a literal, an attribute of such, or `decimal` of such. Returns whether it is one and can be written.
+// Adds a variable, a uid, or an attribute of such. Returns whether it is one and can be written.
 fn add_member(out: &mut Draft, expression: &Expr) -> bool {
     match expression.kind() {
         ExprKind::Variable(variable) => {
             out.add(name_of(*variable));
             true
         }
-        ExprKind::Literal(value) => add_literal(out, value),
+        ExprKind::Literal(value) => match value.kind() {
+            ValueKind::Uid(uid) => add_plain_uid(out, uid),
+            _ => false,
+        },
         ExprKind::Unary(operator, operand) => match operator {
             UnaryOperator::Get(key) => add_member(out, operand) && add_access(out, key.as_str()),
-            UnaryOperator::Decimal => {
-                out.add("decimal(");
-                let written = add_member(out, operand);
-                out.add_char(')');
-                written
-            }
             _ => false,
         },
         _ => false,
-    }
-}
-
-// How an operator on two operands is written.
-#[derive(Clone, Copy)]
-enum Sign {
-    // Between its operands.
-    Between(&'static str),
-    // As a method of the left one.
-    Method(&'static str),
-}
-
-// How an operator is written.
-fn sign_of(operator: BinaryOperator) -> Sign {
-    match operator {
-        BinaryOperator::Equal => Sign::Between(" == "),
-        BinaryOperator::Less => Sign::Between(" < "),
-        BinaryOperator::LessEqual => Sign::Between(" <= "),
-        BinaryOperator::Add => Sign::Between(" + "),
-        BinaryOperator::Subtract => Sign::Between(" - "),
-        BinaryOperator::Multiply => Sign::Between(" * "),
-        BinaryOperator::In => Sign::Between(" in "),
-        BinaryOperator::Contains => Sign::Method(".contains("),
-        BinaryOperator::ContainsAll => Sign::Method(".containsAll("),
-        BinaryOperator::ContainsAny => Sign::Method(".containsAny("),
-        BinaryOperator::DecimalLess => Sign::Method(".lessThan("),
-        BinaryOperator::DecimalLessEqual => Sign::Method(".lessThanOrEqual("),
-        BinaryOperator::DecimalGreater => Sign::Method(".greaterThan("),
-        BinaryOperator::DecimalGreaterEqual => Sign::Method(".greaterThanOrEqual("),
-    }
-}
-
-// How the opposite of a comparison is written, where it has a sign of its own.
-fn opposite_of(operator: BinaryOperator) -> Option<Sign> {
-    match operator {
-        BinaryOperator::Equal => Some(Sign::Between(" != ")),
-        BinaryOperator::Less => Some(Sign::Between(" >= ")),
-        BinaryOperator::LessEqual => Some(Sign::Between(" > ")),
-        _ => None,
-    }
-}
-
-/// Whether the opposite of a comparison has a sign of its own.
-pub(crate) fn has_opposite(expression: &Expr) -> bool {
-    match expression.kind() {
-        ExprKind::Binary(operator, _, _) => opposite_of(*operator).is_some(),
-        _ => false,
-    }
-}
-
-// Adds an operator with its operands. Returns whether they can be written.
-fn add_binary(out: &mut Draft, sign: Sign, left: &Expr, right: &Expr) -> bool {
-    let (before, after) = match sign {
-        Sign::Between(sign) => (sign, ""),
-        Sign::Method(name) => (name, ")"),
-    };
-    let written = add_member(out, left);
-    out.add(before);
-    let both = written && add_member(out, right);
-    out.add(after);
-    both
-}
-
-// Adds `!` of an expression, or the opposite of a comparison. Returns whether it can be written.
-fn add_denied(out: &mut Draft, operand: &Expr) -> bool {
-    if let ExprKind::Binary(operator, left, right) = operand.kind() {
-        return match opposite_of(*operator) {
-            Some(sign) => add_binary(out, sign, left, right),
-            None => false,
-        };
-    }
-    out.add_char('!');
-    add_member(out, operand)
-}
-
-// Adds an operator with its operand. Returns whether it can be written.
-fn add_unary(out: &mut Draft, operator: &UnaryOperator, operand: &Expr) -> bool {
-    match operator {
-        UnaryOperator::Not => add_denied(out, operand),
-        UnaryOperator::Has(key) => add_member(out, operand) && add_has(out, key.as_str()),
-        UnaryOperator::Is(name) => {
-            let written = add_member(out, operand);
-            out.add_all(&[" is ", name.as_str()]);
-            written
-        }
-        UnaryOperator::IsEmpty => {
-            let written = add_member(out, operand);
-            out.add(".isEmpty()");
-            written
-        }
-        _ => false,
-    }
-}
-
-// Adds an expression of few words. Returns whether it is one.
-fn add_expression(out: &mut Draft, expression: &Expr) -> bool {
-    match expression.kind() {
-        ExprKind::Binary(operator, left, right) => {
-            add_binary(out, sign_of(*operator), left, right)
-        }
-        ExprKind::Unary(operator, operand) => match operator {
-            UnaryOperator::Get(_) | UnaryOperator::Decimal => add_member(out, expression),
-            _ => add_unary(out, operator, operand),
-        },
-        _ => add_member(out, expression),
     }
 }
 
@@ -236,11 +115,11 @@ fn if_short(out: Draft, written: bool) -> Option<Draft> {
     }
 }
 
-/// An expression as a policy writes it, where it has few words: of variables, literals and attributes, with at most one operator on
-/// them. None for another expression.
+/// An expression as a policy writes it, where it has few words: a variable, a uid, or an attribute of such. None for another
+/// expression. So it is the same in an `unless` and after a `!`.
 pub(crate) fn written(alloc: Global, expression: &Expr) -> Option<Draft> {
     let mut out = Draft::new(alloc);
-    let written = add_expression(&mut out, expression);
+    let written = add_member(&mut out, expression);
     if_short(out, written)
 }
 

@@ -4,6 +4,12 @@ use Rattle.std.specs.Bool.{Decides, one_answer}
 use Rattle.std.specs.List.{list_any}
 use Rattle.std.specs.Str.{bytes_eq}
 use Rattle.std.proofs.lemmas.Slice.Eq.{bytes_eq-Decides}
+use Rattle.cedar_ext.specs.declared.extension.ExtensionType.{ExtensionType}
+use Rattle.cedar_ext.specs.declared.method.BinaryMethod.{BinaryMethod}
+use Rattle.cedar_ext.specs.declared.method.Row.{Row}
+use Rattle.cedar_ext.specs.Extensions.{same_type}
+use Rattle.cedar_ext.specs.Methods.{row_of}
+use Rattle.cedar_ext.specs.Private.ExtensionLemmas.{same_type-Decides}
 use Rattle.cedar_value.specs.Datum.{text, uid, same}
 use Rattle.cedar_value.specs.declared.uid.Uid.{Uid}
 use Rattle.cedar_ast_expressions.specs.declared.operator.UnaryOperator.{UnaryOperator}
@@ -23,10 +29,10 @@ use Rattle.cedar_schema_spec.specs.SchemaTree.{SchemaTree}
 use Rattle.cedar_schema_types.specs.Membership.{known}
 use Rattle.cedar_schema_spec.specs.Declarations.{IsAction, is_entity_type, is_action, is_action_type, type_below}
 use Rattle.cedar_check_spec.specs.Capabilities.{Capability, Capabilities, Has, IsUnion, IsCommon, AreSame}
-use Rattle.cedar_check_spec.specs.Typing.{flipped, is_arithmetic, is_comparison, is_decimal_comparison, is_set_comparison, MayHold, written_uids, AreWritten, IsInOne, Target, one_entity, entity_set, is_literal, TypesWith, of_uid, of_not, and_false, and_then_false, and_then_true, and_then_any, or_true, or_false, or_any_true, or_any_false, or_any_any, if_true, if_false, if_any, of_negative, of_arithmetic, of_comparison, equal_literals, equal_joined, equal_apart, has_none, has_held, has_required, has_any, of_get, of_like, of_is, in_written, in_related, in_unrelated, of_contains, of_set_comparison, of_is_empty, of_set, of_record, of_decimal, of_any_decimal, of_decimals, JoinsOnto, joined_all, joined_more, AddsOnto, added_all, added_more}
+use Rattle.cedar_check_spec.specs.Typing.{flipped, is_arithmetic, is_comparison, type_of_scalar, takes_any_string, is_set_comparison, MayHold, written_uids, AreWritten, IsInOne, Target, one_entity, entity_set, is_literal, TypesWith, of_uid, of_not, and_false, and_then_false, and_then_true, and_then_any, or_true, or_false, or_any_true, or_any_false, or_any_any, if_true, if_false, if_any, of_negative, of_arithmetic, of_comparison, equal_literals, equal_joined, equal_apart, has_none, has_held, has_required, has_any, of_get, of_like, of_is, in_written, in_related, in_unrelated, of_contains, of_set_comparison, of_is_empty, of_set, of_record, of_constructor, of_any_string, of_method, JoinsOnto, joined_all, joined_more, AddsOnto, added_all, added_more}
 use Rattle.cedar_schema_types.specs.Lookup.{attribute_at}
 use Rattle.cedar_schema_types.specs.Ordered.{with_attribute}
-use Rattle.cedar_check_spec.specs.Rows.{Typed, as_type, gaining, truth_in, entity_in, target_in, apart, any_or, equal_literal_type, any_if, names_action, is_or_descends, is_in_written, in_truth, any_where, binary_type, decimal_type}
+use Rattle.cedar_check_spec.specs.Rows.{Typed, as_type, gaining, truth_in, entity_in, target_in, apart, any_or, equal_literal_type, any_if, names_action, is_or_descends, is_in_written, in_truth, any_where, binary_type, constructor_type}
 use Rattle.cedar_check_spec.specs.Private.Checking.{is_held, common, on_boolean, on_two, and_right, and_type, or_type, if_type, has_type, get_type, unary_type, type_of_with, types_onto, types_entries, type_in_with}
 use Rattle.base_reach.proofs.Listed.{both_true, or_right as by_right}
 use Rattle.cedar_check_law.proofs.Descents.{is_action-Decides, is_action_type-Decides}
@@ -150,21 +156,22 @@ module _ (settings : Settings) (s : SchemaTree) (env : Environment) where
   comparison_exact binary_operator.LessEqual a b e = refl
   comparison_exact _ a b e = cc
 
-  decimals_exact : (op : BinaryOperator) (a b : Expression) → is_decimal_comparison op ≡ true → binary_type s op a b kind.decimal kind.decimal ≡ Some (kind.boolean Any)
-  decimals_exact binary_operator.DecimalLess a b e = refl
-  decimals_exact binary_operator.DecimalLessEqual a b e = refl
-  decimals_exact binary_operator.DecimalGreater a b e = refl
-  decimals_exact binary_operator.DecimalGreaterEqual a b e = refl
-  decimals_exact _ a b e = cc
-
   sets_exact : (op : BinaryOperator) (a b : Expression) (t u v : TypeTree) → is_set_comparison op ≡ true → Join t u v → binary_type s op a b (kind.set t) (kind.set u) ≡ Some (kind.boolean Any)
   sets_exact binary_operator.ContainsAll a b t u v e j = ap any_where (join_found j)
   sets_exact binary_operator.ContainsAny a b t u v e j = ap any_where (join_found j)
   sets_exact _ a b t u v e j = cc
 
-  decimal_exact : (e : Expression) → is_literal e ≡ false → settings.any_decimal ≡ true → decimal_type settings e kind.string ≡ as_type kind.decimal
-  decimal_exact (literal v) n on = cc
-  decimal_exact _ n on = ap (λ b. only_if (b && true) (as_type kind.decimal)) on
+  constructor_exact : (x : ExtensionType) (e : Expression) → is_literal e ≡ false → takes_any_string settings x ≡ true → constructor_type settings x e kind.string ≡ as_type (kind.extension x)
+  constructor_exact x (literal v) n on = cc
+  constructor_exact x _ n on = ap (λ b. only_if (b && true) (as_type (kind.extension x))) on
+
+  type_itself : (x : ExtensionType) → same_type x x ≡ true
+  type_itself x = (same_type-Decides x x).1 refl
+
+  method_exact : (m : BinaryMethod) (a b : Expression) → binary_type s (binary_operator.Call m) a b (kind.extension (row_of m).left) (kind.extension (row_of m).right) ≡ Some (type_of_scalar (row_of m).result)
+  method_exact m a b =
+      let made = type_of_scalar (row_of m).result in
+      ap₂ (λ x y. let r : Option TypeTree = only_if (x && y) (Some made) in r) (type_itself (row_of m).left) (type_itself (row_of m).right)
 
   mutual
     pub exact : {h g : Capabilities} {e : Expression} {t : TypeTree} → TypesWith settings s env h e t g → (k : Capabilities) → AreSame h k → Exact k e t g
@@ -280,9 +287,10 @@ module _ (settings : Settings) (s : SchemaTree) (env : Environment) where
     exact (of_record {fs = fs} {at = at} d ds) k p =
         plainly k (record_with fs) (kind.record_of at)
         (ap₂ (λ x y. only_if x (option_and_then (λ (at : Attributes). as_type (kind.record_of at)) y)) (test_from_distinct (keys_in fs) d) (exact_entries ds k p))
-    exact (of_decimal {t = t} e) k p = plainly k (unary operator.Decimal (literal (text t))) kind.decimal (ap (λ r. only_if (is_some r) (as_type kind.decimal)) e)
-    exact (of_any_decimal {g = g} {e = e} on n d) k p = one k operator.Decimal e kind.string kind.decimal g (exact d k p) (λ h. decimal_exact e n on)
-    exact (of_decimals {ga = ga} {gb = gb} {a = a} {b = b} {op = op} is da db) k p = two k op a b kind.decimal kind.decimal (kind.boolean Any) ga gb (exact da k p) (exact db k p) (decimals_exact op a b is)
+    exact (of_constructor {x = x} {t = t} e) k p = plainly k (unary (operator.Construct x) (literal (text t))) (kind.extension x) (ap (λ r. only_if (is_some r) (as_type (kind.extension x))) e)
+    exact (of_any_string {g = g} {x = x} {e = e} on n d) k p = one k (operator.Construct x) e kind.string (kind.extension x) g (exact d k p) (λ h. constructor_exact x e n on)
+    exact (of_method {ga = ga} {gb = gb} {a = a} {b = b} {m = m} da db) k p =
+        two k (binary_operator.Call m) a b (kind.extension (row_of m).left) (kind.extension (row_of m).right) (type_of_scalar (row_of m).result) ga gb (exact da k p) (exact db k p) (method_exact m a b)
     exact _ k p = plainly k _ _ refl
 
     exact_onto : {h : Capabilities} {es : Expressions} {t v : TypeTree} → JoinsOnto settings s env h t es v → (k : Capabilities) → AreSame h k → types_onto settings s env k t es ≡ Some v

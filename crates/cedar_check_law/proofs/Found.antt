@@ -4,7 +4,13 @@ use Rattle.std.specs.Bool.{Decides}
 use Rattle.std.specs.List.{list_any}
 use Rattle.std.specs.Str.{bytes_eq}
 use Rattle.std.proofs.lemmas.Slice.Eq.{bytes_eq-Decides}
-use Rattle.cedar_ext.specs.DecimalOf.{decimal_of}
+use Rattle.cedar_ext.specs.declared.extension.Extension.{Extension}
+use Rattle.cedar_ext.specs.declared.extension.ExtensionType.{ExtensionType}
+use Rattle.cedar_ext.specs.declared.method.BinaryMethod.{BinaryMethod}
+use Rattle.cedar_ext.specs.declared.method.Row.{Row}
+use Rattle.cedar_ext.specs.Extensions.{extension_of}
+use Rattle.cedar_ext.specs.Methods.{row_of}
+use Rattle.cedar_ext.specs.Private.ExtensionLemmas.{same_type-Decides}
 use Rattle.cedar_value.specs.Datum.{Datum, boolean, long, text, uid, same, same_uid}
 use Rattle.cedar_value.specs.Private.Equality.{same_uid-Decides}
 use Rattle.cedar_value.specs.declared.uid.Uid.{Uid}
@@ -29,11 +35,11 @@ use Rattle.cedar_schema_spec.specs.Descents.{ActionDescends, TypeDescends}
 use Rattle.cedar_schema_types.specs.Membership.{known}
 use Rattle.cedar_schema_spec.specs.Declarations.{is_entity_type, is_action, is_action_type, action_below, type_below}
 use Rattle.cedar_check_spec.specs.Capabilities.{Capability, Capabilities, Has, IsUnion, IsCommon}
-use Rattle.cedar_check_spec.specs.Typing.{attributes_in, flipped, is_arithmetic, is_comparison, is_decimal_comparison, is_set_comparison, MayHold, two_literals, written_uids, NamesAction, AreWritten, IsInOne, IsOrDescends, Target, one_entity, entity_set, is_literal, TypesWith, of_boolean, of_long, of_text, of_uid, of_principal, of_resource, of_context, of_not, and_false, and_then_false, and_then_true, and_then_any, or_true, or_false, or_any_true, or_any_false, or_any_any, if_true, if_false, if_any, of_negative, of_arithmetic, of_comparison, equal_literals, equal_joined, equal_apart, has_none, has_held, has_required, has_any, of_get, of_like, of_is, in_written, in_related, in_unrelated, of_contains, of_set_comparison, of_is_empty, of_set, of_record, of_decimal, of_any_decimal, of_decimals, JoinsOnto, joined_all, joined_more, AddsOnto, added_all, added_more}
+use Rattle.cedar_check_spec.specs.Typing.{attributes_in, flipped, is_arithmetic, is_comparison, type_of_scalar, takes_any_string, is_set_comparison, MayHold, two_literals, written_uids, NamesAction, AreWritten, IsInOne, IsOrDescends, Target, one_entity, entity_set, is_literal, TypesWith, of_boolean, of_long, of_text, of_uid, of_principal, of_resource, of_context, of_not, and_false, and_then_false, and_then_true, and_then_any, or_true, or_false, or_any_true, or_any_false, or_any_any, if_true, if_false, if_any, of_negative, of_arithmetic, of_comparison, equal_literals, equal_joined, equal_apart, has_none, has_held, has_required, has_any, of_get, of_like, of_is, in_written, in_related, in_unrelated, of_contains, of_set_comparison, of_is_empty, of_set, of_record, of_constructor, of_any_string, of_method, JoinsOnto, joined_all, joined_more, AddsOnto, added_all, added_more}
 use Rattle.cedar_schema_types.specs.Lookup.{attribute_at}
 use Rattle.cedar_schema_types.specs.declared.attribute.Attribute.{Attribute}
 use Rattle.cedar_schema_types.specs.Ordered.{with_attribute}
-use Rattle.cedar_check_spec.specs.Rows.{Typed, as_type, gaining, truth_in, entity_in, element_in, target_in, is_long, is_string, is_decimal, literal_decimal_type, decimal_type, apart, any_or, equal_literal_type, any_if, names_action, is_or_descends, is_in_written, in_truth, any_where, sets_type, longs_type, decimals_type, binary_type}
+use Rattle.cedar_check_spec.specs.Rows.{Typed, as_type, gaining, truth_in, entity_in, element_in, target_in, is_long, is_string, is_extension, constructed_literal_type, constructor_type, apart, any_or, equal_literal_type, any_if, names_action, is_or_descends, is_in_written, in_truth, any_where, sets_type, longs_type, method_type, binary_type}
 use Rattle.cedar_check_spec.specs.Private.Checking.{is_held, common, are_distinct, on_boolean, on_two, literal_type, variable_type, and_right, and_type, or_right, or_type, if_type, has_type, get_type, unary_type, type_of_with, types_all, types_onto, types_entries}
 use Rattle.base_reach.proofs.Listed.{both_true, either_true, either_decides, any_decides}
 use Rattle.cedar_check_law.proofs.Descents.{is_action-Decides, is_action_type-Decides, action_below-Decides, type_below-Decides}
@@ -53,9 +59,9 @@ pub only_if_some : {A : Type 0} (b : Bool) (r : Option A) (x : A) → only_if b 
 only_if_some true r x e = (refl, e)
 only_if_some false r x e = cc
 
-some_there : {A : Type 0} (o : Option A) → is_some o ≡ true → (x : A) × (o ≡ Some x)
-some_there None e = cc
-some_there (Some x) e = (x, refl)
+there_is : {A : Type 0} (r : Option A) → is_some r ≡ true → (x : A) × (r ≡ Some x)
+there_is (Some x) e = (x, refl)
+there_is None e = cc
 
 pub form_is : (t : TypeTree) (f : Truth) → truth_in t ≡ Some f → t ≡ kind.boolean f
 form_is (kind.boolean g) f e = cc
@@ -82,9 +88,9 @@ text_is : (t : TypeTree) → is_string t ≡ true → t ≡ kind.string
 text_is kind.string e = refl
 text_is _ e = cc
 
-decimal_is : (t : TypeTree) → is_decimal t ≡ true → t ≡ kind.decimal
-decimal_is kind.decimal e = refl
-decimal_is _ e = cc
+extension_is : (x : ExtensionType) (t : TypeTree) → is_extension x t ≡ true → t ≡ kind.extension x
+extension_is x (kind.extension y) e = ap kind.extension (sym ((same_type-Decides x y).0 e))
+extension_is x _ e = cc
 
 -- capabilities
 append_has : (x : Capability) (a b : Capabilities) → Has x (a ++ b) → Has x a ⊎ Has x b
@@ -245,22 +251,23 @@ module _ (settings : Settings) (s : SchemaTree) (env : Environment) where
       let p = only_if_some (d.required || is_held (record { on = e; key = a }) h) (as_type d.ty) x r in
       from_some h (unary (operator.Get a) e) (record { ty = d.ty; gained = [] }) x p.1 (of_get de at f (⊎_elim (λ q. inl q) (λ q. inr (cap_from_test (record { on = e; key = a }) h q)) (either_true d.required (is_held (record { on = e; key = a }) h) p.0)))
 
-  found_literal_decimal : (h : Capabilities) (l : Datum) (x : Typed) → literal_decimal_type l ≡ Some x → IsTyped h (unary operator.Decimal (literal l)) x
-  found_literal_decimal h (text t) x e =
-      let p = only_if_some (is_some (decimal_of t)) (as_type kind.decimal) x e in
-      let q = some_there (decimal_of t) p.0 in
-      from_some h (unary operator.Decimal (literal (text t))) (record { ty = kind.decimal; gained = [] }) x p.1 (of_decimal q.1)
-  found_literal_decimal h _ x e = cc
+  -- constructors
+  found_literal_made : (h : Capabilities) (c : ExtensionType) (l : Datum) (x : Typed) → constructed_literal_type c l ≡ Some x → IsTyped h (unary (operator.Construct c) (literal l)) x
+  found_literal_made h c (text t) x e =
+      let p = only_if_some (is_some (extension_of c t)) (as_type (kind.extension c)) x e in
+      let q = there_is (extension_of c t) p.0 in
+      from_some h (unary (operator.Construct c) (literal (text t))) (record { ty = kind.extension c; gained = [] }) x p.1 (of_constructor {x = c} {t = t} {v = q.0} q.1)
+  found_literal_made h c _ x e = cc
 
-  found_any_decimal : (h g : Capabilities) (e : Expression) (t : TypeTree) (x : Typed) → TypesWith settings s env h e t g → is_literal e ≡ false → only_if (settings.any_decimal && is_string t) (as_type kind.decimal) ≡ Some x → IsTyped h (unary operator.Decimal e) x
-  found_any_decimal h g e t x d n r =
-      let p = only_if_some (settings.any_decimal && is_string t) (as_type kind.decimal) x r in
-      let q = both_true settings.any_decimal (is_string t) p.0 in
-      from_some h (unary operator.Decimal e) (record { ty = kind.decimal; gained = [] }) x p.1 (of_any_decimal q.0 n (as_form h e t g kind.string (text_is t q.1) d))
+  found_any_string : (h g : Capabilities) (c : ExtensionType) (e : Expression) (t : TypeTree) (x : Typed) → TypesWith settings s env h e t g → is_literal e ≡ false → only_if (takes_any_string settings c && is_string t) (as_type (kind.extension c)) ≡ Some x → IsTyped h (unary (operator.Construct c) e) x
+  found_any_string h g c e t x d n r =
+      let p = only_if_some (takes_any_string settings c && is_string t) (as_type (kind.extension c)) x r in
+      let q = both_true (takes_any_string settings c) (is_string t) p.0 in
+      from_some h (unary (operator.Construct c) e) (record { ty = kind.extension c; gained = [] }) x p.1 (of_any_string {x = c} q.0 n (as_form h e t g kind.string (text_is t q.1) d))
 
-  found_decimal : (h g : Capabilities) (e : Expression) (t : TypeTree) (x : Typed) → TypesWith settings s env h e t g → decimal_type settings e t ≡ Some x → IsTyped h (unary operator.Decimal e) x
-  found_decimal h g (literal l) t x d r = found_literal_decimal h l x r
-  found_decimal h g _ t x d r = found_any_decimal h g _ t x d refl r
+  found_constructor : (h g : Capabilities) (c : ExtensionType) (e : Expression) (t : TypeTree) (x : Typed) → TypesWith settings s env h e t g → constructor_type settings c e t ≡ Some x → IsTyped h (unary (operator.Construct c) e) x
+  found_constructor h g c (literal l) t x d r = found_literal_made h c l x r
+  found_constructor h g c _ t x d r = found_any_string h g c _ t x d refl r
 
   found_unary : (h : Capabilities) (op : UnaryOperator) (e : Expression) (t x : Typed) → IsTyped h e t → unary_type settings s h op e t ≡ Some x → IsTyped h (unary op e) x
   found_unary h operator.Not e t x d r =
@@ -282,7 +289,7 @@ module _ (settings : Settings) (s : SchemaTree) (env : Environment) where
       let p = and_then_some (λ (n : List ℕ). only_if (is_entity_type s u || is_action_type s u) (as_type (kind.boolean (known (bytes_eq n u))))) (entity_in t.ty) x r in
       let q = only_if_some (is_entity_type s u || is_action_type s u) (as_type (kind.boolean (known (bytes_eq p.0 u)))) x p.2 in
       from_some h (unary (operator.Is u) e) (record { ty = kind.boolean (known (bytes_eq p.0 u)); gained = [] }) x q.1 (of_is (as_form h e t.ty t.gained (kind.entity p.0) (entity_is t.ty p.0 p.1) d) (⊎_elim (λ z. inl z) (λ z. inr ((is_action_type-Decides s u).0 z)) (either_true (is_entity_type s u) (is_action_type s u) q.0)))
-  found_unary h operator.Decimal e t x d r = found_decimal h t.gained e t.ty x d r
+  found_unary h (operator.Construct c) e t x d r = found_constructor h t.gained c e t.ty x d r
   found_unary h operator.IsEmpty e t x d r =
       let p = and_then_some (λ (m : TypeTree). as_type (kind.boolean Any)) (element_in t.ty) x r in
       from_some h (unary operator.IsEmpty e) (record { ty = kind.boolean Any; gained = [] }) x p.2 (of_is_empty (as_form h e t.ty t.gained (kind.set p.0) (element_is t.ty p.0 p.1) d))
@@ -380,11 +387,14 @@ module _ (settings : Settings) (s : SchemaTree) (env : Environment) where
     found_sets : is_set_comparison op ≡ true → sets_type t u ≡ Some v → TypesWith settings s env h (binary op a b) v []
     found_sets is r = let p = sets_found t u v r in from_type h (binary op a b) (kind.boolean Any) v p.end (of_set_comparison is (as_form h a t ga (kind.set p.left) p.is_left da) (as_form h b u gb (kind.set p.right) p.is_right db) p.join)
 
-    found_decimals : is_decimal_comparison op ≡ true → decimals_type t u ≡ Some v → TypesWith settings s env h (binary op a b) v []
-    found_decimals is r =
-        let p = only_if_some (is_decimal t && is_decimal u) (Some (kind.boolean Any)) v r in
-        let q = both_true (is_decimal t) (is_decimal u) p.0 in
-        from_type h (binary op a b) (kind.boolean Any) v p.1 (of_decimals is (as_form h a t ga kind.decimal (decimal_is t q.0) da) (as_form h b u gb kind.decimal (decimal_is u q.1) db))
+  found_method : (h ga gb : Capabilities) (m : BinaryMethod) (a b : Expression) (t u v : TypeTree) → TypesWith settings s env h a t ga → TypesWith settings s env h b u gb → method_type m t u ≡ Some v → TypesWith settings s env h (binary (binary_operator.Call m) a b) v []
+  found_method h ga gb m a b t u v da db r =
+      let left = (row_of m).left in
+      let right = (row_of m).right in
+      let made = type_of_scalar (row_of m).result in
+      let p = only_if_some (is_extension left t && is_extension right u) (Some made) v r in
+      let q = both_true (is_extension left t) (is_extension right u) p.0 in
+      from_type h (binary (binary_operator.Call m) a b) made v p.1 (of_method {m = m} (as_form h a t ga (kind.extension left) (extension_is left t q.0) da) (as_form h b u gb (kind.extension right) (extension_is right u q.1) db))
 
   found_binary : (h ga gb : Capabilities) (op : BinaryOperator) (a b : Expression) (t u v : TypeTree) → TypesWith settings s env h a t ga → TypesWith settings s env h b u gb → binary_type s op a b t u ≡ Some v → TypesWith settings s env h (binary op a b) v []
   found_binary h ga gb binary_operator.Equal a b t u v da db r = found_equal h ga gb a b t u v da db (two_literals a b) refl r
@@ -404,10 +414,7 @@ module _ (settings : Settings) (s : SchemaTree) (env : Environment) where
       from_type h (binary binary_operator.Contains a b) (kind.boolean Any) v (ap Some q.2) (of_contains (as_form h a t ga (kind.set p.0) (element_is t p.0 p.1) da) db (join_sound p.0 u q.0 q.1))
   found_binary h ga gb binary_operator.ContainsAll a b t u v da db r = found_sets h ga gb binary_operator.ContainsAll a b t u v da db refl r
   found_binary h ga gb binary_operator.ContainsAny a b t u v da db r = found_sets h ga gb binary_operator.ContainsAny a b t u v da db refl r
-  found_binary h ga gb binary_operator.DecimalLess a b t u v da db r = found_decimals h ga gb binary_operator.DecimalLess a b t u v da db refl r
-  found_binary h ga gb binary_operator.DecimalLessEqual a b t u v da db r = found_decimals h ga gb binary_operator.DecimalLessEqual a b t u v da db refl r
-  found_binary h ga gb binary_operator.DecimalGreater a b t u v da db r = found_decimals h ga gb binary_operator.DecimalGreater a b t u v da db refl r
-  found_binary h ga gb binary_operator.DecimalGreaterEqual a b t u v da db r = found_decimals h ga gb binary_operator.DecimalGreaterEqual a b t u v da db refl r
+  found_binary h ga gb (binary_operator.Call m) a b t u v da db r = found_method h ga gb m a b t u v da db r
 
   mutual
     pub found : (e : Expression) (h : Capabilities) (x : Typed) → type_of_with settings s env h e ≡ Some x → IsTyped h e x

@@ -6,8 +6,20 @@ use Rattle.std.specs.Bool.{Decides, one_answer}
 use Rattle.std.specs.List.{AllByRecursion, list_all, list_any}
 use Rattle.std.specs.Map.{keys_of}
 use Rattle.std.specs.Str.{bytes_eq}
-use Rattle.cedar_ext.specs.DecimalOf.{decimal_of}
-use Rattle.cedar_value.specs.Datum.{Datum, boolean, long, text, uid, set, record_of, decimal, same, same_uid, list_of, members_of, pairs_of, fields_of}
+use Rattle.cedar_ext.specs.declared.extension.Extension.{Extension}
+use Rattle.cedar_ext.specs.declared.extension.ExtensionType.{ExtensionType}
+use Rattle.cedar_ext.specs.declared.extension.ExtensionType.TheVariants as extension_type
+use Rattle.cedar_ext.specs.declared.method.BinaryMethod.{BinaryMethod}
+use Rattle.cedar_ext.specs.declared.method.Row.{Row}
+use Rattle.cedar_ext.specs.declared.scalar.Scalar.{Scalar}
+use Rattle.cedar_ext.specs.declared.scalar.Scalar.TheVariants as scalar
+use Rattle.cedar_ext.specs.declared.scalar.ScalarType.{ScalarType}
+use Rattle.cedar_ext.specs.declared.scalar.ScalarType.TheVariants as scalar_type
+use Rattle.cedar_ext.specs.Extensions.{type_of, extension_of}
+use Rattle.cedar_ext.specs.Methods.{row_of, call_of, HasType, Gives}
+use Rattle.cedar_ext.specs.Private.ExtensionLemmas.{extension_of-typed}
+use Rattle.cedar_ext.specs.Private.RowsTyped.{rows_typed}
+use Rattle.cedar_value.specs.Datum.{Datum, boolean, long, text, uid, set, record_of, extension, same, same_uid, list_of, members_of, pairs_of, fields_of}
 use Rattle.cedar_value.specs.Private.Equality.{same_uid-Decides}
 use Rattle.cedar_value.specs.Private.Lists.{list_of-members_of, pairs_of-fields_of}
 use Rattle.cedar_value.proofs.Reach.{below-Decides}
@@ -22,7 +34,7 @@ use Rattle.cedar_ast_expressions.specs.declared.error.EvaluationError.TheVariant
 use Rattle.cedar_ast_expressions.specs.Answer.{Answer, with_answer}
 use Rattle.cedar_ast_expressions.specs.Expression.{Expression, literal, set_with, Expressions, no_more, and_then}
 use Rattle.cedar_ast_expressions.specs.Evaluation.{truth_of, and_of, or_of, if_of, set_of_values, eval, eval_all}
-use Rattle.cedar_ast_expressions.specs.Operators.{is_long, long_or_overflow, not_of, negative_of, decimal_or_error, decimal_of_value, Source, no_source, absent, present, entity_source, source, has_in, attribute_of, get_in, like_of, is_of, binary_of, of_longs, of_decimals, of_set, of_sets, is_uid, is_in, in_of}
+use Rattle.cedar_ast_expressions.specs.Operators.{is_long, long_or_overflow, not_of, negative_of, Source, no_source, absent, present, entity_source, source, has_in, attribute_of, get_in, like_of, is_of, extension_or_error, constructed, datum_of_scalar, scalar_or_error, called, binary_of, of_longs, of_set, of_sets, is_uid, is_in, in_of}
 use Rattle.cedar_schema_types.specs.declared.truth.Truth.{Truth}
 use Rattle.cedar_schema_types.specs.declared.truth.Truth.TheVariants.{True, False, Any}
 use Rattle.cedar_schema_types.specs.Types.{TypeTree, Attributes, no_attributes}
@@ -34,7 +46,7 @@ use Rattle.cedar_schema_types.specs.Membership.{known, HasTruth, IsBoolean, IsEn
 use Rattle.cedar_schema_spec.specs.Declarations.{IsAction, is_action}
 use Rattle.cedar_schema_spec.specs.Conformance.{IsOfSchema, of_type, of_action, Conforms}
 use Rattle.cedar_check_spec.specs.Capabilities.{Capabilities, Hold}
-use Rattle.cedar_check_spec.specs.Typing.{shape_attributes, attributes_in, flipped, is_arithmetic, is_comparison, is_decimal_comparison, is_set_comparison, one_uid, joined_uids, all_uids, written_uids, IsInOne, IsOrDescends, Target, one_entity, entity_set}
+use Rattle.cedar_check_spec.specs.Typing.{shape_attributes, attributes_in, flipped, is_arithmetic, is_comparison, type_of_scalar, takes_any_string, is_set_comparison, one_uid, joined_uids, all_uids, written_uids, IsInOne, IsOrDescends, Target, one_entity, entity_set}
 use Rattle.cedar_schema_types.specs.Lookup.{attribute_at}
 use Rattle.cedar_schema_types.specs.declared.attribute.Attribute.{Attribute}
 use Rattle.cedar_check_spec.specs.Soundness.{GoodWith}
@@ -134,13 +146,17 @@ pub negative_good : (settings : Settings) (v : Datum) → Member kind.long v →
 negative_good settings (long n) h = long_good settings (pos 0 -ℤ n)
 negative_good settings _ h = absurd h
 
-decimal_at : (settings : Settings) (o : Option ℤ) → IsTrue settings.any_decimal → GoodWith settings (Member kind.decimal) (decimal_or_error o)
-decimal_at settings None on = on
-decimal_at settings (Some z) on = tt
+-- constructors
+decimal_allowed : (settings : Settings) (x : ExtensionType) → takes_any_string settings x ≡ true → IsTrue settings.any_decimal
+decimal_allowed settings extension_type.Decimal on = on
 
-pub decimal_good : (settings : Settings) (v : Datum) → IsTrue settings.any_decimal → Member kind.string v → GoodWith settings (Member kind.decimal) (decimal_of_value v)
-decimal_good settings (text s) on h = decimal_at settings (decimal_of s) on
-decimal_good settings _ on h = absurd h
+read_good : (settings : Settings) (x : ExtensionType) (o : Option Extension) → takes_any_string settings x ≡ true → ((e : Extension) → o ≡ Some e → type_of e ≡ x) → GoodWith settings (Member (kind.extension x)) (extension_or_error o)
+read_good settings x None on typed = decimal_allowed settings x on
+read_good settings x (Some e) on typed = typed e refl
+
+pub constructor_good : (settings : Settings) (x : ExtensionType) (v : Datum) → takes_any_string settings x ≡ true → Member kind.string v → GoodWith settings (Member (kind.extension x)) (constructed x v)
+constructor_good settings x (text s) on h = read_good settings x (extension_of x s) on (extension_of-typed x s)
+constructor_good settings x _ on h = absurd h
 
 pub like_good : (settings : Settings) (f : List ℕ → Bool) (v : Datum) → Member kind.string v → GoodWith settings (Member (kind.boolean Any)) (like_of v f)
 like_good settings f (text s) h = tt
@@ -167,17 +183,20 @@ comparison_good settings w binary_operator.Less v x e h k = longs_good settings 
 comparison_good settings w binary_operator.LessEqual v x e h k = longs_good settings (kind.boolean Any) _ v x h k (λ a b. tt)
 comparison_good settings w _ v x e h k = cc
 
-decimals_both : (settings : Settings) (f : ℤ → ℤ → Bool) (v x : Datum) → Member kind.decimal v → Member kind.decimal x → GoodWith settings (Member (kind.boolean Any)) (of_decimals f v x)
-decimals_both settings f (decimal a) (decimal b) h k = tt
-decimals_both settings f (decimal a) _ h k = absurd k
-decimals_both settings f _ x h k = absurd h
+-- methods
+scalar_member : (k : ScalarType) (v : Scalar) → HasType k v → Member (type_of_scalar k) (datum_of_scalar v)
+scalar_member scalar_type.Boolean (scalar.Boolean b) h = tt
+scalar_member (scalar_type.Extension t) (scalar.Extension e) h = h
+scalar_member _ _ h = absurd h
 
-pub decimals_good : (settings : Settings) (w : World) (op : BinaryOperator) (v x : Datum) → is_decimal_comparison op ≡ true → Member kind.decimal v → Member kind.decimal x → GoodWith settings (Member (kind.boolean Any)) (binary_of w op v x)
-decimals_good settings w binary_operator.DecimalLess v x e h k = decimals_both settings _ v x h k
-decimals_good settings w binary_operator.DecimalLessEqual v x e h k = decimals_both settings _ v x h k
-decimals_good settings w binary_operator.DecimalGreater v x e h k = decimals_both settings _ v x h k
-decimals_good settings w binary_operator.DecimalGreaterEqual v x e h k = decimals_both settings _ v x h k
-decimals_good settings w _ v x e h k = cc
+gives_good : (settings : Settings) (k : ScalarType) (o : Option Scalar) → Gives k o → GoodWith settings (Member (type_of_scalar k)) (scalar_or_error o)
+gives_good settings k None h = absurd h
+gives_good settings k (Some v) h = scalar_member k v h
+
+pub method_good : (settings : Settings) (m : BinaryMethod) (v x : Datum) → Member (kind.extension (row_of m).left) v → Member (kind.extension (row_of m).right) x → GoodWith settings (Member (type_of_scalar (row_of m).result)) (called m v x)
+method_good settings m (extension a) (extension b) h k = gives_good settings (row_of m).result (call_of m a b) (rows_typed m a b h k)
+method_good settings m (extension a) _ h k = absurd k
+method_good settings m _ x h k = absurd h
 
 pub apart_good : (settings : Settings) (m n : List ℕ) (v x : Datum) → Member (kind.entity m) v → Member (kind.entity n) x → (m ≡ n → ⊥) → GoodWith settings (Member (kind.boolean False)) (Ok (boolean (same v x)))
 apart_good settings m n (uid a) (uid b) h k d = is_false (same_uid a b) (λ e. d (sym h ∙ ap (λ (u : Uid). u.ty) ((same_uid-Decides a b).0 e) ∙ k))

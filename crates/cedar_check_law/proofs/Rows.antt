@@ -1,5 +1,7 @@
 -- Worked examples: the form of a policy's condition in each environment, computed.
 use Rattle.std.proofs.Common.{◌≡◌, ℕ, pos, true, false, List, [], ◌∷◌, map, Option, Some, None, codes, refl}
+use Rattle.cedar_ext.specs.declared.extension.ExtensionType.TheVariants as extension_type
+use Rattle.cedar_ext.specs.declared.method.BinaryMethod.TheVariants as method
 use Rattle.cedar_value.specs.Datum.{boolean, long, text, uid}
 use Rattle.cedar_value.specs.World.{below}
 use Rattle.base_reach.specs.Closure.{leads}
@@ -163,10 +165,10 @@ no_set : of_all (unary one.IsEmpty (number 1)) ≡ None ∷ None ∷ None ∷ []
 no_set = refl
 
 -- a decimal wants one literal that reads
-decimals : of_all (binary two.Equal (unary one.Decimal (literal (text (codes "1.0")))) (unary one.Decimal (literal (text (codes "1.00"))))) ≡ Some Any ∷ Some Any ∷ Some Any ∷ []
+decimals : of_all (binary two.Equal (unary (one.Construct extension_type.Decimal) (literal (text (codes "1.0")))) (unary (one.Construct extension_type.Decimal) (literal (text (codes "1.00"))))) ≡ Some Any ∷ Some Any ∷ Some Any ∷ []
 decimals = refl
 
-no_decimal : of_all (binary two.Equal (unary one.Decimal (literal (text (codes "1.")))) (unary one.Decimal (literal (text (codes "1.0"))))) ≡ None ∷ None ∷ None ∷ []
+no_decimal : of_all (binary two.Equal (unary (one.Construct extension_type.Decimal) (literal (text (codes "1.")))) (unary (one.Construct extension_type.Decimal) (literal (text (codes "1.0"))))) ≡ None ∷ None ∷ None ∷ []
 no_decimal = refl
 
 -- with the setting on, of any text, and still of no literal that does not read
@@ -174,7 +176,7 @@ abbrev any_decimal : Settings
 any_decimal = record { any_decimal = true }
 
 abbrev below_two : Expression → Expression
-below_two e = binary two.DecimalLess (unary one.Decimal e) (unary one.Decimal (literal (text (codes "2.0"))))
+below_two e = binary (two.Call method.LessThan) (unary (one.Construct extension_type.Decimal) e) (unary (one.Construct extension_type.Decimal) (literal (text (codes "2.0"))))
 
 decimal_of_name : of_all_with any_decimal (below_two (get resource (codes "name"))) ≡ Some Any ∷ Some Any ∷ Some Any ∷ []
 decimal_of_name = refl

@@ -1,10 +1,14 @@
 -- Typing is sound.
-use Rattle.std.proofs.Common.{◌≡◌, ℕ, true, List, [], ◌∷◌, ◌⊎◌, inl, inr, ⊎_elim, Some, refl, sym, ap, ap₂, subst, ◌∙◌}
+use Rattle.std.proofs.Common.{◌≡◌, ℕ, true, List, [], ◌∷◌, ◌⊎◌, inl, inr, ⊎_elim, Option, Some, refl, sym, ap, ap₂, subst, ◌∙◌}
 use Rattle.std.specs.Prelude.{Ok, Err}
 use Rattle.std.specs.List.{AllByRecursion}
 use Rattle.std.specs.Str.{bytes_eq}
+use Rattle.cedar_ext.specs.declared.extension.Extension.{Extension}
+use Rattle.cedar_ext.specs.declared.method.Row.{Row}
 use Rattle.cedar_ext.specs.Matching.{is_match}
-use Rattle.cedar_value.specs.Datum.{Datum, boolean, uid, record_of, same, fields_of}
+use Rattle.cedar_ext.specs.Methods.{row_of}
+use Rattle.cedar_ext.specs.Private.ExtensionLemmas.{extension_of-typed}
+use Rattle.cedar_value.specs.Datum.{Datum, boolean, uid, record_of, extension, same, fields_of}
 use Rattle.cedar_value.specs.Private.Lists.{pairs_of-fields_of}
 use Rattle.cedar_value.specs.Records.{value_at, record_from}
 use Rattle.cedar_value.specs.Sets.{has_member}
@@ -18,7 +22,7 @@ use Rattle.cedar_ast_expressions.specs.declared.operator.BinaryOperator.TheVaria
 use Rattle.cedar_ast_expressions.specs.Answer.{Answer, with_answer}
 use Rattle.cedar_ast_expressions.specs.Expression.{Expression, literal, variable, and, or, if_else, unary, binary, set_with, record_with, Expressions, no_more, and_then, Entries, no_entries, entry}
 use Rattle.cedar_ast_expressions.specs.Evaluation.{and_of, or_of, if_of, set_of_values, record_of_pairs, eval, eval_all, eval_entries}
-use Rattle.cedar_ast_expressions.specs.Operators.{source, is_empty, decimal_or_error, unary_of, binary_of}
+use Rattle.cedar_ast_expressions.specs.Operators.{source, extension_or_error, is_empty, unary_of, binary_of}
 use Rattle.cedar_ast.specs.Condition.{condition_of}
 use Rattle.cedar_ast_expressions.specs.Keys.{AreDistinct, keys_in}
 use Rattle.cedar_schema_types.specs.declared.truth.Truth.{Truth}
@@ -31,7 +35,7 @@ use Rattle.cedar_schema_types.specs.Membership.{known, HasTruth, Member, At}
 use Rattle.cedar_schema_spec.specs.WellFormed.{AreTypesApart}
 use Rattle.cedar_schema_spec.specs.Conformance.{Conforms, FitsIn}
 use Rattle.cedar_check_spec.specs.Capabilities.{Capability, Capabilities, Has, Hold}
-use Rattle.cedar_check_spec.specs.Typing.{attributes_in, flipped, TypesWith, of_boolean, of_long, of_text, of_uid, of_principal, of_resource, of_context, of_not, and_false, and_then_false, and_then_true, and_then_any, or_true, or_false, or_any_true, or_any_false, or_any_any, if_true, if_false, if_any, of_negative, of_arithmetic, of_comparison, equal_literals, equal_joined, equal_apart, has_none, has_held, has_required, has_any, of_get, of_like, of_is, in_written, in_related, in_unrelated, of_contains, of_set_comparison, of_is_empty, of_set, of_record, of_decimal, of_any_decimal, of_decimals, JoinsOnto, joined_all, joined_more, AddsOnto, added_all, added_more}
+use Rattle.cedar_check_spec.specs.Typing.{attributes_in, flipped, type_of_scalar, TypesWith, of_boolean, of_long, of_text, of_uid, of_principal, of_resource, of_context, of_not, and_false, and_then_false, and_then_true, and_then_any, or_true, or_false, or_any_true, or_any_false, or_any_any, if_true, if_false, if_any, of_negative, of_arithmetic, of_comparison, equal_literals, equal_joined, equal_apart, has_none, has_held, has_required, has_any, of_get, of_like, of_is, in_written, in_related, in_unrelated, of_contains, of_set_comparison, of_is_empty, of_set, of_record, of_constructor, of_any_string, of_method, JoinsOnto, joined_all, joined_more, AddsOnto, added_all, added_more}
 use Rattle.cedar_schema_types.specs.Lookup.{attribute_at}
 use Rattle.cedar_schema_types.specs.declared.attribute.Attribute.{Attribute}
 use Rattle.cedar_ast_expressions.specs.Replacement.{replace, replace_all, replace_entries}
@@ -39,7 +43,7 @@ use Rattle.cedar_check_spec.specs.Soundness.{GoodWith, IsTruth, SoundTypingWith,
 use Rattle.cedar_check_law.proofs.Goodness.{then_good, good_weaker, then_good_after, holds_union, holds_common_left, holds_common_right}
 use Rattle.cedar_check_spec.proofs.Members.{join_left, join_right, HaveAttributes, pair_fits}
 use Rattle.cedar_check_spec.proofs.Made.{keys, onto, record_onto}
-use Rattle.cedar_check_law.proofs.Operators.{Fine, nothing_held, plain, members, and_good, or_good, if_good, known_truth, not_good, negative_good, decimal_good, like_good, is_good, arithmetic_good, comparison_good, decimals_good, apart_good, contains_good, sets_good, set_good, related_good, unrelated_good, source_fits, has_none_good, has_good, has_required_good, get_good, written_good}
+use Rattle.cedar_check_law.proofs.Operators.{Fine, nothing_held, plain, members, and_good, or_good, if_good, known_truth, not_good, negative_good, constructor_good, like_good, is_good, arithmetic_good, comparison_good, method_good, apart_good, contains_good, sets_good, set_good, related_good, unrelated_good, source_fits, has_none_good, has_good, has_required_good, get_good, written_good}
 use Rattle.cedar_check_spec.specs.declared.settings.Settings.{Settings}
 
 -- all the premises
@@ -156,9 +160,11 @@ module _ (settings : Settings) (s : SchemaTree) (env : Environment) (q : Request
     sound (of_record {fs = fs} {at = at} d ds) held =
         plain settings q w (kind.record_of at) (eval (record_with fs) q w)
         (then_good settings (Found at [] fs) (Member (kind.record_of at)) (eval_entries fs q w) (λ ps. Ok (record_of_pairs ps)) (sound_entries ds held [] (λ k. tt)) (λ ps m. made at fs ps d m))
-    sound (of_decimal {t = t} e) held = subst (λ o. GoodWith settings (Fine q w kind.decimal []) (decimal_or_error o)) (sym e) (value_fine kind.decimal _ tt)
-    sound (of_any_decimal {g = g} {e = e} on n d) held = one operator.Decimal e kind.string kind.decimal g (sound d held) (λ v m. decimal_good settings v on m)
-    sound (of_decimals {ga = ga} {gb = gb} {a = a} {b = b} {op = op} is da db) held = two op a b kind.decimal kind.decimal (kind.boolean Any) ga gb (sound da held) (sound db held) (λ v x m k. decimals_good settings w op v x is m k)
+    sound (of_constructor {x = x} {t = t} {v = v} e) held =
+        subst (λ (o : Option Extension). GoodWith settings (Fine q w (kind.extension x) []) (extension_or_error o)) (sym e) (value_fine (kind.extension x) (extension v) (extension_of-typed x t v e))
+    sound (of_any_string {g = g} {x = x} {e = e} on n d) held = one (operator.Construct x) e kind.string (kind.extension x) g (sound d held) (λ v m. constructor_good settings x v on m)
+    sound (of_method {ga = ga} {gb = gb} {a = a} {b = b} {m = m} da db) held =
+        two (binary_operator.Call m) a b (kind.extension (row_of m).left) (kind.extension (row_of m).right) (type_of_scalar (row_of m).result) ga gb (sound da held) (sound db held) (λ v x h k. method_good settings m v x h k)
 
     -- a member of what is joined so far is one of the whole
     onto_wider : {h : Capabilities} {t v : TypeTree} {es : Expressions} → JoinsOnto settings s env h t es v → (x : Datum) → Member t x → Member v x

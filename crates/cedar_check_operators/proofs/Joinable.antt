@@ -2,7 +2,7 @@
 use Rattle.std.proofs.Common.{◌≡◌, ◌≢◌, Bool, true, false, ◌&&◌, bytes_eq, ℕ, zero, suc, max, ◌+◌, ◌<◌, ◌≤◌, List, [], ◌∷◌, Option, Some, None, option_map, length, get_or, drop, arith, refl, ap, ap₂, sym, ◌∙◌}
 use Rattle.std.specs.Prelude.{is_some}
 use Rattle.cedar_schema_types.specs.declared.attribute.Attribute.{Attribute}
-use Rattle.cedar_schema_types.specs.Types.{TypeTree, boolean, long, string, entity, set, record_of, decimal, Attributes, no_attributes, attribute}
+use Rattle.cedar_schema_types.specs.Types.{TypeTree, boolean, long, string, entity, set, record_of, extension, Attributes, no_attributes, attribute}
 use Rattle.cedar_schema_types.specs.Joining.{join, join_attributes, joined_attribute, only_if, same_bool}
 use Rattle.cedar_schema_types.specs.TypeKind.{attributes_of}
 use Rattle.cedar_check_operators.proofs.Held.{drop_here}
@@ -15,7 +15,7 @@ abbrev mutual
   height (entity n) = 0
   height (set t) = suc (height t)
   height (record_of a) = suc (attributes_height a)
-  height decimal = 0
+  height (extension x) = 0
 
   pub attributes_height : Attributes → ℕ
   attributes_height no_attributes = 0

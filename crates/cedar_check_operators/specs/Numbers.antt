@@ -1,7 +1,7 @@
 -- The numbers of faults.
 use Rattle.std.specs.Prelude.{ℕ}
 use Rattle.cedar_check_operators.specs.declared.type_fault.TypeFault.{TypeFault}
-use Rattle.cedar_check_operators.specs.declared.type_fault.TypeFault.TheVariants.{Undeclared, Unguarded, NoAttribute, NoJoin, EmptySet, OperandKind, NoDecimal}
+use Rattle.cedar_check_operators.specs.declared.type_fault.TypeFault.TheVariants.{Undeclared, Unguarded, NoAttribute, NoJoin, EmptySet, OperandKind, NoLiteral}
 
 -- The number of a fault, as reports have it (own).
 abbrev pub number_of : TypeFault → ℕ
@@ -11,4 +11,4 @@ number_of NoAttribute = 603
 number_of NoJoin = 604
 number_of EmptySet = 605
 number_of OperandKind = 606
-number_of NoDecimal = 607
+number_of NoLiteral = 607

@@ -24,7 +24,7 @@ abbrev pub tree_of : LentType → TypeTree
 tree_of (lent.Boolean f) = kind.boolean f
 tree_of lent.Long = kind.long
 tree_of lent.String = kind.string
-tree_of lent.Decimal = kind.decimal
+tree_of (lent.Extension x) = kind.extension x
 tree_of (lent.Entity n) = kind.entity n.now
 tree_of (lent.Lent t) = t.now
 tree_of (lent.Made t) = t

@@ -41,8 +41,8 @@ fn join_sets<'a>(alloc: Global, one: &Type, two: &Type) -> Result<Option<LentTyp
     }
 }
 
-/// The join of two types, if they have one (Cedar documentation, strict validation). For Booleans, numbers, strings, decimals
-/// and lent entities it takes no memory.
+/// The join of two types, if they have one (Cedar documentation, strict validation). For Booleans, numbers, strings, extension
+/// types and lent entities it takes no memory.
 pub fn join_types<'a>(
     alloc: Global,
     one: &LentType<'a>,
@@ -63,8 +63,14 @@ pub fn join_types<'a>(
             TypeGlance::String => Ok(Some(LentType::String)),
             _ => Ok(None),
         },
-        TypeGlance::Decimal => match two.glance() {
-            TypeGlance::Decimal => Ok(Some(LentType::Decimal)),
+        TypeGlance::Extension(left) => match two.glance() {
+            TypeGlance::Extension(right) => {
+                if left.same(right) {
+                    Ok(Some(LentType::Extension(left)))
+                } else {
+                    Ok(None)
+                }
+            }
             _ => Ok(None),
         },
         TypeGlance::Entity(left) => match two.glance() {

@@ -51,8 +51,8 @@ pub(crate) fn types_join(one: TypeGlance<'_>, two: TypeGlance<'_>) -> bool
             TypeGlance::String => true,
             _ => false,
         },
-        TypeGlance::Decimal => match two {
-            TypeGlance::Decimal => true,
+        TypeGlance::Extension(left) => match two {
+            TypeGlance::Extension(right) => left.same(right),
             _ => false,
         },
         TypeGlance::Entity(left) => match two {

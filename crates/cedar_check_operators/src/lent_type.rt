@@ -1,10 +1,12 @@
 //! Types, lent where they can be.
 ghost use Rattle.std.specs.Prelude.{◌≡◌, IfOk, IfSome, option_map};
-ghost use Rattle.cedar_check_spec.specs.Rows.{element_in, entity_in, is_decimal, is_long, is_string, target_in, truth_in};
+ghost use Rattle.cedar_check_spec.specs.Rows.{element_in, entity_in, is_extension, is_long, is_string, target_in, truth_in};
+ghost use Rattle.cedar_check_spec.specs.Typing.{type_of_scalar};
 ghost use Rattle.cedar_schema_types.specs.Types.{is_record};
 ghost use Rattle.cedar_check_operators.specs.View.{tree_of};
 ghost use Rattle.cedar_check_operators.specs.Private.View.{type_seen};
 
+use cedar_ext::{ExtensionType, ScalarType};
 use cedar_schema::{RecordType, Truth, Type, TypeKind};
 use cedar_value::Name;
 use std::alloc::{AllocError, Global};
@@ -18,8 +20,8 @@ pub enum LentType<'a> {
     Long,
     /// Strings.
     String,
-    /// Decimals.
-    Decimal,
+    /// The values of an extension type.
+    Extension(ExtensionType),
     /// The entities of a type, with its name as the schema or the policy has it.
     Entity(&'a Name),
     /// A type that the schema has.
@@ -37,8 +39,8 @@ pub(crate) enum TypeGlance<'a> {
     Long,
     /// Strings.
     String,
-    /// Decimals.
-    Decimal,
+    /// The values of an extension type.
+    Extension(ExtensionType),
     /// The entities of a type.
     Entity(&'a Name),
     /// Sets of members of a type.
@@ -55,7 +57,7 @@ pub(crate) fn glance_at(ty: &Type) -> TypeGlance<'_>
         TypeKind::Boolean(truth) => TypeGlance::Boolean(*truth),
         TypeKind::Long => TypeGlance::Long,
         TypeKind::String => TypeGlance::String,
-        TypeKind::Decimal => TypeGlance::Decimal,
+        TypeKind::Extension(extension) => TypeGlance::Extension(*extension),
         TypeKind::Entity(name) => TypeGlance::Entity(name),
         TypeKind::Set(member) => TypeGlance::Set(member),
         TypeKind::Record(attributes) => TypeGlance::Record(attributes),
@@ -63,6 +65,16 @@ pub(crate) fn glance_at(ty: &Type) -> TypeGlance<'_>
 }
 
 impl<'a> LentType<'a> {
+    /// The type of what a method of an extension type gives.
+    pub(crate) fn of_scalar(ty: ScalarType) -> Self
+        ensures { tree_of result ≡ type_of_scalar ty }
+    {
+        match ty {
+            ScalarType::Boolean => LentType::Boolean(Truth::Any),
+            ScalarType::Extension(extension) => LentType::Extension(extension),
+        }
+    }
+
     /// A look at the type.
     pub(crate) fn glance(&self) -> TypeGlance<'_>
         ensures { type_seen result ≡ tree_of self.now }
@@ -71,7 +83,7 @@ impl<'a> LentType<'a> {
             LentType::Boolean(truth) => TypeGlance::Boolean(*truth),
             LentType::Long => TypeGlance::Long,
             LentType::String => TypeGlance::String,
-            LentType::Decimal => TypeGlance::Decimal,
+            LentType::Extension(extension) => TypeGlance::Extension(*extension),
             LentType::Entity(name) => TypeGlance::Entity(name),
             LentType::Lent(ty) => glance_at(ty),
             LentType::Made(ty) => glance_at(ty),
@@ -86,7 +98,7 @@ impl<'a> LentType<'a> {
             LentType::Boolean(truth) => Some(TypeGlance::Boolean(*truth)),
             LentType::Long => Some(TypeGlance::Long),
             LentType::String => Some(TypeGlance::String),
-            LentType::Decimal => Some(TypeGlance::Decimal),
+            LentType::Extension(extension) => Some(TypeGlance::Extension(*extension)),
             LentType::Entity(name) => Some(TypeGlance::Entity(*name)),
             LentType::Lent(ty) => Some(glance_at(*ty)),
             LentType::Made(_) => None,
@@ -101,7 +113,7 @@ impl<'a> LentType<'a> {
             LentType::Boolean(truth) => Ok(LentType::Boolean(*truth)),
             LentType::Long => Ok(LentType::Long),
             LentType::String => Ok(LentType::String),
-            LentType::Decimal => Ok(LentType::Decimal),
+            LentType::Extension(extension) => Ok(LentType::Extension(*extension)),
             LentType::Entity(name) => Ok(LentType::Entity(*name)),
             LentType::Lent(ty) => Ok(LentType::Lent(*ty)),
             LentType::Made(ty) => Ok(LentType::Made(ty.try_clone(alloc)?)),
@@ -116,7 +128,7 @@ impl<'a> LentType<'a> {
             LentType::Boolean(truth) => Ok(Type::new(TypeKind::Boolean(*truth))),
             LentType::Long => Ok(Type::new(TypeKind::Long)),
             LentType::String => Ok(Type::new(TypeKind::String)),
-            LentType::Decimal => Ok(Type::new(TypeKind::Decimal)),
+            LentType::Extension(extension) => Ok(Type::new(TypeKind::Extension(*extension))),
             LentType::Entity(name) => Ok(Type::new(TypeKind::Entity(name.try_clone(alloc)?))),
             LentType::Lent(ty) => ty.try_clone(alloc),
             LentType::Made(ty) => ty.try_clone(alloc),
@@ -153,12 +165,12 @@ impl<'a> LentType<'a> {
         }
     }
 
-    /// Whether it is the type of decimals.
-    pub(crate) fn is_decimal(&self) -> bool
-        ensures { result ≡ is_decimal (tree_of self.now) }
+    /// Whether it is that extension type.
+    pub(crate) fn is_extension(&self, ty: ExtensionType) -> bool
+        ensures { result ≡ is_extension ty (tree_of self.now) }
     {
         match self.glance() {
-            TypeGlance::Decimal => true,
+            TypeGlance::Extension(extension) => ty.same(extension),
             _ => false,
         }
     }

@@ -1,12 +1,13 @@
-//! Operators on operands of one kind: a Boolean, whole numbers, decimals.
+//! Operators on operands of one kind: a Boolean, whole numbers, what a method takes.
 ghost use Rattle.std.specs.Prelude.{◌≡◌, option_and_then};
-ghost use Rattle.cedar_check_spec.specs.Rows.{as_type, decimals_type, longs_type};
+ghost use Rattle.cedar_check_spec.specs.Rows.{as_type, longs_type, method_type};
 ghost use Rattle.cedar_check_spec.specs.Typing.{flipped};
 ghost use Rattle.cedar_check_operators.specs.View.{tree_of, typing_view};
 
 use crate::lent_type::LentType;
 use crate::type_fault::TypeFault;
 use crate::typing::Typing;
+use cedar_ext::BinaryMethod;
 use cedar_schema::Truth;
 use std::alloc::Global;
 
@@ -37,16 +38,18 @@ pub(crate) fn longs_type<'a>(
     }
 }
 
-/// The type of a comparison of two decimals.
-pub(crate) fn decimals_type<'a>(
+/// The type of a method on operands of the types that its row takes.
+pub(crate) fn method_type<'a>(
     alloc: Global,
+    method: BinaryMethod,
     left: &LentType<'a>,
     right: &LentType<'a>,
 ) -> Typing<'a>
-    ensures { typing_view result ≡ option_and_then as_type (decimals_type (tree_of left.now) (tree_of right.now)) }
+    ensures { typing_view result ≡ option_and_then as_type (method_type method (tree_of left.now) (tree_of right.now)) }
 {
-    if left.is_decimal() && right.is_decimal() {
-        Typing::plain(alloc, LentType::Boolean(Truth::Any))
+    let row = method.row();
+    if left.is_extension(row.left) && right.is_extension(row.right) {
+        Typing::plain(alloc, LentType::of_scalar(row.result))
     } else {
         Typing::Refused(TypeFault::OperandKind)
     }

@@ -1,6 +1,6 @@
 //! The rows of operators, for the types of their operands.
 ghost use Rattle.std.specs.Prelude.{◌≡◌, IfOk, option_and_then};
-ghost use Rattle.cedar_check_spec.specs.Rows.{IsUnaryRow, as_type, binary_type, decimal_type, literal_decimal_type};
+ghost use Rattle.cedar_check_spec.specs.Rows.{IsUnaryRow, as_type, binary_type, constructed_literal_type, constructor_type};
 ghost use Rattle.cedar_check_operators.specs.View.{held_view, tree_of, typed_view, typing_view};
 
 use crate::attributes::{get_type, has_type};
@@ -8,56 +8,63 @@ use crate::capability::Capability;
 use crate::equality::equal_type;
 use crate::hierarchy::{in_type, is_type};
 use crate::lent_type::LentType;
-use crate::operands::{decimals_type, flipped, longs_type};
+use crate::operands::{flipped, longs_type, method_type};
 use crate::sets::{contains_type, is_empty_type, sets_type};
 use crate::type_fault::TypeFault;
 use crate::typing::{Typed, Typing};
 use cedar_ast_expressions::{BinaryOperator, Expr, ExprKind, UnaryOperator};
 use cedar_check_spec::Settings;
-use cedar_ext::Decimal;
+use cedar_ext::ExtensionType;
 use cedar_schema::{Schema, Truth};
 use cedar_value::{Value, ValueKind};
 use std::alloc::{AllocError, Global};
 
-// Why `decimal` of an operand that is not a string has no type. With the setting on the fault is its type, and otherwise that
-// it is not a string literal.
-fn no_text(settings: Settings) -> TypeFault {
-    if settings.any_decimal {
+// Why a constructor of an operand that is not a string has no type. Where the constructor takes any string, the fault is the
+// operand's type, and otherwise that it is not a string literal.
+fn no_text(settings: Settings, made: ExtensionType) -> TypeFault {
+    if settings.takes_any_string(made) {
         TypeFault::OperandKind
     } else {
-        TypeFault::NoDecimal
+        TypeFault::NoLiteral
     }
 }
 
-// The row of `decimal` for a literal: a string that is a valid decimal.
-fn literal_decimal_type<'a>(alloc: Global, settings: Settings, value: &Value) -> Typing<'a>
-    ensures { typing_view result ≡ literal_decimal_type value.now }
-{
-    match value.kind() {
-        ValueKind::String(text) => match Decimal::read(text.as_str()) {
-            Some(_) => Typing::plain(alloc, LentType::Decimal),
-            None => Typing::Refused(TypeFault::NoDecimal),
-        },
-        _ => Typing::Refused(no_text(settings)),
-    }
-}
-
-// The row of `decimal`: one string literal that is a valid decimal. With the setting on also any string that is not a literal.
-fn decimal_type<'a>(
+// The row of a constructor for a literal: a string that writes a value of its type.
+fn constructed_literal_type<'a>(
     alloc: Global,
     settings: Settings,
+    made: ExtensionType,
+    value: &Value,
+) -> Typing<'a>
+    ensures { typing_view result ≡ constructed_literal_type made value.now }
+{
+    match value.kind() {
+        ValueKind::String(text) => match made.read(text.as_str()) {
+            Some(_) => Typing::plain(alloc, LentType::Extension(made)),
+            None => Typing::Refused(TypeFault::NoLiteral),
+        },
+        _ => Typing::Refused(no_text(settings, made)),
+    }
+}
+
+// The row of a constructor: one string literal that writes a value of its type. Where the settings speak of it, also any string
+// that is not a literal.
+fn constructor_type<'a>(
+    alloc: Global,
+    settings: Settings,
+    made: ExtensionType,
     operand: &Expr,
     ty: &LentType<'a>,
 ) -> Typing<'a>
-    ensures { typing_view result ≡ decimal_type settings operand.now (tree_of ty.now) }
+    ensures { typing_view result ≡ constructor_type settings made operand.now (tree_of ty.now) }
 {
     match operand.kind() {
-        ExprKind::Literal(value) => literal_decimal_type(alloc, settings, value),
+        ExprKind::Literal(value) => constructed_literal_type(alloc, settings, made, value),
         _ => {
-            if settings.any_decimal && ty.is_string() {
-                Typing::plain(alloc, LentType::Decimal)
+            if settings.takes_any_string(made) && ty.is_string() {
+                Typing::plain(alloc, LentType::Extension(made))
             } else {
-                Typing::Refused(no_text(settings))
+                Typing::Refused(no_text(settings, made))
             }
         }
     }
@@ -114,7 +121,9 @@ pub fn unary_type<'a>(
             }
         }
         UnaryOperator::Is(name) => Ok(is_type(alloc, schema, name, &typed.ty)),
-        UnaryOperator::Decimal => Ok(decimal_type(alloc, settings, operand, &typed.ty)),
+        UnaryOperator::Construct(made) => Ok(constructor_type(
+            alloc, settings, *made, operand, &typed.ty,
+        )),
         UnaryOperator::IsEmpty => Ok(is_empty_type(alloc, &typed.ty)),
     }
 }
@@ -142,9 +151,6 @@ pub fn binary_type<'a>(
         BinaryOperator::In => in_type(alloc, schema, left, right, one, two),
         BinaryOperator::Contains => contains_type(alloc, one, two),
         BinaryOperator::ContainsAll | BinaryOperator::ContainsAny => sets_type(alloc, one, two),
-        BinaryOperator::DecimalLess
-        | BinaryOperator::DecimalLessEqual
-        | BinaryOperator::DecimalGreater
-        | BinaryOperator::DecimalGreaterEqual => decimals_type(alloc, one, two),
+        BinaryOperator::Call(method) => method_type(alloc, method, one, two),
     }
 }

@@ -22,14 +22,13 @@ pub enum TypeFault {
     /// 605: an empty set.
     #[error("an empty set has no type")]
     EmptySet,
-    /// 606: an operand of another kind; with the setting `any_decimal` on, so is an operand of `decimal` that
-    /// is not a string.
+    /// 606: an operand of another kind; where a constructor takes any string, so is an operand of it that is not a string.
     #[error("an operand is of another kind")]
     OperandKind,
-    /// 607: `decimal` of an operand that is not a string literal of a decimal; with the setting `any_decimal` on,
-    /// of a string literal that is not a decimal.
-    #[error("the operand of `decimal` is not a string literal that is a decimal")]
-    NoDecimal,
+    /// 607: the operand of a constructor is not a string literal that it reads; where the constructor takes any string, it is a
+    /// string literal that it does not read.
+    #[error("the operand of a constructor is not a string literal that it reads")]
+    NoLiteral,
 }
 
 impl TypeFault {
@@ -44,7 +43,7 @@ impl TypeFault {
             TypeFault::NoJoin => 604,
             TypeFault::EmptySet => 605,
             TypeFault::OperandKind => 606,
-            TypeFault::NoDecimal => 607,
+            TypeFault::NoLiteral => 607,
         }
     }
 }

@@ -3,7 +3,10 @@
 use Rattle.std.specs.Prelude.{◌≡◌, ℕ, Bool, true, false, not, ◌&&◌, ◌||◌, cond, List, [], ◌∷◌, Option, Some, None, is_some, option_map, option_and_then}
 use Rattle.std.specs.List.{list_any}
 use Rattle.std.specs.Str.{bytes_eq}
-use Rattle.cedar_ext.specs.DecimalOf.{decimal_of}
+use Rattle.cedar_ext.specs.declared.extension.ExtensionType.{ExtensionType}
+use Rattle.cedar_ext.specs.declared.method.BinaryMethod.{BinaryMethod}
+use Rattle.cedar_ext.specs.Extensions.{extension_of, same_type}
+use Rattle.cedar_ext.specs.Methods.{row_of}
 use Rattle.cedar_value.specs.Datum.{Datum, text, uid, same, same_uid}
 use Rattle.cedar_value.specs.declared.uid.Uid.{Uid}
 use Rattle.cedar_ast_expressions.specs.declared.operator.UnaryOperator.{UnaryOperator}
@@ -21,7 +24,7 @@ use Rattle.cedar_schema_types.specs.Membership.{known}
 use Rattle.cedar_schema_spec.specs.Declarations.{is_entity_type, is_action, is_action_type, action_below, type_below}
 use Rattle.cedar_check_spec.specs.Capabilities.{Capability, Capabilities, TellsHeld}
 use Rattle.cedar_check_spec.specs.declared.settings.Settings.{Settings}
-use Rattle.cedar_check_spec.specs.Typing.{attributes_in, flipped, two_literals, written_uids}
+use Rattle.cedar_check_spec.specs.Typing.{attributes_in, flipped, type_of_scalar, takes_any_string, two_literals, written_uids}
 use Rattle.cedar_schema_types.specs.Lookup.{attribute_at}
 use Rattle.cedar_schema_types.specs.declared.attribute.Attribute.{Attribute}
 
@@ -70,10 +73,10 @@ abbrev pub is_string : TypeTree → Bool
 is_string kind.string = true
 is_string _ = false
 
--- Whether it is the type of decimals (Cedar language reference, decimal).
-abbrev pub is_decimal : TypeTree → Bool
-is_decimal kind.decimal = true
-is_decimal _ = false
+-- Whether it is that extension type (Cedar language reference, data types, extension types).
+abbrev pub is_extension : ExtensionType → TypeTree → Bool
+is_extension x (kind.extension y) = same_type x y
+is_extension x _ = false
 
 -- The row of `has`: false where nothing is declared, true where the attribute is held or a record has to have it, and else a
 -- Boolean that gains the capability (Cedar documentation, strict validation: `has`).
@@ -87,17 +90,17 @@ abbrev pub get_row : Bool → Option Attribute → Option Typed
 get_row held None = None
 get_row held (Some d) = only_if (d.required || held) (as_type d.ty)
 
--- The row of `decimal` for a literal: a decimal, where the literal is a string that writes one (Cedar documentation, strict
--- validation: decimal).
-abbrev pub literal_decimal_type : Datum → Option Typed
-literal_decimal_type (text t) = only_if (is_some (decimal_of t)) (as_type kind.decimal)
-literal_decimal_type _ = None
+-- The row of a constructor for a literal: its type, where the literal is a string that writes a value of it (Cedar
+-- documentation, strict validation: extension functions).
+abbrev pub constructed_literal_type : ExtensionType → Datum → Option Typed
+constructed_literal_type x (text t) = only_if (is_some (extension_of x t)) (as_type (kind.extension x))
+constructed_literal_type x _ = None
 
--- The row of `decimal`: for one string literal that writes a decimal, and with the setting on for any string that is not a
--- literal (Cedar documentation, strict validation: decimal; own: the setting).
-abbrev pub decimal_type : Settings → Expression → TypeTree → Option Typed
-decimal_type settings (literal v) t = literal_decimal_type v
-decimal_type settings _ t = only_if (settings.any_decimal && is_string t) (as_type kind.decimal)
+-- The row of a constructor: for one string literal that writes a value of its type, and where the settings speak of it for any
+-- string that is not a literal (Cedar documentation, strict validation: extension functions; own: the settings).
+abbrev pub constructor_type : Settings → ExtensionType → Expression → TypeTree → Option Typed
+constructor_type settings x (literal v) t = constructed_literal_type x v
+constructor_type settings x _ t = only_if (takes_any_string settings x && is_string t) (as_type (kind.extension x))
 
 -- The rows of the operators on one operand, given its expression and its typing, with a test of which capabilities are held
 -- (Cedar documentation, strict validation).
@@ -108,7 +111,7 @@ unary_row settings s holds (operator.Has a) e t = option_and_then (λ at. has_ro
 unary_row settings s holds (operator.Get a) e t = option_and_then (λ at. get_row (holds (record { on = e; key = a })) (attribute_at a at)) (attributes_in s t.ty)
 unary_row settings s holds (operator.Like p) e t = only_if (is_string t.ty) (as_type (kind.boolean Any))
 unary_row settings s holds (operator.Is n) e t = option_and_then (λ m. only_if (is_entity_type s n || is_action_type s n) (as_type (kind.boolean (known (bytes_eq m n))))) (entity_in t.ty)
-unary_row settings s holds operator.Decimal e t = decimal_type settings e t.ty
+unary_row settings s holds (operator.Construct x) e t = constructor_type settings x e t.ty
 unary_row settings s holds operator.IsEmpty e t = option_and_then (λ m. as_type (kind.boolean Any)) (element_in t.ty)
 
 -- The typing is what the rows of the operators on one operand give where these capabilities are held (Cedar documentation,
@@ -173,9 +176,10 @@ sets_type t u = option_and_then (λ m. option_and_then (λ n. any_where (join m 
 abbrev pub longs_type : TypeTree → TypeTree → TypeTree → Option TypeTree
 longs_type v t u = only_if (is_long t && is_long u) (Some v)
 
--- Any Boolean, for two decimals (Cedar documentation, strict validation: decimal).
-abbrev pub decimals_type : TypeTree → TypeTree → Option TypeTree
-decimals_type t u = only_if (is_decimal t && is_decimal u) (Some (kind.boolean Any))
+-- The type of what a method gives, for operands of the types that its row takes (Cedar documentation, strict validation:
+-- extension functions).
+abbrev pub method_type : BinaryMethod → TypeTree → TypeTree → Option TypeTree
+method_type m t u = only_if (is_extension (row_of m).left t && is_extension (row_of m).right u) (Some (type_of_scalar (row_of m).result))
 
 -- The rows of the operators on two operands, given their expressions and their types (Cedar documentation, strict validation).
 abbrev pub binary_type : SchemaTree → BinaryOperator → Expression → Expression → TypeTree → TypeTree → Option TypeTree
@@ -189,7 +193,4 @@ binary_type s binary_operator.In a b t u = option_and_then (λ m. option_and_the
 binary_type s binary_operator.Contains a b t u = option_and_then (λ m. any_where (join m u)) (element_in t)
 binary_type s binary_operator.ContainsAll a b t u = sets_type t u
 binary_type s binary_operator.ContainsAny a b t u = sets_type t u
-binary_type s binary_operator.DecimalLess a b t u = decimals_type t u
-binary_type s binary_operator.DecimalLessEqual a b t u = decimals_type t u
-binary_type s binary_operator.DecimalGreater a b t u = decimals_type t u
-binary_type s binary_operator.DecimalGreaterEqual a b t u = decimals_type t u
+binary_type s (binary_operator.Call m) a b t u = method_type m t u

@@ -1,9 +1,16 @@
 -- Strict typing, rule by rule (Cedar documentation, strict validation; cedar-spec, Lean: Cedar.Validation, typechecker).
-use Rattle.std.specs.Prelude.{◌≡◌, ◌≢◌, ℕ, ℤ, Bool, true, false, ◌&&◌, List, [], ◌∷◌, Option, Some, None, Contains, IsSome, IsTrue, ◌⊎◌}
+use Rattle.std.specs.Prelude.{◌≡◌, ◌≢◌, ℕ, ℤ, Bool, true, false, ◌&&◌, List, [], ◌∷◌, Option, Some, None, Contains, IsSome, ◌⊎◌}
 use Rattle.std.specs.Bool.{Decides}
 use Rattle.std.specs.Str.{bytes_eq}
+use Rattle.cedar_ext.specs.declared.extension.Extension.{Extension}
+use Rattle.cedar_ext.specs.declared.extension.ExtensionType.{ExtensionType}
+use Rattle.cedar_ext.specs.declared.extension.ExtensionType.TheVariants as extension_type
+use Rattle.cedar_ext.specs.declared.method.BinaryMethod.{BinaryMethod}
 use Rattle.cedar_ext.specs.declared.pattern.Element.{Element}
-use Rattle.cedar_ext.specs.DecimalOf.{decimal_of}
+use Rattle.cedar_ext.specs.declared.scalar.ScalarType.{ScalarType}
+use Rattle.cedar_ext.specs.declared.scalar.ScalarType.TheVariants as scalar_type
+use Rattle.cedar_ext.specs.Extensions.{extension_of}
+use Rattle.cedar_ext.specs.Methods.{row_of}
 use Rattle.cedar_value.specs.Datum.{Datum, boolean, long, text, uid, same}
 use Rattle.cedar_value.specs.declared.uid.Uid.{Uid}
 use Rattle.cedar_ast_expressions.specs.declared.variable.Variable.TheVariants.{Principal, Resource, Context}
@@ -66,13 +73,16 @@ is_comparison binary_operator.Less = true
 is_comparison binary_operator.LessEqual = true
 is_comparison _ = false
 
--- The methods that compare two decimals (Cedar language reference, decimal).
-abbrev pub is_decimal_comparison : BinaryOperator → Bool
-is_decimal_comparison binary_operator.DecimalLess = true
-is_decimal_comparison binary_operator.DecimalLessEqual = true
-is_decimal_comparison binary_operator.DecimalGreater = true
-is_decimal_comparison binary_operator.DecimalGreaterEqual = true
-is_decimal_comparison _ = false
+-- The type of what a method of an extension type gives, as validation has it (Cedar documentation, strict validation: extension
+-- functions).
+abbrev pub type_of_scalar : ScalarType → TypeTree
+type_of_scalar scalar_type.Boolean = kind.boolean Any
+type_of_scalar (scalar_type.Extension x) = kind.extension x
+
+-- Whether the settings have the constructor of a type take any string, and not literals alone: `any_decimal` has that of
+-- decimals do so (own).
+abbrev pub takes_any_string : Settings → ExtensionType → Bool
+takes_any_string settings extension_type.Decimal = settings.any_decimal
 
 -- `containsAll` and `containsAny` (Cedar language reference, set operators).
 abbrev pub is_set_comparison : BinaryOperator → Bool
@@ -203,12 +213,12 @@ mutual
     of_set : {h g : Capabilities} {e : Expression} {es : Expressions} {t v : TypeTree} → TypesWith settings s env h e t g → JoinsOnto settings s env h t es v → TypesWith settings s env h (set_with (and_then e es)) (kind.set v) []
     -- a record: each key is required, with its value's type
     of_record : {h : Capabilities} {fs : Entries} {at : Attributes} → AreDistinct (keys_in fs) → AddsOnto settings s env h no_attributes fs at → TypesWith settings s env h (record_with fs) (kind.record_of at) []
-    -- `decimal`: of one string literal that is a valid decimal
-    of_decimal : {h : Capabilities} {t : List ℕ} {z : ℤ} → decimal_of t ≡ Some z → TypesWith settings s env h (unary operator.Decimal (literal (text t))) kind.decimal []
-    -- with the setting on, also of any string that is not written as a literal
-    of_any_decimal : {h g : Capabilities} {e : Expression} → IsTrue settings.any_decimal → is_literal e ≡ false → TypesWith settings s env h e kind.string g → TypesWith settings s env h (unary operator.Decimal e) kind.decimal []
-    -- comparisons of decimals: any Boolean
-    of_decimals : {h ga gb : Capabilities} {a b : Expression} {op : BinaryOperator} → is_decimal_comparison op ≡ true → TypesWith settings s env h a kind.decimal ga → TypesWith settings s env h b kind.decimal gb → TypesWith settings s env h (binary op a b) (kind.boolean Any) []
+    -- a constructor of an extension type, such as `decimal`: of one string literal that writes a value of the type
+    of_constructor : {h : Capabilities} {x : ExtensionType} {t : List ℕ} {v : Extension} → extension_of x t ≡ Some v → TypesWith settings s env h (unary (operator.Construct x) (literal (text t))) (kind.extension x) []
+    -- where the settings speak of it, also of any string that is not written as a literal
+    of_any_string : {h g : Capabilities} {x : ExtensionType} {e : Expression} → takes_any_string settings x ≡ true → is_literal e ≡ false → TypesWith settings s env h e kind.string g → TypesWith settings s env h (unary (operator.Construct x) e) (kind.extension x) []
+    -- a method of an extension type, such as `lessThan`: what its row gives, of operands of the types that its row takes
+    of_method : {h ga gb : Capabilities} {a b : Expression} {m : BinaryMethod} → TypesWith settings s env h a (kind.extension (row_of m).left) ga → TypesWith settings s env h b (kind.extension (row_of m).right) gb → TypesWith settings s env h (binary (binary_operator.Call m) a b) (type_of_scalar (row_of m).result) []
 
   -- The type of the members so far joins with that of each further one, from the left (Cedar documentation, strict
   -- validation: sets).

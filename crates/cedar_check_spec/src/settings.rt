@@ -1,6 +1,9 @@
 //! The choices that a service may take beyond strict validation.
 ghost use Rattle.std.specs.Prelude.{◌≡◌};
 ghost use Rattle.cedar_check_spec.specs.Settings.{default_settings};
+ghost use Rattle.cedar_check_spec.specs.Typing.{takes_any_string};
+
+use cedar_ext::ExtensionType;
 
 /// Which choices beyond strict validation are taken (own). The default takes none, which is strict
 /// validation as Cedar documents it.
@@ -9,6 +12,18 @@ pub struct Settings {
     /// Whether `decimal` accepts any string, for example an attribute, and not only a literal. A policy may then fail at run
     /// time with the error `decimal`, where the string is not a decimal.
     pub any_decimal: bool,
+}
+
+impl Settings {
+    /// Whether the constructor of a type takes any string, and not literals alone: where `any_decimal` is on, that of decimals
+    /// does.
+    pub fn takes_any_string(self, ty: ExtensionType) -> bool
+        ensures { result ≡ takes_any_string self ty }
+    {
+        match ty {
+            ExtensionType::Decimal => self.any_decimal,
+        }
+    }
 }
 
 impl Default for Settings {

@@ -4,6 +4,7 @@ use crate::shown::{add_beginning, add_quoted};
 use crate::words::Words;
 use base_places::Draft;
 use cedar_conform_values::{size_of, text_at, uid_of_object, written_uid};
+use cedar_ext::ExtensionType;
 use cedar_schema_types::{Type, TypeKind};
 use cedar_value::Name;
 use serde_json::Value as Json;
@@ -20,7 +21,7 @@ fn add_members(out: &mut Draft, member: &Type) {
         TypeKind::Boolean(_) => out.add("Booleans"),
         TypeKind::Long => out.add("Longs"),
         TypeKind::String => out.add("Strings"),
-        TypeKind::Decimal => out.add("decimals"),
+        TypeKind::Extension(extension) => out.add(extension.many()),
         TypeKind::Record(_) => out.add("records"),
         TypeKind::Set(_) => out.add("sets"),
         TypeKind::Entity(name) => {
@@ -36,7 +37,7 @@ fn add_wanted(out: &mut Draft, ty: &Type) {
         TypeKind::Boolean(_) => out.add("a Boolean"),
         TypeKind::Long => out.add("a Long"),
         TypeKind::String => out.add("a String"),
-        TypeKind::Decimal => out.add("a decimal"),
+        TypeKind::Extension(extension) => out.add(extension.one()),
         TypeKind::Record(_) => out.add("a record"),
         TypeKind::Set(member) => {
             out.add("a set of ");
@@ -60,8 +61,8 @@ fn add_no_long(out: &mut Draft, json: &Json) {
     }
 }
 
-// The string that a JSON writes where a decimal is wanted: its own, or the argument of a call of `decimal`.
-fn decimal_text(json: &Json) -> Option<&str> {
+// The string that a JSON writes where a value of an extension type is wanted: its own, or the argument of a call of the constructor.
+fn extension_text(ty: ExtensionType, json: &Json) -> Option<&str> {
     if let Json::String(text) = json {
         return Some(text.as_str());
     }
@@ -70,14 +71,14 @@ fn decimal_text(json: &Json) -> Option<&str> {
         None => json,
     };
     match text_at(call, "fn") {
-        Some(name) if name == "decimal" && size_of(call) == 2 => text_at(call, "arg"),
+        Some(name) if name == ty.constructor() && size_of(call) == 2 => text_at(call, "arg"),
         _ => None,
     }
 }
 
-// Adds what a JSON is instead of a decimal.
-fn add_no_decimal(out: &mut Draft, json: &Json) {
-    match decimal_text(json) {
+// Adds what a JSON is instead of a value of an extension type.
+fn add_no_extension(out: &mut Draft, ty: ExtensionType, json: &Json) {
+    match extension_text(ty, json) {
         Some(text) => {
             out.add("the string ");
             add_beginning(out, text);
@@ -111,7 +112,7 @@ pub(crate) fn say_value(
     match ty.kind() {
         TypeKind::Entity(_) => return add_no_entity(alloc, says, json),
         TypeKind::Long => add_no_long(says, json),
-        TypeKind::Decimal => add_no_decimal(says, json),
+        TypeKind::Extension(extension) => add_no_extension(says, *extension, json),
         _ => add_found(says, json),
     }
     Ok(())
@@ -157,10 +158,10 @@ fn fixed_hint(ty: &Type, json: &Json) -> Option<&'static str> {
         (_, Json::Null) => Some(
             "Cedar has no null: leave out an optional attribute that has no value",
         ),
-        (TypeKind::Decimal, Json::Number(_)) => Some(
+        (TypeKind::Extension(ExtensionType::Decimal), Json::Number(_)) => Some(
             "write a string of digits, a point and one to four digits, for example \"9.5\"",
         ),
-        (TypeKind::Decimal, _) => Some(
+        (TypeKind::Extension(ExtensionType::Decimal), _) => Some(
             "write digits, a point and one to four digits, for example \"9.5\"",
         ),
         (TypeKind::Set(_), _) => Some("write a set as a list"),

@@ -6,9 +6,12 @@ use Rattle.std.specs.Str.{bytes_eq}
 use Rattle.std.proofs.lemmas.Slice.Eq.{bytes_eq-Decides}
 use Rattle.serde_json.specs.Data.{Num, Data, Items, no_items, item, Members}
 use Rattle.serde_json.specs.Find.{get, as_bool, as_number, as_str, as_array, as_object, as_i64}
-use Rattle.cedar_ext.specs.DecimalOf.{decimal_of}
+use Rattle.cedar_ext.specs.declared.extension.Extension.{Extension}
+use Rattle.cedar_ext.specs.declared.extension.ExtensionType.{ExtensionType}
+use Rattle.cedar_ext.specs.Extensions.{extension_of}
+use Rattle.cedar_ext.specs.Private.ExtensionLemmas.{extension_of-typed}
 use Rattle.cedar_value.specs.Ascending.{insert_in}
-use Rattle.cedar_value.specs.Datum.{Datum, long, decimal, members_of, list_of, fields_of, pairs_of}
+use Rattle.cedar_value.specs.Datum.{Datum, long, extension, members_of, list_of, fields_of, pairs_of}
 use Rattle.cedar_value.specs.Order.{datum_cmp}
 use Rattle.cedar_value.specs.Records.{value_at}
 use Rattle.cedar_value.specs.Sets.{set_from}
@@ -21,9 +24,9 @@ use Rattle.cedar_conform_values.specs.declared.conform_fault.ConformFault.{Confo
 use Rattle.cedar_conform_values.specs.declared.conform_fault.ConformFault.TheVariants.{WrongType, MissingAttribute, NumberRange}
 use Rattle.cedar_conform_values.specs.Belonging.{ReadValuesBelong}
 use Rattle.cedar_conform_values.specs.Faults.{fault_if}
-use Rattle.cedar_schema_types.specs.Membership.{Member, At, MayStand, Choose, IsBoolean, HasTruth, IsLong, IsText, IsEntity, IsDecimal, IsSetOf, IsRecord}
+use Rattle.cedar_schema_types.specs.Membership.{Member, At, MayStand, Choose, IsBoolean, HasTruth, IsLong, IsText, IsEntity, HasExtensionType, IsSetOf, IsRecord}
 use Rattle.cedar_conform_values.specs.Uids.{uid_object}
-use Rattle.cedar_conform_values.specs.Values.{Read, fine, needed, truth_read, long_read, text_read, entity_read, decimal_text, all_read, set_read, FieldsRead, field_read, before, extra_faults, record_read, value_read, fields_read}
+use Rattle.cedar_conform_values.specs.Values.{Read, fine, needed, truth_read, long_read, text_read, entity_read, extension_text, extension_read, all_read, set_read, FieldsRead, field_read, before, extra_faults, record_read, value_read, fields_read}
 
 pub no_first : {A : Type 0} (xs ys : List A) → xs ++ ys ≡ [] → xs ≡ []
 no_first [] ys h = refl
@@ -67,9 +70,13 @@ entity_belongs : (n : List ℕ) (o : Option Uid) → (entity_read n o).faults �
 entity_belongs n None h = cc
 entity_belongs n (Some u) h = (bytes_eq-Decides u.ty n).0 (true_from (bytes_eq u.ty n) (no_fault _ WrongType h))
 
-units_belong : (o : Option ℤ) → (needed WrongType (λ z. fine (decimal z)) o).faults ≡ [] → IsDecimal (needed WrongType (λ z. fine (decimal z)) o).value
-units_belong None h = cc
-units_belong (Some z) h = tt
+read_belongs : (t : ExtensionType) (s : List ℕ) (o : Option Extension) → extension_of t s ≡ o → (needed WrongType (λ e. fine (extension e)) o).faults ≡ [] → HasExtensionType t (needed WrongType (λ e. fine (extension e)) o).value
+read_belongs t s None q h = cc
+read_belongs t s (Some e) q h = extension_of-typed t s e q
+
+extension_belongs : (t : ExtensionType) (o : Option (List ℕ)) → (extension_read t o).faults ≡ [] → HasExtensionType t (extension_read t o).value
+extension_belongs t None h = cc
+extension_belongs t (Some s) h = read_belongs t s (extension_of t s) refl h
 
 -- ---- sets
 
@@ -144,7 +151,7 @@ mutual
   value_belongs (kind.entity n) d h = entity_belongs n (uid_object d) h
   value_belongs (kind.set t) d h = set_belongs (Member t) (value_read t) (value_belongs t) (as_array d) h
   value_belongs (kind.record_of a) d h = record_belongs (At a) (names_of a) (fields_read a d) (fields_belong a d) (as_object d) h
-  value_belongs kind.decimal d h = units_belong (option_and_then decimal_of (decimal_text d)) h
+  value_belongs (kind.extension t) d h = extension_belongs t (extension_text t d) h
 
   fields_belong : (a : Attributes) (d : Data) → (fields_read a d).faults ≡ [] → (k : List ℕ) → At a k (value_at k (fields_read a d).pairs)
   fields_belong no_attributes d h k = tt

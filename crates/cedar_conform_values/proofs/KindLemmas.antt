@@ -8,7 +8,8 @@ use Rattle.serde_json.specs.declared.value.Value.{Value}
 use Rattle.cedar_value.specs.Datum.{Datum}
 use Rattle.cedar_schema_types.specs.declared.truth.Truth.{Truth}
 use Rattle.cedar_schema_types.specs.declared.types.TypeKind.{TypeKind}
-use Rattle.cedar_schema_types.specs.declared.types.TypeKind.TheVariants.{Boolean, Long, String, Entity, Set, Record, Decimal}
+use Rattle.cedar_ext.specs.declared.extension.ExtensionType.{ExtensionType}
+use Rattle.cedar_schema_types.specs.declared.types.TypeKind.TheVariants.{Boolean, Long, String, Entity, Set, Record, Extension}
 use Rattle.cedar_schema_types.specs.TypeKind.{type_of}
 use Rattle.cedar_schema_types.specs.Types.{TypeTree}
 use Rattle.cedar_schema_types.specs.Types as kind
@@ -17,7 +18,7 @@ use Rattle.cedar_conform_values.specs.declared.conform_fault.ConformFault.TheVar
 use Rattle.cedar_conform_values.specs.Faults.{Told}
 use Rattle.cedar_conform_values.specs.Reads.{Reads}
 use Rattle.cedar_conform_values.specs.Uids.{uid_object}
-use Rattle.cedar_conform_values.specs.Values.{Read, truth_read, long_read, text_read, entity_read, decimal_text, decimal_read, ValuesRead, all_read, set_read, value_read}
+use Rattle.cedar_conform_values.specs.Values.{Read, truth_read, long_read, text_read, entity_read, extension_text, extension_read, ValuesRead, all_read, set_read, value_read}
 
 pub told_first : (kf fs : List ConformFault) (e : ConformFault) → Told kf e → Told (kf ++ fs) e
 told_first kf fs e h n = Contains-append_left kf fs e (h n)
@@ -48,12 +49,12 @@ module _ (result : Result Datum ConformFault) (t : TypeTree) (d : Data) where
   unfolding value_read
   reads_set u e h = subst (λ x. Reads result (value_read x d)) e h
 
-  pub reads_decimal : kind.decimal ≡ t → Reads result (decimal_read (decimal_text d)) → Reads result (value_read t d)
+  pub reads_extension : (x : ExtensionType) → kind.extension x ≡ t → Reads result (extension_read x (extension_text x d)) → Reads result (value_read t d)
   unfolding value_read
-  reads_decimal e h = subst (λ x. Reads result (value_read x d)) e h
+  reads_extension x e h = subst (λ y. Reads result (value_read y d)) e h
 
--- a string is a value of strings and decimals alone
-pub text_of_another : (k : TypeKind) (s : List ℕ) → (k ≡ String → ⊥) → (k ≡ Decimal → ⊥) → (value_read (type_of k) (string s)).faults ≡ WrongType ∷ []
+-- a string is a value of strings and of extension types alone
+pub text_of_another : (k : TypeKind) (s : List ℕ) → (k ≡ String → ⊥) → ((x : ExtensionType) → k ≡ Extension x → ⊥) → (value_read (type_of k) (string s)).faults ≡ WrongType ∷ []
 unfolding value_read
 text_of_another (Boolean f) s a b = refl
 text_of_another Long s a b = refl
@@ -61,9 +62,9 @@ text_of_another String s a b = absurd (a refl)
 text_of_another (Entity n) s a b = refl
 text_of_another (Set t) s a b = refl
 text_of_another (Record r) s a b = refl
-text_of_another Decimal s a b = absurd (b refl)
+text_of_another (Extension x) s a b = absurd (b x refl)
 
-pub text_refused : (t : TypeTree) (k : TypeKind) (s : List ℕ) → type_of k ≡ t → (k ≡ String → ⊥) → (k ≡ Decimal → ⊥) → Told (value_read t (string s)).faults WrongType
+pub text_refused : (t : TypeTree) (k : TypeKind) (s : List ℕ) → type_of k ≡ t → (k ≡ String → ⊥) → ((x : ExtensionType) → k ≡ Extension x → ⊥) → Told (value_read t (string s)).faults WrongType
 text_refused t k s e a b =
     subst (λ fs. Told fs WrongType) (sym (text_of_another k s a b) ∙ ap (λ x. (value_read x (string s)).faults) e) (λ n. (0, lit< tt, refl))
 

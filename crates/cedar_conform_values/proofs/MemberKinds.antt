@@ -4,7 +4,9 @@ use Rattle.cedar_value.specs.Datum.{Datum}
 use Rattle.cedar_value.specs.ValueKind.{datum_of}
 use Rattle.cedar_value.specs.declared.uid.Uid.{Uid as EntityUid}
 use Rattle.cedar_value.specs.declared.value.ValueKind.{ValueKind}
-use Rattle.cedar_value.specs.declared.value.ValueKind.TheVariants.{Boolean, Long, String, Uid, Set, Record, Decimal}
+use Rattle.cedar_ext.specs.declared.extension.Extension.{Extension as ExtensionValue}
+use Rattle.cedar_ext.specs.declared.extension.ExtensionType.{ExtensionType}
+use Rattle.cedar_value.specs.declared.value.ValueKind.TheVariants.{Boolean, Long, String, Uid, Set, Record, Extension}
 use Rattle.cedar_schema_types.specs.declared.truth.Truth.{Truth}
 use Rattle.cedar_schema_types.specs.Types.{TypeTree, Attributes}
 use Rattle.cedar_schema_types.specs.Types as kind
@@ -49,10 +51,10 @@ unfolding is_member
 other_record a (Record y) h = absurd (h y refl)
 other_record a _ h = refl
 
-pub other_decimal : (l : ValueKind) → ((y : ℤ) → l ≡ Decimal y → ⊥) → IsOther kind.decimal l
+pub other_extension : (t : ExtensionType) (l : ValueKind) → ((y : ExtensionValue) → l ≡ Extension y → ⊥) → IsOther (kind.extension t) l
 unfolding is_member
-other_decimal (Decimal y) h = absurd (h y refl)
-other_decimal _ h = refl
+other_extension t (Extension y) h = absurd (h y refl)
+other_extension t _ h = refl
 
 -- ---- the walk over attributes and pairs
 

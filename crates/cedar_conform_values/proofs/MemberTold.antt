@@ -9,7 +9,9 @@ use Rattle.std.specs.declared.cmp.Ordering.{Ordering}
 use Rattle.std.specs.declared.cmp.Ordering.TheVariants.{Less, Equal, Greater}
 use Rattle.std.proofs.lemmas.Cmp.{nat_list_cmp_total}
 use Rattle.std.proofs.lemmas.Slice.Eq.{bytes_eq-Decides}
-use Rattle.cedar_value.specs.Datum.{Datum, boolean, long, text, uid, set, record_of, decimal, Members, no_members, member, list_of, Fields, no_fields, field, pairs_of, fields_of}
+use Rattle.cedar_ext.specs.Extensions.{type_of}
+use Rattle.cedar_ext.specs.Private.ExtensionLemmas.{same_type-Decides}
+use Rattle.cedar_value.specs.Datum.{Datum, boolean, long, text, uid, set, record_of, extension, Members, no_members, member, list_of, Fields, no_fields, field, pairs_of, fields_of}
 use Rattle.cedar_value.specs.Order.{AreKeysAscending, text_cmp}
 use Rattle.cedar_value.specs.Private.Laws.{text_ties}
 use Rattle.cedar_value.specs.Private.Same.{text_same}
@@ -216,8 +218,8 @@ mutual
   member_told (kind.set t) _ up is = (λ e. cc, λ h. absurd h)
   member_told (kind.record_of a) (record_of fs) up is = let names = up_names a up in are_told a (pairs_of fs) names.0 names.1 is.0 (held fs is.1)
   member_told (kind.record_of a) _ up is = (λ e. cc, λ h. absurd h)
-  member_told kind.decimal (decimal n) up is = (λ e. tt, λ h. refl)
-  member_told kind.decimal _ up is = (λ e. cc, λ h. absurd h)
+  member_told (kind.extension t) (extension e) up is = same_type-Decides (type_of e) t
+  member_told (kind.extension t) _ up is = (λ e. cc, λ h. absurd h)
 
   are_told : (a : Attributes) (ps : List Pair) → Up (names_of a) → AllAscend a → Up (map (λ (p : Pair). p.0) ps) → AllByRecursion (λ (p : Pair). IsValue p.1) ps → Decides (are_fields a ps) (Fit a ps)
   are_told no_attributes ps names all up are = none_told ps

@@ -1,6 +1,6 @@
 -- How high a type is: the measure of the readers, which go down the type.
 use Rattle.std.proofs.Common.{◌≡◌, ◌≤◌, ◌+◌, ℕ, suc, max, List, ◌∷◌, ap, arith}
-use Rattle.cedar_schema_types.specs.Types.{TypeTree, boolean, long, string, entity, set, record_of, decimal, Attributes, no_attributes, attribute}
+use Rattle.cedar_schema_types.specs.Types.{TypeTree, boolean, long, string, entity, set, record_of, extension, Attributes, no_attributes, attribute}
 use Rattle.cedar_schema_types.specs.TypeKind.{attributes_of}
 use Rattle.cedar_schema_types.specs.declared.attribute.Attribute.{Attribute}
 
@@ -12,7 +12,7 @@ abbrev mutual
   height (entity n) = 0
   height (set t) = suc (height t)
   height (record_of a) = suc (attributes_height a)
-  height decimal = 0
+  height (extension t) = 0
 
   pub attributes_height : Attributes → ℕ
   attributes_height no_attributes = 0

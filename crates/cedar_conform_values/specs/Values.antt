@@ -6,8 +6,9 @@ use Rattle.std.specs.Option.{option_or}
 use Rattle.std.specs.Str.{bytes_eq}
 use Rattle.serde_json.specs.Data.{Num, Data, Items, no_items, item, Members, no_members, member}
 use Rattle.serde_json.specs.Find.{get, as_bool, as_number, as_str, as_array, as_object, as_i64}
-use Rattle.cedar_ext.specs.DecimalOf.{decimal_of}
-use Rattle.cedar_value.specs.Datum.{Datum, boolean, long, text, uid, set, record_of, decimal, members_of, fields_of}
+use Rattle.cedar_ext.specs.declared.extension.ExtensionType.{ExtensionType}
+use Rattle.cedar_ext.specs.Extensions.{constructor_name, extension_of}
+use Rattle.cedar_value.specs.Datum.{Datum, boolean, long, text, uid, set, record_of, extension, members_of, fields_of}
 use Rattle.cedar_value.specs.Sets.{set_from}
 use Rattle.cedar_value.specs.declared.uid.Uid.{Uid}
 use Rattle.cedar_schema_types.specs.declared.truth.Truth.{Truth}
@@ -65,23 +66,23 @@ text_read o = needed WrongType (λ s. fine (text s)) o
 abbrev pub entity_read : List ℕ → Option Uid → Read
 entity_read n o = needed WrongType (λ (u : Uid). record { value = uid u; faults = fault_if (not (bytes_eq u.ty n)) WrongType }) o
 
--- Whether the string names the function `decimal` (Cedar documentation, entities and context in JSON: Extension).
-abbrev pub is_decimal_call : Option (List ℕ) → Bool
-is_decimal_call o = unwrap_or (option_map (λ s. bytes_eq s (codes "decimal")) o) false
+-- Whether the string names the constructor of the type (Cedar documentation, entities and context in JSON: Extension).
+abbrev pub is_constructor_of : ExtensionType → Option (List ℕ) → Bool
+is_constructor_of t o = unwrap_or (option_map (λ s. bytes_eq s (constructor_name t)) o) false
 
--- The string of an object of exactly `fn`, which is `decimal`, and `arg`, a string (Cedar documentation, entities and context
--- in JSON: Extension).
-abbrev pub call_text : Data → Option (List ℕ)
-call_text d = if size_of d == 2 && is_decimal_call (text_at (codes "fn") d) then text_at (codes "arg") d else None
+-- The string of an object of exactly `fn`, which names the constructor of the type, and `arg`, a string (Cedar documentation,
+-- entities and context in JSON: Extension).
+abbrev pub call_text : ExtensionType → Data → Option (List ℕ)
+call_text t d = if size_of d == 2 && is_constructor_of t (text_at (codes "fn") d) then text_at (codes "arg") d else None
 
--- The string of a decimal, written as a string, as a call, or as one that is alone at `__extn` (Cedar documentation, entities
+-- The string of a value of the type, written as a string, as a call, or as one that is alone at `__extn` (Cedar documentation, entities
 -- and context in JSON: Extension).
-abbrev pub decimal_text : Data → Option (List ℕ)
-decimal_text d = option_or (as_str d) (call_text (inside (codes "__extn") d))
+abbrev pub extension_text : ExtensionType → Data → Option (List ℕ)
+extension_text t d = option_or (as_str d) (call_text t (inside (codes "__extn") d))
 
--- A decimal is a string that writes one, else the fault is 504 (Cedar language reference, decimal).
-abbrev pub decimal_read : Option (List ℕ) → Read
-decimal_read o = needed WrongType (λ z. fine (decimal z)) (option_and_then decimal_of o)
+-- A value of an extension type is a string that writes one, else the fault is 504 (Cedar language reference, functions).
+abbrev pub extension_read : ExtensionType → Option (List ℕ) → Read
+extension_read t o = needed WrongType (λ e. fine (extension e)) (option_and_then (extension_of t) o)
 
 -- ---- sets
 
@@ -143,7 +144,7 @@ unfoldable mutual
   value_read (kind.entity n) d = entity_read n (uid_object d)
   value_read (kind.set t) d = set_read (value_read t) (as_array d)
   value_read (kind.record_of a) d = record_read (names_of a) (fields_read a d) (as_object d)
-  value_read kind.decimal d = decimal_read (decimal_text d)
+  value_read (kind.extension t) d = extension_read t (extension_text t d)
 
   -- Attribute by attribute, what the object has at its key (Cedar documentation, entities and context in JSON: Record).
   pub fields_read : Attributes → Data → FieldsRead

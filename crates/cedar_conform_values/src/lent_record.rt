@@ -11,7 +11,7 @@ ghost use Rattle.cedar_conform_values.specs.Reads.{Adds, Reads, ReadsRecord};
 ghost use Rattle.cedar_conform_values.specs.Values.{extra_faults, field_read, fields_read, is_declared, value_read};
 
 use crate::conform_fault::ConformFault;
-use crate::scalar::{decimal_value, text_value};
+use crate::scalar::{extension_value, text_value};
 use crate::value::{is_declared, push_pair, read_record, read_value};
 use base_json::{LentMember, LentObject, LentPart};
 use cedar_schema_types::{Attribute, RecordType, Type, TypeKind};
@@ -177,7 +177,7 @@ fn read_lent_text(alloc: Global, text: &str, ty: &Type) -> Result<Value, Conform
 {
     match ty.kind() {
         TypeKind::String => text_value(alloc, text),
-        TypeKind::Decimal => decimal_value(text),
+        TypeKind::Extension(extension) => extension_value(*extension, text),
         _ => Err(ConformFault::WrongType),
     }
 }

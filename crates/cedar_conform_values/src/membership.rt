@@ -46,7 +46,7 @@ fn belongs(ty: &Type, value: &Value) -> bool
         (TypeKind::Record(attributes), ValueKind::Record(record)) => {
             are_fields(attributes.attributes(), record.pairs())
         }
-        (TypeKind::Decimal, ValueKind::Decimal(_)) => true,
+        (TypeKind::Extension(ty), ValueKind::Extension(value)) => value.ty().same(*ty),
         _ => false,
     }
 }

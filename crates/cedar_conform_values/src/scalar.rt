@@ -4,12 +4,12 @@ ghost use Rattle.serde_json.specs.Find.{as_bool, as_number, as_str};
 ghost use Rattle.serde_json.specs.View.{view};
 ghost use Rattle.cedar_conform_values.specs.Reads.{Reads};
 ghost use Rattle.cedar_conform_values.specs.Uids.{uid_object};
-ghost use Rattle.cedar_conform_values.specs.Values.{call_text, decimal_read, decimal_text, entity_read, long_read, text_read, truth_read};
+ghost use Rattle.cedar_conform_values.specs.Values.{call_text, entity_read, extension_read, extension_text, long_read, text_read, truth_read};
 
 use crate::conform_fault::ConformFault;
 use crate::object::{inside, size_of, text_at};
 use crate::uid::uid_object;
-use cedar_ext::Decimal;
+use cedar_ext::ExtensionType;
 use cedar_schema_types::Truth;
 use cedar_value::{Name, Text, Uid, Value};
 use serde_json::Value as Json;
@@ -87,47 +87,47 @@ fn uid_of(alloc: Global, name: &Name, id: &str) -> Result<Uid, AllocError>
     })
 }
 
-/// A decimal.
+/// A value of an extension type.
 #[inline(never)]
-pub(crate) fn read_decimal(json: &Json) -> Result<Value, ConformFault>
-    ensures { Reads result (decimal_read (decimal_text (view json.now))) }
+pub(crate) fn read_extension(ty: ExtensionType, json: &Json) -> Result<Value, ConformFault>
+    ensures { Reads result (extension_read ty (extension_text ty (view json.now))) }
 {
-    match decimal_text(json) {
-        Some(text) => decimal_value(text),
+    match extension_text(ty, json) {
+        Some(text) => extension_value(ty, text),
         None => Err(ConformFault::WrongType),
     }
 }
 
-/// The decimal that a string writes.
+/// The value of an extension type that a string writes.
 #[inline(always)]
-pub(crate) fn decimal_value(text: &str) -> Result<Value, ConformFault>
-    ensures { Reads result (decimal_read (Some text.now)) }
+pub(crate) fn extension_value(ty: ExtensionType, text: &str) -> Result<Value, ConformFault>
+    ensures { Reads result (extension_read ty (Some text.now)) }
 {
-    match Decimal::read(text) {
-        Some(decimal) => Ok(Value::decimal(decimal)),
+    match ty.read(text) {
+        Some(value) => Ok(Value::extension(value)),
         None => Err(ConformFault::WrongType),
     }
 }
 
-// The string of a decimal: the JSON itself, or the argument of a call.
-fn decimal_text(json: &Json) -> Option<&str>
-    ensures { option_map (λ s. s.now) result ≡ decimal_text (view json.now) }
+// The string of a value of an extension type: the JSON itself, or the argument of a call.
+fn extension_text(ty: ExtensionType, json: &Json) -> Option<&str>
+    ensures { option_map (λ s. s.now) result ≡ extension_text ty (view json.now) }
 {
     match json.as_str() {
         Some(text) => Some(text),
-        None => call_text(inside(json, "__extn")),
+        None => call_text(ty, inside(json, "__extn")),
     }
 }
 
-fn call_text(json: &Json) -> Option<&str>
-    ensures { option_map (λ s. s.now) result ≡ call_text (view json.now) }
+fn call_text(ty: ExtensionType, json: &Json) -> Option<&str>
+    ensures { option_map (λ s. s.now) result ≡ call_text ty (view json.now) }
 {
     if size_of(json) != 2 {
         return None;
     }
     match text_at(json, "fn") {
         Some(name) => {
-            if name == "decimal" {
+            if name == ty.constructor() {
                 text_at(json, "arg")
             } else {
                 None

@@ -10,7 +10,7 @@ ghost use Rattle.cedar_conform_values.specs.Values.{all_read, is_declared, extra
 
 use crate::conform_fault::ConformFault;
 use crate::object::size_of;
-use crate::scalar::{read_decimal, read_entity, read_long, read_text, read_truth};
+use crate::scalar::{read_entity, read_extension, read_long, read_text, read_truth};
 use cedar_schema_types::{Attribute, RecordType, Type, TypeKind};
 use cedar_value::{Record, SharedText, Value, ValueSet};
 use serde_json::{Map, Value as Json};
@@ -34,7 +34,7 @@ pub fn read_value(alloc: Global, json: &Json, ty: &Type) -> Result<Value, Confor
         TypeKind::Entity(name) => read_entity(alloc, name, json),
         TypeKind::Set(member) => read_set(alloc, member, json),
         TypeKind::Record(attributes) => read_nested(alloc, attributes, json),
-        TypeKind::Decimal => read_decimal(json),
+        TypeKind::Extension(extension) => read_extension(*extension, json),
     }
 }
 

@@ -1,4 +1,4 @@
-//! Decimals and patterns of the Cedar policy language.
+//! Extension types and patterns of the Cedar policy language.
 //!
 //! ```rust
 //! use cedar_ext::{Decimal, Element, Pattern};
@@ -13,10 +13,18 @@
 //! pattern takes memory.
 #![tactic(auto)]
 
+mod constructor;
 mod decimal;
+mod extension;
 mod laws;
+mod method;
 mod pattern;
+mod scalar;
+mod words;
 
 pub use decimal::Decimal;
+pub use extension::{Extension, ExtensionType};
 pub use laws::{decimal_of_tells_decimals, is_match_tells_cuts};
+pub use method::{BinaryMethod, Row, rows_are_typed};
 pub use pattern::{Element, Pattern};
+pub use scalar::{Scalar, ScalarType};

@@ -1,6 +1,7 @@
 //! The part of a condition for which a policy has a fault, and where it is written.
 use crate::diagnostic_draft::DiagnosticDraft;
 use crate::own_statement::OwnStatement;
+use crate::quoted::{advise_quote, is_turned};
 use base_places::Place;
 use cedar_ast::{Link, Policy, PolicySet};
 use cedar_check::Fault;
@@ -50,7 +51,7 @@ impl<'c> Checked<'c> {
         None
     }
 
-    /// The parts `x has a` of a policy that are always false, of which at most so many are explained.
+    /// The tests of a policy that are always false, of which at most so many are explained.
     pub(crate) fn guards(
         self,
         alloc: Global,
@@ -63,14 +64,18 @@ impl<'c> Checked<'c> {
         found
     }
 
-    /// The first part `x has a` of the policy of an id that is always false.
+    /// The first test of the policy of an id that is always false.
     pub(crate) fn first_guard(
         self,
         alloc: Global,
         id: &Text,
     ) -> Result<Option<ExplainedPart>, AllocError> {
-        match self.policy(id) {
-            Some(policy) => Ok(self.guards(alloc, policy, 1)?.parts.pop()),
+        let Some(policy) = self.policy(id) else {
+            return Ok(None);
+        };
+        let mut found = self.guards(alloc, policy, 1)?;
+        match found.parts.pop() {
+            Some(guard) => Ok(Some(guard.part)),
             None => Ok(None),
         }
     }
@@ -136,7 +141,12 @@ fn mark_part(
         place.name.end
     };
     diagnostic.place = Some(Place::of(text.as_bytes(), start));
-    diagnostic.mark(start, end, part.says.as_str());
+    match &part.says_turned {
+        Some(says) if is_turned(statement.written(place.name)) => {
+            diagnostic.mark(start, end, says.as_str());
+        }
+        _ => diagnostic.mark(start, end, part.says.as_str()),
+    }
     for operand in &part.operands {
         if let Some(place) = statement.part(alloc, &operand.path)? {
             diagnostic.mark(place.whole.start, place.whole.end, operand.says.as_str());
@@ -181,11 +191,20 @@ pub(crate) fn add_place(
 }
 
 /// Adds what else is said of the part, and what to do about it.
-pub(crate) fn add_words(diagnostic: &mut DiagnosticDraft, part: &ExplainedPart) {
+pub(crate) fn add_words(
+    alloc: Global,
+    diagnostic: &mut DiagnosticDraft,
+    statement: OwnStatement<'_>,
+    part: &ExplainedPart,
+) -> Result<(), AllocError> {
     for note in &part.notes {
         diagnostic.note(&[note.as_str()]);
     }
     if let Some(hint) = &part.hint {
         diagnostic.advise(hint.as_str());
+    }
+    match &part.quote {
+        Some(quote) => advise_quote(alloc, diagnostic, statement, quote),
+        None => Ok(()),
     }
 }

@@ -116,7 +116,7 @@ fn push_report<'s>(
     for policy in &report.warnings {
         push_warning(alloc, explanation, statements, checked, policy)?;
     }
-    push_guards(alloc, explanation, statements, checked, &report.warnings)
+    push_guards(alloc, explanation, statements, checked, report)
 }
 
 // Whether one more is explained; if not, it is counted.
@@ -155,7 +155,7 @@ fn push_warning(
     }
     note_impossible(&mut diagnostic, statement, policy);
     match &guard {
-        Some(guard) => add_words(&mut diagnostic, guard),
+        Some(guard) => add_words(alloc, &mut diagnostic, statement, guard)?,
         None => diagnostic.advise("compare its scope with `appliesTo` in the schema"),
     }
     explanation.diagnostics.push(diagnostic.done()?)?;
@@ -213,7 +213,7 @@ fn diagnostic_of<'s>(
     name_first(alloc, &mut diagnostic, group.first);
     statement.note_link(&mut diagnostic);
     match &part {
-        Some(part) => add_words(&mut diagnostic, part),
+        Some(part) => add_words(alloc, &mut diagnostic, statement, part)?,
         None => diagnostic.advise(hint),
     }
     diagnostic.done()

@@ -42,6 +42,7 @@ mod messages;
 mod own_statement;
 mod policy_text;
 mod policy_words;
+mod quoted;
 mod refused;
 mod schemas;
 mod second_place;

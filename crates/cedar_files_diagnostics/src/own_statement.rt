@@ -2,7 +2,7 @@
 use crate::diagnostic_draft::DiagnosticDraft;
 use crate::excerpt::first_of;
 use crate::fault_part::Checked;
-use cedar_parser_places::{PartPlace, StatementPlaces};
+use cedar_parser_places::{Extent, PartPlace, StatementPlaces};
 use std::alloc::{AllocError, Global};
 
 /// How many bytes of an id are shown at most.
@@ -41,6 +41,16 @@ impl<'s> OwnStatement<'s> {
     /// The text of all statements.
     pub(crate) fn text(self) -> &'s str {
         self.statements.text()
+    }
+
+    /// What is written at a place of it.
+    pub(crate) fn written(self, extent: Extent) -> &'s str {
+        self.text().get(extent.start..extent.end).unwrap_or("")
+    }
+
+    /// What is written after a place of it.
+    pub(crate) fn after(self, extent: Extent) -> &'s str {
+        self.text().get(extent.end..).unwrap_or("")
     }
 
     /// Where it begins, in bytes from 0, if the text has it.

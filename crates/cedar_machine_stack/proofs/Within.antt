@@ -1,7 +1,7 @@
 -- Being in a set of entities: being one of them, or below one of them.
 use Rattle.std.proofs.Common.{◌≡◌, Bool, true, false, ◌||◌, List, [], ◌∷◌, Ok, Err, refl, ap, ap₂, ◌∙◌}
 use Rattle.std.specs.List.{list_all, list_any}
-use Rattle.cedar_value.specs.Datum.{Datum, boolean, long, text, uid, set, record_of, decimal, same, members_of}
+use Rattle.cedar_value.specs.Datum.{Datum, boolean, long, text, uid, set, record_of, extension, same, members_of}
 use Rattle.cedar_value.specs.Private.Lists.{list_of-members_of}
 use Rattle.cedar_value.specs.Sets.{has_member}
 use Rattle.cedar_value.specs.World.{World, below_datum, below_any}
@@ -17,7 +17,7 @@ is_in-parts w u (text s) = refl
 is_in-parts w u (uid v) = refl
 is_in-parts w u (set ms) = refl
 is_in-parts w u (record_of fs) = refl
-is_in-parts w u (decimal z) = refl
+is_in-parts w u (extension e) = refl
 
 exchange : (a b c d : Bool) → ((a || b) || (c || d)) ≡ ((a || c) || (b || d))
 exchange true b c d = refl

@@ -5,12 +5,12 @@ ghost use Rattle.cedar_ext.specs.Matching.{is_match};
 ghost use Rattle.cedar_value.specs.Datum.{boolean, uid, set, members_of};
 ghost use Rattle.cedar_value.specs.Glance.{datum_seen};
 ghost use Rattle.cedar_value.specs.Sets.{has_member};
-ghost use Rattle.cedar_ast_expressions.specs.Operators.{unary_of, binary_of, not_of, negative_of, source, has_in, like_of, is_of, decimal_of_value, of_longs, of_decimals, of_set, of_sets, is_empty, long_or_overflow, in_of, is_uid};
+ghost use Rattle.cedar_ast_expressions.specs.Operators.{unary_of, binary_of, not_of, negative_of, source, has_in, like_of, is_of, constructed, called, of_longs, of_set, of_sets, is_empty, long_or_overflow, in_of, is_uid};
 ghost use Rattle.cedar_machine_stack.specs.Access.{IsNoAccess};
 
 use crate::operand::Operand;
 use cedar_ast_expressions::{BinaryOperator, EvaluationError, UnaryOperator};
-use cedar_ext::{Decimal, Pattern};
+use cedar_ext::{BinaryMethod, ExtensionType, Pattern, Scalar};
 use cedar_value::{Glance, Hierarchy, Name, Uid, Value, ValueKind, ValueSet};
 
 /// The answer of an operator for its operand (Cedar language reference, operators).
@@ -43,7 +43,7 @@ pub fn unary_but_get<H: Hierarchy>(
         UnaryOperator::Has(key) => has(hierarchy, key.as_str(), operand),
         UnaryOperator::Like(pattern) => like(pattern, operand),
         UnaryOperator::Is(ty) => is(ty, operand),
-        UnaryOperator::Decimal => decimal(operand),
+        UnaryOperator::Construct(ty) => construct(*ty, operand),
         UnaryOperator::IsEmpty => is_empty(operand),
     }
 }
@@ -109,13 +109,13 @@ fn is(ty: &Name, operand: Glance<'_>) -> Result<Operand<'static>, EvaluationErro
     }
 }
 
-// `decimal`
-fn decimal(operand: Glance<'_>) -> Result<Operand<'static>, EvaluationError>
-    ensures { result ≡ decimal_of_value (datum_seen operand.entry) }
+// The constructor of an extension type.
+fn construct(ty: ExtensionType, operand: Glance<'_>) -> Result<Operand<'static>, EvaluationError>
+    ensures { result ≡ constructed ty (datum_seen operand.entry) }
 {
     match operand {
-        Glance::String(text) => match Decimal::read(text.as_str()) {
-            Some(number) => Ok(Operand::decimal(number)),
+        Glance::String(text) => match ty.read(text.as_str()) {
+            Some(value) => Ok(Operand::extension(value)),
             None => Err(EvaluationError::Decimal),
         },
         _ => Err(EvaluationError::Type),
@@ -174,10 +174,7 @@ pub fn binary<H: Hierarchy>(
         BinaryOperator::Contains => contains(left, right),
         BinaryOperator::ContainsAll => contains_all(left, right),
         BinaryOperator::ContainsAny => contains_any(left, right),
-        BinaryOperator::DecimalLess => decimal_less(left, right),
-        BinaryOperator::DecimalLessEqual => decimal_less_equal(left, right),
-        BinaryOperator::DecimalGreater => decimal_less(right, left),
-        BinaryOperator::DecimalGreaterEqual => decimal_less_equal(right, left),
+        BinaryOperator::Call(method) => call(method, left, right),
     }
 }
 
@@ -240,25 +237,20 @@ fn multiply(left: Glance<'_>, right: Glance<'_>) -> Result<Operand<'static>, Eva
     }
 }
 
-// `lessThan`
-fn decimal_less(left: Glance<'_>, right: Glance<'_>) -> Result<Operand<'static>, EvaluationError>
-    ensures { result ≡ of_decimals int_lt (datum_seen left.entry) (datum_seen right.entry) }
-{
-    match (left, right) {
-        (Glance::Decimal(left), Glance::Decimal(right)) => Ok(Operand::boolean(left < right)),
-        _ => Err(EvaluationError::Type),
-    }
-}
-
-// `lessThanOrEqual`
-fn decimal_less_equal(
+// A method of an extension type.
+fn call(
+    method: BinaryMethod,
     left: Glance<'_>,
     right: Glance<'_>,
 ) -> Result<Operand<'static>, EvaluationError>
-    ensures { result ≡ of_decimals int_le (datum_seen left.entry) (datum_seen right.entry) }
+    ensures { result ≡ called method (datum_seen left.entry) (datum_seen right.entry) }
 {
     match (left, right) {
-        (Glance::Decimal(left), Glance::Decimal(right)) => Ok(Operand::boolean(left <= right)),
+        (Glance::Extension(left), Glance::Extension(right)) => match method.call(*left, *right) {
+            Some(Scalar::Boolean(truth)) => Ok(Operand::boolean(truth)),
+            Some(Scalar::Extension(value)) => Ok(Operand::extension(value)),
+            None => Err(EvaluationError::Type),
+        },
         _ => Err(EvaluationError::Type),
     }
 }

@@ -1,6 +1,6 @@
 -- As many expressions are made of arguments as there are arguments.
 use Rattle.std.proofs.Common.{◌≡◌, ℕ, suc, List, [], ◌∷◌, Option, Some, None, IsSome, length, refl, sym, ap, subst, ◌∙◌, option_map}
-use Rattle.cedar_ast_expressions.specs.declared.operator.UnaryOperator.{UnaryOperator}
+use Rattle.cedar_ext.specs.declared.extension.ExtensionType.{ExtensionType}
 use Rattle.cedar_ast_expressions.specs.Expression as e
 use Rattle.cedar_ast_expressions.specs.Expression.{Expression, Expressions, expressions_of}
 use Rattle.cedar_parser_tree.specs.Written.{Members, no_members, member}
@@ -33,7 +33,7 @@ pub method_arguments : (o : Option Method) (m : Method) (ms : Members) (xs : Lis
 method_arguments o m ms xs is h q = length_count xs ms q ∙ subst (λ (p : Option Method). HasArity Counts (option_map arity_of p) ms) is h
 
 -- a function has one argument
-pub function_argument : (o : Option UnaryOperator) (ms : Members) (xs : List Expression) → IsSome o → HasArity Counts (option_map (λ f. 1) o) ms → expressions_of xs ≡ to_expressions ms → length xs ≡ 1
+pub function_argument : (o : Option ExtensionType) (ms : Members) (xs : List Expression) → IsSome o → HasArity Counts (option_map (λ f. 1) o) ms → expressions_of xs ≡ to_expressions ms → length xs ≡ 1
 function_argument None ms xs known h q = absurd cc
 function_argument (Some op) ms xs known h q = length_count xs ms q ∙ h
 

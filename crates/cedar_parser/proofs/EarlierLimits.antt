@@ -2,7 +2,7 @@
 use Rattle.std.proofs.Common.{◌≡◌, ℕ, ◌≤◌, List, [], ◌∷◌, Option, IsSome, IsTrue, All, codes, refl, sym, subst, option_map}
 use Rattle.std.proofs.lemmas.List.Elements.{All-head, All-tail}
 use Rattle.std.specs.Str.{bytes_eq}
-use Rattle.cedar_ast_expressions.specs.declared.operator.UnaryOperator.{UnaryOperator}
+use Rattle.cedar_ext.specs.declared.extension.ExtensionType.{ExtensionType}
 use Rattle.cedar_ast_expressions.specs.declared.variable.Variable.{Variable}
 use Rattle.cedar_ast_expressions.specs.declared.variable.Variable.TheVariants.{Principal, Resource}
 use Rattle.cedar_ast.specs.Condition.{condition_of}
@@ -21,7 +21,8 @@ use Rattle.cedar_parser_statements.proofs.EarlierPaths.{AskForNoPath}
 use Rattle.cedar_parser_limits.specs.declared.functions.Method.{Method}
 use Rattle.cedar_parser_limits.specs.declared.side_condition.SideCondition.{SideCondition}
 use Rattle.cedar_parser_limits.specs.declared.side_condition.SideCondition.TheVariants.{Strings, Numbers, Keys, Names, Counts, Slots, Annotations}
-use Rattle.cedar_parser_limits.specs.Meaning.{function_of, method_of}
+use Rattle.cedar_ext.specs.Extensions.{constructor_named}
+use Rattle.cedar_parser_limits.specs.Meaning.{method_of}
 use Rattle.cedar_parser_limits.specs.Limits.{Stands, Fits, FitsNegative, IsKnown, count_of, arity_of, function_arity, method_arity, HasArity, HasDistinctKeys, HasNoSlot, Keeps, KeepLinks, KeepMembers, KeepFields, size_of, max_height, max_nodes}
 use Rattle.cedar_parser_limits.specs.StatementLimits.{IsOwn, KeepsReference, KeepsEntityScope, KeepUids, KeepsActionScope, HasDistinctNames, KeepAnnotations, KeepConditions, KeepsStatement, condition_size, IsWithinLimits}
 use Rattle.cedar_parser.specs.EarlierMeaning.{earlier_method_of}
@@ -37,7 +38,7 @@ record AsksOfCalls (c : SideCondition) : Type 0 where
   pub own : (x y : Variable) → IsOwn c x y
   pub keys : (fs : Fields) → HasDistinctKeys c fs
   pub annotations : (notes : List WrittenAnnotation) → HasDistinctNames c notes
-  pub function : (name : List ℕ) → IsTrue (bytes_eq name (codes "decimal")) → IsKnown c (function_of name)
+  pub function : (name : List ℕ) → IsTrue (bytes_eq name (codes "decimal")) → IsKnown c (constructor_named name)
   pub argument : (name : List ℕ) (ms : Members) → IsTrue (bytes_eq name (codes "decimal")) → count_of ms ≡ 1 → HasArity c (function_arity name) ms
   pub method_is : (name : List ℕ) → IsSome (earlier_method_of name) → IsKnown c (method_of name)
   pub method_argument : (name : List ℕ) (ms : Members) → IsSome (earlier_method_of name) → count_of ms ≡ 1 → HasArity c (method_arity name) ms
@@ -61,7 +62,7 @@ of_names = record {
   own = λ x y. tt;
   keys = λ fs. tt;
   annotations = λ notes. tt;
-  function = λ name h. subst (λ (o : Option UnaryOperator). IsSome o) (sym (earlier_function name h)) refl;
+  function = λ name h. subst (λ (o : Option ExtensionType). IsSome o) (sym (earlier_function name h)) refl;
   argument = λ name ms h q. tt;
   method_is = some_method;
   method_argument = λ name ms h q. tt;
@@ -77,7 +78,7 @@ of_counts = record {
   keys = λ fs. tt;
   annotations = λ notes. tt;
   function = λ name h. tt;
-  argument = λ name ms h q. subst (λ (o : Option UnaryOperator). HasArity Counts (option_map (λ op. 1) o) ms) (sym (earlier_function name h)) q;
+  argument = λ name ms h q. subst (λ (o : Option ExtensionType). HasArity Counts (option_map (λ op. 1) o) ms) (sym (earlier_function name h)) q;
   method_is = λ name h. tt;
   method_argument = one_of_method;
 }

@@ -4,7 +4,9 @@
 use Rattle.std.specs.Prelude.{ℕ, ◌+◌, false, pos, neg_ℤ, List, [], ◌∷◌, Option, Some, None, map, codes, if◌then◌else◌}
 use Rattle.std.specs.Str.{bytes_eq}
 use Rattle.cedar_value.specs.Datum as datum
-use Rattle.cedar_ast_expressions.specs.declared.operator.UnaryOperator.TheVariants.{Not, Negate, Has, Get, Like, Is, Decimal}
+use Rattle.cedar_ext.specs.declared.extension.ExtensionType.TheVariants as constructor
+use Rattle.cedar_ext.specs.declared.method.BinaryMethod.TheVariants as method_called
+use Rattle.cedar_ast_expressions.specs.declared.operator.UnaryOperator.TheVariants.{Not, Negate, Has, Get, Like, Is, Construct}
 use Rattle.cedar_ast_expressions.specs.declared.operator.BinaryOperator.{BinaryOperator}
 use Rattle.cedar_ast_expressions.specs.declared.operator.BinaryOperator.TheVariants as operator
 use Rattle.cedar_ast_expressions.specs.Expression as e
@@ -31,10 +33,10 @@ earlier_method_of name =
     if bytes_eq name (codes "contains") then Some operator.Contains
     else (if bytes_eq name (codes "containsAll") then Some operator.ContainsAll
     else (if bytes_eq name (codes "containsAny") then Some operator.ContainsAny
-    else (if bytes_eq name (codes "lessThan") then Some operator.DecimalLess
-    else (if bytes_eq name (codes "lessThanOrEqual") then Some operator.DecimalLessEqual
-    else (if bytes_eq name (codes "greaterThan") then Some operator.DecimalGreater
-    else (if bytes_eq name (codes "greaterThanOrEqual") then Some operator.DecimalGreaterEqual else None))))))
+    else (if bytes_eq name (codes "lessThan") then Some (operator.Call method_called.LessThan)
+    else (if bytes_eq name (codes "lessThanOrEqual") then Some (operator.Call method_called.LessThanOrEqual)
+    else (if bytes_eq name (codes "greaterThan") then Some (operator.Call method_called.GreaterThan)
+    else (if bytes_eq name (codes "greaterThanOrEqual") then Some (operator.Call method_called.GreaterThanOrEqual) else None))))))
 
 -- What two operands with a sign between them were (Cedar language reference, operators).
 abbrev pub earlier_linked : ChainSign → Expression → Expression → Expression
@@ -57,7 +59,7 @@ earlier_related relation_sign.In a b = e.binary operator.In a b
 -- What a call was: `decimal` of its one argument, the only function. A call with other arguments was refused (Cedar language
 -- reference, functions).
 abbrev pub earlier_call : Expressions → Expression
-earlier_call (e.and_then a e.no_more) = e.unary Decimal a
+earlier_call (e.and_then a e.no_more) = e.unary (Construct constructor.Decimal) a
 earlier_call _ = e.literal (datum.boolean false)
 
 -- What a method was: its operator on the operand before it and on its one argument; another method, or one with other

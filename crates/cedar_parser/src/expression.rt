@@ -8,7 +8,8 @@ ghost use Rattle.cedar_parser_limits.specs.declared.side_condition.SideCondition
 ghost use Rattle.cedar_parser_tree.specs.Written as tree;
 ghost use Rattle.cedar_parser_tree.specs.Written.{chain, members_of};
 ghost use Rattle.cedar_parser_tree.specs.WrittenKind.{links_of, fields_of};
-ghost use Rattle.cedar_parser_limits.specs.Meaning.{to_expression, to_expressions, to_entries, related, linked, called, applied, function_of, method_of};
+ghost use Rattle.cedar_parser_limits.specs.Meaning.{to_expression, to_expressions, to_entries, related, linked, called, applied, method_of};
+ghost use Rattle.cedar_ext.specs.Extensions.{constructor_named};
 ghost use Rattle.cedar_parser_limits.specs.declared.functions.Method.TheVariants.{IsEmpty, Binary};
 ghost use Rattle.cedar_parser_tokens.specs.Content.{text_of};
 ghost use Rattle.cedar_parser_limits.specs.Limits.{Keeps, KeepMembers, KeepFields, arity_of};
@@ -19,8 +20,10 @@ use crate::boxes::{
     and, binary, boolean, boxed, literal, long, negate, not, push, push_pair, set, unary, variable,
 };
 use crate::has::to_has;
-use cedar_ast_expressions::{BinaryOperator, Expr, ExprKind, RecordFault, UnaryOperator};
-use cedar_parser_limits::{Method, function_of, method_of};
+use cedar_ast_expressions::{
+    BinaryOperator, Expr, ExprKind, ExtensionType, RecordFault, UnaryOperator,
+};
+use cedar_parser_limits::{Method, method_of};
 use cedar_parser_tokens::{Content, WrittenUid};
 use cedar_parser_tree::{ChainSign, Field, Link, RelationSign, Written, WrittenKind};
 use cedar_value::{Name, SharedText, Value};
@@ -315,15 +318,15 @@ fn binary_method_call(
 // A function of one argument.
 #[inline(never)]
 fn function_call(alloc: Global, name: &str, arguments: Vec<Expr>) -> Result<Box<Expr>, AllocError>
-    requires known { IsSome (function_of name.now) }
+    requires known { IsSome (constructor_named name.now) }
     requires argument { length arguments.items ≡ 1 }
-    ensures { IfOk result (λ b. b.value ≡ called (function_of name.now) (expressions_of arguments.items)) }
+    ensures { IfOk result (λ b. b.value ≡ called (constructor_named name.now) (expressions_of arguments.items)) }
 {
-    let Some(operator) = function_of(name) else {
+    let Some(ty) = ExtensionType::of_constructor(name) else {
         unreachable!()
     };
     let argument = sole_argument(alloc, arguments)?;
-    unary(alloc, operator, argument)
+    unary(alloc, UnaryOperator::Construct(ty), argument)
 }
 
 // The one argument.

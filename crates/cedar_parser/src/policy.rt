@@ -11,7 +11,8 @@ ghost use Rattle.cedar_parser.specs.Private.Kept.{Every};
 
 use crate::expression::to_expression;
 use cedar_ast::{
-    ActionScope, Annotation, Condition, EntityReference, Policy, Scope, Statement, Template, Uids,
+    ActionScope, Annotation, Condition, Conditions, EntityReference, Policy, Scope, Statement,
+    Template, Uids,
 };
 use cedar_parser_tokens::WrittenUid;
 use cedar_parser_tree::{
@@ -165,9 +166,9 @@ fn to_annotation(alloc: Global, annotation: WrittenAnnotation) -> Annotation
     }
 }
 
-fn to_conditions(alloc: Global, written: &[WrittenCondition]) -> Result<Vec<Condition>, AllocError>
+fn to_conditions(alloc: Global, written: &[WrittenCondition]) -> Result<Conditions, AllocError>
     requires { Every (λ c. KeepConditions c written.now) }
-    ensures { IfOk result (λ v. v.items ≡ map to_condition written.now) }
+    ensures { IfOk result (λ v. v ≡ map to_condition written.now) }
 {
     let mut found = Vec::with_capacity(alloc, written.len())?;
     for condition in written {
@@ -177,7 +178,7 @@ fn to_conditions(alloc: Global, written: &[WrittenCondition]) -> Result<Vec<Cond
             body,
         })?;
     }
-    Ok(found)
+    Conditions::new(alloc, found)
 }
 
 /// The id of the statement at a position: the value of its annotation `id`, or else `policyN` (own: ids of policies).

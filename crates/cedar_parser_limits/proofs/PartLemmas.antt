@@ -4,7 +4,7 @@ use Rattle.std.proofs.Common.{◌≡◌, refl, sym, ap, subst, ◌∙◌, false,
 use Rattle.std.proofs.lemmas.List.{take_all}
 use Rattle.cedar_value.specs.Datum.{boolean}
 use Rattle.cedar_ast_expressions.specs.Keys.{keys_of}
-use Rattle.cedar_ast_expressions.specs.declared.operator.UnaryOperator.{UnaryOperator}
+use Rattle.cedar_ext.specs.declared.extension.ExtensionType.{ExtensionType}
 use Rattle.cedar_ast_expressions.specs.declared.operator.UnaryOperator.TheVariants as operator
 use Rattle.cedar_parser_limits.specs.declared.functions.Method.TheVariants.{IsEmpty, Binary}
 use Rattle.cedar_ast_expressions.specs.declared.operator.BinaryOperator.{BinaryOperator}
@@ -154,7 +154,7 @@ pub applied_some : (a : Expression) (xs : List Written) → (length xs ≡ 0 →
 applied_some a [] n = absurd (n refl)
 applied_some a (x ∷ xs) n = refl
 
-pub called_other : (o : Option UnaryOperator) (xs : List Written) → (length xs ≡ 1 → ⊥) → called o (to_expressions (members_of xs)) ≡ e.literal (boolean false)
+pub called_other : (o : Option ExtensionType) (xs : List Written) → (length xs ≡ 1 → ⊥) → called o (to_expressions (members_of xs)) ≡ e.literal (boolean false)
 called_other None xs n = refl
 called_other (Some op) [] n = refl
 called_other (Some op) (x ∷ []) n = absurd (n refl)

@@ -1,9 +1,12 @@
 -- The expression that is written (Cedar language reference, grammar; operators).
-use Rattle.std.specs.Prelude.{false, ℕ, pos, neg_ℤ, List, [], ◌∷◌, Option, Some, None, codes, if◌then◌else◌}
+use Rattle.std.specs.Prelude.{false, ℕ, Bool, pos, neg_ℤ, List, [], ◌∷◌, Option, Some, None, codes, if◌then◌else◌}
 use Rattle.std.specs.Str.{bytes_eq}
+use Rattle.cedar_ext.specs.declared.extension.ExtensionType.{ExtensionType}
+use Rattle.cedar_ext.specs.declared.method.BinaryMethod.{BinaryMethod}
+use Rattle.cedar_ext.specs.Extensions.{constructor_named}
+use Rattle.cedar_ext.specs.Methods.{method_named}
 use Rattle.cedar_value.specs.Datum as datum
-use Rattle.cedar_ast_expressions.specs.declared.operator.UnaryOperator.{UnaryOperator}
-use Rattle.cedar_ast_expressions.specs.declared.operator.UnaryOperator.TheVariants.{Not, Negate, Has, Get, Like, Is, Decimal, IsEmpty}
+use Rattle.cedar_ast_expressions.specs.declared.operator.UnaryOperator.TheVariants.{Not, Negate, Has, Get, Like, Is, Construct, IsEmpty}
 use Rattle.cedar_ast_expressions.specs.declared.operator.BinaryOperator.TheVariants as operator
 use Rattle.cedar_ast_expressions.specs.Expression as e
 use Rattle.cedar_ast_expressions.specs.Expression.{Expression, Expressions, Entries}
@@ -35,9 +38,10 @@ related relation_sign.Equal a b = e.binary operator.Equal a b
 related relation_sign.NotEqual a b = e.unary Not (e.binary operator.Equal a b)
 related relation_sign.In a b = e.binary operator.In a b
 
--- The operator of the function of this name (Cedar language reference, functions).
-abbrev pub function_of : List ℕ → Option UnaryOperator
-function_of name = if bytes_eq name (codes "decimal") then Some Decimal else None
+-- The method of an extension type, where there is one; else `isEmpty`, where that is the name (Cedar language reference, functions).
+abbrev pub method_or_empty : (is_empty : Bool) → Option BinaryMethod → Option Method
+method_or_empty is_empty (Some named) = Some (m.Binary (operator.Call named))
+method_or_empty is_empty None = if is_empty then Some m.IsEmpty else None
 
 -- What the method of this name does (Cedar language reference, functions).
 abbrev pub method_of : List ℕ → Option Method
@@ -45,16 +49,12 @@ method_of name =
     if bytes_eq name (codes "contains") then Some (m.Binary operator.Contains)
     else (if bytes_eq name (codes "containsAll") then Some (m.Binary operator.ContainsAll)
     else (if bytes_eq name (codes "containsAny") then Some (m.Binary operator.ContainsAny)
-    else (if bytes_eq name (codes "lessThan") then Some (m.Binary operator.DecimalLess)
-    else (if bytes_eq name (codes "lessThanOrEqual") then Some (m.Binary operator.DecimalLessEqual)
-    else (if bytes_eq name (codes "greaterThan") then Some (m.Binary operator.DecimalGreater)
-    else (if bytes_eq name (codes "greaterThanOrEqual") then Some (m.Binary operator.DecimalGreaterEqual)
-    else (if bytes_eq name (codes "isEmpty") then Some m.IsEmpty else None)))))))
+    else method_or_empty (bytes_eq name (codes "isEmpty")) (method_named name)))
 
 -- The call of a function of one argument. A call of an unknown function or with other arguments is refused, and this is not its
 -- meaning (Cedar language reference, functions).
-abbrev pub called : Option UnaryOperator → Expressions → Expression
-called (Some op) (e.and_then a e.no_more) = e.unary op a
+abbrev pub called : Option ExtensionType → Expressions → Expression
+called (Some ty) (e.and_then a e.no_more) = e.unary (Construct ty) a
 called _ _ = e.literal (datum.boolean false)
 
 -- A method of one argument or of none. An unknown method, or one with other arguments, is refused, and this is not its meaning
@@ -97,7 +97,7 @@ abbrev mutual
   to_expression (choice c a b) = e.if_else (to_expression c) (to_expression a) (to_expression b)
   to_expression (set ms) = e.set_with (to_expressions ms)
   to_expression (record_of fs) = e.record_with (to_entries fs)
-  to_expression (call name ms) = called (function_of name) (to_expressions ms)
+  to_expression (call name ms) = called (constructor_named name) (to_expressions ms)
 
   -- The expression to the left with each link after it, from left to right (Cedar language reference, operators).
   pub grouped : Expression → Links → Expression

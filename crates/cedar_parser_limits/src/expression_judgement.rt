@@ -2,13 +2,14 @@
 ghost use Rattle.std.specs.Prelude.{◌≡◌, ◌≤◌, IfOk, length, map};
 ghost use Rattle.cedar_parser_tree.specs.Written.{members_of};
 ghost use Rattle.cedar_parser_tree.specs.WrittenKind.{links_of, fields_of};
-ghost use Rattle.cedar_parser_limits.specs.Meaning.{function_of, method_of};
+ghost use Rattle.cedar_ext.specs.Extensions.{constructor_named};
+ghost use Rattle.cedar_parser_limits.specs.Meaning.{method_of};
 ghost use Rattle.cedar_parser_limits.specs.Limits.{Stands, Fits, FitsNegative, IsKnown, HasArity, HasDistinctKeys, HasNoSlot, Keeps, KeepLinks, KeepMembers, KeepFields, keys_in};
 ghost use Rattle.cedar_parser_limits.specs.Private.Judging.{Judges};
 ghost use Rattle.cedar_parser_limits.specs.Private.Parts.{KeepLink, KeepField};
 
 use crate::breach::Breach;
-use crate::functions::{function_arity, function_of, method_arity, method_of};
+use crate::functions::{function_arity, is_function, method_arity, method_of};
 use crate::side_condition::SideCondition;
 use crate::sought::Sought;
 use cedar_ast_expressions::first_repeated;
@@ -170,9 +171,9 @@ fn judge_slot(sought: Sought, start: usize) -> Result<(), Breach>
 }
 
 fn judge_function(sought: Sought, start: usize, name: &Name) -> Result<(), Breach>
-    ensures { Judges sought (λ c. IsKnown c (function_of name.now)) result }
+    ensures { Judges sought (λ c. IsKnown c (constructor_named name.now)) result }
 {
-    if sought.has(SideCondition::Names) && function_of(name.as_str()).is_none() {
+    if sought.has(SideCondition::Names) && !is_function(name.as_str()) {
         return Err(Breach::Of(SideCondition::Names, start));
     }
     Ok(())

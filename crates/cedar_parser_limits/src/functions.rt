@@ -1,9 +1,11 @@
 //! Functions and methods, found by their names.
-ghost use Rattle.std.specs.Prelude.{◌≡◌, is_some};
-ghost use Rattle.cedar_parser_limits.specs.Meaning.{function_of, method_of};
+ghost use Rattle.std.specs.Prelude.{◌≡◌, codes, is_some};
+ghost use Rattle.std.specs.Str.{bytes_eq};
+ghost use Rattle.cedar_ext.specs.Extensions.{constructor_named};
+ghost use Rattle.cedar_parser_limits.specs.Meaning.{method_of, method_or_empty};
 ghost use Rattle.cedar_parser_limits.specs.Limits.{function_arity, method_arity};
 
-use cedar_ast_expressions::{BinaryOperator, UnaryOperator};
+use cedar_ast_expressions::{BinaryMethod, BinaryOperator, ExtensionType};
 
 /// What a method requires of the operand before it (Cedar language reference, functions).
 #[derive(Clone, Copy)]
@@ -14,28 +16,18 @@ pub enum Method {
     Binary(BinaryOperator),
 }
 
-/// The function of this name (Cedar language reference, functions).
-pub fn function_of(name: &str) -> Option<UnaryOperator>
-    ensures { result ≡ function_of name.now }
-{
-    match name {
-        "decimal" => Some(UnaryOperator::Decimal),
-        _ => None,
-    }
-}
-
 /// Whether there is a function of this name.
 pub fn is_function(name: &str) -> bool
-    ensures { result ≡ is_some (function_of name.now) }
+    ensures { result ≡ is_some (constructor_named name.now) }
 {
-    function_of(name).is_some()
+    ExtensionType::of_constructor(name).is_some()
 }
 
 /// How many arguments the function of this name has.
 pub fn function_arity(name: &str) -> Option<usize>
     ensures { result ≡ function_arity name.now }
 {
-    match function_of(name) {
+    match ExtensionType::of_constructor(name) {
         None => None,
         Some(_) => Some(1),
     }
@@ -49,12 +41,23 @@ pub fn method_of(name: &str) -> Option<Method>
         "contains" => Some(Method::Binary(BinaryOperator::Contains)),
         "containsAll" => Some(Method::Binary(BinaryOperator::ContainsAll)),
         "containsAny" => Some(Method::Binary(BinaryOperator::ContainsAny)),
-        "lessThan" => Some(Method::Binary(BinaryOperator::DecimalLess)),
-        "lessThanOrEqual" => Some(Method::Binary(BinaryOperator::DecimalLessEqual)),
-        "greaterThan" => Some(Method::Binary(BinaryOperator::DecimalGreater)),
-        "greaterThanOrEqual" => Some(Method::Binary(BinaryOperator::DecimalGreaterEqual)),
-        "isEmpty" => Some(Method::IsEmpty),
-        _ => None,
+        _ => method_or_empty(name, BinaryMethod::named(name)),
+    }
+}
+
+// The method of an extension type, or else `isEmpty`, where that is the name.
+fn method_or_empty(name: &str, method: Option<BinaryMethod>) -> Option<Method>
+    ensures { result ≡ method_or_empty (bytes_eq name.now (codes "isEmpty")) method }
+{
+    match method {
+        Some(method) => Some(Method::Binary(BinaryOperator::Call(method))),
+        None => {
+            if name == "isEmpty" {
+                Some(Method::IsEmpty)
+            } else {
+                None
+            }
+        }
     }
 }
 

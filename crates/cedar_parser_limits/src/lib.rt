@@ -26,5 +26,5 @@ mod side_condition;
 mod size;
 mod sought;
 
-pub use functions::{Method, function_of, method_of};
+pub use functions::{Method, method_of};
 pub use judgement::judge;

@@ -8,7 +8,7 @@ use Rattle.base_reach.proofs.Chains.{chain_among}
 use Rattle.base_reach.proofs.Listed.{here, there, first_or_later, nowhere, filter-kept}
 use Rattle.cedar_schema_json.specs.declared.schema_fault.SchemaFault.{SchemaFault}
 use Rattle.cedar_schema_json.specs.declared.schema_fault.SchemaFault.TheVariants.{UnknownType, CommonCycle, TooLarge}
-use Rattle.cedar_schema_json.specs.Forms.{FormTree, no_form, boolean_form, long_form, string_form, decimal_form, entity_form, set_form, record_form, common_form, FormRows, no_form_rows, form_row}
+use Rattle.cedar_schema_json.specs.Forms.{FormTree, no_form, boolean_form, long_form, string_form, extension_form, entity_form, set_form, record_form, common_form, FormRows, no_form_rows, form_row}
 use Rattle.cedar_schema_json.specs.Expansion.{Table, form_faults, rows_faults, cycle_faults, limit_faults, size, typed}
 use Rattle.cedar_schema.specs.Each.{each_faults}
 use Rattle.cedar_schema.specs.Schemas.{expansion_faults}
@@ -33,7 +33,7 @@ module _ (names : ℕ → List SchemaFault) (e : SchemaFault) where
     fault_named boolean_form h = absurd (nowhere e h)
     fault_named long_form h = absurd (nowhere e h)
     fault_named string_form h = absurd (nowhere e h)
-    fault_named decimal_form h = absurd (nowhere e h)
+    fault_named (extension_form t) h = absurd (nowhere e h)
     fault_named (entity_form n) h = absurd (nowhere e h)
     fault_named (set_form f) h = fault_named f h
     fault_named (record_form rs) h = rows_named rs h
@@ -52,7 +52,7 @@ module _ (names : ℕ → List SchemaFault) (e : SchemaFault) where
     named_fault boolean_form p m h = absurd (nowhere p m)
     named_fault long_form p m h = absurd (nowhere p m)
     named_fault string_form p m h = absurd (nowhere p m)
-    named_fault decimal_form p m h = absurd (nowhere p m)
+    named_fault (extension_form t) p m h = absurd (nowhere p m)
     named_fault (entity_form n) p m h = absurd (nowhere p m)
     named_fault (set_form f) p m h = named_fault f p m h
     named_fault (record_form rs) p m h = named_rows rs p m h

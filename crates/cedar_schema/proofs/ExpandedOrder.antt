@@ -10,7 +10,7 @@ use Rattle.cedar_schema_types.proofs.Inserted.{one_more, none_yet}
 use Rattle.cedar_schema_json.specs.declared.json.part.Part.TheVariants.{EntityType, Action, AppliesTo}
 use Rattle.cedar_schema_json.specs.declared.schema_fault.SchemaFault.TheVariants.{Shape}
 use Rattle.cedar_schema_json.specs.Naming.{fault_if}
-use Rattle.cedar_schema_json.specs.Forms.{FormTree, no_form, boolean_form, long_form, string_form, decimal_form, entity_form, set_form, record_form, common_form, FormRows, no_form_rows, form_row}
+use Rattle.cedar_schema_json.specs.Forms.{FormTree, no_form, boolean_form, long_form, string_form, extension_form, entity_form, set_form, record_form, common_form, FormRows, no_form_rows, form_row}
 use Rattle.cedar_schema_json.specs.Reading.{Scope, type_read}
 use Rattle.cedar_schema_json.specs.Expansion.{Table, form_type, rows_type, with_row, common_type, typed}
 use Rattle.cedar_schema_json.specs.Entries.{unless_null, EntryTree, part_faults, entity_key_faults}
@@ -48,7 +48,7 @@ module _ (names : ℕ → Option TypeTree) (ok : (k : ℕ) → IfSome (names k) 
     form_ascends boolean_form = tt
     form_ascends long_form = tt
     form_ascends string_form = tt
-    form_ascends decimal_form = tt
+    form_ascends (extension_form t) = tt
     form_ascends (entity_form n) = tt
     form_ascends (set_form f) = set_up (form_type names f) (form_ascends f)
     form_ascends (record_form rs) = record_up (rows_type names (Some no_attributes) rs) (rows_ascend rs (Some no_attributes) none_yet)

@@ -5,6 +5,8 @@ use Rattle.std.specs.Ordering.{nat_cmp, match_ordering}
 use Rattle.std.specs.Cmp.Lexicographic.{slice_cmp}
 use Rattle.serde_json.specs.Data.{Data, null, boolean, number, string, array, object, Members, no_members, member}
 use Rattle.serde_json.specs.Find.{get}
+use Rattle.cedar_ext.specs.declared.extension.ExtensionType.{ExtensionType}
+use Rattle.cedar_ext.specs.Extensions as extension
 use Rattle.cedar_value.specs.Order.{text_cmp}
 use Rattle.cedar_value.specs.declared.uid.Uid.{Uid}
 use Rattle.cedar_schema_types.specs.Types.{TypeTree, Attributes, no_attributes, attribute}
@@ -12,7 +14,7 @@ use Rattle.cedar_schema_types.specs.Types as kind
 use Rattle.cedar_schema_types.specs.Ordered.{with_attribute}
 use Rattle.cedar_schema_json.specs.declared.schema_fault.SchemaFault.TheVariants.{UnknownType}
 use Rattle.cedar_schema_json.specs.Naming.{Declared, resolved, text_faults}
-use Rattle.cedar_schema_json.specs.Forms.{FormTree, no_form, boolean_form, long_form, string_form, decimal_form, entity_form, set_form, record_form, common_form, FormRows, no_form_rows, form_row}
+use Rattle.cedar_schema_json.specs.Forms.{FormTree, no_form, boolean_form, long_form, string_form, extension_form, entity_form, set_form, record_form, common_form, FormRows, no_form_rows, form_row}
 use Rattle.cedar_schema_json.specs.Reading.{Read, RowsRead, Scope, fine, no_rows_read, of_kind, of_type, kind_named, text_at, needed, set_of, record_of, entity_read, extension_named, type_read, read_at, rows_at, rows_read, all_rows}
 use Rattle.cedar_schema_json.specs.Expansion.{Table, form_type, rows_type, with_row, common_type, typed}
 use Rattle.cedar_schema_json.specs.Entries.{EntryTree, unless_null}
@@ -34,7 +36,7 @@ module _ (names more : List (List ℕ)) (among : (n : List ℕ) → Contains nam
     names_more (kind.entity n) h = among n h
     names_more (kind.set t) h = names_more t h
     names_more (kind.record_of a) h = attributes_more a h
-    names_more kind.decimal h = tt
+    names_more (kind.extension t) h = tt
 
     attributes_more : (a : Attributes) → AttributesNameOnly names a → AttributesNameOnly more a
     attributes_more no_attributes h = tt
@@ -72,7 +74,7 @@ module _ (names : List (List ℕ)) where
       form_typed boolean_form h = tt
       form_typed long_form h = tt
       form_typed string_form h = tt
-      form_typed decimal_form h = tt
+      form_typed (extension_form t) h = tt
       form_typed (entity_form n) h = h
       form_typed (set_form f) h = set_names (form_type commons f) (form_typed f h)
       form_typed (record_form rs) h = record_names (rows_type commons (Some no_attributes) rs) (rows_typed rs (Some no_attributes) h tt)
@@ -131,13 +133,13 @@ module _ (sc : Scope) where
   entity_named None = tt
   entity_named (Some s) = entity_made (resolved sc.entities sc.namespace s) (resolved_in sc.entities sc.namespace s)
 
-  extension_is : (s : List ℕ) (b : Bool) → ReadNames (cond b (fine decimal_form) (record { form = no_form; faults = text_faults s ++ UnknownType ∷ [] }))
-  extension_is s true = tt
-  extension_is s false = tt
+  extension_is : (s : List ℕ) (o : Option ExtensionType) → ReadNames (unwrap_or (option_map (λ (t : ExtensionType). fine (extension_form t)) o) (record { form = no_form; faults = text_faults s ++ UnknownType ∷ [] }))
+  extension_is s None = tt
+  extension_is s (Some t) = tt
 
   extension_read_named : (o : Option (List ℕ)) → ReadNames (needed extension_named o)
   extension_read_named None = tt
-  extension_read_named (Some s) = extension_is s (bytes_eq s (codes "decimal"))
+  extension_read_named (Some s) = extension_is s (extension.type_named s)
 
   set_read : (el : Option Read) → IfSome el ReadNames → ReadNames (needed set_of el)
   set_read None h = tt

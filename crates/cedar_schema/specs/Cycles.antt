@@ -3,7 +3,7 @@ use Rattle.std.specs.Prelude.{◌↔◌, ℕ, List, [], ◌∷◌, ◌++◌, opt
 use Rattle.std.specs.List.{slice_get}
 use Rattle.base_reach.specs.Closure.{LeadsTo}
 use Rattle.cedar_schema_json.specs.declared.schema_fault.SchemaFault.TheVariants.{CommonCycle}
-use Rattle.cedar_schema_json.specs.Forms.{FormTree, no_form, boolean_form, long_form, string_form, decimal_form, entity_form, set_form, record_form, common_form, FormRows, no_form_rows, form_row}
+use Rattle.cedar_schema_json.specs.Forms.{FormTree, no_form, boolean_form, long_form, string_form, extension_form, entity_form, set_form, record_form, common_form, FormRows, no_form_rows, form_row}
 use Rattle.cedar_schema_json.specs.Expansion.{Table}
 use Rattle.cedar_schema.specs.Each.{each_faults}
 use Rattle.cedar_schema.specs.Schemas.{expansion_faults}
@@ -15,7 +15,7 @@ abbrev mutual
   named_in boolean_form = []
   named_in long_form = []
   named_in string_form = []
-  named_in decimal_form = []
+  named_in (extension_form t) = []
   named_in (entity_form n) = []
   named_in (set_form f) = named_in f
   named_in (record_form rs) = named_in_rows rs

@@ -10,6 +10,7 @@ use crate::text::shown;
 use crate::undeclared::{as_written, last_word, meant_name, say_nowhere};
 use base_names::apart;
 use base_places::Draft;
+use cedar_ext::ExtensionType;
 use std::alloc::{AllocError, Global};
 
 /// Why the name of an entity type is refused (302, 303, 306), or none. `is_type` says whether it is in a type, and not in a list.
@@ -115,8 +116,9 @@ fn undeclared_type(
 
 // Hints what is meant by the name of a type that is not declared.
 fn hint_type(hint: &mut Draft, setting: Setting<'_>, text: &str, is_entity: bool) {
-    if text == "decimal" {
-        hint.add("write {\"type\":\"Extension\",\"name\":\"decimal\"}");
+    if let Some(extension) = ExtensionType::named(text) {
+        let name = extension.name();
+        hint.add_all(&["write {\"type\":\"Extension\",\"name\":\"", name, "\"}"]);
     } else if is_entity {
         let name = shown(text);
         hint.add_all(&[
@@ -150,7 +152,7 @@ fn hint_meant(hint: &mut Draft, setting: Setting<'_>, text: &str) {
 
 /// Why the name of an extension type is refused (302, 303, 306), or none.
 pub(crate) fn refused_extension_name(alloc: Global, number: u16, text: &str) -> Option<Refusal> {
-    if text == "decimal" {
+    if ExtensionType::named(text).is_some() {
         return None;
     }
     let found = refused_name(alloc, number, text);

@@ -4,9 +4,9 @@ use Rattle.cedar_schema_json.specs.declared.schema_fault.SchemaFault.{SchemaFaul
 use Rattle.cedar_schema_json.specs.declared.schema_fault.SchemaFault.TheVariants.{UnknownType, CommonCycle, TooLarge}
 use Rattle.std.specs.List.{slice_get}
 use Rattle.cedar_schema_types.specs.declared.truth.Truth.TheVariants.{Any}
-use Rattle.cedar_schema_types.specs.Types.{TypeTree, boolean, long, string, entity, set, record_of, decimal, Attributes, no_attributes}
+use Rattle.cedar_schema_types.specs.Types.{TypeTree, boolean, long, string, entity, set, record_of, extension, Attributes, no_attributes}
 use Rattle.cedar_schema_types.specs.Ordered.{with_attribute}
-use Rattle.cedar_schema_json.specs.Forms.{FormTree, no_form, boolean_form, long_form, string_form, decimal_form, entity_form, set_form, record_form, common_form, FormRows, no_form_rows, form_row}
+use Rattle.cedar_schema_json.specs.Forms.{FormTree, no_form, boolean_form, long_form, string_form, extension_form, entity_form, set_form, record_form, common_form, FormRows, no_form_rows, form_row}
 
 -- The common types, under their places, as they are written (Cedar documentation, JSON schema format: common types).
 abbrev pub Table : Type 0
@@ -46,7 +46,7 @@ abbrev mutual
   form_type names boolean_form = Some (boolean Any)
   form_type names long_form = Some long
   form_type names string_form = Some string
-  form_type names decimal_form = Some decimal
+  form_type names (extension_form t) = Some (extension t)
   form_type names (entity_form n) = Some (entity n)
   form_type names (set_form f) = option_map set (form_type names f)
   form_type names (record_form rs) = option_map record_of (rows_type names (Some no_attributes) rs)

@@ -4,7 +4,7 @@ use Rattle.cedar_schema_json.specs.declared.form.Form.{Form}
 use Rattle.cedar_schema_json.specs.declared.form.FormField.{FormField}
 use Rattle.cedar_schema_json.specs.declared.form.Form.TheFolds.{fold-Form}
 use Rattle.cedar_schema_json.specs.declared.form.Form.TheOpen.{Form-F, FormField-F}
-use Rattle.cedar_schema_json.specs.Forms.{FormTree, boolean_form, long_form, string_form, decimal_form, entity_form, set_form, record_form, common_form, FormRows, no_form_rows, form_row}
+use Rattle.cedar_schema_json.specs.Forms.{FormTree, boolean_form, long_form, string_form, extension_form, entity_form, set_form, record_form, common_form, FormRows, no_form_rows, form_row}
 
 -- An attribute as it is written: its name, whether it is required, and its form (Cedar documentation, JSON schema format:
 -- Record).
@@ -23,7 +23,7 @@ abbrev pub form_step : Form-F FormTree FieldTree → FormTree
 form_step Form-F.Boolean = boolean_form
 form_step Form-F.Long = long_form
 form_step Form-F.Text = string_form
-form_step Form-F.Decimal = decimal_form
+form_step (Form-F.Extension t) = extension_form t
 form_step (Form-F.Entity n) = entity_form n
 form_step (Form-F.Set b) = set_form b.value
 form_step (Form-F.Record v) = record_form (fields_of v.items)

@@ -1,12 +1,14 @@
 -- Types as a schema's JSON writes them: a common type is given as its place among the common types.
 use Rattle.std.specs.Prelude.{ℕ, Bool, List}
+use Rattle.cedar_ext.specs.declared.extension.ExtensionType.{ExtensionType}
 
 -- A type as it is written, with its names resolved: a common type is given as its place (Cedar documentation, JSON schema
 -- format: attribute types).
 mutual
   pub data FormTree : Type 0 where
     no_form : FormTree  -- a form that is not a type
-    boolean_form long_form string_form decimal_form : FormTree
+    boolean_form long_form string_form : FormTree
+    extension_form : ExtensionType → FormTree
     entity_form : List ℕ → FormTree  -- a declared entity type, by its whole name
     set_form : FormTree → FormTree
     record_form : FormRows → FormTree

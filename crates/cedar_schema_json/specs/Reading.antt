@@ -5,12 +5,13 @@ use Rattle.std.specs.Ordering.{nat_cmp, match_ordering}
 use Rattle.std.specs.Cmp.Lexicographic.{slice_cmp}
 use Rattle.serde_json.specs.Data.{Data, boolean, object, Members, no_members, member}
 use Rattle.serde_json.specs.Find.{get, as_str, as_object}
+use Rattle.cedar_ext.specs.Extensions.{type_named}
 use Rattle.cedar_schema_json.specs.declared.schema_fault.SchemaFault.{SchemaFault}
 use Rattle.cedar_schema_json.specs.declared.schema_fault.SchemaFault.TheVariants.{Shape, UnknownType, OpenRecord}
 use Rattle.cedar_schema_json.specs.declared.form.kind.Kind.{Kind}
 use Rattle.cedar_schema_json.specs.declared.form.kind.Kind.TheVariants.{Boolean, Long, Text, Set, Record, Entity, Extension, Common}
 use Rattle.cedar_schema_json.specs.Naming.{Declared, resolved, text_faults, name_faults}
-use Rattle.cedar_schema_json.specs.Forms.{FormTree, no_form, boolean_form, long_form, string_form, decimal_form, entity_form, set_form, record_form, common_form, FormRows, no_form_rows, form_row}
+use Rattle.cedar_schema_json.specs.Forms.{FormTree, no_form, boolean_form, long_form, string_form, extension_form, entity_form, set_form, record_form, common_form, FormRows, no_form_rows, form_row}
 
 -- What the JSON of a type writes: its form, and the faults that are there (Cedar documentation, JSON schema format: attribute
 -- types).
@@ -88,9 +89,9 @@ needed f o = unwrap_or (option_map f o) (bad Shape)
 abbrev pub entity_read : Scope → Option (List ℕ) → Read
 entity_read sc o = needed (form_named (λ n. entity_form n.0) sc.entities sc.namespace) o
 
--- The extension type `decimal`; another name is 303 (Cedar documentation, JSON schema format: Extension).
+-- An extension type; a name that is that of none is 303 (Cedar documentation, JSON schema format: Extension).
 abbrev pub extension_named : List ℕ → Read
-extension_named s = if bytes_eq s (codes "decimal") then fine decimal_form else record { form = no_form; faults = text_faults s ++ UnknownType ∷ [] }
+extension_named s = unwrap_or (option_map (λ t. fine (extension_form t)) (type_named s)) (record { form = no_form; faults = text_faults s ++ UnknownType ∷ [] })
 
 -- A declared common type (Cedar documentation, JSON schema format: commonTypes).
 abbrev pub common_read : Scope → List ℕ → Read

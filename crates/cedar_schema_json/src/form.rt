@@ -7,6 +7,7 @@ pub(crate) mod reading;
 pub(crate) mod shape;
 pub(crate) mod table;
 
+use cedar_ext::ExtensionType;
 use cedar_value::Name;
 
 /// A type as it is written, with its names resolved.
@@ -19,8 +20,8 @@ pub enum Form {
     Long,
     /// A string.
     Text,
-    /// A decimal.
-    Decimal,
+    /// A value of an extension type.
+    Extension(ExtensionType),
     /// An entity of the type of this name.
     Entity(Name),
     /// A set of what has the form.

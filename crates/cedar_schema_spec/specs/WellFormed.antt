@@ -7,7 +7,7 @@ use Rattle.std.specs.declared.cmp.Ordering.{Ordering}
 use Rattle.cedar_value.specs.Order.{text_cmp, uid_cmp}
 use Rattle.cedar_value.specs.declared.uid.Uid.{Uid}
 use Rattle.cedar_schema_types.specs.Ordered.{Ascends}
-use Rattle.cedar_schema_types.specs.Types.{TypeTree, boolean, long, string, entity, set, record_of, decimal, Attributes, no_attributes, attribute, is_record}
+use Rattle.cedar_schema_types.specs.Types.{TypeTree, boolean, long, string, entity, set, record_of, extension, Attributes, no_attributes, attribute, is_record}
 use Rattle.cedar_schema_spec.specs.SchemaTree.{SchemaTree, environments_of}
 use Rattle.cedar_schema_spec.specs.declared.environment.Environment.{Environment}
 use Rattle.cedar_schema_spec.specs.Descents.{ActionDescends}
@@ -78,7 +78,7 @@ abbrev mutual
   NamesOnly names (entity n) = Contains names n
   NamesOnly names (set t) = NamesOnly names t
   NamesOnly names (record_of a) = AttributesNameOnly names a
-  NamesOnly names decimal = Unit {0}
+  NamesOnly names (extension t) = Unit {0}
 
   -- Each entity type that the types of all attributes name is one of these (cedar-spec, Lean: Cedar.Validation, well-formed
   -- types).

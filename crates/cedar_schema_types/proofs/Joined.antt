@@ -1,9 +1,12 @@
 -- The function `join` computes the relation.
 use Rattle.std.proofs.Common.{◌≡◌, ℕ, Bool, true, false, ◌&&◌, bytes_eq, List, Option, Some, None, option_map, refl, ap, subst}
 use Rattle.std.proofs.lemmas.Slice.Eq.{bytes_eq-Decides}
-use Rattle.cedar_schema_types.specs.Types.{TypeTree, boolean, long, string, entity, set, record_of, decimal, Attributes, no_attributes, attribute}
+use Rattle.cedar_ext.specs.declared.extension.ExtensionType.{ExtensionType}
+use Rattle.cedar_ext.specs.Extensions.{same_type}
+use Rattle.cedar_ext.specs.Private.ExtensionLemmas.{same_type-Decides}
+use Rattle.cedar_schema_types.specs.Types.{TypeTree, boolean, long, string, entity, set, record_of, extension, Attributes, no_attributes, attribute}
 use Rattle.cedar_schema_types.specs.Joining.{join_truths, only_if, same_bool, joined_attribute, join, join_attributes}
-use Rattle.cedar_schema_types.specs.Joins.{Join, join_boolean, join_long, join_string, join_entity, join_set, join_record, join_decimal, JoinAttributes, join_none, join_attribute, JoinIsComputed}
+use Rattle.cedar_schema_types.specs.Joins.{Join, join_boolean, join_long, join_string, join_entity, join_set, join_record, join_extension, JoinAttributes, join_none, join_attribute, JoinIsComputed}
 
 same_itself : (s : List ℕ) → bytes_eq s s ≡ true
 same_itself s = (bytes_eq-Decides s s).1 refl
@@ -11,6 +14,9 @@ same_itself s = (bytes_eq-Decides s s).1 refl
 bool_itself : (b : Bool) → same_bool b b ≡ true
 bool_itself true = refl
 bool_itself false = refl
+
+type_itself : (t : ExtensionType) → same_type t t ≡ true
+type_itself t = (same_type-Decides t t).1 refl
 
 -- each join that the relation has, `join` finds
 mutual
@@ -21,7 +27,7 @@ mutual
   found (join_entity {n = n}) = rw (same_itself n)
   found (join_set j) = ap (option_map set) (found j)
   found (join_record j) = ap (option_map record_of) (found_attributes j)
-  found join_decimal = refl
+  found (join_extension {t = t}) = rw (type_itself t)
 
   pub found_attributes : {a b d : Attributes} → JoinAttributes a b d → join_attributes a b ≡ Some d
   found_attributes join_none = refl
@@ -42,6 +48,13 @@ entity_at n m d true e h =
     let is : entity n ≡ d = cc in
     subst (λ x. Join (entity n) (entity x) d) same (subst (λ x. Join (entity n) (entity n) x) is join_entity)
 entity_at n m d false e h = cc
+
+extension_at : (t u : ExtensionType) (d : TypeTree) (b : Bool) → same_type t u ≡ b → only_if b (Some (extension t)) ≡ Some d → Join (extension t) (extension u) d
+extension_at t u d true e h =
+    let same : t ≡ u = (same_type-Decides t u).0 e in
+    let is : extension t ≡ d = cc in
+    subst (λ x. Join (extension t) (extension x) d) same (subst (λ x. Join (extension t) (extension t) x) is join_extension)
+extension_at t u d false e h = cc
 
 set_at : (t u d : TypeTree) (o : Option TypeTree) → ((v : TypeTree) → o ≡ Some v → Join t u v) → option_map set o ≡ Some d → Join (set t) (set u) d
 set_at t u d (Some v) below h = let is : set v ≡ d = cc in subst (λ x. Join (set t) (set u) x) is (join_set (below v refl))
@@ -70,7 +83,7 @@ mutual
   sound (boolean f) (boolean g) d h = let is : boolean (join_truths f g) ≡ d = cc in subst (λ x. Join (boolean f) (boolean g) x) is join_boolean
   sound long long d h = let is : long ≡ d = cc in subst (λ x. Join long long x) is join_long
   sound string string d h = let is : string ≡ d = cc in subst (λ x. Join string string x) is join_string
-  sound decimal decimal d h = let is : decimal ≡ d = cc in subst (λ x. Join decimal decimal x) is join_decimal
+  sound (extension t) (extension u) d h = extension_at t u d _ refl h
   sound (entity n) (entity m) d h = entity_at n m d _ refl h
   sound (set t) (set u) d h = set_at t u d (join t u) (sound t u) h
   sound (record_of a) (record_of b) d h = record_at a b d (join_attributes a b) (sound_attributes a b) h

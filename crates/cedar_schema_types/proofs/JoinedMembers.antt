@@ -8,7 +8,7 @@ use Rattle.cedar_schema_types.specs.declared.truth.Truth.{Truth}
 use Rattle.cedar_schema_types.specs.declared.truth.Truth.TheVariants.{True, False, Any}
 use Rattle.cedar_schema_types.specs.Types.{TypeTree, Attributes}
 use Rattle.cedar_schema_types.specs.Joining.{join_truths}
-use Rattle.cedar_schema_types.specs.Joins.{Join, join_boolean, join_long, join_string, join_entity, join_decimal, join_set, join_record, JoinAttributes, join_none, join_attribute, MembersStay}
+use Rattle.cedar_schema_types.specs.Joins.{Join, join_boolean, join_long, join_string, join_entity, join_extension, join_set, join_record, JoinAttributes, join_none, join_attribute, MembersStay}
 use Rattle.cedar_schema_types.specs.Membership.{HasTruth, IsBoolean, IsSetOf, IsRecord, MayStand, Choose, Member, At}
 
 all_weaker : (P Q : Datum → Type 0) (vs : List Datum) → ((v : Datum) → P v → Q v) → AllByRecursion P vs → AllByRecursion Q vs
@@ -65,7 +65,7 @@ mutual
   join_left join_long x h = h
   join_left join_string x h = h
   join_left join_entity x h = h
-  join_left join_decimal x h = h
+  join_left join_extension x h = h
   join_left (join_set {t = t} {v = v} j) x h = set_weaker (Member t) (Member v) x (join_left j) h
   join_left (join_record {a = a} {d = d} js) x h = record_weaker (At a) (At d) x (attributes_left js) h
 
@@ -80,7 +80,7 @@ mutual
   join_right join_long x h = h
   join_right join_string x h = h
   join_right join_entity x h = h
-  join_right join_decimal x h = h
+  join_right join_extension x h = h
   join_right (join_set {u = u} {v = v} j) x h = set_weaker (Member u) (Member v) x (join_right j) h
   join_right (join_record {b = b} {d = d} js) x h = record_weaker (At b) (At d) x (attributes_right js) h
 

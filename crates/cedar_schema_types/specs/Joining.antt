@@ -1,8 +1,9 @@
 -- The join of two types as a function, which the relation of `Joins` is proved to be.
 use Rattle.std.specs.Prelude.{ℕ, Bool, true, false, ◌&&◌, bytes_eq, List, Option, Some, None, option_map}
+use Rattle.cedar_ext.specs.Extensions.{same_type}
 use Rattle.cedar_schema_types.specs.declared.truth.Truth.{Truth}
 use Rattle.cedar_schema_types.specs.declared.truth.Truth.TheVariants.{True, False, Any}
-use Rattle.cedar_schema_types.specs.Types.{TypeTree, boolean, long, string, entity, set, record_of, decimal, Attributes, no_attributes, attribute}
+use Rattle.cedar_schema_types.specs.Types.{TypeTree, boolean, long, string, entity, set, record_of, extension, Attributes, no_attributes, attribute}
 
 -- Unlike forms of Boolean join to any (cedar-spec, Lean: Cedar.Validation.BoolType).
 abbrev pub join_truths : Truth → Truth → Truth
@@ -48,7 +49,7 @@ abbrev mutual
   join (entity n) (entity m) = only_if (bytes_eq n m) (Some (entity n))
   join (set t) (set u) = option_map set (join t u)
   join (record_of a) (record_of b) = option_map record_of (join_attributes a b)
-  join decimal decimal = Some decimal
+  join (extension t) (extension u) = only_if (same_type t u) (Some (extension t))
   join _ _ = None
 
   -- What the attributes of two record types join to, name by name (cedar-spec, Lean: Cedar.Validation, least upper bounds of

@@ -1,11 +1,12 @@
 -- The join of two types as a relation of three, rule by rule, and its laws.
 use Rattle.std.specs.Prelude.{◌≡◌, ◌↔◌, ℕ, Bool, List, Option, Some, None}
 use Rattle.std.specs.List.Sorted.{IsStrictlySortedBy}
+use Rattle.cedar_ext.specs.declared.extension.ExtensionType.{ExtensionType}
 use Rattle.cedar_value.specs.Datum.{Datum}
 use Rattle.cedar_value.specs.Order.{text_cmp}
 use Rattle.cedar_schema_types.specs.declared.truth.Truth.{Truth}
 use Rattle.cedar_schema_types.specs.declared.attribute.Attribute.{Attribute}
-use Rattle.cedar_schema_types.specs.Types.{TypeTree, boolean, long, string, entity, set, record_of, decimal, Attributes, no_attributes, attribute, names_of}
+use Rattle.cedar_schema_types.specs.Types.{TypeTree, boolean, long, string, entity, set, record_of, extension, Attributes, no_attributes, attribute, names_of}
 use Rattle.cedar_schema_types.specs.Lookup.{attribute_at}
 use Rattle.cedar_schema_types.specs.Membership.{Member}
 use Rattle.cedar_schema_types.specs.Joining.{join_truths, join}
@@ -21,7 +22,7 @@ mutual
     join_entity : {n : List ℕ} → Join (entity n) (entity n) (entity n)
     join_set : {t u v : TypeTree} → Join t u v → Join (set t) (set u) (set v)
     join_record : {a b d : Attributes} → JoinAttributes a b d → Join (record_of a) (record_of b) (record_of d)
-    join_decimal : Join decimal decimal decimal
+    join_extension : {t : ExtensionType} → Join (extension t) (extension t) (extension t)
 
   -- Attributes of the same names and the same requiredness join name by name, in order (Cedar documentation, strict
   -- validation).

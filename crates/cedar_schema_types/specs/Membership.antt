@@ -2,7 +2,9 @@
 use Rattle.std.specs.Prelude.{◌≡◌, ℕ, Bool, true, false, List, Option, Some, None}
 use Rattle.std.specs.List.{AllByRecursion}
 use Rattle.std.specs.Str.{bytes_eq}
-use Rattle.cedar_value.specs.Datum.{Datum, boolean, long, text, uid, set, record_of, decimal, list_of, pairs_of}
+use Rattle.cedar_ext.specs.declared.extension.ExtensionType.{ExtensionType}
+use Rattle.cedar_ext.specs.Extensions.{type_of}
+use Rattle.cedar_value.specs.Datum.{Datum, boolean, long, text, uid, set, record_of, extension, list_of, pairs_of}
 use Rattle.cedar_value.specs.Records.{value_at}
 use Rattle.cedar_schema_types.specs.declared.truth.Truth.{Truth}
 use Rattle.cedar_schema_types.specs.declared.truth.Truth.TheVariants.{True, False, Any}
@@ -36,10 +38,10 @@ abbrev pub IsText : Datum → Type 0
 IsText (text s) = Unit {0}
 IsText _ = ⊥
 
--- The value is a decimal (cedar-spec, Lean: Cedar.Validation, InstanceOfExtType).
-abbrev pub IsDecimal : Datum → Type 0
-IsDecimal (decimal n) = Unit {0}
-IsDecimal _ = ⊥
+-- The value is of that extension type (cedar-spec, Lean: Cedar.Validation, InstanceOfExtType).
+abbrev pub HasExtensionType : ExtensionType → Datum → Type 0
+HasExtensionType t (extension e) = type_of e ≡ t
+HasExtensionType t _ = ⊥
 
 -- The value is a uid of that entity type, whether or not a world has the entity (cedar-spec, Lean: Cedar.Validation,
 -- InstanceOfEntityType).
@@ -75,7 +77,8 @@ Choose true A B = A
 Choose false A B = B
 
 -- The value belongs to the type: a Boolean to what is known of it, a uid to its entity type, a set where all members belong to
--- the type of members, a record where each key has what it may have (cedar-spec, Lean: Cedar.Validation, instances of types).
+-- the type of members, a record where each key has what it may have, a value of an extension type to its type (cedar-spec,
+-- Lean: Cedar.Validation, instances of types).
 abbrev mutual
   pub Member : TypeTree → Datum → Type 0
   Member (kind.boolean f) v = IsBoolean (HasTruth f) v
@@ -84,7 +87,7 @@ abbrev mutual
   Member (kind.entity n) v = IsEntity n v
   Member (kind.set t) v = IsSetOf (Member t) v
   Member (kind.record_of a) v = IsRecord (At a) v
-  Member kind.decimal v = IsDecimal v
+  Member (kind.extension t) v = HasExtensionType t v
 
   -- what a key may have: each required key, each declared key in its type, and no other key (cedar-spec, Lean:
   -- Cedar.Validation, instances of types)

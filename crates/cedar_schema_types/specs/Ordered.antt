@@ -3,7 +3,7 @@ use Rattle.std.specs.Prelude.{◌≡◌, ◌≢◌, ℕ, Bool, List, map, AllPai
 use Rattle.std.specs.Ordering.{match_ordering}
 use Rattle.std.specs.List.Sorted.{IsStrictlySortedBy, IsPermutation}
 use Rattle.cedar_value.specs.Order.{text_cmp}
-use Rattle.cedar_schema_types.specs.Types.{TypeTree, boolean, long, string, entity, set, record_of, decimal, Attributes, no_attributes, attribute, names_of}
+use Rattle.cedar_schema_types.specs.Types.{TypeTree, boolean, long, string, entity, set, record_of, extension, Attributes, no_attributes, attribute, names_of}
 use Rattle.cedar_schema_types.specs.TypeKind.{attributes_of}
 use Rattle.cedar_schema_types.specs.declared.attribute.Attribute.{Attribute}
 
@@ -17,7 +17,7 @@ unfoldable mutual
   Ascends (entity n) = Unit {0}
   Ascends (set t) = Ascends t
   Ascends (record_of a) = IsStrictlySortedBy text_cmp (names_of a) × AllAscend a
-  Ascends decimal = Unit {0}
+  Ascends (extension t) = Unit {0}
 
   -- The types of all attributes ascend so, at every depth (own).
   pub AllAscend : Attributes → Type 0

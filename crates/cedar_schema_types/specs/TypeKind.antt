@@ -1,9 +1,9 @@
 -- The type that a kind denotes.
 use Rattle.std.specs.Prelude.{List, [], ◌∷◌}
-use Rattle.cedar_schema_types.specs.Types.{TypeTree, boolean, long, string, entity, set, record_of, decimal, Attributes, no_attributes, attribute}
+use Rattle.cedar_schema_types.specs.Types.{TypeTree, boolean, long, string, entity, set, record_of, extension, Attributes, no_attributes, attribute}
 use Rattle.cedar_schema_types.specs.declared.attribute.Attribute.{Attribute}
 use Rattle.cedar_schema_types.specs.declared.types.TypeKind.{TypeKind}
-use Rattle.cedar_schema_types.specs.declared.types.TypeKind.TheVariants.{Boolean, Long, String, Entity, Set, Record, Decimal}
+use Rattle.cedar_schema_types.specs.declared.types.TypeKind.TheVariants.{Boolean, Long, String, Entity, Set, Record, Extension}
 
 -- The attributes of a list, in its order (own).
 abbrev pub attributes_of : List Attribute → Attributes
@@ -18,4 +18,4 @@ type_of String = string
 type_of (Entity n) = entity n
 type_of (Set b) = set b.value
 type_of (Record r) = record_of r
-type_of Decimal = decimal
+type_of (Extension t) = extension t

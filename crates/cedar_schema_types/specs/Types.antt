@@ -1,9 +1,10 @@
 -- Types of the strict validator (Cedar documentation, JSON schema format; cedar-spec, Lean: Cedar.Validation.Types).
 use Rattle.std.specs.Prelude.{ℕ, Bool, true, false, List, [], ◌∷◌}
+use Rattle.cedar_ext.specs.declared.extension.ExtensionType.{ExtensionType}
 use Rattle.cedar_schema_types.specs.declared.truth.Truth.{Truth}
 
 -- A type: Booleans and what is known of them, whole numbers, strings, the entities of a type given by its name, sets of a type,
--- records given by their attributes, decimals (Cedar documentation, JSON schema format: attribute types).
+-- records given by their attributes, extension types (Cedar documentation, JSON schema format: attribute types).
 mutual
   pub data TypeTree : Type 0 where
     boolean : Truth → TypeTree
@@ -12,7 +13,7 @@ mutual
     entity : List ℕ → TypeTree
     set : TypeTree → TypeTree
     record_of : Attributes → TypeTree
-    decimal : TypeTree
+    extension : ExtensionType → TypeTree
 
   -- The attributes of a record, one after another: for each its name, whether it is required, and its type (Cedar
   -- documentation, JSON schema format: Record).

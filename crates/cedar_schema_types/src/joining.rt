@@ -29,10 +29,16 @@ pub fn join(alloc: Global, left: &Type, right: &Type) -> Result<Option<Type>, Al
         }
         (TypeKind::Long, TypeKind::Long) => Ok(Some(Type::new(TypeKind::Long))),
         (TypeKind::String, TypeKind::String) => Ok(Some(Type::new(TypeKind::String))),
-        (TypeKind::Decimal, TypeKind::Decimal) => Ok(Some(Type::new(TypeKind::Decimal))),
         (TypeKind::Entity(one), TypeKind::Entity(two)) => {
             if one == two {
                 Ok(Some(Type::new(TypeKind::Entity(one.try_clone(alloc)?))))
+            } else {
+                Ok(None)
+            }
+        }
+        (TypeKind::Extension(one), TypeKind::Extension(two)) => {
+            if one.same(*two) {
+                Ok(Some(Type::new(TypeKind::Extension(*one))))
             } else {
                 Ok(None)
             }

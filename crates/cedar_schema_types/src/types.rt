@@ -7,6 +7,7 @@ ghost use Rattle.cedar_schema_types.specs.TypeKind.{type_of};
 use crate::attribute::Attribute;
 use crate::record_type::RecordType;
 use crate::truth::Truth;
+use cedar_ext::ExtensionType;
 use cedar_value::Name;
 use std::alloc::{AllocError, Global};
 use std::marker::Model;
@@ -27,8 +28,8 @@ pub enum TypeKind {
     Set(Box<Type>),
     /// Records with these attributes and no others.
     Record(RecordType),
-    /// Numbers of ten-thousandths.
-    Decimal,
+    /// The values of an extension type.
+    Extension(ExtensionType),
 }
 
 /// A type, which contracts see as a `TypeTree`. At every level of it the attributes of a record ascend
@@ -102,7 +103,7 @@ impl Type {
             TypeKind::Entity(name) => TypeKind::Entity(name.try_clone(alloc)?),
             TypeKind::Set(member) => TypeKind::Set(Box::new(alloc, member.try_clone(alloc)?)?),
             TypeKind::Record(attributes) => TypeKind::Record(attributes.try_clone(alloc)?),
-            TypeKind::Decimal => TypeKind::Decimal,
+            TypeKind::Extension(extension) => TypeKind::Extension(*extension),
         };
         Ok(Type { kind })
     }
@@ -127,6 +128,6 @@ fn order_inside(kind: &TypeKind)
         | TypeKind::Long
         | TypeKind::String
         | TypeKind::Entity(_)
-        | TypeKind::Decimal => (),
+        | TypeKind::Extension(_) => (),
     }
 }

@@ -5,7 +5,7 @@ use Rattle.std.specs.List.{slice_get, list_any}
 use Rattle.std.proofs.lemmas.List.Folds.{Any-from_list_any, list_any_at}
 use Rattle.base_reach.proofs.Chains.{first_link}
 use Rattle.cedar_value.proofs.Reach.{below-Decides}
-use Rattle.cedar_value.specs.Datum.{Datum, boolean, long, text, uid, set, record_of, decimal}
+use Rattle.cedar_value.specs.Datum.{Datum, boolean, long, text, uid, set, record_of, extension}
 use Rattle.cedar_value.specs.World.{World, Below, below, below_any, below_datum}
 use Rattle.cedar_value.specs.declared.uid.Uid.{Uid}
 use Rattle.cedar_store.specs.Entities.{uids_of}
@@ -39,7 +39,7 @@ below_datum-ancestors w u s h (long n) = refl
 below_datum-ancestors w u s h (text t) = refl
 below_datum-ancestors w u s h (set ms) = refl
 below_datum-ancestors w u s h (record_of fs) = refl
-below_datum-ancestors w u s h (decimal n) = refl
+below_datum-ancestors w u s h (extension e) = refl
 
 pub below_any-ancestors : (w : World) (u : Uid) (s : Uid → Bool) → AreAncestors w u s → (ds : List Datum) → list_any (has_datum s) ds ≡ below_any w u ds
 below_any-ancestors w u s h [] = refl
@@ -52,7 +52,7 @@ below_datum-nothing w u h (long n) = refl
 below_datum-nothing w u h (text t) = refl
 below_datum-nothing w u h (set ms) = refl
 below_datum-nothing w u h (record_of fs) = refl
-below_datum-nothing w u h (decimal n) = refl
+below_datum-nothing w u h (extension e) = refl
 
 pub below_any-nothing : (w : World) (u : Uid) → ((v : Uid) → ¬ Below w u v) → (ds : List Datum) → false ≡ below_any w u ds
 below_any-nothing w u h [] = refl
@@ -65,7 +65,7 @@ is_uid s (long n) h = cc
 is_uid s (text t) h = cc
 is_uid s (set ms) h = cc
 is_uid s (record_of fs) h = cc
-is_uid s (decimal n) h = cc
+is_uid s (extension e) h = cc
 
 pub any_chain : (w : World) (u : Uid) (s : Uid → Bool) (ds : List Datum) → AreAncestors w u s → (b : Bool) → b ≡ list_any (has_datum s) ds → IsTrue b ↔ ((v : Uid) × Contains ds (uid v) × Below w u v)
 any_chain w u s ds h b is = (

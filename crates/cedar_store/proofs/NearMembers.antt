@@ -3,7 +3,7 @@ use Rattle.std.proofs.Common.{◌≡◌, ℕ, ◌+◌, ◌<◌, Bool, true, fals
 use Rattle.std.specs.List.{list_any}
 use Rattle.std.proofs.lemmas.List.{take_more}
 use Rattle.base_reach.proofs.Listed.{either_true, or_left, or_right}
-use Rattle.cedar_value.specs.Datum.{Datum, boolean, long, text, uid, set, record_of, decimal, same_uid}
+use Rattle.cedar_value.specs.Datum.{Datum, boolean, long, text, uid, set, record_of, extension, same_uid}
 use Rattle.cedar_value.specs.declared.uid.Uid.{Uid}
 use Rattle.cedar_store.specs.Private.Kept.{has_datum, is_number_of}
 use Rattle.cedar_store.proofs.AboveNear.{any_push, neither}
@@ -15,7 +15,7 @@ more_datum p q follows (long n) h = h
 more_datum p q follows (text t) h = h
 more_datum p q follows (set ms) h = h
 more_datum p q follows (record_of fs) h = h
-more_datum p q follows (decimal n) h = h
+more_datum p q follows (extension e) h = h
 
 -- a member that passes one test passes each that follows
 pub more_members : (p q : Uid → Bool) → ((u : Uid) → p u ≡ true → q u ≡ true) → (ds : List Datum) → list_any (has_datum p) ds ≡ true → list_any (has_datum q) ds ≡ true
@@ -37,7 +37,7 @@ no_datum p q follows (long n) h = h
 no_datum p q follows (text t) h = h
 no_datum p q follows (set ms) h = h
 no_datum p q follows (record_of fs) h = h
-no_datum p q follows (decimal n) h = h
+no_datum p q follows (extension e) h = h
 
 -- where no member passes one test, none passes another that fails where it does
 pub no_members : (p q : Uid → Bool) → ((u : Uid) → p u ≡ false → q u ≡ false) → (ds : List Datum) → list_any (has_datum p) ds ≡ false → list_any (has_datum q) ds ≡ false
@@ -53,7 +53,7 @@ neither_datum p q (long n) h k = h
 neither_datum p q (text t) h k = h
 neither_datum p q (set ms) h k = h
 neither_datum p q (record_of fs) h k = h
-neither_datum p q (decimal n) h k = h
+neither_datum p q (extension e) h k = h
 
 neither_member : (p q : Uid → Bool) (ds : List Datum) → list_any (has_datum p) ds ≡ false → list_any (has_datum q) ds ≡ false → list_any (has_datum (λ u. p u || q u)) ds ≡ false
 neither_member p q [] h k = h
@@ -69,7 +69,7 @@ never (long n) = refl
 never (text t) = refl
 never (set ms) = refl
 never (record_of fs) = refl
-never (decimal n) = refl
+never (extension e) = refl
 
 -- no member passes the test that nothing passes
 pub never_any : (ds : List Datum) → list_any (has_datum (λ u. false)) ds ≡ false

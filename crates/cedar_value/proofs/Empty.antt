@@ -1,6 +1,6 @@
 -- Nothing is below anything in the world without entities.
 use Rattle.std.proofs.Common.{◌≡◌, false, ◌||◌, List, [], ◌∷◌, refl, ap, ◌∙◌}
-use Rattle.cedar_value.specs.Datum.{Datum, boolean, long, text, uid, set, record_of, decimal}
+use Rattle.cedar_value.specs.Datum.{Datum, boolean, long, text, uid, set, record_of, extension}
 use Rattle.base_reach.specs.Closure.{leads}
 use Rattle.cedar_value.specs.World.{below, below_any, below_datum}
 use Rattle.cedar_value.specs.declared.uid.Uid.{Uid}
@@ -16,7 +16,7 @@ below_datum-empty u (long n) = refl
 below_datum-empty u (text t) = refl
 below_datum-empty u (set ms) = refl
 below_datum-empty u (record_of fs) = refl
-below_datum-empty u (decimal n) = refl
+below_datum-empty u (extension e) = refl
 
 pub below_any-empty : (u : Uid) (ds : List Datum) → false ≡ below_any [] u ds
 below_any-empty u [] = refl

@@ -1,5 +1,6 @@
 -- A value of one kind compared with one of another that is looked at: by their kinds alone.
 use Rattle.std.proofs.Common.{◌≡◌, ℕ, ℤ, Bool, Box, Global, List, nat_cmp, refl}
+use Rattle.cedar_ext.specs.declared.extension.Extension.{Extension as ExtensionValue}
 use Rattle.cedar_value.specs.Datum.{Datum}
 use Rattle.cedar_value.specs.Order.{datum_cmp}
 use Rattle.cedar_value.specs.Private.Compare.{kind_number, datum_cmp-tree}
@@ -9,7 +10,7 @@ use Rattle.cedar_value.specs.declared.uid.Uid.{Uid as EntityUid}
 use Rattle.cedar_value.specs.declared.glance.Glance.{Glance}
 use Rattle.cedar_value.specs.declared.glance.Glance.TheVariants as look
 use Rattle.cedar_value.specs.declared.value.ValueKind.{ValueKind}
-use Rattle.cedar_value.specs.declared.value.ValueKind.TheVariants.{Boolean, Long, String, Uid, Set, Record, Decimal}
+use Rattle.cedar_value.specs.declared.value.ValueKind.TheVariants.{Boolean, Long, String, Uid, Set, Record, Extension}
 
 -- the order is that of the kinds
 abbrev pub ByKind : ValueKind → Glance → Type 0
@@ -39,6 +40,6 @@ pub other-Record : (x : List (List ℕ × Datum)) (l : Glance) → ((y : _) → 
 other-Record x (look.Record y) h = absurd (h y refl)
 other-Record x l h = datum_cmp-tree (datum_of (Record x)) (datum_seen l)
 
-pub other-Decimal : (x : ℤ) (l : Glance) → ((y : _) → l ≡ look.Decimal y → ⊥) → ByKind (Decimal x) l
-other-Decimal x (look.Decimal y) h = absurd (h y refl)
-other-Decimal x l h = datum_cmp-tree (datum_of (Decimal x)) (datum_seen l)
+pub other-Extension : (x : ExtensionValue) (l : Glance) → ((y : _) → l ≡ look.Extension y → ⊥) → ByKind (Extension x) l
+other-Extension x (look.Extension y) h = absurd (h y refl)
+other-Extension x l h = datum_cmp-tree (datum_of (Extension x)) (datum_seen l)

@@ -2,11 +2,13 @@
 use Rattle.std.specs.Prelude.{ℕ, ℤ, Bool, true, false, not, ◌&&◌, List, [], ◌∷◌}
 use Rattle.std.specs.Ordering.{int_eq}
 use Rattle.std.specs.Str.{bytes_eq}
+use Rattle.cedar_ext.specs.declared.extension.Extension.{Extension}
+use Rattle.cedar_ext.specs.Extensions.{same_extension}
 use Rattle.cedar_value.specs.declared.uid.Uid.{Uid}
 
 -- A Boolean, a whole number, a string given by its bytes, an entity's uid, a set given by its members, a record given by its
--- keys and their values, or a decimal given by its ten-thousandths. `IsValue` says which of these trees are values (Cedar
--- language reference, data types; cedar-spec, Lean: Cedar.Spec.Value).
+-- keys and their values, or a value of an extension type. `IsValue` says which of these trees are values (Cedar language
+-- reference, data types; cedar-spec, Lean: Cedar.Spec.Value).
 mutual
   pub data Datum : Type 0 where
     boolean : Bool → Datum
@@ -15,7 +17,7 @@ mutual
     uid : Uid → Datum
     set : Members → Datum
     record_of : Fields → Datum
-    decimal : ℤ → Datum
+    extension : Extension → Datum
 
   -- The members of a set, in order (Cedar language reference, sets).
   pub data Members : Type 0 where
@@ -66,7 +68,7 @@ abbrev mutual
   same (uid u) (uid v) = same_uid u v
   same (set ms) (set ns) = same_members ms ns
   same (record_of fs) (record_of gs) = same_fields fs gs
-  same (decimal m) (decimal n) = int_eq m n
+  same (extension a) (extension b) = same_extension a b
   same _ _ = false
 
   -- Whether two lists of members are the same, member by member (Cedar language reference, `==`).

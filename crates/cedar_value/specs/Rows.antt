@@ -1,6 +1,7 @@
 -- The row of numbers by which values are ordered: the number of the kind, and then what it holds.
 use Rattle.std.specs.Prelude.{ℕ, ◌+◌, ℤ, pos, ◌+ℤ◌, Bool, true, false, List, [], ◌∷◌}
-use Rattle.cedar_value.specs.Datum.{Datum, boolean, long, text, uid, set, record_of, decimal, Members, no_members, member, Fields, no_fields, field}
+use Rattle.cedar_ext.specs.Extensions.{extension_row}
+use Rattle.cedar_value.specs.Datum.{Datum, boolean, long, text, uid, set, record_of, extension, Members, no_members, member, Fields, no_fields, field}
 
 -- Each row goes before a rest, which is empty after a whole value.
 
@@ -14,7 +15,7 @@ abbrev pub truth_number : Bool → ℤ
 truth_number false = pos 0
 truth_number true = pos 1
 
--- The row of a value: first the number of its kind. Then, for a number or a decimal, that number plus 9223372036854775808. For
+-- The row of a value: first the number of its kind. Then, for a number, that number plus 9223372036854775808. For
 -- a uid, its type's text and its id. For a set, the rows of its members and 0. For a record, for each pair 1, the key and the
 -- value, and at the end 0 (this project).
 abbrev mutual
@@ -25,7 +26,7 @@ abbrev mutual
   row (uid u) rest = pos 4 ∷ text_row u.ty (text_row u.id rest)
   row (set ms) rest = pos 5 ∷ members_row ms rest
   row (record_of fs) rest = pos 6 ∷ fields_row fs rest
-  row (decimal z) rest = pos 7 ∷ (z +ℤ pos 9223372036854775808) ∷ rest
+  row (extension e) rest = pos 7 ∷ extension_row e rest
 
   -- The rows of members, and 0 (this project).
   pub members_row : Members → List ℤ → List ℤ

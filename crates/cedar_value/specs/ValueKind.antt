@@ -1,7 +1,7 @@
 -- What a kind of the code denotes.
-use Rattle.cedar_value.specs.Datum.{Datum, boolean, long, text, uid, set, record_of, decimal, members_of, fields_of}
+use Rattle.cedar_value.specs.Datum.{Datum, boolean, long, text, uid, set, record_of, extension, members_of, fields_of}
 use Rattle.cedar_value.specs.declared.value.ValueKind.{ValueKind}
-use Rattle.cedar_value.specs.declared.value.ValueKind.TheVariants.{Boolean, Long, String, Uid, Set, Record, Decimal}
+use Rattle.cedar_value.specs.declared.value.ValueKind.TheVariants.{Boolean, Long, String, Uid, Set, Record, Extension}
 
 -- The value that a kind denotes (this project).
 abbrev pub datum_of : ValueKind → Datum
@@ -11,4 +11,4 @@ datum_of (String t) = text t
 datum_of (Uid u) = uid u.value
 datum_of (Set ds) = set (members_of ds)
 datum_of (Record ps) = record_of (fields_of ps)
-datum_of (Decimal z) = decimal z
+datum_of (Extension e) = extension e

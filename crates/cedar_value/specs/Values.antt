@@ -1,10 +1,11 @@
 -- Which trees are values of a program.
 use Rattle.std.specs.Int.{w64}
 use Rattle.std.specs.Prelude.{FitsSigned}
-use Rattle.cedar_value.specs.Datum.{Datum, boolean, long, text, uid, set, record_of, decimal, Members, no_members, member, Fields, no_fields, field, list_of, pairs_of}
+use Rattle.cedar_ext.specs.Extensions.{IsExtension}
+use Rattle.cedar_value.specs.Datum.{Datum, boolean, long, text, uid, set, record_of, extension, Members, no_members, member, Fields, no_fields, field, list_of, pairs_of}
 use Rattle.cedar_value.specs.Order.{IsAscending, AreKeysAscending}
 
--- The tree is a value, at every depth. Its numbers and the ten-thousandths of its decimals are numbers of 64 bits. The members
+-- The tree is a value, at every depth. Its numbers, and those of its values of extension types, are of 64 bits. The members
 -- of each set ascend in the order of values, and the keys of each record ascend by their bytes (Cedar language reference, data
 -- types).
 abbrev mutual
@@ -15,7 +16,7 @@ abbrev mutual
   IsValue (uid u) = Unit {0}
   IsValue (set ms) = IsAscending (list_of ms) × AreValues ms
   IsValue (record_of fs) = AreKeysAscending (pairs_of fs) × HoldValues fs
-  IsValue (decimal z) = FitsSigned w64 z
+  IsValue (extension e) = IsExtension e
 
   -- Each of the members is a value (Cedar language reference, sets).
   pub AreValues : Members → Type 0

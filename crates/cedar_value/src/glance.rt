@@ -9,7 +9,7 @@ use crate::uid::Uid;
 use crate::value::{Value, ValueKind};
 use crate::value_record::Record;
 use crate::value_set::ValueSet;
-use cedar_ext::Decimal;
+use cedar_ext::Extension;
 use std::alloc::{AllocError, Global};
 
 /// A value that is looked at, wherever it is: in a policy, in the request, in an entity or on its own.
@@ -27,12 +27,12 @@ pub enum Glance<'a> {
     Set(&'a ValueSet),
     /// A record.
     Record(&'a Record),
-    /// A decimal.
-    Decimal(&'a Decimal),
+    /// A value of an extension type.
+    Extension(&'a Extension),
 }
 
 impl Glance<'_> {
-    /// A copy of the value. A Boolean, a number or a decimal takes no memory.
+    /// A copy of the value. A Boolean, a number or a value of an extension type takes no memory.
     pub fn to_value(self, alloc: Global) -> Result<Value, AllocError>
         ensures value { IfOk result (λ v. v ≡ datum_seen self.entry) }
         ensures succeeds { IsPlain (datum_seen self.entry) → IsOk result }
@@ -44,7 +44,7 @@ impl Glance<'_> {
             Glance::Uid(uid) => ValueKind::Uid(Box::new(alloc, uid.try_clone(alloc)?)?),
             Glance::Set(members) => ValueKind::Set(members.try_clone(alloc)?),
             Glance::Record(pairs) => ValueKind::Record(pairs.try_clone(alloc)?),
-            Glance::Decimal(decimal) => ValueKind::Decimal(*decimal),
+            Glance::Extension(value) => ValueKind::Extension(*value),
         };
         Ok(Value::new(kind))
     }
@@ -61,7 +61,7 @@ impl Glance<'_> {
             (Glance::Uid(one), Glance::Uid(two)) => one == two,
             (Glance::Set(one), Glance::Set(two)) => one == two,
             (Glance::Record(one), Glance::Record(two)) => one == two,
-            (Glance::Decimal(one), Glance::Decimal(two)) => one == two,
+            (Glance::Extension(one), Glance::Extension(two)) => one.same(*two),
             _ => false,
         }
     }

@@ -22,7 +22,7 @@ pub(crate) fn order_glance(left: &Value, right: Glance<'_>) -> Ordering
         (ValueKind::Uid(one), Glance::Uid(two)) => one.as_ref().cmp(two),
         (ValueKind::Set(one), Glance::Set(two)) => order_members(one.members(), two.members()),
         (ValueKind::Record(one), Glance::Record(two)) => order_pairs(one.pairs(), two.pairs()),
-        (ValueKind::Decimal(one), Glance::Decimal(two)) => one.cmp(two),
+        (ValueKind::Extension(one), Glance::Extension(two)) => one.order(**two),
         _ => kind_number(left.glance()).cmp(&kind_number(right)),
     }
 }
@@ -83,6 +83,6 @@ fn kind_number(value: Glance<'_>) -> u8
         Glance::Uid(_) => 4,
         Glance::Set(_) => 5,
         Glance::Record(_) => 6,
-        Glance::Decimal(_) => 7,
+        Glance::Extension(_) => 7,
     }
 }

@@ -1,6 +1,6 @@
 //! Values, which contracts see as a `Datum`.
 ghost use Rattle.std.specs.Prelude.{◌≡◌, IsOk, IfOk, ◌↔◌, IsTrue};
-ghost use Rattle.cedar_value.specs.Datum.{boolean, long, text, uid, set, record_of, decimal, members_of, fields_of};
+ghost use Rattle.cedar_value.specs.Datum.{boolean, long, text, uid, set, record_of, extension, members_of, fields_of};
 ghost use Rattle.cedar_value.specs.Memory.{IsPlain};
 ghost use Rattle.cedar_value.specs.Values.{IsValue};
 ghost use Rattle.cedar_value.specs.ValueKind.{datum_of};
@@ -13,7 +13,7 @@ use crate::text::Text;
 use crate::uid::Uid;
 use crate::value_record::Record;
 use crate::value_set::ValueSet;
-use cedar_ext::Decimal;
+use cedar_ext::Extension;
 use std::alloc::{AllocError, Global};
 use std::cmp::Ordering;
 use std::marker::Model;
@@ -34,8 +34,8 @@ pub enum ValueKind {
     Set(ValueSet),
     /// A record: values under keys.
     Record(Record),
-    /// A number of ten-thousandths.
-    Decimal(Decimal),
+    /// A value of an extension type.
+    Extension(Extension),
 }
 
 /// A value, which contracts see as a `Datum`. At every depth of it numbers are of 64 bits, the members of
@@ -121,11 +121,11 @@ impl Value {
         Value::new(ValueKind::Record(pairs))
     }
 
-    /// A decimal.
-    pub fn decimal(number: Decimal) -> Self
-        ensures { result ≡ decimal number }
+    /// A value of an extension type.
+    pub fn extension(value: Extension) -> Self
+        ensures { result ≡ extension value }
     {
-        Value::new(ValueKind::Decimal(number))
+        Value::new(ValueKind::Extension(value))
     }
 
     /// The kind, with what it holds.
@@ -153,11 +153,11 @@ impl Value {
             ValueKind::Uid(uid) => Glance::Uid(uid),
             ValueKind::Set(members) => Glance::Set(members),
             ValueKind::Record(pairs) => Glance::Record(pairs),
-            ValueKind::Decimal(decimal) => Glance::Decimal(decimal),
+            ValueKind::Extension(value) => Glance::Extension(value),
         }
     }
 
-    /// A copy, equal to the original. A Boolean, a number or a decimal takes no memory.
+    /// A copy, equal to the original. A Boolean, a number or a value of an extension type takes no memory.
     #[cycle(copy)]
     pub fn try_clone(&self, alloc: Global) -> Result<Self, AllocError>
         ensures copy { IfOk result (λ v. v ≡ self.now) }
@@ -170,7 +170,7 @@ impl Value {
             ValueKind::Uid(uid) => ValueKind::Uid(Box::new(alloc, uid.try_clone(alloc)?)?),
             ValueKind::Set(members) => ValueKind::Set(members.try_clone(alloc)?),
             ValueKind::Record(pairs) => ValueKind::Record(pairs.try_clone(alloc)?),
-            ValueKind::Decimal(decimal) => ValueKind::Decimal(*decimal),
+            ValueKind::Extension(value) => ValueKind::Extension(*value),
         };
         Ok(Value::new(kind))
     }
@@ -192,9 +192,7 @@ fn kind_is_a_value(kind: &ValueKind)
         ValueKind::Long(number) => {
             let _number = *number;
         }
-        ValueKind::Decimal(decimal) => {
-            let _units = decimal.units();
-        }
+        ValueKind::Extension(value) => value.well_formedness(),
         ValueKind::Set(members) => members.well_formedness(),
         ValueKind::Record(pairs) => pairs.well_formedness(),
         _ => {}

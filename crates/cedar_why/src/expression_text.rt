@@ -73,7 +73,9 @@ pub fn write_part<'e>(
 fn write_pair<'e>(rest: &mut DraftList<Piece<'e>>, left: &'e Expr, sign: Sign, right: &'e Expr) {
     rest.add(Piece::Text(sign.after));
     rest.add(Piece::Part(right, sign.right));
-    rest.add(Piece::Text(sign.between));
+    rest.add(Piece::Text(sign.opening));
+    rest.add(Piece::Text(sign.name));
+    rest.add(Piece::Text(sign.before));
     rest.add(Piece::Part(left, sign.left));
 }
 

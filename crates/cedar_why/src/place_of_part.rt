@@ -20,7 +20,7 @@ fn is_one_operator(comparison: &Expr, text: &str, place: Option<PartPlace>) -> b
         return true;
     };
     match text.get(place.name.start..place.name.end) {
-        Some(written) => written == sign.between.trim(),
+        Some(written) => written == sign.name,
         None => true,
     }
 }

@@ -23,8 +23,12 @@ pub const MEMBER: u8 = 7;
 pub struct Sign {
     /// How close the left operand belongs to it.
     pub left: u8,
-    /// What is between the operands.
-    pub between: &'static str,
+    /// What is between the left operand and the name.
+    pub before: &'static str,
+    /// The sign itself, or the name of the method.
+    pub name: &'static str,
+    /// What is between the name and the right operand.
+    pub opening: &'static str,
     /// How close the right operand belongs to it.
     pub right: u8,
     /// What is after the right operand.
@@ -33,40 +37,48 @@ pub struct Sign {
     pub level: u8,
 }
 
-fn relation(between: &'static str) -> Sign {
+fn relation(name: &'static str) -> Sign {
     Sign {
         left: SUM,
-        between,
+        before: " ",
+        name,
+        opening: " ",
         right: SUM,
         after: "",
         level: RELATION,
     }
 }
 
-fn chain(between: &'static str, level: u8) -> Sign {
+fn chain(name: &'static str, level: u8) -> Sign {
     Sign {
         left: level,
-        between,
+        before: " ",
+        name,
+        opening: " ",
         right: level,
         after: "",
         level,
     }
 }
 
-fn sum(between: &'static str) -> Sign {
+fn sum(name: &'static str) -> Sign {
     Sign {
         left: SUM,
-        between,
+        before: " ",
+        name,
+        opening: " ",
         right: PRODUCT,
         after: "",
         level: SUM,
     }
 }
 
-fn method(between: &'static str) -> Sign {
+fn method(name: &'static str) -> Sign {
     Sign {
         left: MEMBER,
-        between,
+        before: ".",
+        name,
+        opening: "(",
         right: CHOICE,
         after: ")",
         level: MEMBER,
@@ -76,34 +88,33 @@ fn method(between: &'static str) -> Sign {
 /// How an operator is written.
 pub fn sign_of(operator: BinaryOperator) -> Sign {
     match operator {
-        BinaryOperator::Equal => relation(" == "),
-        BinaryOperator::Less => relation(" < "),
-        BinaryOperator::LessEqual => relation(" <= "),
-        BinaryOperator::In => relation(" in "),
-        BinaryOperator::Add => sum(" + "),
-        BinaryOperator::Subtract => sum(" - "),
+        BinaryOperator::Equal => relation("=="),
+        BinaryOperator::Less => relation("<"),
+        BinaryOperator::LessEqual => relation("<="),
+        BinaryOperator::In => relation("in"),
+        BinaryOperator::Add => sum("+"),
+        BinaryOperator::Subtract => sum("-"),
         BinaryOperator::Multiply => Sign {
             left: PRODUCT,
-            between: " * ",
+            before: " ",
+            name: "*",
+            opening: " ",
             right: UNARY,
             after: "",
             level: PRODUCT,
         },
-        BinaryOperator::Contains => method(".contains("),
-        BinaryOperator::ContainsAll => method(".containsAll("),
-        BinaryOperator::ContainsAny => method(".containsAny("),
-        BinaryOperator::DecimalLess => method(".lessThan("),
-        BinaryOperator::DecimalLessEqual => method(".lessThanOrEqual("),
-        BinaryOperator::DecimalGreater => method(".greaterThan("),
-        BinaryOperator::DecimalGreaterEqual => method(".greaterThanOrEqual("),
+        BinaryOperator::Contains => method("contains"),
+        BinaryOperator::ContainsAll => method("containsAll"),
+        BinaryOperator::ContainsAny => method("containsAny"),
+        BinaryOperator::Call(called) => method(called.name()),
     }
 }
 
 /// How a part that joins two sides is written. Another part is taken for a comparison.
 pub fn sign_of_part(part: &Expr) -> Sign {
     match part.kind() {
-        ExprKind::And(_, _) => chain(" && ", AND),
-        ExprKind::Or(_, _) => chain(" || ", OR),
+        ExprKind::And(_, _) => chain("&&", AND),
+        ExprKind::Or(_, _) => chain("||", OR),
         ExprKind::Binary(operator, _, _) => sign_of(*operator),
         _ => sign_of(BinaryOperator::Equal),
     }
@@ -112,9 +123,9 @@ pub fn sign_of_part(part: &Expr) -> Sign {
 /// How the `!` of an operator is written as one operator, if it can be.
 pub fn negated_sign(operator: BinaryOperator) -> Option<Sign> {
     match operator {
-        BinaryOperator::Equal => Some(relation(" != ")),
-        BinaryOperator::Less => Some(relation(" >= ")),
-        BinaryOperator::LessEqual => Some(relation(" > ")),
+        BinaryOperator::Equal => Some(relation("!=")),
+        BinaryOperator::Less => Some(relation(">=")),
+        BinaryOperator::LessEqual => Some(relation(">")),
         _ => None,
     }
 }

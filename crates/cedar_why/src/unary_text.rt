@@ -11,7 +11,7 @@ pub fn level_of_unary(operator: &UnaryOperator) -> u8 {
     match operator {
         UnaryOperator::Not | UnaryOperator::Negate => UNARY,
         UnaryOperator::Has(_) | UnaryOperator::Like(_) | UnaryOperator::Is(_) => RELATION,
-        UnaryOperator::Get(_) | UnaryOperator::Decimal | UnaryOperator::IsEmpty => MEMBER,
+        UnaryOperator::Get(_) | UnaryOperator::Construct(_) | UnaryOperator::IsEmpty => MEMBER,
     }
 }
 
@@ -21,7 +21,7 @@ pub fn level_of_operand(operator: &UnaryOperator) -> u8 {
         UnaryOperator::Not | UnaryOperator::Negate => MEMBER,
         UnaryOperator::Has(_) | UnaryOperator::Like(_) | UnaryOperator::Is(_) => SUM,
         UnaryOperator::Get(_) | UnaryOperator::IsEmpty => MEMBER,
-        UnaryOperator::Decimal => CHOICE,
+        UnaryOperator::Construct(_) => CHOICE,
     }
 }
 
@@ -30,7 +30,7 @@ pub fn add_before(text: &mut Draft, operator: &UnaryOperator) {
     match operator {
         UnaryOperator::Not => text.add_char('!'),
         UnaryOperator::Negate => text.add_char('-'),
-        UnaryOperator::Decimal => text.add("decimal("),
+        UnaryOperator::Construct(ty) => text.add_all(&[ty.constructor(), "("]),
         _ => {}
     }
 }
@@ -52,7 +52,7 @@ pub fn add_after(text: &mut Draft, operator: &UnaryOperator) {
             text.add(" is ");
             text.add(name.as_str());
         }
-        UnaryOperator::Decimal => text.add_char(')'),
+        UnaryOperator::Construct(_) => text.add_char(')'),
         UnaryOperator::IsEmpty => text.add(".isEmpty()"),
     }
 }

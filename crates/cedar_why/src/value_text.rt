@@ -2,7 +2,7 @@
 use crate::piece::{Piece, written};
 use crate::shortened::{is_full, shortened};
 use base_places::{Draft, DraftList};
-use cedar_ext::Decimal;
+use cedar_ext::{Decimal, Extension};
 use cedar_value::{SharedText, Uid, Value, ValueKind};
 use std::alloc::{AllocError, Global};
 
@@ -31,7 +31,7 @@ pub fn write_value<'e>(text: &mut Draft, rest: &mut DraftList<Piece<'e>>, value:
         ValueKind::Uid(uid) => add_uid(text, uid),
         ValueKind::Set(members) => write_members(text, rest, members.members()),
         ValueKind::Record(pairs) => write_pairs(text, rest, pairs.pairs()),
-        ValueKind::Decimal(decimal) => add_decimal(text, *decimal),
+        ValueKind::Extension(value) => add_extension(text, value),
     }
 }
 
@@ -76,17 +76,29 @@ pub fn add_uid(text: &mut Draft, uid: &Uid) {
     add_quoted(text, uid.id.as_str());
 }
 
-// Adds a decimal, as `decimal("1.5")`.
+// Adds a value of an extension type as its constructor writes it, for example `decimal("1.5")`.
+fn add_extension(text: &mut Draft, value: &Extension) {
+    text.add_all(&[value.ty().constructor(), "(\""]);
+    add_content(text, value);
+    text.add("\")");
+}
+
+// Adds the text that the constructor of a value reads.
+fn add_content(text: &mut Draft, value: &Extension) {
+    match value {
+        Extension::Decimal(decimal) => add_decimal(text, *decimal),
+    }
+}
+
+// Adds the text of a decimal.
 fn add_decimal(text: &mut Draft, decimal: Decimal) {
     let units = decimal.units();
-    text.add("decimal(\"");
     if units < 0 {
         text.add_char('-');
     }
     text.add_display(units.unsigned_abs() / 10_000);
     text.add_char('.');
     add_fraction(text, units.unsigned_abs() % 10_000);
-    text.add("\")");
 }
 
 // Adds the four digits of a number below 10,000, without the zeros at their end. The first digit is there always.

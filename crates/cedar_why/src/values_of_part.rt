@@ -63,7 +63,7 @@ fn pair_text(
         return Ok(None);
     };
     let mut text = Draft::from_text(first);
-    text.add(sign.between);
+    text.add_all(&[sign.before, sign.name, sign.opening]);
     text.add(second.as_str());
     text.add(sign.after);
     text.done().map(Some)

@@ -3,16 +3,19 @@ use Rattle.std.proofs.Common.{◌≡◌, Bool, true, false, ◌&&◌, refl, ap}
 use Rattle.std.specs.Bool.{Decides}
 use Rattle.std.specs.Cmp.{IsEquivalence, decided}
 use Rattle.std.proofs.lemmas.Slice.Eq.{bytes_eq-Decides}
+use Rattle.cedar_ext.specs.Private.ExtensionLemmas.{same_type-Decides}
 use Rattle.cedar_ext.specs.Private.SamePattern.{same_pattern-Decides}
 use Rattle.cedar_value.specs.Private.Equality.{same-Decides}
 use Rattle.cedar_ast_expressions.specs.declared.variable.Variable.{Variable}
 use Rattle.cedar_ast_expressions.specs.declared.variable.Variable.TheVariants.{Principal, Action, Resource, Context}
+use Rattle.cedar_ext.specs.declared.method.BinaryMethod.{BinaryMethod}
+use Rattle.cedar_ext.specs.declared.method.BinaryMethod.TheVariants as method
 use Rattle.cedar_ast_expressions.specs.declared.operator.UnaryOperator.{UnaryOperator}
-use Rattle.cedar_ast_expressions.specs.declared.operator.UnaryOperator.TheVariants.{Not, Negate, Has, Get, Like, Is, Decimal, IsEmpty}
+use Rattle.cedar_ast_expressions.specs.declared.operator.UnaryOperator.TheVariants.{Not, Negate, Has, Get, Like, Is, Construct, IsEmpty}
 use Rattle.cedar_ast_expressions.specs.declared.operator.BinaryOperator.{BinaryOperator}
 use Rattle.cedar_ast_expressions.specs.declared.operator.BinaryOperator.TheVariants as operator
 use Rattle.cedar_ast_expressions.specs.Expression.{Expression, literal, variable, and, or, if_else, unary, binary, set_with, record_with, Expressions, no_more, and_then, Entries, no_entries, entry}
-use Rattle.cedar_ast_expressions.specs.SameExpression.{same_variable, same_binary}
+use Rattle.cedar_ast_expressions.specs.SameExpression.{same_variable, same_method, same_binary}
 unfoldable pub use Rattle.cedar_ast_expressions.specs.SameExpression.{same_unary, same_expression, same_expressions, same_entries}
 
 both : (a b : Bool) {P Q : Type 0} → Decides a P → Decides b Q → Decides (a && b) (P × Q)
@@ -26,6 +29,13 @@ same_variable-Decides Resource Resource = (λ e. refl, λ e. refl)
 same_variable-Decides Context Context = (λ e. refl, λ e. refl)
 same_variable-Decides _ _ = (λ e. absurd (cc), λ e. absurd (cc))
 
+same_method-Decides : (a b : BinaryMethod) → Decides (same_method a b) (a ≡ b)
+same_method-Decides method.LessThan method.LessThan = (λ e. refl, λ e. refl)
+same_method-Decides method.LessThanOrEqual method.LessThanOrEqual = (λ e. refl, λ e. refl)
+same_method-Decides method.GreaterThan method.GreaterThan = (λ e. refl, λ e. refl)
+same_method-Decides method.GreaterThanOrEqual method.GreaterThanOrEqual = (λ e. refl, λ e. refl)
+same_method-Decides _ _ = (λ e. absurd (cc), λ e. absurd (cc))
+
 pub same_unary-Decides : (a b : UnaryOperator) → Decides (same_unary a b) (a ≡ b)
 unfolding same_unary
 same_unary-Decides Not Not = (λ e. refl, λ e. refl)
@@ -34,7 +44,7 @@ same_unary-Decides (Has a) (Has b) = let d = bytes_eq-Decides a b in (λ e. ap H
 same_unary-Decides (Get a) (Get b) = let d = bytes_eq-Decides a b in (λ e. ap Get (d.0 e), λ e. d.1 cc)
 same_unary-Decides (Like p) (Like q) = let d = same_pattern-Decides p q in (λ e. ap Like (d.0 e), λ e. d.1 cc)
 same_unary-Decides (Is t) (Is u) = let d = bytes_eq-Decides t u in (λ e. ap Is (d.0 e), λ e. d.1 cc)
-same_unary-Decides Decimal Decimal = (λ e. refl, λ e. refl)
+same_unary-Decides (Construct c) (Construct d) = let h = same_type-Decides c d in (λ e. ap Construct (h.0 e), λ e. h.1 cc)
 same_unary-Decides IsEmpty IsEmpty = (λ e. refl, λ e. refl)
 same_unary-Decides _ _ = (λ e. absurd (cc), λ e. absurd (cc))
 
@@ -49,10 +59,7 @@ same_binary-Decides operator.In operator.In = (λ e. refl, λ e. refl)
 same_binary-Decides operator.Contains operator.Contains = (λ e. refl, λ e. refl)
 same_binary-Decides operator.ContainsAll operator.ContainsAll = (λ e. refl, λ e. refl)
 same_binary-Decides operator.ContainsAny operator.ContainsAny = (λ e. refl, λ e. refl)
-same_binary-Decides operator.DecimalLess operator.DecimalLess = (λ e. refl, λ e. refl)
-same_binary-Decides operator.DecimalLessEqual operator.DecimalLessEqual = (λ e. refl, λ e. refl)
-same_binary-Decides operator.DecimalGreater operator.DecimalGreater = (λ e. refl, λ e. refl)
-same_binary-Decides operator.DecimalGreaterEqual operator.DecimalGreaterEqual = (λ e. refl, λ e. refl)
+same_binary-Decides (operator.Call m) (operator.Call n) = let h = same_method-Decides m n in (λ e. ap operator.Call (h.0 e), λ e. h.1 cc)
 same_binary-Decides _ _ = (λ e. absurd (cc), λ e. absurd (cc))
 
 mutual

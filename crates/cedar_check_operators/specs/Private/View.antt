@@ -15,7 +15,7 @@ abbrev pub type_seen : TypeGlance → TypeTree
 type_seen (glance.Boolean f) = kind.boolean f
 type_seen glance.Long = kind.long
 type_seen glance.String = kind.string
-type_seen glance.Decimal = kind.decimal
+type_seen (glance.Extension x) = kind.extension x
 type_seen (glance.Entity n) = kind.entity n.now
 type_seen (glance.Set t) = kind.set t.now
 type_seen (glance.Record r) = kind.record_of r.now

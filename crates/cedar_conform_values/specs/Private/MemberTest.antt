@@ -3,7 +3,8 @@ use Rattle.std.specs.Prelude.{ℕ, Bool, true, false, List, [], ◌∷◌, Optio
 use Rattle.std.specs.List.{list_all}
 use Rattle.std.specs.Ordering.{match_ordering}
 use Rattle.std.specs.Str.{bytes_eq}
-use Rattle.cedar_value.specs.Datum.{Datum, boolean, long, text, uid, set, record_of, decimal, list_of, pairs_of}
+use Rattle.cedar_ext.specs.Extensions.{type_of, same_type}
+use Rattle.cedar_value.specs.Datum.{Datum, boolean, long, text, uid, set, record_of, extension, list_of, pairs_of}
 use Rattle.cedar_value.specs.Order.{text_cmp}
 use Rattle.cedar_schema_types.specs.Types.{TypeTree, Attributes, no_attributes, attribute}
 use Rattle.cedar_schema_types.specs.Types as kind
@@ -35,7 +36,7 @@ unfoldable mutual
   is_member (kind.entity n) (uid u) = bytes_eq u.ty n
   is_member (kind.set t) (set ms) = list_all (is_member t) (list_of ms)
   is_member (kind.record_of a) (record_of fs) = are_fields a (pairs_of fs)
-  is_member kind.decimal (decimal n) = true
+  is_member (kind.extension t) (extension e) = same_type (type_of e) t
   is_member _ _ = false
 
   pub are_fields : Attributes → List (List ℕ × Datum) → Bool

@@ -32,7 +32,7 @@ pub(crate) fn expand(
         Form::Boolean => Ok(Type::new(TypeKind::Boolean(Truth::Any))),
         Form::Long => Ok(Type::new(TypeKind::Long)),
         Form::Text => Ok(Type::new(TypeKind::String)),
-        Form::Decimal => Ok(Type::new(TypeKind::Decimal)),
+        Form::Extension(extension) => Ok(Type::new(TypeKind::Extension(*extension))),
         Form::Entity(name) => Ok(Type::new(TypeKind::Entity(name.try_clone(alloc)?))),
         Form::Set(element) => {
             let element = expand(alloc, table, names, element)?;

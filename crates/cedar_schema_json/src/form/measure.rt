@@ -47,7 +47,7 @@ pub(crate) fn measure(
             measure_fields(table, names, fields, levels - 1, left)
         }
         Form::Common(place) => measure_common(table, names, *place, levels, room),
-        Form::Boolean | Form::Long | Form::Text | Form::Decimal | Form::Entity(_) => {
+        Form::Boolean | Form::Long | Form::Text | Form::Extension(_) | Form::Entity(_) => {
             take_one(levels, room)
         }
     }

@@ -14,6 +14,7 @@ use crate::form::{Form, FormField};
 use crate::json::naming::{read_declared, read_name};
 use crate::json::scope::Scope;
 use crate::schema_fault::SchemaFault;
+use cedar_ext::ExtensionType;
 use serde_json::{Map, Value};
 use std::alloc::Global;
 
@@ -65,14 +66,13 @@ fn read_extension(alloc: Global, json: &Value) -> Result<Form, SchemaFault>
     ensures { Reads result (needed extension_named (text_at (codes "name") (view json.now))) }
 {
     match text_at(json, "name") {
-        Some(text) => {
-            if text == "decimal" {
-                Ok(Form::Decimal)
-            } else {
+        Some(text) => match ExtensionType::named(text) {
+            Some(extension) => Ok(Form::Extension(extension)),
+            None => {
                 read_name(alloc, text)?;
                 Err(SchemaFault::UnknownType)
             }
-        }
+        },
         None => Err(SchemaFault::Shape),
     }
 }

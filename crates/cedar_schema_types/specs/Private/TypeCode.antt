@@ -3,9 +3,10 @@ use Rattle.std.specs.Prelude.{◌≡◌, zero, suc, refl}
 use Rattle.std.proofs.Common.{ap}
 use base.Stored.{Gv, gnil, gnum, gcons, Coded}
 use denote.Struct.Codes.{code_by, itself}
+use Rattle.cedar_ext.specs.Private.ExtensionCode.{extension_type_tree, extension_type_from, extension_type_back}
 use Rattle.cedar_value.specs.Private.DatumCode.{bytes_tree, bytes_from, bytes_back, truth_tree, truth_from, truth_back}
 use Rattle.cedar_schema_types.specs.declared.truth.Truth.TheVariants.{True, False, Any}
-use Rattle.cedar_schema_types.specs.Types.{TypeTree, boolean, long, string, entity, set, record_of, decimal, Attributes, no_attributes, attribute}
+use Rattle.cedar_schema_types.specs.Types.{TypeTree, boolean, long, string, entity, set, record_of, extension, Attributes, no_attributes, attribute}
 
 abbrev mutual
   pub type_tree : TypeTree → Gv
@@ -14,10 +15,10 @@ abbrev mutual
   type_tree (boolean Any) = gnum (suc (suc zero))
   type_tree long = gnum (suc (suc (suc zero)))
   type_tree string = gnum (suc (suc (suc (suc zero))))
-  type_tree decimal = gnum (suc (suc (suc (suc (suc zero)))))
   type_tree (entity n) = gcons (gnum zero) (bytes_tree n)
   type_tree (set t) = gcons (gnum (suc zero)) (type_tree t)
   type_tree (record_of as') = gcons (gnum (suc (suc zero))) (attributes_tree as')
+  type_tree (extension e) = gcons (gnum (suc (suc (suc zero)))) (extension_type_tree e)
 
   pub attributes_tree : Attributes → Gv
   attributes_tree no_attributes = gnil
@@ -30,13 +31,13 @@ abbrev mutual
   type_from (gnum (suc zero)) = boolean False
   type_from (gnum (suc (suc zero))) = boolean Any
   type_from (gnum (suc (suc (suc zero)))) = long
-  type_from (gnum (suc (suc (suc (suc zero))))) = string
-  type_from (gnum (suc (suc (suc (suc (suc n)))))) = decimal
+  type_from (gnum (suc (suc (suc (suc n))))) = string
   type_from (gcons gnil t) = long
   type_from (gcons (gcons a b) t) = long
   type_from (gcons (gnum zero) t) = entity (bytes_from t)
   type_from (gcons (gnum (suc zero)) t) = set (type_from t)
-  type_from (gcons (gnum (suc (suc n))) t) = record_of (attributes_from t)
+  type_from (gcons (gnum (suc (suc zero))) t) = record_of (attributes_from t)
+  type_from (gcons (gnum (suc (suc (suc n)))) t) = extension (extension_type_from t)
 
   pub attributes_from : Gv → Attributes
   attributes_from gnil = no_attributes
@@ -54,10 +55,10 @@ mutual
   type_back (boolean Any) = refl
   type_back long = refl
   type_back string = refl
-  type_back decimal = refl
   type_back (entity n) = ap entity (bytes_back n)
   type_back (set t) = ap set (type_back t)
   type_back (record_of a) = ap record_of (attributes_back a)
+  type_back (extension e) = ap extension (extension_type_back e)
 
   pub attributes_back : (a : Attributes) → attributes_from (attributes_tree a) ≡ a
   attributes_back no_attributes = refl

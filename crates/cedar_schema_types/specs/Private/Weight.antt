@@ -1,6 +1,6 @@
 -- How deep a type nests, as its model measures it.
 use Rattle.std.specs.Prelude.{ℕ, suc, max}
-use Rattle.cedar_schema_types.specs.Types.{TypeTree, boolean, long, string, entity, set, record_of, decimal, Attributes, no_attributes, attribute}
+use Rattle.cedar_schema_types.specs.Types.{TypeTree, boolean, long, string, entity, set, record_of, extension, Attributes, no_attributes, attribute}
 
 abbrev mutual
   pub weight : TypeTree → ℕ
@@ -10,7 +10,7 @@ abbrev mutual
   weight (entity n) = 0
   weight (set t) = suc (suc (weight t))
   weight (record_of a) = suc (suc (suc (attributes_weight a)))
-  weight decimal = 0
+  weight (extension t) = 0
 
   pub attributes_weight : Attributes → ℕ
   attributes_weight no_attributes = 0

@@ -7,7 +7,9 @@ use Rattle.std.specs.declared.cmp.Ordering.{Ordering}
 use Rattle.std.specs.declared.cmp.Ordering.TheVariants.{Less, Equal, Greater}
 use Rattle.std.specs.Ordering.{int_cmp, nat_cmp, bool_cmp, ordering_then, MatchOrdering}
 use Rattle.std.specs.Cmp.Lexicographic.{slice_cmp}
-use Rattle.cedar_value.specs.Datum.{Datum, boolean, long, text, uid, set, record_of, decimal, Members, no_members, member, Fields, no_fields, field, members_of, fields_of}
+use Rattle.cedar_ext.specs.Extensions.{extension_cmp}
+use Rattle.cedar_ext.specs.Private.ExtensionLemmas.{int_cmp-shift, extension_rows}
+use Rattle.cedar_value.specs.Datum.{Datum, boolean, long, text, uid, set, record_of, extension, Members, no_members, member, Fields, no_fields, field, members_of, fields_of}
 use Rattle.cedar_value.specs.Rows.{row, members_row, fields_row, text_row, truth_number}
 use Rattle.cedar_value.specs.Order.{datum_cmp, text_cmp, uid_cmp, members_cmp, pairs_cmp}
 
@@ -18,7 +20,7 @@ kind_number (text s) = 3
 kind_number (uid u) = 4
 kind_number (set ds) = 5
 kind_number (record_of ms) = 6
-kind_number (decimal z) = 7
+kind_number (extension e) = 7
 
 abbrev mutual
   pub tree_cmp : Datum → Datum → Ordering
@@ -28,7 +30,7 @@ abbrev mutual
   tree_cmp (uid u) (uid v) = uid_cmp u v
   tree_cmp (set ds) (set es) = tree_members ds es
   tree_cmp (record_of ms) (record_of ns) = tree_fields ms ns
-  tree_cmp (decimal x) (decimal y) = int_cmp x y
+  tree_cmp (extension a) (extension b) = extension_cmp a b
   tree_cmp a b = nat_cmp (kind_number a) (kind_number b)
 
   pub tree_members : Members → Members → Ordering
@@ -52,21 +54,6 @@ then_equal : (o : Ordering) → ordering_then o Equal ≡ o
 then_equal Less = refl
 then_equal Equal = refl
 then_equal Greater = refl
-
-module _ (x y c : ℤ) where
-  shifted : (o p : Ordering) → MatchOrdering o ((x +ℤ c) <ℤ (y +ℤ c)) ((x +ℤ c) ≡ (y +ℤ c)) ((y +ℤ c) <ℤ (x +ℤ c)) → MatchOrdering p (x <ℤ y) (x ≡ y) (y <ℤ x) → o ≡ p
-  shifted Less Less h g = refl
-  shifted Less Equal h g = absurd (omega (arith, ints))
-  shifted Less Greater h g = absurd (omega (arith, ints))
-  shifted Equal Less h g = absurd (omega (arith, ints))
-  shifted Equal Equal h g = refl
-  shifted Equal Greater h g = absurd (omega (arith, ints))
-  shifted Greater Less h g = absurd (omega (arith, ints))
-  shifted Greater Equal h g = absurd (omega (arith, ints))
-  shifted Greater Greater h g = refl
-
-  int_cmp-shift : int_cmp (x +ℤ c) (y +ℤ c) ≡ int_cmp x y
-  int_cmp-shift = shifted (int_cmp (x +ℤ c) (y +ℤ c)) (int_cmp x y) (int_ranked (x +ℤ c) (y +ℤ c) _ refl) (int_ranked x y _ refl)
 
 module _ (b c : ℕ) where
   as_ints : (o p : Ordering) → MatchOrdering o (pos (b + 1) <ℤ pos (c + 1)) (pos (b + 1) ≡ pos (c + 1)) (pos (c + 1) <ℤ pos (b + 1)) → MatchOrdering p (b < c) (b ≡ c) (c < b) → o ≡ p
@@ -116,7 +103,7 @@ end_first (text x) s t = refl
 end_first (uid u) s t = refl
 end_first (set ds) s t = refl
 end_first (record_of ms) s t = refl
-end_first (decimal z) s t = refl
+end_first (extension e) s t = refl
 
 end_last : (d : Datum) (s t : List ℤ) → slice_cmp int_cmp (row d s) (pos 0 ∷ t) ≡ Greater
 end_last (boolean b) s t = refl
@@ -125,7 +112,7 @@ end_last (text x) s t = refl
 end_last (uid u) s t = refl
 end_last (set ds) s t = refl
 end_last (record_of ms) s t = refl
-end_last (decimal z) s t = refl
+end_last (extension e) s t = refl
 
 mutual
   pub rows : (a b : Datum) (s t : List ℤ) → slice_cmp int_cmp (row a s) (row b t) ≡ ordering_then (tree_cmp a b) (slice_cmp int_cmp s t)
@@ -138,7 +125,7 @@ mutual
       ∙ then_assoc (text_cmp u.ty v.ty) (text_cmp u.id v.id) (slice_cmp int_cmp s t)
   rows (set ds) (set es) s t = member_rows ds es s t
   rows (record_of ms) (record_of ns) s t = field_rows ms ns s t
-  rows (decimal x) (decimal y) s t = ap (λ o. ordering_then o (slice_cmp int_cmp s t)) (int_cmp-shift x y (pos 9223372036854775808))
+  rows (extension a) (extension b) s t = extension_rows a b s t
   rows a b s t = refl
 
   member_rows : (ds es : Members) (s t : List ℤ) → slice_cmp int_cmp (members_row ds s) (members_row es t) ≡ ordering_then (tree_members ds es) (slice_cmp int_cmp s t)

@@ -3,7 +3,8 @@ use Rattle.std.specs.Prelude.{◌≡◌, ℕ, zero, suc, ℤ, pos, negsuc, Bool,
 use Rattle.std.proofs.Common.{ap}
 use base.Stored.{Gv, gnil, gnum, gcons, Coded}
 use denote.Struct.Codes.{code_by, itself}
-use Rattle.cedar_value.specs.Datum.{Datum, boolean, long, text, uid, set, record_of, decimal, Members, no_members, member, Fields, no_fields, field}
+use Rattle.cedar_ext.specs.Private.ExtensionCode.{int_tree, int_from, int_back, extension_tree, extension_from, extension_back}
+use Rattle.cedar_value.specs.Datum.{Datum, boolean, long, text, uid, set, record_of, extension, Members, no_members, member, Fields, no_fields, field}
 
 abbrev pub bytes_tree : List ℕ → Gv
 bytes_tree [] = gnil
@@ -15,17 +16,6 @@ bytes_from (gnum n) = []
 bytes_from (gcons gnil t) = []
 bytes_from (gcons (gnum b) t) = b ∷ bytes_from t
 bytes_from (gcons (gcons a b) t) = []
-
-abbrev pub int_tree : ℤ → Gv
-int_tree (pos n) = gnum n
-int_tree (negsuc n) = gcons gnil (gnum n)
-
-abbrev pub int_from : Gv → ℤ
-int_from gnil = pos 0
-int_from (gnum n) = pos n
-int_from (gcons a gnil) = pos 0
-int_from (gcons a (gnum n)) = negsuc n
-int_from (gcons a (gcons b c)) = pos 0
 
 abbrev pub truth_tree : Bool → Gv
 truth_tree true = gnum 0
@@ -44,7 +34,7 @@ abbrev mutual
   datum_tree (uid u) = gcons (gnum (suc (suc (suc zero)))) (gcons (bytes_tree u.ty) (bytes_tree u.id))
   datum_tree (set ds) = gcons (gnum (suc (suc (suc (suc zero))))) (members_tree ds)
   datum_tree (record_of ms) = gcons (gnum (suc (suc (suc (suc (suc zero)))))) (fields_tree ms)
-  datum_tree (decimal z) = gcons (gnum (suc (suc (suc (suc (suc (suc zero))))))) (int_tree z)
+  datum_tree (extension e) = gcons (gnum (suc (suc (suc (suc (suc (suc zero))))))) (extension_tree e)
 
   pub members_tree : Members → Gv
   members_tree no_members = gnil
@@ -68,7 +58,7 @@ abbrev mutual
   datum_from (gcons (gnum (suc (suc (suc zero)))) (gcons t i)) = uid (record { ty = bytes_from t; id = bytes_from i })
   datum_from (gcons (gnum (suc (suc (suc (suc zero))))) t) = set (members_from t)
   datum_from (gcons (gnum (suc (suc (suc (suc (suc zero)))))) t) = record_of (fields_from t)
-  datum_from (gcons (gnum (suc (suc (suc (suc (suc (suc n))))))) t) = decimal (int_from t)
+  datum_from (gcons (gnum (suc (suc (suc (suc (suc (suc n))))))) t) = extension (extension_from t)
 
   pub members_from : Gv → Members
   members_from gnil = no_members
@@ -86,10 +76,6 @@ pub bytes_back : (s : List ℕ) → bytes_from (bytes_tree s) ≡ s
 bytes_back [] = refl
 bytes_back (b ∷ bs) = ap (λ t. b ∷ t) (bytes_back bs)
 
-pub int_back : (z : ℤ) → int_from (int_tree z) ≡ z
-int_back (pos n) = refl
-int_back (negsuc n) = refl
-
 pub truth_back : (b : Bool) → truth_from (truth_tree b) ≡ b
 truth_back true = refl
 truth_back false = refl
@@ -102,7 +88,7 @@ mutual
   datum_back (uid u) = λ k. uid (record { ty = bytes_back u.ty k; id = bytes_back u.id k })
   datum_back (set ds) = ap set (members_back ds)
   datum_back (record_of ms) = ap record_of (fields_back ms)
-  datum_back (decimal z) = ap decimal (int_back z)
+  datum_back (extension e) = ap extension (extension_back e)
 
   pub members_back : (ds : Members) → members_from (members_tree ds) ≡ ds
   members_back no_members = refl

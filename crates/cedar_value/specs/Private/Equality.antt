@@ -6,7 +6,8 @@ use Rattle.std.proofs.lemmas.Cmp.{on_equiv}
 use Rattle.std.proofs.lemmas.Bool.Decides.{Decides-int_eq}
 use Rattle.std.specs.Str.{bytes_eq}
 use Rattle.std.proofs.lemmas.Slice.Eq.{bytes_eq-Decides}
-use Rattle.cedar_value.specs.Datum.{Datum, boolean, long, text, uid, set, record_of, decimal, Members, no_members, member, Fields, no_fields, field, same, same_members, same_fields, same_truth, same_uid, members_of, list_of, fields_of, pairs_of, same_as_sets, same_as_records}
+use Rattle.cedar_ext.specs.Private.ExtensionLemmas.{same_extension-Decides}
+use Rattle.cedar_value.specs.Datum.{Datum, boolean, long, text, uid, set, record_of, extension, Members, no_members, member, Fields, no_fields, field, same, same_members, same_fields, same_truth, same_uid, members_of, list_of, fields_of, pairs_of, same_as_sets, same_as_records}
 use Rattle.cedar_value.specs.Private.Lists.{list_of-members_of, pairs_of-fields_of}
 use Rattle.cedar_value.specs.declared.uid.Uid.{Uid}
 
@@ -34,7 +35,7 @@ mutual
   same-Decides (uid u) (uid v) = let d = same_uid-Decides u v in (λ e. ap uid (d.0 e), λ e. d.1 cc)
   same-Decides (set ms) (set ns) = let d = same_members-Decides ms ns in (λ e. ap set (d.0 e), λ e. d.1 cc)
   same-Decides (record_of fs) (record_of gs) = let d = same_fields-Decides fs gs in (λ e. ap record_of (d.0 e), λ e. d.1 cc)
-  same-Decides (decimal m) (decimal n) = let d = Decides-int_eq m n in (λ e. ap decimal (d.0 e), λ e. d.1 cc)
+  same-Decides (extension a) (extension b) = let d = same_extension-Decides a b in (λ e. ap extension (d.0 e), λ e. d.1 cc)
   same-Decides _ _ = (λ e. absurd (cc), λ e. absurd (cc))
 
   pub same_members-Decides : (ms ns : Members) → Decides (same_members ms ns) (ms ≡ ns)

@@ -3,7 +3,7 @@ use Rattle.std.specs.Prelude.{◌≤◌, max}
 use Rattle.std.proofs.Common.{arith}
 use Rattle.cedar_value.specs.Private.Weight.{weight}
 use Rattle.cedar_value.specs.declared.value.ValueKind.{ValueKind}
-use Rattle.cedar_value.specs.declared.value.ValueKind.TheVariants.{Boolean, Long, String, Uid, Set, Record, Decimal}
+use Rattle.cedar_value.specs.declared.value.ValueKind.TheVariants.{Boolean, Long, String, Uid, Set, Record, Extension}
 use Rattle.cedar_value.specs.declared.value.Value.TheDeep.{deep-ValueKind}
 use Rattle.cedar_value.specs.ValueKind.{datum_of}
 
@@ -14,4 +14,4 @@ deep_le-weight (String s) = omega arith
 deep_le-weight (Uid u) = omega arith
 deep_le-weight (Set ds) = omega arith
 deep_le-weight (Record ps) = omega arith
-deep_le-weight (Decimal d) = omega arith
+deep_le-weight (Extension e) = omega arith

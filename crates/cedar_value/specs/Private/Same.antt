@@ -6,7 +6,8 @@ use Rattle.std.specs.Cmp.{IsTotalOrder}
 use Rattle.std.specs.declared.cmp.Ordering.{Ordering}
 use Rattle.std.specs.declared.cmp.Ordering.TheVariants.{Less, Equal, Greater}
 use Rattle.std.specs.Ordering.{int_cmp, nat_cmp, bool_cmp, ordering_then, MatchOrdering}
-use Rattle.cedar_value.specs.Datum.{Datum, boolean, long, text, uid, set, record_of, decimal, Members, no_members, member, Fields, no_fields, field}
+use Rattle.cedar_ext.specs.Private.ExtensionLemmas.{int_same, extension_same}
+use Rattle.cedar_value.specs.Datum.{Datum, boolean, long, text, uid, set, record_of, extension, Members, no_members, member, Fields, no_fields, field}
 use Rattle.cedar_value.specs.Order.{datum_cmp, text_cmp, uid_cmp, numbers_of}
 use Rattle.cedar_value.specs.declared.uid.Uid.{Uid}
 use Rattle.cedar_value.specs.Private.Compare.{tree_cmp, tree_members, tree_fields, datum_cmp-tree}
@@ -26,16 +27,8 @@ nat_by x y Less e h = cc
 nat_by x y Equal e h = h
 nat_by x y Greater e h = cc
 
-int_by : (x y : ℤ) (o : Ordering) → o ≡ Equal → MatchOrdering o (x <ℤ y) (x ≡ y) (y <ℤ x) → x ≡ y
-int_by x y Less e h = cc
-int_by x y Equal e h = h
-int_by x y Greater e h = cc
-
 nat_same : (x y : ℕ) → nat_cmp x y ≡ Equal → x ≡ y
 nat_same x y e = nat_by x y (nat_cmp x y) e (ranked x y _ refl)
-
-int_same : (x y : ℤ) → int_cmp x y ≡ Equal → x ≡ y
-int_same x y e = int_by x y (int_cmp x y) e (int_ranked x y _ refl)
 
 bool_same : (b c : Bool) → bool_cmp b c ≡ Equal → b ≡ c
 bool_same false false e = refl
@@ -64,7 +57,7 @@ mutual
   tree_same (uid u) (uid v) e = ap uid (uid_same u v e)
   tree_same (set ds) (set es) e = ap set (members_same ds es e)
   tree_same (record_of ms) (record_of ns) e = ap record_of (fields_same ms ns e)
-  tree_same (decimal x) (decimal y) e = ap decimal (int_same x y e)
+  tree_same (extension a) (extension b) e = ap extension (extension_same a b e)
   tree_same a b e = cc
 
   pub members_same : (ds es : Members) → tree_members ds es ≡ Equal → ds ≡ es

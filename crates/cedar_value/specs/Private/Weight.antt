@@ -1,6 +1,6 @@
 -- How deep a value nests, and a set or a record on its own.
 use Rattle.std.specs.Prelude.{ℕ, suc, max, List}
-use Rattle.cedar_value.specs.Datum.{Datum, boolean, long, text, uid, set, record_of, decimal, Members, no_members, member, Fields, no_fields, field, members_of, fields_of}
+use Rattle.cedar_value.specs.Datum.{Datum, boolean, long, text, uid, set, record_of, extension, Members, no_members, member, Fields, no_fields, field, members_of, fields_of}
 
 abbrev mutual
   pub weight : Datum → ℕ
@@ -10,7 +10,7 @@ abbrev mutual
   weight (uid u) = 0
   weight (set ms) = suc (members_weight ms)
   weight (record_of fs) = suc (fields_weight fs)
-  weight (decimal z) = 0
+  weight (extension e) = 0
 
   pub members_weight : Members → ℕ
   members_weight no_members = 0

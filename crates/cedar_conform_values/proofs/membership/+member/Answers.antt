@@ -2,7 +2,7 @@ use Rattle.std.proofs.Common.{arith, refl, sym, ◌∙◌}
 use Rattle.cedar_schema_types.specs.TypeKind.{attributes_of}
 use Rattle.cedar_conform_values.specs.Private.MemberTest.{is_member, are_fields}
 use Rattle.cedar_conform_values.proofs.Belongs.{list_of-members_of, pairs_of-fields_of}
-use Rattle.cedar_conform_values.proofs.MemberKinds.{other_boolean, other_long, other_string, other_entity, other_set, other_record, other_decimal, walk_refused, walk_on, walk_end}
+use Rattle.cedar_conform_values.proofs.MemberKinds.{other_boolean, other_long, other_string, other_entity, other_set, other_record, other_extension, walk_refused, walk_on, walk_end}
 use Rattle.cedar_conform_values.proofs.TypeHeights.{height_first}
 use Rattle.cedar_conform_values.proofs.membership.+member.Goals as goal
 
@@ -30,9 +30,9 @@ pub belongs-returns-in-Record-Record : goal.belongs-returns-in-Record-Record
 unfolding is_member
 belongs-returns-in-Record-Record t c = rw (← c.kind.ensures, ← c.kind-2.ensures, c.in-Record-Record.is-0, c.in-Record-Record.is-1, pairs_of-fields_of, ← c.attributes.ensures.attributes, ← c.pairs.ensures.pairs) c.are_fields.ensures
 
-pub belongs-returns-in-Decimal-Decimal : goal.belongs-returns-in-Decimal-Decimal
+pub belongs-returns-in-Extension-Extension : goal.belongs-returns-in-Extension-Extension
 unfolding is_member
-belongs-returns-in-Decimal-Decimal t c = rw (← c.kind.ensures, ← c.kind-2.ensures, c.in-Decimal-Decimal.is-0, c.in-Decimal-Decimal.is-1) refl
+belongs-returns-in-Extension-Extension t c = rw (← c.kind.ensures, ← c.kind-2.ensures, c.in-Extension-Extension.is-0, c.in-Extension-Extension.is-1, ← c.ty.ensures) c.same.ensures.gives
 
 pub belongs-returns-in_default : goal.belongs-returns-in_default
 belongs-returns-in_default t c = rw (← c.kind.ensures, ← c.kind-2.ensures, c.in_default.is-0) (sym (other_boolean c.in_default.field-0-0 c.kind-2.result.now c.in_default.not-Boolean-1))
@@ -53,7 +53,7 @@ pub belongs-returns-in_default-6 : goal.belongs-returns-in_default-6
 belongs-returns-in_default-6 t c = rw (← c.kind.ensures, ← c.kind-2.ensures, c.in_default.is-0) (sym (other_record c.in_default.field-0-0 c.kind-2.result.now c.in_default.not-Record-1))
 
 pub belongs-returns-in_default-7 : goal.belongs-returns-in_default-7
-belongs-returns-in_default-7 t c = rw (← c.kind.ensures, ← c.kind-2.ensures, c.in_default.is-0) (sym (other_decimal c.kind-2.result.now c.in_default.not-Decimal-1))
+belongs-returns-in_default-7 t c = rw (← c.kind.ensures, ← c.kind-2.ensures, c.in_default.is-0) (sym (other_extension c.in_default.field-0-0 c.kind-2.result.now c.in_default.not-Extension-1))
 
 pub are_fields-returns-in-None : goal.are_fields-returns-in-None
 are_fields-returns-in-None t c =

@@ -6,7 +6,7 @@ use Rattle.cedar_schema_types.specs.TypeKind.{attributes_of, type_of}
 use Rattle.cedar_conform_values.specs.Values.{value_read, fields_read, all_read}
 use Rattle.cedar_conform_values.proofs.FieldLemmas.{fields_more, fields_refused, fields_end, record_key_refused, record_field_refused, record_refused, record_is, read_pairs_ascend}
 use Rattle.cedar_conform_values.proofs.TypeHeights.{height_first}
-use Rattle.cedar_conform_values.proofs.KindLemmas.{reads_boolean, reads_long, reads_string, reads_entity, reads_set, reads_decimal, items_more, items_refused, items_end}
+use Rattle.cedar_conform_values.proofs.KindLemmas.{reads_boolean, reads_long, reads_string, reads_entity, reads_set, reads_extension, items_more, items_refused, items_end}
 use Rattle.cedar_conform_values.proofs.value.+read.Goals as goal
 
 pub read_fields-returns-in_err-add_field : goal.read_fields-returns-in_err-add_field
@@ -76,8 +76,8 @@ read_value-returns-in-Set t c =
     let s : kind.set c.deref.result.now ≡ c.args.ty.now = cc in
     record { reads = reads_set _ _ _ c.deref.result.now s c.read_set.ensures }
 
-pub read_value-returns-in-Decimal : goal.read_value-returns-in-Decimal
-read_value-returns-in-Decimal t c = record { reads = reads_decimal _ _ _ (ap type_of (sym c.in-Decimal.is) ∙ c.kind.ensures) c.read_decimal.ensures }
+pub read_value-returns-in-Extension : goal.read_value-returns-in-Extension
+read_value-returns-in-Extension t c = record { reads = reads_extension _ _ _ _ (ap type_of (sym c.in-Extension.is) ∙ c.kind.ensures) c.read_extension.ensures }
 
 pub record_at-from_ascending-requires : goal.record_at-from_ascending-requires
 record_at-from_ascending-requires t c =

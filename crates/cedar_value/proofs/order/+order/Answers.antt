@@ -2,10 +2,10 @@ use Rattle.std.proofs.Common.{arith, sym, ◌∙◌}
 use Rattle.cedar_value.specs.Order.{datum_cmp, pair_cmp}
 use Rattle.cedar_value.specs.Private.Compare.{datum_cmp-tree, datum_cmp-sets, datum_cmp-records}
 use Rattle.cedar_value.proofs.Lighter.{member_lighter, pair_lighter}
-use Rattle.cedar_value.proofs.OtherKinds.{other-Boolean, other-Long, other-String, other-Uid, other-Set, other-Record, other-Decimal}
+use Rattle.cedar_value.proofs.OtherKinds.{other-Boolean, other-Long, other-String, other-Uid, other-Set, other-Record, other-Extension}
 use Rattle.cedar_value.proofs.Walk.{rest_cmp-end}
 use Rattle.cedar_value.proofs.order.+order.Goals as goal
-use Rattle.cedar_value.proofs.order.+order.Goals.{order_glance-in_default-via-in-Boolean+in_default, order_glance-in_default-via-in-Long+in_default, order_glance-in_default-via-in-String+in_default, order_glance-in_default-via-in-Uid+in_default, order_glance-in_default-via-in-Set+in_default, order_glance-in_default-via-in-Record+in_default, order_glance-in_default-via-in-Decimal+in_default}
+use Rattle.cedar_value.proofs.order.+order.Goals.{order_glance-in_default-via-in-Boolean+in_default, order_glance-in_default-via-in-Long+in_default, order_glance-in_default-via-in-String+in_default, order_glance-in_default-via-in-Uid+in_default, order_glance-in_default-via-in-Set+in_default, order_glance-in_default-via-in-Record+in_default, order_glance-in_default-via-in-Extension+in_default}
 
 pub order_members-order_glance-found-requires : goal.order_members-order_glance-found-requires
 order_members-order_glance-found-requires t c =
@@ -43,8 +43,8 @@ order_glance-returns-in-Set-Set t c = rw (← c.kind.ensures, c.in-Set-Set.is-0,
 pub order_glance-returns-in-Record-Record : goal.order_glance-returns-in-Record-Record
 order_glance-returns-in-Record-Record t c = rw (← c.kind.ensures, c.in-Record-Record.is-0, c.in-Record-Record.is-1, datum_cmp-records, ← c.pairs.ensures.pairs, ← c.pairs-in-Record-Record.ensures.pairs) c.order_pairs.ensures
 
-pub order_glance-returns-in-Decimal-Decimal : goal.order_glance-returns-in-Decimal-Decimal
-order_glance-returns-in-Decimal-Decimal t c = rw (← c.kind.ensures, c.in-Decimal-Decimal.is-0, c.in-Decimal-Decimal.is-1, datum_cmp-tree) c.cmp-in-Decimal-Decimal.ensures
+pub order_glance-returns-in-Extension-Extension : goal.order_glance-returns-in-Extension-Extension
+order_glance-returns-in-Extension-Extension t c = rw (← c.kind.ensures, c.in-Extension-Extension.is-0, c.in-Extension-Extension.is-1, datum_cmp-tree) c.order.ensures
 
 pub order_glance-returns-in_default : goal.order_glance-returns-in_default
 order_glance-returns-in_default t c =
@@ -56,5 +56,5 @@ order_glance-returns-in_default t c =
       | order_glance-in_default-via-in-Uid+in_default w ↦ rw w.in_default.is-0 (sym (other-Uid w.in_default.field-0-0 c.args.right w.in_default.not-Uid-1))
       | order_glance-in_default-via-in-Set+in_default w ↦ rw w.in_default.is-0 (sym (other-Set w.in_default.field-0-0 c.args.right w.in_default.not-Set-1))
       | order_glance-in_default-via-in-Record+in_default w ↦ rw w.in_default.is-0 (sym (other-Record w.in_default.field-0-0 c.args.right w.in_default.not-Record-1))
-      | order_glance-in_default-via-in-Decimal+in_default w ↦ rw w.in_default.is-0 (sym (other-Decimal w.in_default.field-0-0 c.args.right w.in_default.not-Decimal-1))
+      | order_glance-in_default-via-in-Extension+in_default w ↦ rw w.in_default.is-0 (sym (other-Extension w.in_default.field-0-0 c.args.right w.in_default.not-Extension-1))
     ])

@@ -1,0 +1,36 @@
+//! The constructors of extension types: functions of one string (Cedar language reference, functions).
+ghost use Rattle.std.specs.Prelude.{◌≡◌};
+ghost use Rattle.cedar_ext.specs.Extensions.{constructor_name, constructor_named, extension_of};
+
+use crate::decimal::Decimal;
+use crate::extension::{Extension, ExtensionType};
+
+impl ExtensionType {
+    /// How the constructor of the type is written (Cedar language reference, functions).
+    pub fn constructor(self) -> &'static str
+        ensures { result.now ≡ constructor_name self }
+    {
+        match self {
+            ExtensionType::Decimal => "decimal",
+        }
+    }
+
+    /// The type whose constructor is written like this (Cedar language reference, functions).
+    pub fn of_constructor(name: &str) -> Option<ExtensionType>
+        ensures { result ≡ constructor_named name.now }
+    {
+        match name {
+            "decimal" => Some(ExtensionType::Decimal),
+            _ => None,
+        }
+    }
+
+    /// The value of the type that a text writes, if it writes one (Cedar language reference, functions).
+    pub fn read(self, text: &str) -> Option<Extension>
+        ensures { result ≡ extension_of self text.now }
+    {
+        match self {
+            ExtensionType::Decimal => Decimal::read(text).map(Extension::Decimal),
+        }
+    }
+}

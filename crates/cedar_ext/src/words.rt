@@ -1,0 +1,18 @@
+//! Extension types in words.
+use crate::extension::ExtensionType;
+
+impl ExtensionType {
+    /// One value of the type in words, for example `a decimal`.
+    pub fn one(self) -> &'static str {
+        match self {
+            ExtensionType::Decimal => "a decimal",
+        }
+    }
+
+    /// Several values of the type in words, for example `decimals`.
+    pub fn many(self) -> &'static str {
+        match self {
+            ExtensionType::Decimal => "decimals",
+        }
+    }
+}

@@ -8,11 +8,16 @@ const reader = {
     return page.dialog.open;
   },
 
-  // Presses a button of the dialog, and waits until the page has heard of it, which takes until the next picture of the browser.
+  // From here on, `reader.closed` is the promise that the page has heard that the dialog was closed. A browser tells it after the dialog is gone.
+  closing() {
+    reader.closed = new Promise(done => page.dialog.addEventListener('close', () => setTimeout(done), { once: true }));
+  },
+
+  // Presses a button of the dialog, and waits until the page has heard of it.
   async answer(value) {
-    const closed = new Promise(done => page.dialog.addEventListener('close', () => setTimeout(done), { once: true }));
+    reader.closing();
     page.dialog.querySelector(`[value=${value}]`).click();
-    await closed;
+    await reader.closed;
   },
 
   // Writes a text, as if it were typed.

@@ -359,8 +359,9 @@ class Pages:
             self.judge('where the question has the focus', focus == 'Keep my texts', focus)
             self.picture('question')
             if answer == 'Escape':
+                self.reader('closing')
                 self.key('Escape', 27)
-                self.browser.until('!page.dialog.open')
+                self.browser.value('reader.closed')
             else:
                 self.reader('answer', answer)
             self.settle()

@@ -4,10 +4,8 @@ use Rattle.std.specs.Bool.{Decides}
 use Rattle.std.specs.List.{list_any}
 use Rattle.std.specs.Str.{bytes_eq}
 use Rattle.std.proofs.lemmas.Slice.Eq.{bytes_eq-Decides}
-use Rattle.cedar_ext.specs.declared.extension.Extension.{Extension}
 use Rattle.cedar_ext.specs.declared.extension.ExtensionType.{ExtensionType}
 use Rattle.cedar_ext.specs.declared.method.BinaryMethod.{BinaryMethod}
-use Rattle.cedar_ext.specs.declared.method.Row.{Row}
 use Rattle.cedar_ext.specs.Extensions.{extension_of}
 use Rattle.cedar_ext.specs.Methods.{row_of}
 use Rattle.cedar_ext.specs.Private.ExtensionLemmas.{same_type-Decides}

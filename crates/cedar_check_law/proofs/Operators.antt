@@ -10,7 +10,6 @@ use Rattle.cedar_ext.specs.declared.extension.Extension.{Extension}
 use Rattle.cedar_ext.specs.declared.extension.ExtensionType.{ExtensionType}
 use Rattle.cedar_ext.specs.declared.extension.ExtensionType.TheVariants as extension_type
 use Rattle.cedar_ext.specs.declared.method.BinaryMethod.{BinaryMethod}
-use Rattle.cedar_ext.specs.declared.method.Row.{Row}
 use Rattle.cedar_ext.specs.declared.scalar.Scalar.{Scalar}
 use Rattle.cedar_ext.specs.declared.scalar.Scalar.TheVariants as scalar
 use Rattle.cedar_ext.specs.declared.scalar.ScalarType.{ScalarType}

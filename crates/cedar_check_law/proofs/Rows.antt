@@ -20,7 +20,7 @@ use Rattle.cedar_ast_expressions.specs.Expression.{Expression, literal, variable
 use Rattle.cedar_ast.specs.PolicyTree.{PolicyTree}
 use Rattle.cedar_schema_types.specs.declared.truth.Truth.{Truth}
 use Rattle.cedar_schema_types.specs.declared.truth.Truth.TheVariants.{True, False, Any}
-use Rattle.cedar_schema_types.specs.Types.{TypeTree, Attributes, no_attributes, attribute}
+use Rattle.cedar_schema_types.specs.Types.{no_attributes, attribute}
 use Rattle.cedar_schema_types.specs.Types as kind
 use Rattle.cedar_schema_spec.specs.SchemaTree.{SchemaTree, EntityTypeTree, ActionTree, environments_of}
 use Rattle.cedar_check_spec.specs.Settings.{default_settings}

@@ -4,7 +4,6 @@ use Rattle.std.specs.Prelude.{Ok, Err}
 use Rattle.std.specs.List.{AllByRecursion}
 use Rattle.std.specs.Str.{bytes_eq}
 use Rattle.cedar_ext.specs.declared.extension.Extension.{Extension}
-use Rattle.cedar_ext.specs.declared.method.Row.{Row}
 use Rattle.cedar_ext.specs.Matching.{is_match}
 use Rattle.cedar_ext.specs.Methods.{row_of}
 use Rattle.cedar_ext.specs.Private.ExtensionLemmas.{extension_of-typed}

@@ -19,12 +19,15 @@ pub(crate) fn is_turned(name: &str) -> bool {
 
 // Whether a text is short, and on one line.
 fn is_short_line(text: &str) -> bool {
+    if text.len() > MOST_QUOTED {
+        return false;
+    }
     for byte in text.as_bytes() {
         if *byte < 32 {
             return false;
         }
     }
-    text.len() <= MOST_QUOTED
+    true
 }
 
 // Whether what is written after a part may belong to it: `x is T` may go on with `in e`, and `x has a` with `.b`.

@@ -89,7 +89,7 @@ needed f o = unwrap_or (option_map f o) (bad Shape)
 abbrev pub entity_read : Scope → Option (List ℕ) → Read
 entity_read sc o = needed (form_named (λ n. entity_form n.0) sc.entities sc.namespace) o
 
--- An extension type; a name that is that of none is 303 (Cedar documentation, JSON schema format: Extension).
+-- The extension type of this name; 303 where there is none (Cedar documentation, JSON schema format: Extension).
 abbrev pub extension_named : List ℕ → Read
 extension_named s = unwrap_or (option_map (λ t. fine (extension_form t)) (type_named s)) (record { form = no_form; faults = text_faults s ++ UnknownType ∷ [] })
 

@@ -41,9 +41,21 @@ pub enum ExprKind {
 
 /// An expression, which contracts see as an `Expression`.
 #[cycle(expression)]
-#[derive(Drop)]
 pub struct Expr {
     kind: ExprKind,
+}
+
+impl Drop for Expr {
+    /// Frees the expression. It has no contract: there is nothing to say beside safety.
+    ///
+    /// What frees an expression calls itself for each level. A derived `drop` would be compiled once more in each crate that drops
+    /// an expression, and a level would need twice the call stack in some. This function is compiled once, and is not inlined.
+    #[cycle(freeing)]
+    #[inline(never)]
+    fn drop(self) {
+        let Expr { kind } = self;
+        drop(kind);
+    }
 }
 
 impl Model for Expr {

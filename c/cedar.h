@@ -21,7 +21,7 @@
  * Copies: a copy of a cedar_engine is the same handle. Once cedar_free was called for one of them, the others return CEDAR_ARGUMENT, and
  * cedar_free leaves them alone.
  *
- * Stack: 640 KiB for the calls that publish, change, validate, share, free or explain, 64 KiB for the other calls. Do not call from a signal
+ * Stack: 512 KiB for the calls that publish, change, validate, share, free or explain, 64 KiB for the other calls. Do not call from a signal
  * handler, nor in the forked child of a process with several threads. No call starts a thread or reads a file, and only calls over a
  * cedar_shared wait, as is said there. */
 #ifndef CEDAR_H

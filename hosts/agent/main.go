@@ -27,7 +27,7 @@ const (
 	statusRefused = 3
 )
 
-// The least call stack of a thread, in bytes: publishing and explaining need up to 640 KiB (docs/EMBEDDING.md).
+// The least call stack of a thread, in bytes: publishing and explaining need up to 512 KiB (docs/EMBEDDING.md).
 const leastStack = 1 << 20
 
 func main() {

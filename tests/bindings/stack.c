@@ -9,7 +9,7 @@
 #include <sys/wait.h>
 #include <unistd.h>
 
-#define READING_STACK ((size_t)640 << 10)
+#define READING_STACK ((size_t)512 << 10)
 #define ASKING_STACK ((size_t)64 << 10)
 /* The memory below a stack, which no call may reach. It is larger than the frame of any function. */
 #define CLOSED ((size_t)1 << 20)

@@ -4,8 +4,8 @@ use std::thread;
 
 use crate::Error;
 
-/// The stack that a call which publishes, explains or frees may need, with room to spare: the library needs 640 KiB.
-const ENOUGH: usize = 768 << 10;
+/// The stack that a call which publishes, explains or frees may need, with room to spare: the library needs 512 KiB.
+const ENOUGH: usize = 640 << 10;
 /// The stack of a thread that is started for such a call.
 const LARGE: usize = 2 << 20;
 

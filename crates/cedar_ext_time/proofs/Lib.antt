@@ -1,6 +1,7 @@
 pub mod Cut
 pub mod DateTexts
 pub mod DatetimeTexts
+pub mod DatetimeWritten
 pub mod DurationTexts
 pub mod Midnights
 pub mod Numbers

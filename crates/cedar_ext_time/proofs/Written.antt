@@ -17,7 +17,7 @@ use Rattle.cedar_ext_time.specs.DurationOf.{duration_of}
 use Rattle.cedar_ext_time.proofs.Runs.{and_both}
 use Rattle.cedar_ext_time.proofs.DurationTexts.{duration_found}
 
-own : IsNumeralModel (λ ds. list_all is_ascii_digit ds ≡ true) number_of
+pub own : IsNumeralModel (λ ds. list_all is_ascii_digit ds ≡ true) number_of
 own = numerals_by_fold _ (search rules) number_after (search rules)
 
 above_zero : (n : ℕ) → 0 < n → nat_lt 0 n ≡ true

@@ -1,8 +1,8 @@
 -- The days before a year in a closed form.
-use Rattle.std.proofs.Common.{◌≡◌, ℕ, zero, suc, ◌+◌, ◌*◌, ◌/◌, ◌%◌, ◌<◌, ◌&&◌, ◌||◌, Bool, true, false, not, if◌then◌else◌, refl, arith, ap, add-one}
+use Rattle.std.proofs.Common.{◌≡◌, ◌≢◌, ℕ, zero, suc, ◌+◌, ◌*◌, ◌/◌, ◌%◌, ◌<◌, ◌≤◌, ◌&&◌, ◌||◌, Bool, true, false, not, if◌then◌else◌, refl, arith, ap, add-one}
 use Rattle.std.specs.Bool.{◌==◌}
 use Rattle.std.proofs.lemmas.Bool.Decides.{nat_tests}
-use Rattle.cedar_ext_time.specs.Calendar.{days_before_year, days_before_month, days_of_year, days_of_month}
+use Rattle.cedar_ext_time.specs.Calendar.{is_leap, days_before_year, days_before_month, days_of_year, days_of_month}
 
 zero_if : (n : ℕ) → (n == 0) ≡ true → n ≡ 0
 zero_if n h = grind (arith, nat_tests)
@@ -63,3 +63,28 @@ month_more y m = ap (days_before_month y) (add-one m)
 pub month_zero : (y : ℕ) → days_before_month y 0 ≡ 0
 unfolding days_before_month
 month_zero y = refl
+
+-- a year that begins before the year 10000
+pub year_known : (y : ℕ) → days_before_year y < 3652425 → y ≤ 9999
+year_known y h = omega (arith, years_closed y)
+
+-- no year has more than 366 days
+pub years_short : (y : ℕ) → days_before_year y ≤ 366 * y
+years_short y = omega (arith, years_closed y)
+
+-- the twelve months are the year
+pub months_of_year : (y : ℕ) → days_before_month y 13 ≡ days_of_year y
+unfolding days_before_month
+months_of_year y = by (is_leap y)
+  where
+    by : (leap : Bool) → 31 + (if leap then 29 else 28) + 31 + 30 + 31 + 30 + 31 + 31 + 30 + 31 + 30 + 31 ≡ (if leap then 366 else 365)
+    by true = refl
+    by false = refl
+
+-- a month before the end of the year is not the last one
+pub not_last : (y m : ℕ) → days_before_month y (m + 1) < days_of_year y → m ≢ 12
+not_last y m h = λ e. omega (arith, ap (λ (n : ℕ). days_before_month y (n + 1)) e, months_of_year y)
+
+pub year_next : (y : ℕ) → days_before_year (y + 1) ≡ days_before_year y + days_of_year y
+unfolding days_before_year
+year_next y = ap days_before_year (add-one y)

@@ -1,6 +1,6 @@
 //! The proleptic Gregorian calendar.
-ghost use Rattle.std.specs.Prelude.{◌≡◌, ◌≤◌, ◌*◌, IfSome};
-ghost use Rattle.cedar_ext_time.specs.Calendar.{is_leap, days_of_month, days_before_month, days_before_year};
+ghost use Rattle.std.specs.Prelude.{◌≡◌, ◌≤◌, ◌<◌, ◌+◌, ◌*◌, IfSome, Some};
+ghost use Rattle.cedar_ext_time.specs.Calendar.{is_leap, days_of_year, days_of_month, days_before_month, days_before_year};
 ghost use Rattle.cedar_ext_time.specs.DatetimeOf.{day_of};
 
 // Whether the year is a leap year.
@@ -41,7 +41,7 @@ fn days_before_month(year: u64, month: u64) -> u64
 
 // How many days the years from 0000 on have, up to this one.
 fn days_before_year(year: u64) -> u64
-    requires { year ≤ 9999 }
+    requires { year ≤ 10000 }
     ensures days { result ≡ days_before_year year }
     ensures within { result ≤ 366 * year }
 {
@@ -60,4 +60,59 @@ pub(crate) fn day_count(year: u64, month: u64, day: u64) -> Option<u64>
     } else {
         None
     }
+}
+
+// A year, a month and a day, as a date is written.
+pub(crate) struct Date {
+    pub(crate) year: u64,
+    pub(crate) month: u64,
+    pub(crate) day: u64,
+}
+
+// The year of a day that is counted from 0000-01-01. The day of 10000-01-01 is 3652425.
+fn year_of_day(day: u64) -> u64
+    requires { day < 3652425 }
+    ensures begun { days_before_year result ≤ day }
+    ensures not_over { day < days_before_year (result + 1) }
+    ensures within { result ≤ 9999 }
+{
+    let mut year = day / 366;
+    while days_before_year(year + 1) <= day {
+        year += 1;
+    }
+    year
+}
+
+// The date in the year that has so many days of the year before it.
+fn date_in_year(year: u64, days: u64) -> Date
+    requires known_year { year ≤ 9999 }
+    requires known_days { days < days_of_year year }
+    ensures year { result.year ≡ year }
+    ensures month { result.month ≤ 12 }
+    ensures day { result.day ≤ 31 }
+    ensures reads { day_of year result.month result.day ≡ Some (days_before_year year + days) }
+{
+    let mut month = 1;
+    let mut left = days;
+    while days_of_month(year, month) <= left {
+        left -= days_of_month(year, month);
+        month += 1;
+    }
+    Date {
+        year,
+        month,
+        day: left + 1,
+    }
+}
+
+// The date of a day that is counted from 0000-01-01.
+pub(crate) fn date_of_day(day: u64) -> Date
+    requires { day < 3652425 }
+    ensures year { result.year ≤ 9999 }
+    ensures month { result.month ≤ 12 }
+    ensures day { result.day ≤ 31 }
+    ensures reads { day_of result.year result.month result.day ≡ Some day }
+{
+    let year = year_of_day(day);
+    date_in_year(year, day - days_before_year(year))
 }

@@ -1,12 +1,14 @@
 //! Datetimes: milliseconds since 1970.
-ghost use Rattle.std.specs.Prelude.{◌≡◌, ◌≤◌, ◌<◌, ◌≤ℤ◌, ◌<ℤ◌, ◌+◌, ◌*◌, ◌+ℤ◌, ◌-ℤ◌, IfSome, IfNone, ℤ, pos, negsuc};
+ghost use Rattle.std.specs.Prelude.{◌≡◌, ◌≤◌, ◌<◌, ◌≤ℤ◌, ◌<ℤ◌, ◌+◌, ◌*◌, ◌+ℤ◌, ◌-ℤ◌, ◌⊎◌, ◌∷◌, [], drop, IfSome, IfNone, IfOk, ℤ, pos, negsuc, Some, string_bytes};
 ghost use Rattle.cedar_ext_time.specs.Datetimes.{IsDatetime, since_1970};
 ghost use Rattle.cedar_ext_time.specs.DatetimeOf.{datetime_of, midnight_of, moment_of};
 ghost use Rattle.cedar_ext_time.specs.Days.{IsMidnightOf, time_of_day, midnight};
 ghost use Rattle.cedar_ext_time.specs.Longs.{long_of};
 
 use crate::datetime_text::{date, fraction, fraction_len, time, zone};
+use crate::datetime_written::utc_text;
 use crate::duration::Duration;
+use std::alloc::{AllocError, Global};
 use std::marker::Model;
 
 /// A number of milliseconds since 1970-01-01T00:00:00Z, from -9223372036854775808 to 9223372036854775807 (Cedar language reference,
@@ -31,6 +33,9 @@ const DAY: u64 = 86_400_000;
 
 // The milliseconds from 0000-01-01 to 1970-01-01.
 const BEFORE_1970: i64 = 62_167_219_200_000;
+
+// The last millisecond of the year 9999.
+const LAST: i64 = 253_402_300_799_999;
 
 impl Datetime {
     /// The datetime that the text writes: a date such as `2024-10-15`, or a date, a time of day and a zone such as
@@ -99,6 +104,23 @@ impl Datetime {
         ensures gives { result ≡ time_of_day self }
     {
         self.time_of_day()
+    }
+
+    /// A string that reads as this datetime: in UTC and with milliseconds, for example `2024-10-15T11:35:00.125Z`. None for a
+    /// datetime before 0000-01-01T00:00:00.000Z or after 9999-12-31T23:59:59.999Z, which no string in UTC writes. Fails only when
+    /// out of memory (Cedar language reference, extension functions: datetime).
+    pub fn to_text(self, alloc: Global) -> Result<Option<String>, AllocError>
+        ensures reads { IfOk result (λ text. IfSome text (λ it. datetime_of (string_bytes it) ≡ Some self)) }
+        ensures form { IfOk result (λ text. IfSome text (λ it. drop 23 (string_bytes it) ≡ 90 ∷ [])) }
+        ensures within { IfOk result (λ text. IfSome text (λ it. (negsuc 62167219199999 ≤ℤ self) × (self ≤ℤ pos 253402300799999))) }
+        ensures none { IfOk result (λ text. IfNone text ((self <ℤ negsuc 62167219199999) ⊎ (pos 253402300799999 <ℤ self))) }
+    {
+        let Datetime { milliseconds } = self;
+        if milliseconds < -BEFORE_1970 || LAST < milliseconds {
+            return Ok(None);
+        }
+        let after_0000 = (milliseconds + BEFORE_1970) as u64;
+        Ok(Some(utc_text(alloc, after_0000 / DAY, after_0000 % DAY)?))
     }
 }
 

@@ -17,6 +17,12 @@ use std::{fs, io};
 /// The exit status of a request that is denied.
 const DENIED: u8 = 5;
 
+/// The number of a request in which a uid is none.
+const WRONG_FORM: u16 = 502;
+
+/// How a uid is written on a command line.
+const AT_A_SHELL: &str = "at a shell, single quotes go around a uid: 'User::\"ann\"'";
+
 /// The number of a context that is not JSON.
 const NOT_JSON: u16 = 501;
 
@@ -101,7 +107,7 @@ fn read_context(
     }
 }
 
-// What is explained of the request.
+// What is explained of the request. A uid comes from a shell here, and not from JSON, as in a line.
 fn text_of_request(
     alloc: Global,
     schema: &Schema,
@@ -109,7 +115,10 @@ fn text_of_request(
     line: &[u8],
 ) -> Result<String, AllocError> {
     match explain_request(alloc, schema, line, "")? {
-        Some(diagnostic) => {
+        Some(mut diagnostic) => {
+            if diagnostic.number == WRONG_FORM {
+                diagnostic.hint = Some(String::from_str(alloc, AT_A_SHELL)?);
+            }
             Explanation::of_one(alloc, "the request", diagnostic)?.to_text(alloc, format)
         }
         None => Ok(String::new(alloc)),

@@ -1,5 +1,5 @@
 //! Words for an entry of another shape, 502.
-use crate::meant::meant_of;
+use crate::meant::meant_key;
 use crate::shown::{add_key, add_position};
 use crate::uid_words::{is_uid_object, uid_object_words};
 use crate::words::Words;
@@ -32,7 +32,7 @@ fn is_one_of(key: &str, known: &[&str]) -> bool {
 pub(crate) fn unknown_key_words(words: &mut Words, key: &str, known: &[&'static str], says: &str) {
     add_key(&mut words.path, key);
     words.says.add_all(&["unknown key; ", says]);
-    words.hint_at(meant_of(key, known));
+    words.hint_at(meant_key(key, known));
 }
 
 // Whether the attributes or the tags of an entry are refused. If so, the words for them are added.
@@ -44,6 +44,9 @@ fn value_words(words: &mut Words, entry: &Json, key: &str) -> bool {
         None => {
             add_key(&mut words.path, key);
             words.want("an object", found);
+            words
+                .hint
+                .add("write {\"a key\":\"a value\"}, or leave it out");
             true
         }
         Some(members) if key == "tags" && !members.is_empty() => {
@@ -89,6 +92,9 @@ fn parents_words(alloc: Global, words: &mut Words, entry: &Json) -> Result<bool,
     let Some(items) = found.as_array() else {
         words.path.add("parents");
         words.want("a list", found);
+        words
+            .hint
+            .add("write [{\"type\":\"T\",\"id\":\"x\"}], or leave it out");
         return Ok(true);
     };
     for (position, item) in items.iter().enumerate() {

@@ -6,9 +6,8 @@ ghost use Rattle.cedar_conform_values.specs.declared.conform_fault.ConformFault.
 
 use crate::data_fault::RefusedLink;
 use crate::entry_shape::{unknown_key, unknown_key_words};
-use crate::meant::meant_of;
 use crate::shown::add_key;
-use crate::uid_words::{is_uid, uid_words};
+use crate::uid_words::{ENTITY, is_uid, uid_words};
 use crate::words::Words;
 use base_json::read_json;
 use cedar_conform::read_links;
@@ -86,25 +85,13 @@ fn link_words(alloc: Global, words: &mut Words, link: &Json) -> Result<bool, All
         return Ok(true);
     };
     if let Some(key) = unknown_key(members, &LINK_KEYS) {
-        unknown_words(words, key);
+        unknown_key_words(words, key, &LINK_KEYS, KEYS_SAY);
         return Ok(true);
     }
     if text_words(words, link, "template_id") || text_words(words, link, "link_id") {
         return Ok(true);
     }
     args_words(alloc, words, link)
-}
-
-// The words for a key that a link does not have. Cedar's own keys have other names.
-fn unknown_words(words: &mut Words, key: &str) {
-    let meant = match key {
-        "newId" => "link_id",
-        "values" => "args",
-        _ => key,
-    };
-    add_key(&mut words.path, key);
-    words.says.add_all(&["unknown key; ", KEYS_SAY]);
-    words.hint_at(meant_of(meant, &LINK_KEYS));
 }
 
 // Whether an id is missing or not a string. If so, the words for it are added.
@@ -115,7 +102,7 @@ fn text_words(words: &mut Words, link: &Json, key: &str) -> bool {
     }
     add_key(&mut words.path, key);
     match found {
-        Some(found) => words.want("a string", found),
+        Some(found) => words.want_text(found),
         None => words.says.add_all(&["missing; ", KEYS_SAY]),
     }
     true
@@ -130,6 +117,7 @@ fn args_words(alloc: Global, words: &mut Words, link: &Json) -> Result<bool, All
             Some(found) => words.want("an object", found),
             None => words.says.add_all(&["missing; ", KEYS_SAY]),
         }
+        words.hint.add("write {\"?principal\":..}, {\"?resource\":..} or both slots");
         return Ok(true);
     };
     if let Some(key) = unknown_key(members, &SLOTS) {
@@ -150,7 +138,7 @@ fn slots_words(
         if !is_uid(alloc, value)? {
             words.path.add("args");
             add_key(&mut words.path, slot.as_str());
-            uid_words(alloc, words, value)?;
+            uid_words(alloc, words, value, ENTITY)?;
             return Ok(true);
         }
     }

@@ -2,8 +2,37 @@
 use base_names::Nearest;
 use cedar_schema_types::Attribute;
 
-/// The word of a list that is meant, or none.
-pub(crate) fn meant_of(written: &str, words: &[&'static str]) -> Option<&'static str> {
+// The key that Cedar's files have for a key that other formats have, or the key itself.
+fn translated(key: &str) -> &str {
+    match key {
+        "attributes" | "properties" => "attrs",
+        "ancestors" | "memberOf" | "groups" => "parents",
+        "entity" => "uid",
+        "user" | "subject" | "actor" => "principal",
+        "operation" | "permission" | "verb" => "action",
+        "object" | "target" => "resource",
+        "ctx" | "environment" => "context",
+        "template" | "policy" | "policy_id" | "policyId" => "template_id",
+        "id" | "new_id" | "newId" => "link_id",
+        "values" | "slots" | "arguments" | "env" => "args",
+        "kind" | "entityType" | "entity_type" => "type",
+        "name" | "eid" | "entityId" | "entity_id" => "id",
+        "uid" | "__expr" => "__entity",
+        _ => key,
+    }
+}
+
+/// The key of a list that is meant: what other formats call so, or the nearest; or none.
+pub(crate) fn meant_key(written: &str, keys: &[&'static str]) -> Option<&'static str> {
+    let meant = translated(written);
+    keys.iter()
+        .copied()
+        .find(|key| *key == meant)
+        .or_else(|| meant_of(written, keys))
+}
+
+// The word of a list that is the nearest, or none.
+fn meant_of(written: &str, words: &[&'static str]) -> Option<&'static str> {
     let mut nearest = Nearest::new(written);
     for word in words {
         nearest = nearest.compare(*word, *word);

@@ -1,12 +1,12 @@
 //! Words for a request line.
 use crate::entry_shape::{unknown_key, unknown_key_words};
+use crate::json_hint::meant_in_line;
 use crate::owner::Owner;
-use crate::shown::add_uid;
-use crate::uid_words::{is_uid, uid_words};
+use crate::shown::{add_types, add_uid};
+use crate::uid_words::{ACTION, ENTITY, is_uid, uid_words};
 use crate::undeclared::{action_words, type_words};
 use crate::value_path::value_words_at;
 use crate::words::Words;
-use base_places::Draft;
 use cedar_conform_values::written_uid;
 use cedar_schema::{Action, Schema};
 use cedar_value::{Name, Uid};
@@ -18,9 +18,6 @@ const REQUEST_KEYS: [&str; 4] = ["principal", "action", "resource", "context"];
 
 /// The keys at which a request has uids, in the order in which the reader looks at them.
 const UID_KEYS: [&str; 3] = ["principal", "action", "resource"];
-
-// How many types are listed at most.
-const MOST_TYPES: usize = 10;
 
 // The uids of a request.
 #[derive(Drop)]
@@ -52,8 +49,24 @@ pub(crate) fn line_words(alloc: Global, words: &mut Words, line: &[u8]) -> Resul
         Err(error) => {
             words.says.add("invalid JSON at column ");
             words.says.add_display(error.column());
+            return hint_in_line(alloc, words, line, error.column());
         }
     }
+    Ok(())
+}
+
+// Hints what is likely meant at a column, from 1, of a line that is not JSON.
+fn hint_in_line(
+    alloc: Global,
+    words: &mut Words,
+    line: &[u8],
+    column: usize,
+) -> Result<(), AllocError> {
+    let hint = match str::from_utf8(line) {
+        Ok(text) => meant_in_line(alloc, text, column.saturating_sub(1))?,
+        Err(_) => Some("save the file as UTF-8"),
+    };
+    words.hint.add(hint.unwrap_or(""));
     Ok(())
 }
 
@@ -106,6 +119,11 @@ fn uids_of(alloc: Global, request: &Json) -> Result<Option<RequestUids>, AllocEr
 fn shape_words(alloc: Global, words: &mut Words, request: &Json) -> Result<(), AllocError> {
     let Some(members) = request.as_object() else {
         words.want("an object", request);
+        if let Json::Array(_) = request {
+            words.hint.add(
+                "each line is one request: `jq -c '.[]'` writes each item of a list on a line",
+            );
+        }
         return Ok(());
     };
     if let Some(key) = unknown_key(members, &REQUEST_KEYS) {
@@ -123,7 +141,8 @@ fn shape_words(alloc: Global, words: &mut Words, request: &Json) -> Result<(), A
         };
         if !is_uid(alloc, found)? {
             words.path.add(key);
-            return uid_words(alloc, words, found);
+            let example = if key == "action" { ACTION } else { ENTITY };
+            return uid_words(alloc, words, found, example);
         }
     }
     words.says.add("the request has the wrong form");
@@ -170,7 +189,7 @@ fn applied_words(
     if !action.principals().contains(principal) {
         words.path.add("principal");
         say_applies(
-            &mut words.says,
+            words,
             &uids.action,
             action.principals(),
             "principals",
@@ -181,7 +200,7 @@ fn applied_words(
     if !action.resources().contains(resource) {
         words.path.add("resource");
         say_applies(
-            &mut words.says,
+            words,
             &uids.action,
             action.resources(),
             "resources",
@@ -206,27 +225,15 @@ fn applied_words(
 }
 
 // Says that an action applies to principals or resources of other types.
-fn say_applies(says: &mut Draft, action: &Uid, names: &BTreeSet<Name>, role: &str, found: &Name) {
+fn say_applies(words: &mut Words, action: &Uid, names: &BTreeSet<Name>, role: &str, found: &Name) {
+    let says = &mut words.says;
     add_uid(says, action);
     if names.is_empty() {
         says.add_all(&[" applies to no ", role]);
+        words.hint.add("an action without `appliesTo` only groups others: request one of these");
         return;
     }
     says.add_all(&[" applies to ", role, " of type "]);
     add_types(says, names);
     says.add_all(&[", not to one of type `", found.as_str(), "`"]);
-}
-
-// Adds the names of types, at most ten.
-fn add_types(out: &mut Draft, names: &BTreeSet<Name>) {
-    for (listed, name) in names.iter().enumerate() {
-        if listed == MOST_TYPES {
-            out.add(", ..");
-            return;
-        }
-        if listed > 0 {
-            out.add(", ");
-        }
-        out.add_all(&["`", name.as_str(), "`"]);
-    }
 }

@@ -1,10 +1,14 @@
 //! Texts, uids and paths as they are shown.
 use base_places::Draft;
-use cedar_value::Uid;
+use cedar_value::{Name, Uid};
 use std::alloc::Global;
+use std::collections::BTreeSet;
 
 // How many characters of a text are shown at most.
 const MOST: usize = 40;
+
+// How many names are listed at most.
+const MOST_NAMES: usize = 10;
 
 // Adds a character as a string in double quotes has it.
 fn add_escaped(out: &mut Draft, character: char) {
@@ -96,4 +100,18 @@ pub(crate) fn add_position(path: &mut Draft, position: usize) {
     path.add_char('[');
     path.add_display(position);
     path.add_char(']');
+}
+
+/// Adds the names of types, at most ten.
+pub(crate) fn add_types(out: &mut Draft, names: &BTreeSet<Name>) {
+    for (listed, name) in names.iter().enumerate() {
+        if listed == MOST_NAMES {
+            out.add(", ..");
+            return;
+        }
+        if listed > 0 {
+            out.add(", ");
+        }
+        out.add_all(&["`", name.as_str(), "`"]);
+    }
 }

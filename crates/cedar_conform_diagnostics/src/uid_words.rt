@@ -1,4 +1,5 @@
 //! Words for a JSON that writes no uid.
+use crate::meant::meant_key;
 use crate::shown::{add_beginning, add_inner, add_key};
 use crate::wanted::hint_uid_object;
 use crate::words::Words;
@@ -10,8 +11,11 @@ use std::alloc::{AllocError, Global};
 /// What is said where a key of a uid is missing or not known.
 const UID_KEYS: &str = "a uid has the keys type and id";
 
-/// How a uid is written as a string.
-const UID_HINT: &str = "write a type and an id in quotes, for example \"User::\\\"ann\\\"\"";
+/// A uid as a string of JSON.
+pub(crate) const ENTITY: &str = "\"User::\\\"ann\\\"\"";
+
+/// The uid of an action as a string of JSON.
+pub(crate) const ACTION: &str = "\"Action::\\\"view\\\"\"";
 
 /// Whether a JSON writes a uid as an object.
 pub(crate) fn is_uid_object(alloc: Global, json: &Json) -> Result<bool, AllocError> {
@@ -63,7 +67,7 @@ fn text_words(words: &mut Words, json: &Json, key: &str) -> bool {
     }
     add_key(&mut words.path, key);
     match found {
-        Some(found) => words.want("a string", found),
+        Some(found) => words.want_text(found),
         None => words.says.add_all(&["missing; ", UID_KEYS]),
     }
     true
@@ -74,6 +78,7 @@ fn members_words(words: &mut Words, json: &Json, members: &Map<String, Json>) {
     if let Some(key) = further_key(members) {
         add_key(&mut words.path, key);
         words.says.add_all(&["unknown key; ", UID_KEYS]);
+        words.hint_at(meant_key(key, &["type", "id", "__entity"]));
         return;
     }
     if text_words(words, json, "type") || text_words(words, json, "id") {
@@ -112,19 +117,35 @@ pub(crate) fn uid_object_words(
     }
 }
 
-// The type and the id of a string that would be a uid if its id were in quotes.
+// The type and the id of a string that would be a uid if its id were in double quotes. A last word that begins with a capital letter is
+// rather that of a type.
 fn without_quotes(alloc: Global, text: &str) -> Result<Option<(&str, &str)>, AllocError> {
     let Some((ty, id)) = text.rsplit_once("::") else {
         return Ok(None);
     };
-    if id.as_bytes().contains(&b'"') || !is_name(alloc, ty)? {
+    let is_type = id.starts_with(|letter: char| letter.is_ascii_uppercase());
+    if is_type || id.contains('"') || !is_name(alloc, ty)? {
         return Ok(None);
     }
-    Ok(Some((ty, id)))
+    let quoted = id.strip_prefix('\'').and_then(|id| id.strip_suffix('\''));
+    Ok(Some((ty, quoted.unwrap_or(id))))
+}
+
+// Hints how a uid is written as a string, with an example.
+fn hint_uid(words: &mut Words, example: &str) {
+    words.hint.add_all(&[
+        "write a type, `::` and an id in quotes, for example ",
+        example,
+    ]);
 }
 
 // The words for a string that is not a uid.
-fn string_words(alloc: Global, words: &mut Words, text: &str) -> Result<(), AllocError> {
+fn string_words(
+    alloc: Global,
+    words: &mut Words,
+    text: &str,
+    example: &str,
+) -> Result<(), AllocError> {
     words.says.add("expected a uid, found the string ");
     add_beginning(&mut words.says, text);
     match without_quotes(alloc, text)? {
@@ -135,19 +156,25 @@ fn string_words(alloc: Global, words: &mut Words, text: &str) -> Result<(), Allo
             add_inner(&mut words.hint, id);
             words.hint.add("\\\"\"");
         }
-        None => words.hint.add(UID_HINT),
+        None => hint_uid(words, example),
     }
     Ok(())
 }
 
-/// The words for a JSON that is not a uid, neither as a string nor as an object, from its path on.
-pub(crate) fn uid_words(alloc: Global, words: &mut Words, json: &Json) -> Result<(), AllocError> {
+/// The words for a JSON that is not a uid, neither as a string nor as an object, from its path on. The hint shows the
+/// example, a uid in double quotes.
+pub(crate) fn uid_words(
+    alloc: Global,
+    words: &mut Words,
+    json: &Json,
+    example: &str,
+) -> Result<(), AllocError> {
     match json {
-        Json::String(text) => string_words(alloc, words, text.as_str()),
+        Json::String(text) => string_words(alloc, words, text.as_str(), example),
         Json::Object(_) => uid_object_words(alloc, words, json),
         _ => {
             words.want("a uid", json);
-            words.hint.add(UID_HINT);
+            hint_uid(words, example);
             Ok(())
         }
     }

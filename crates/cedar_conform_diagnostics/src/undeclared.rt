@@ -1,6 +1,6 @@
 //! Words for entity types and actions that a schema does not declare.
-use crate::declared::{meant_action, meant_type};
-use crate::shown::add_uid;
+use crate::declared::{known_types, meant_action, meant_type};
+use crate::shown::{add_types, add_uid};
 use crate::words::Words;
 use cedar_schema::Schema;
 use cedar_value::{Name, Uid};
@@ -17,8 +17,15 @@ pub(crate) fn type_words(
     words
         .says
         .add_all(&["the entity type `", wanted, "` is not declared"]);
-    if let Some(meant) = meant_type(alloc, schema, wanted)? {
-        words.hint_at(Some(meant.as_str()));
+    match meant_type(alloc, schema, wanted)? {
+        Some(meant) => words.hint_at(Some(meant.as_str())),
+        None => {
+            let known = known_types(alloc, schema)?;
+            if !known.is_empty() {
+                words.hint.add("declared types include ");
+                add_types(&mut words.hint, &known);
+            }
+        }
     }
     Ok(())
 }

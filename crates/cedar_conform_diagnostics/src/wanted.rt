@@ -1,6 +1,7 @@
 //! Words for what a type wants, and what is there instead.
 use crate::found::add_found;
 use crate::shown::{add_beginning, add_quoted};
+use crate::uid_words::is_uid_object;
 use crate::words::Words;
 use base_places::Draft;
 use cedar_conform_values::{size_of, text_at, uid_of_object, written_uid};
@@ -161,6 +162,10 @@ fn fixed_hint(ty: &Type, json: &Json) -> Option<&'static str> {
         (TypeKind::Extension(ExtensionType::Decimal), Json::Number(_)) => Some(
             "write a string of digits, a point and one to four digits, for example \"9.5\"",
         ),
+        (TypeKind::Extension(ExtensionType::Decimal), Json::Object(_))
+            if extension_text(ExtensionType::Decimal, json).is_none() => Some(
+            "write \"9.5\", or {\"__extn\":{\"fn\":\"decimal\",\"arg\":\"9.5\"}}",
+        ),
         (TypeKind::Extension(ExtensionType::Decimal), _) => Some(
             "write digits, a point and one to four digits, for example \"9.5\"",
         ),
@@ -179,7 +184,10 @@ pub(crate) fn add_value_words(
     json: &Json,
 ) -> Result<(), AllocError> {
     say_value(alloc, &mut words.says, ty, json)?;
-    if let (TypeKind::Entity(name), Json::String(_)) = (ty.kind(), json) {
+    if let TypeKind::Entity(name) = ty.kind()
+        && !matches!(json, Json::Null)
+        && !is_uid_object(alloc, json)?
+    {
         return hint_uid_object(alloc, &mut words.hint, name.as_str(), json);
     }
     if let Some(hint) = fixed_hint(ty, json) {

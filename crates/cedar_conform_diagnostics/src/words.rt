@@ -34,6 +34,14 @@ impl Words {
         add_found(&mut self.says, json);
     }
 
+    /// Says that a string is expected, and which kind of JSON is found.
+    pub(crate) fn want_text(&mut self, json: &Json) {
+        self.want("a string", json);
+        if let Json::Number(_) = json {
+            self.hint.add("write it in double quotes");
+        }
+    }
+
     /// Hints which other word may be meant, if one may.
     pub(crate) fn hint_at(&mut self, meant: Option<&str>) {
         if let Some(word) = meant {

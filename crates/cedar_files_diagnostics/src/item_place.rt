@@ -92,4 +92,7 @@ pub(crate) fn note_other_than_list(diagnostic: &mut DiagnosticDraft, bytes: &[u8
         _ => return,
     };
     diagnostic.note(&["expected a list, found ", found]);
+    diagnostic.advise(
+        "the file is a list of objects, `[{..}, {..}]`; docs/DATA.md lists their keys",
+    );
 }

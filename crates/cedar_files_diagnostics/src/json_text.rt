@@ -5,8 +5,8 @@ ghost use Rattle.serde_json.specs.Read.{read as read_text};
 
 use crate::diagnostic::Explanation;
 use crate::diagnostic_draft::DiagnosticDraft;
-use crate::json_hint::meant_in_json;
 use base_places::Place;
+use cedar_conform_diagnostics::meant_in_json;
 use serde_json::Value;
 use std::alloc::{AllocError, Global};
 

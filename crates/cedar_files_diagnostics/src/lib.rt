@@ -33,7 +33,6 @@ mod format;
 mod guards;
 mod human;
 mod item_place;
-mod json_hint;
 mod json_lines;
 mod json_text;
 mod link_words;

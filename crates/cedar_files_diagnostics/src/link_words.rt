@@ -1,10 +1,15 @@
 //! Words for a link that the policies refuse.
 use crate::diagnostic_draft::DiagnosticDraft;
 use base_names::Nearest;
+use base_places::Draft;
 use cedar_ast::{EntityReference, EntityScope, Link, PolicySet, Template};
+use std::alloc::Global;
 
 /// The number of a template that does not exist.
 const NO_TEMPLATE: u16 = 210;
+
+/// How many templates are named at most.
+const MOST_TEMPLATES: usize = 10;
 
 /// The number of a slot for which nothing is given.
 const MISSING_SLOT: u16 = 211;
@@ -13,11 +18,16 @@ const MISSING_SLOT: u16 = 211;
 const EXTRA_SLOT: u16 = 212;
 
 /// Adds which template or slot is likely meant by a link that the policies refuse.
-pub(crate) fn add_meaning(diagnostic: &mut DiagnosticDraft, policies: &PolicySet, link: &Link) {
+pub(crate) fn add_meaning(
+    alloc: Global,
+    diagnostic: &mut DiagnosticDraft,
+    policies: &PolicySet,
+    link: &Link,
+) {
     let name = link.template.as_str();
     let Some(template) = template_of(policies, name) else {
         if diagnostic.number == NO_TEMPLATE {
-            add_template(diagnostic, policies, name);
+            add_template(alloc, diagnostic, policies, name);
         }
         return;
     };
@@ -52,7 +62,7 @@ fn template_of<'p>(policies: &'p PolicySet, name: &str) -> Option<&'p Template> 
 }
 
 // Adds why there is no template of a name: it is that of a policy, or near to that of a template.
-fn add_template(diagnostic: &mut DiagnosticDraft, policies: &PolicySet, name: &str) {
+fn add_template(alloc: Global, diagnostic: &mut DiagnosticDraft, policies: &PolicySet, name: &str) {
     for position in 0..policies.count() {
         if let Some(policy) = policies.policy(position)
             && policy.id().as_str() == name
@@ -68,9 +78,23 @@ fn add_template(diagnostic: &mut DiagnosticDraft, policies: &PolicySet, name: &s
             nearest = nearest.compare(id, id);
         }
     }
-    if let Some(id) = nearest.name() {
-        diagnostic.advise_all(&["did you mean `", id, "`?"]);
+    match nearest.name() {
+        Some(id) => diagnostic.advise_all(&["did you mean `", id, "`?"]),
+        None if policies.template_count() > 0 => note_templates(alloc, diagnostic, policies),
+        None => {}
     }
+}
+
+// Adds the ids of the templates, at most ten.
+fn note_templates(alloc: Global, diagnostic: &mut DiagnosticDraft, policies: &PolicySet) {
+    let mut note = Draft::new(alloc);
+    note.add("templates:");
+    for position in 0..policies.template_count().min(MOST_TEMPLATES) {
+        if let Some(template) = policies.template(position) {
+            note.add_all(&[" `", template.id().as_str(), "`"]);
+        }
+    }
+    diagnostic.note_made(note.done());
 }
 
 // Whether a side of a scope has a slot.

@@ -35,11 +35,11 @@ fn add_position(diagnostic: &mut DiagnosticDraft, bytes: &[u8], position: usize)
 }
 
 // Adds the ids of a link that the policies refuse, and what is likely meant.
-fn add_link(diagnostic: &mut DiagnosticDraft, policies: &PolicySet, link: &Link) {
+fn add_link(alloc: Global, diagnostic: &mut DiagnosticDraft, policies: &PolicySet, link: &Link) {
     let id = link.id.as_str();
     let template = link.template.as_str();
     diagnostic.note(&["link `", id, "` of template `", template, "`"]);
-    add_meaning(diagnostic, policies, link);
+    add_meaning(alloc, diagnostic, policies, link);
 }
 
 // Adds the first link that the policies refuse.
@@ -57,7 +57,7 @@ fn add_refused<F: Files>(
     if let Ok(Some(position)) = refused {
         add_position(diagnostic, bytes, position);
         if let Some(link) = links.get(position) {
-            add_link(diagnostic, &policies, link);
+            add_link(alloc, diagnostic, &policies, link);
         }
     }
     drop(policies);

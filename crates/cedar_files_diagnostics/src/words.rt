@@ -74,7 +74,7 @@ fn words_of_data(number: u16) -> Option<(&'static str, &'static str)> {
         501 => ("the file is not valid JSON", "the file has to be JSON"),
         502 => (
             "a part of the file has the wrong form",
-            "the file is a list of objects; docs/DATA.md lists their keys",
+            "docs/DATA.md lists the keys of each part",
         ),
         503 => (
             "an entity has a type that the schema does not declare",

@@ -28,7 +28,8 @@ pub(crate) fn meant_built_in(text: &str) -> Option<&'static str> {
         "Int" | "Integer" | "int" | "integer" | "Number" | "number" => Some("Long"),
         "Bool" | "bool" => Some("Boolean"),
         "List" | "list" | "Array" | "array" => Some("Set"),
-        "Object" | "object" => Some("Record"),
+        "Object" | "object" | "Map" | "map" | "Struct" | "struct" => Some("Record"),
+        "Text" | "text" | "Str" | "str" | "UUID" | "uuid" => Some("String"),
         _ => near_built_in(text),
     }
 }

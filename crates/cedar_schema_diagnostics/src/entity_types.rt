@@ -70,7 +70,7 @@ fn refused_list(alloc: Global, number: u16, list: &Value) -> Option<Refusal> {
     let says = ["expected a list of entity types, found ", kind_of(list)];
     match list.as_str() {
         Some(name) if is_plain(name) => part_of(alloc, &says, &["write [\"", shown(name), "\"]"]),
-        _ => part_of(alloc, &says, &[]),
+        _ => part_of(alloc, &says, &["write a list of names, [\"User\"]"]),
     }
 }
 
@@ -79,7 +79,7 @@ fn refused_item(alloc: Global, setting: Setting<'_>, item: &Value) -> Option<Ref
         Some(name) => refused_entity_name(alloc, setting, name, false),
         None if setting.number == 302 => {
             let says = ["expected the name of an entity type, found ", kind_of(item)];
-            part_of(alloc, &says, &[])
+            part_of(alloc, &says, &["write the name alone, \"User\""])
         }
         None => None,
     }

@@ -46,7 +46,11 @@ fn refused_in(alloc: Global, json: &Value, number: u16) -> Result<Option<Refusal
                 "a schema must be an object of namespaces, not ",
                 kind_of(json),
             ];
-            Ok(part_of(alloc, &says, &[]))
+            let hint: &[&str] = match json {
+                Value::Array(_) => &["a list goes into the file of `--entities` or of `--links`"],
+                _ => &[],
+            };
+            Ok(part_of(alloc, &says, hint))
         }
         None => Ok(None),
     }

@@ -74,17 +74,45 @@ fn refused_kind(alloc: Global, part: Part, json: &Value) -> Option<Refusal> {
         Some(id) if part == Part::Member && is_plain(id) => {
             part_of(alloc, &says, &["write {\"id\":\"", shown(id), "\"}"])
         }
-        _ => part_of(alloc, &says, &[]),
+        _ if part == Part::Namespace => part_of(
+            alloc,
+            &says,
+            &["each key at the top of a schema is the name of a namespace"],
+        ),
+        _ => Some(part_with(alloc, joined(alloc, &says), list_of(alloc, keys_of(part)))),
     }
 }
 
 // A key that a part may not have.
 fn refused_key(alloc: Global, part: Part, key: &str) -> Option<Refusal> {
-    let found = match left_out_key(part, key) {
-        Some((says, hint)) => part_of(alloc, &[says], &[hint]),
-        None => Some(unknown_key(alloc, name_of(part), key, keys_of(part))),
+    let found = match (left_out_key(part, key), other_owner(part, key)) {
+        (Some((says, hint)), _) => part_of(alloc, &[says], &[hint]),
+        (None, Some(owner)) => part_of(
+            alloc,
+            &[name_of(part), " has no key `", shown(key), "`"],
+            &["it is a key of ", owner],
+        ),
+        (None, None) => Some(unknown_key(alloc, name_of(part), key, keys_of(part))),
     };
     at(alloc, Step::Key(key), found)
+}
+
+// The part whose key this is, in words, if it is not near to a key of the part in which it is written.
+fn other_owner(part: Part, key: &str) -> Option<&'static str> {
+    if nearest_key(key, keys_of(part)).is_some() {
+        return None;
+    }
+    for other in [
+        Part::AppliesTo,
+        Part::Action,
+        Part::EntityType,
+        Part::Namespace,
+    ] {
+        if has_key(keys_of(other), key) {
+            return Some(name_of(other));
+        }
+    }
+    None
 }
 
 /// What is said of a key that is not among these, with the key that is likely meant, or with all of them. `what` is what has the keys,
@@ -159,5 +187,9 @@ pub(crate) fn refused_object(alloc: Global, key: &str, json: &Value) -> Option<R
 
 fn other_kind(alloc: Global, key: &str, kind: &str) -> Option<Refusal> {
     let says = ["`", shown(key), "` must be an object, not ", shown(kind)];
-    part_of(alloc, &says, &[])
+    let hint = [
+        "write {\"a name\":{..}}, with a key for each of its ",
+        shown(key),
+    ];
+    part_of(alloc, &says, &hint)
 }

@@ -38,9 +38,13 @@ pub(crate) fn left_out_key(part: Part, key: &str) -> Option<(&'static str, &'sta
 /// What to write in place of an extension type of Cedar that is not in this engine; none of another name.
 pub(crate) fn left_out_extension(name: &str) -> Option<&'static str> {
     match name {
-        "ipaddr" => Some("write {\"type\":\"String\"}, and compare it with `==` or `like`"),
-        "datetime" => Some("write {\"type\":\"Long\"}, for example milliseconds since 1970"),
-        "duration" => Some("write {\"type\":\"Long\"}, for example milliseconds"),
+        "ipaddr" | "ip" | "IP" | "IpAddr" => Some(
+            "write {\"type\":\"String\"}, and compare it with `==` or `like`",
+        ),
+        "datetime" | "DateTime" | "date" | "Date" | "timestamp" | "Timestamp" => Some(
+            "write {\"type\":\"Long\"}, for example milliseconds since 1970",
+        ),
+        "duration" | "Duration" => Some("write {\"type\":\"Long\"}, for example milliseconds"),
         _ => None,
     }
 }

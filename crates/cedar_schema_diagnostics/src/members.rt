@@ -122,6 +122,10 @@ fn say_undeclared(says: &mut Draft, namespace: &str, ty: Option<&str>, id: &str)
 // Hints at the action that is likely meant: one with the same id, or else the one with the nearest id whose type is one of two.
 fn hint_action(hint: &mut Draft, setting: Setting<'_>, ty: &str, own: &str, id: &str) {
     let actions = &setting.declared.actions;
+    if id.contains("::\"") {
+        hint.add("write the id alone, without the type and the inner quotes");
+        return;
+    }
     for (uid, _) in actions.iter() {
         if uid.id.as_str() == id && is_plain(id) {
             let name = uid.ty.as_str();

@@ -26,6 +26,9 @@ pub(crate) fn refused_spaces(
 }
 
 fn refused_space(alloc: Global, number: u16, namespace: &str, space: &Value) -> Option<Refusal> {
+    if number == 302 && !space.is_object() {
+        return refused_keys(alloc, Part::Namespace, space);
+    }
     if !namespace.is_empty() {
         let found = refused_name(alloc, number, namespace);
         if found.is_some() {
@@ -42,7 +45,31 @@ fn refused_space(alloc: Global, number: u16, namespace: &str, space: &Value) -> 
     if has_key(&SECTIONS, namespace) {
         return outside_namespaces(alloc, namespace);
     }
-    found
+    match inner_namespace(space) {
+        Some(inner) => at(alloc, Step::Key(inner), around_namespaces(alloc, namespace)),
+        None => found,
+    }
+}
+
+// The first key that a namespace may not have, if what it has is a namespace itself.
+fn inner_namespace(space: &Value) -> Option<&str> {
+    let members = space.as_object()?;
+    let (key, member) = members
+        .iter()
+        .find(|(key, _)| !has_key(&SECTIONS, key.as_str()))?;
+    let is_namespace = SECTIONS
+        .iter()
+        .any(|section| member.get(*section).is_some());
+    is_namespace.then_some(key.as_str())
+}
+
+// A key around the namespaces.
+fn around_namespaces(alloc: Global, key: &str) -> Option<Refusal> {
+    part_of(
+        alloc,
+        &["`", shown(key), "` is read as the name of a namespace"],
+        &["remove it: the namespaces are the keys at the top of a schema"],
+    )
 }
 
 // A section that is not in a namespace.

@@ -7,6 +7,7 @@ use crate::part::{Refusal, at, part_of, part_with, remembered};
 use crate::setting::Setting;
 use crate::step::Step;
 use crate::text::shown;
+use crate::type_shape::SET;
 use crate::undeclared::{as_written, last_word, meant_name, say_nowhere};
 use base_names::apart;
 use base_places::Draft;
@@ -81,6 +82,10 @@ pub(crate) fn refused_type_name(
     text: &str,
 ) -> Option<Refusal> {
     let found = refused_name(alloc, setting.number, text);
+    if found.is_some() && text.contains(['<', '[']) {
+        let found = part_of(alloc, &["`", shown(text), "` is not a name"], &[SET]);
+        return at(alloc, Step::Key("type"), found);
+    }
     if found.is_some() {
         return at(alloc, Step::Key("type"), found);
     }
@@ -101,10 +106,10 @@ fn undeclared_type(
     if text == "EntityOrCommon" {
         return Ok(entity_or_common(alloc));
     }
-    if left_out_extension(text).is_some() {
+    let is_entity = is_declared(alloc, &setting.declared.entities, setting.namespace, text)?;
+    if !is_entity && left_out_extension(text).is_some() {
         return Ok(at(alloc, Step::Key("type"), undeclared_extension(alloc, text)));
     }
-    let is_entity = is_declared(alloc, &setting.declared.entities, setting.namespace, text)?;
     let mut says = Draft::new(alloc);
     says.add_all(&["`", shown(text), "` is not a built-in type, and "]);
     say_nowhere(&mut says, "common type", text, setting.namespace);
@@ -116,7 +121,11 @@ fn undeclared_type(
 
 // Hints what is meant by the name of a type that is not declared.
 fn hint_type(hint: &mut Draft, setting: Setting<'_>, text: &str, is_entity: bool) {
-    if let Some(extension) = ExtensionType::named(text) {
+    let number = match text {
+        "Decimal" | "Float" | "float" | "Double" | "double" => "decimal",
+        _ => text,
+    };
+    if let Some(extension) = ExtensionType::named(number) {
         let name = extension.name();
         hint.add_all(&["write {\"type\":\"Extension\",\"name\":\"", name, "\"}"]);
     } else if is_entity {
@@ -147,6 +156,10 @@ fn hint_meant(hint: &mut Draft, setting: Setting<'_>, text: &str) {
             name,
             "\"}?",
         ]);
+    } else {
+        hint.add(
+            "the built-in types are `Long`, `String`, `Boolean`, `Set`, `Record`, `Entity` and `Extension`",
+        );
     }
 }
 

@@ -6,8 +6,20 @@ use crate::part::{Refusal, at, part_of};
 use crate::step::Step;
 use crate::text::{is_plain, shown};
 use crate::type_keys::refused_type_keys;
+use base_names::apart;
 use serde_json::{Map, Value};
 use std::alloc::Global;
+
+/// How sets are written.
+pub(crate) const SET: &str =
+    "write {\"type\":\"Set\",\"element\":{\"type\":\"String\"}}, or the type of the members";
+
+// How records are written.
+const RECORD: &str =
+    "write {\"type\":\"Record\",\"attributes\":{..}}, with the names as keys in `attributes`";
+
+// How a type is written.
+const ANY_TYPE: &str = "write {\"type\":\"String\"}, or another type";
 
 /// Why the JSON of a type, or of an attribute, has another shape than the format allows (302), or none. The types in it are not looked
 /// at.
@@ -29,7 +41,7 @@ pub(crate) fn refused_shape(alloc: Global, json: &Value, is_attribute: bool) -> 
             let found = part_of(alloc, &["expected a string, found ", kind_of(other)], &[]);
             at(alloc, Step::Key("type"), found)
         }
-        None => without_type(alloc, json),
+        None => without_type(alloc, json, members),
     }
 }
 
@@ -41,11 +53,13 @@ fn refused_kind(alloc: Global, json: &Value) -> Option<Refusal> {
             let name = meant_built_in(text).unwrap_or(text);
             part_of(alloc, &says, &["write {\"type\":\"", shown(name), "\"}"])
         }
-        _ => part_of(alloc, &says, &[]),
+        _ if json.is_array() => part_of(alloc, &says, &[SET]),
+        _ => part_of(alloc, &says, &[ANY_TYPE]),
     }
 }
 
-fn without_type(alloc: Global, json: &Value) -> Option<Refusal> {
+// What to do about a type without the key `type`: it is misspelt, or what is written are the attributes of a record.
+fn without_type(alloc: Global, json: &Value, members: &Map<String, Value>) -> Option<Refusal> {
     let says = ["a type needs the key `type`"];
     if json.get("attributes").is_some() {
         return part_of(
@@ -57,7 +71,16 @@ fn without_type(alloc: Global, json: &Value) -> Option<Refusal> {
     if json.get("element").is_some() {
         return part_of(alloc, &says, &["write \"type\":\"Set\" beside `element`"]);
     }
-    part_of(alloc, &says, &[])
+    if members
+        .iter()
+        .any(|(key, _)| apart(key.as_str(), "type").is_some())
+    {
+        return part_of(alloc, &says, &["did you mean `type`?"]);
+    }
+    if members.iter().any(|(_, member)| member.is_object()) {
+        return part_of(alloc, &says, &[RECORD]);
+    }
+    part_of(alloc, &says, &[ANY_TYPE])
 }
 
 fn refused_members(
@@ -75,9 +98,7 @@ fn refused_members(
         "Set" if json.get("element").is_none() => part_of(
             alloc,
             &["the type `Set` needs the key `element`"],
-            &[
-                "write {\"type\":\"Set\",\"element\":{\"type\":\"String\"}}, or the type of the members",
-            ],
+            &[SET],
         ),
         "Record" => refused_record(alloc, json),
         "Entity" => refused_text(alloc, json, "name", "the type `Entity`"),

@@ -56,15 +56,19 @@ impl<'t> Around<'t> {
         is_of(self.second, kind)
     }
 
+    /// Whether the token before these two is of this kind.
+    pub(crate) fn is_third(self, kind: TokenKind) -> bool {
+        is_of(self.third, kind)
+    }
+
+    /// Whether the last token before the place is one of these texts.
+    pub(crate) fn is_before_text(self, texts: &[&str]) -> bool {
+        self.before.is_some_and(|token| texts.contains(&token.text))
+    }
+
     /// Where the last token before the place ends, in bytes from 0.
     pub(crate) fn end(self) -> usize {
         self.before.map_or(self.start, |token| token.end())
-    }
-
-    /// Whether the place is where a statement begins.
-    pub(crate) fn begins_statement(self) -> bool {
-        self.before
-            .is_none_or(|token| token.kind == TokenKind::Semicolon)
     }
 }
 

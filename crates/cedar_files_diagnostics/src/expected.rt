@@ -123,6 +123,29 @@ impl Expected {
         self.allows(UID) && !self.allows("1")
     }
 
+    /// Whether the key of a record, or the attribute after `has`, is wanted.
+    pub(crate) fn wants_key(&self) -> bool {
+        self.allows("\"a\"") && self.allows(NAME) && !self.allows("1")
+    }
+
+    /// Whether a policy may begin.
+    pub(crate) fn begins_policy(&self) -> bool {
+        self.allows("@")
+    }
+
+    /// Whether a clause may begin, or the policy end.
+    pub(crate) fn begins_clause(&self) -> bool {
+        self.allows("when") && !self.allows(NAME)
+    }
+
+    /// Whether a variable of a scope is wanted.
+    pub(crate) fn wants_variable(&self) -> bool {
+        let is_variable = self.allows("principal")
+            || self.allows("action")
+            || self.allows("resource");
+        is_variable && !self.allows(NAME)
+    }
+
     // Whether this is said to be expected.
     fn shows(&self, shown: &Shown) -> bool {
         let (tried, _, [one, two]) = *shown;

@@ -87,7 +87,8 @@ fn explain_text(
 fn hint_for(text: &str, fault: ParseFault) -> Option<&'static str> {
     match fault {
         ParseFault::Text(TextFault::BadCharacter(at)) => {
-            meant_by_character(text.get(at..).unwrap_or(""))
+            let (before, rest) = text.split_at_checked(at).unwrap_or((text, ""));
+            meant_by_character(before, rest)
         }
         ParseFault::UnknownFunction(at) => Some(meant_by_function(text.get(at..).unwrap_or(""))),
         _ => hint_of(fault),

@@ -65,7 +65,9 @@ pub fn hint_of(fault: ParseFault) -> Option<&'static str> {
         ParseFault::SlotMisplaced(_) => {
             Some("`?principal` and `?resource` are allowed only in the scope of their own variable")
         }
-        ParseFault::Arity(_) => Some("`isEmpty` takes no argument, all others take one"),
+        ParseFault::Arity(_) => Some(
+            "`isEmpty` takes no argument, all others take one; several members are one set: `[1, 2]`",
+        ),
         ParseFault::TooDeep(_) | ParseFault::TooHigh(_) | ParseFault::TooLarge(_) => {
             Some("split the policy into several")
         }

@@ -79,7 +79,7 @@ pub(crate) fn mark_unexpected(
     let hint = match lone_name(around, &expected) {
         Some(name) => {
             diagnostic.mark_made(name.start(), name.start(), unknown(alloc, name));
-            Some(meant_by_name(name.text))
+            Some(meant_by_name(around, name.text))
         }
         None => {
             diagnostic.mark_made(at, at, unexpected(alloc, around.here, &expected));

@@ -220,7 +220,7 @@ fn meant_by_sign(sign: char) -> Option<&'static str> {
     match sign {
         '\'' | '`' | '\u{201C}' | '\u{201D}' => Some(QUOTES),
         '/' | '#' => Some(COMMENTS),
-        ';' => Some("write `,` instead of `;`"),
+        ';' => Some("write `,` or `:` instead of `;`"),
         '=' => Some("write `:` instead of `=`"),
         ':' => Some("remove this `:`"),
         '(' | ')' => Some("a list has square brackets"),

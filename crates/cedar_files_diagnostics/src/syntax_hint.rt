@@ -365,6 +365,9 @@ fn meant_after_operand(around: Around<'_>, expected: &Expected) -> Option<&'stat
         TokenKind::Dot if around.is_second(TokenKind::Has) => Some(
             "write `x has a.b`, without quotes",
         ),
+        TokenKind::String if around.is_second(TokenKind::Dot) => {
+            Some("write `x.contains(y)`: arguments are in brackets")
+        }
         TokenKind::Identifier => meant_by_next(around, here),
         _ => None,
     }

@@ -71,7 +71,10 @@ pub fn meant_by_function(rest: &str) -> &'static str {
     let end = rest
         .find(|letter: char| !letter.is_ascii_alphanumeric() && letter != '_')
         .unwrap_or(rest.len());
-    let name = rest.get(..end).unwrap_or("");
+    let (name, after) = rest.split_at_checked(end).unwrap_or((rest, ""));
+    if after.starts_with("::") {
+        return "an entity is written with its id as a string: `User::\"ann\"`";
+    }
     match name {
         "ip" | "isIpv4" | "isIpv6" | "isLoopback" | "isMulticast" | "isInRange" => {
             "functions of IP addresses are not supported: see docs/GRAMMAR.md"

@@ -1,15 +1,19 @@
 -- What each operator gives for the values of its operands (Cedar language reference, operators).
-use Rattle.std.specs.Prelude.{ℕ, ℤ, pos, negsuc, ◌+ℤ◌, ◌-ℤ◌, ◌*ℤ◌, Bool, true, false, not, ◌&&◌, ◌||◌, if◌then◌else◌, int_lt, int_le, List, [], ◌∷◌, Option, Some, None, is_some, Ok, Err}
+use Rattle.std.specs.Prelude.{ℕ, ℤ, pos, negsuc, ◌+ℤ◌, ◌-ℤ◌, ◌*ℤ◌, Bool, true, false, not, ◌&&◌, ◌||◌, if◌then◌else◌, int_lt, int_le, List, [], ◌∷◌, Option, Some, None, is_some, Result, Ok, Err}
 use Rattle.std.specs.List.{list_all, list_any}
 use Rattle.std.specs.Str.{bytes_eq, chars}
 use Rattle.cedar_ext.specs.declared.extension.Extension.{Extension}
 use Rattle.cedar_ext.specs.declared.extension.ExtensionType.{ExtensionType}
 use Rattle.cedar_ext.specs.declared.method.BinaryMethod.{BinaryMethod}
+use Rattle.cedar_ext.specs.declared.method_error.MethodError.{MethodError}
+use Rattle.cedar_ext.specs.declared.method_error.MethodError.TheVariants as method_error
 use Rattle.cedar_ext.specs.declared.scalar.Scalar.{Scalar}
 use Rattle.cedar_ext.specs.declared.scalar.Scalar.TheVariants as scalar
+use Rattle.cedar_ext.specs.declared.unary_method.UnaryMethod.{UnaryMethod}
 use Rattle.cedar_ext.specs.Extensions.{extension_of}
 use Rattle.cedar_ext.specs.Matching.{is_match}
-use Rattle.cedar_ext.specs.Methods.{call_of}
+use Rattle.cedar_ext.specs.Methods.{call_of, ordered_of}
+use Rattle.cedar_ext.specs.UnaryMethods.{unary_call_of}
 use Rattle.cedar_value.specs.Datum.{Datum, boolean, long, text, uid, set, record_of, extension, same, same_uid, list_of, pairs_of}
 use Rattle.cedar_value.specs.Sets.{has_member}
 use Rattle.cedar_value.specs.Records.{value_at}
@@ -106,6 +110,23 @@ abbrev pub is_empty : List Datum → Bool
 is_empty [] = true
 is_empty (d ∷ ds) = false
 
+-- The value that a method of an extension type gives (Cedar language reference, functions).
+abbrev pub datum_of_scalar : Scalar → Datum
+datum_of_scalar (scalar.Boolean b) = boolean b
+datum_of_scalar (scalar.Long n) = long n
+datum_of_scalar (scalar.Extension e) = extension e
+
+-- What a method of an extension type gives, or its error (Cedar language reference, functions).
+abbrev pub scalar_or_error : Result Scalar MethodError → Answer Datum
+scalar_or_error (Ok v) = Ok (datum_of_scalar v)
+scalar_or_error (Err method_error.«Type») = Err error.«Type»
+scalar_or_error (Err method_error.Overflow) = Err error.Overflow
+
+-- A method of an extension type that takes no argument (Cedar language reference, functions).
+abbrev pub called_alone : UnaryMethod → Datum → Answer Datum
+called_alone m (extension e) = scalar_or_error (unary_call_of m e)
+called_alone m _ = Err error.«Type»
+
 -- An operator's answer for its operand (Cedar language reference, operators).
 abbrev pub unary_of : World → UnaryOperator → Datum → Answer Datum
 unary_of w operator.Not x = not_of x
@@ -116,21 +137,19 @@ unary_of w (operator.Like p) x = like_of x (is_match p)
 unary_of w (operator.Is ty) x = is_of ty x
 unary_of w (operator.Construct t) x = constructed t x
 unary_of w operator.IsEmpty x = of_set is_empty x
+unary_of w (operator.Call m) x = called_alone m x
 
 -- The operation's answer for two numbers, else the error type (Cedar language reference, operators).
 abbrev pub of_longs : (ℤ → ℤ → Answer Datum) → Datum → Datum → Answer Datum
 of_longs f (long m) (long n) = f m n
 of_longs f _ _ = Err error.«Type»
 
--- The value that a method of an extension type gives (Cedar language reference, functions).
-abbrev pub datum_of_scalar : Scalar → Datum
-datum_of_scalar (scalar.Boolean b) = boolean b
-datum_of_scalar (scalar.Extension e) = extension e
-
--- What a method of an extension type gives, else the error type (Cedar language reference, functions).
-abbrev pub scalar_or_error : Option Scalar → Answer Datum
-scalar_or_error None = Err error.«Type»
-scalar_or_error (Some v) = Ok (datum_of_scalar v)
+-- `<` or `<=`, by a test: of two numbers, two datetimes or two durations, else the error type (Cedar language reference, comparison
+-- operators).
+abbrev pub compared : (ℤ → ℤ → Bool) → Datum → Datum → Answer Datum
+compared f (long m) (long n) = Ok (boolean (f m n))
+compared f (extension a) (extension b) = scalar_or_error (ordered_of f a b)
+compared f _ _ = Err error.«Type»
 
 -- A method of an extension type, which takes two values of extension types (Cedar language reference, functions).
 abbrev pub called : BinaryMethod → Datum → Datum → Answer Datum
@@ -163,8 +182,8 @@ in_of w _ _ = Err error.«Type»
 -- An operator's answer for its operands (Cedar language reference, operators).
 abbrev pub binary_of : World → BinaryOperator → Datum → Datum → Answer Datum
 binary_of w binary_operator.Equal x y = Ok (boolean (same x y))
-binary_of w binary_operator.Less x y = of_longs (λ m n. Ok (boolean (int_lt m n))) x y
-binary_of w binary_operator.LessEqual x y = of_longs (λ m n. Ok (boolean (int_le m n))) x y
+binary_of w binary_operator.Less x y = compared int_lt x y
+binary_of w binary_operator.LessEqual x y = compared int_le x y
 binary_of w binary_operator.Add x y = of_longs (λ m n. long_or_overflow (m +ℤ n)) x y
 binary_of w binary_operator.Subtract x y = of_longs (λ m n. long_or_overflow (m -ℤ n)) x y
 binary_of w binary_operator.Multiply x y = of_longs (λ m n. long_or_overflow (m *ℤ n)) x y

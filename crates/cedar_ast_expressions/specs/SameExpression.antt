@@ -2,14 +2,16 @@
 use Rattle.std.specs.Prelude.{Bool, true, false, ◌&&◌}
 use Rattle.std.specs.Str.{bytes_eq}
 use Rattle.cedar_ext.specs.Extensions.{same_type}
+use Rattle.cedar_ext.specs.Methods.{method_name}
+use Rattle.cedar_ext.specs.UnaryMethods.{unary_name}
+use Rattle.cedar_ext.specs.declared.method.BinaryMethod.{BinaryMethod}
+use Rattle.cedar_ext.specs.declared.unary_method.UnaryMethod.{UnaryMethod}
 use Rattle.cedar_ext.specs.SamePattern.{same_pattern}
 use Rattle.cedar_value.specs.Datum.{same}
 use Rattle.cedar_ast_expressions.specs.declared.variable.Variable.{Variable}
 use Rattle.cedar_ast_expressions.specs.declared.variable.Variable.TheVariants.{Principal, Action, Resource, Context}
-use Rattle.cedar_ext.specs.declared.method.BinaryMethod.{BinaryMethod}
-use Rattle.cedar_ext.specs.declared.method.BinaryMethod.TheVariants as method
 use Rattle.cedar_ast_expressions.specs.declared.operator.UnaryOperator.{UnaryOperator}
-use Rattle.cedar_ast_expressions.specs.declared.operator.UnaryOperator.TheVariants.{Not, Negate, Has, Get, Like, Is, Construct, IsEmpty}
+use Rattle.cedar_ast_expressions.specs.declared.operator.UnaryOperator.TheVariants.{Not, Negate, Has, Get, Like, Is, Construct, IsEmpty, Call}
 use Rattle.cedar_ast_expressions.specs.declared.operator.BinaryOperator.{BinaryOperator}
 use Rattle.cedar_ast_expressions.specs.declared.operator.BinaryOperator.TheVariants as operator
 use Rattle.cedar_ast_expressions.specs.Expression.{Expression, literal, variable, and, or, if_else, unary, binary, set_with, record_with, Expressions, no_more, and_then, Entries, no_entries, entry}
@@ -22,13 +24,13 @@ same_variable Resource Resource = true
 same_variable Context Context = true
 same_variable _ _ = false
 
--- Whether two methods are the same (Cedar language reference, functions).
+-- Whether two methods that take one argument are the same: they have one name (Cedar language reference, functions).
 abbrev pub same_method : BinaryMethod → BinaryMethod → Bool
-same_method method.LessThan method.LessThan = true
-same_method method.LessThanOrEqual method.LessThanOrEqual = true
-same_method method.GreaterThan method.GreaterThan = true
-same_method method.GreaterThanOrEqual method.GreaterThanOrEqual = true
-same_method _ _ = false
+same_method m n = bytes_eq (method_name m) (method_name n)
+
+-- Whether two methods that take no argument are the same: they have one name (Cedar language reference, functions).
+abbrev pub same_unary_method : UnaryMethod → UnaryMethod → Bool
+same_unary_method m n = bytes_eq (unary_name m) (unary_name n)
 
 -- Whether two operators on one operand are the same, with one key, pattern or name (Cedar language reference, operators).
 unfoldable pub same_unary : UnaryOperator → UnaryOperator → Bool
@@ -40,6 +42,7 @@ same_unary (Like p) (Like q) = same_pattern p q
 same_unary (Is t) (Is u) = bytes_eq t u
 same_unary (Construct c) (Construct d) = same_type c d
 same_unary IsEmpty IsEmpty = true
+same_unary (Call m) (Call n) = same_unary_method m n
 same_unary _ _ = false
 
 -- Whether two operators on two operands are the same (Cedar language reference, operators).

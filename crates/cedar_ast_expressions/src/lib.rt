@@ -23,7 +23,7 @@ mod record_fault;
 mod replacement;
 mod variable;
 
-pub use cedar_ext::{BinaryMethod, ExtensionType};
+pub use cedar_ext::{BinaryMethod, ExtensionType, UnaryMethod};
 pub use entries::Entries;
 pub use error::EvaluationError;
 pub use expression::{Expr, ExprKind};

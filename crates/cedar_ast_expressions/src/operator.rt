@@ -1,7 +1,7 @@
 //! Operators.
 ghost use Rattle.std.specs.Prelude.{◌≡◌, ◌↔◌, IfOk, IsTrue};
 
-use cedar_ext::{BinaryMethod, ExtensionType, Pattern};
+use cedar_ext::{BinaryMethod, ExtensionType, Pattern, UnaryMethod};
 use cedar_value::{Name, Text};
 use std::alloc::{AllocError, Global};
 
@@ -24,6 +24,8 @@ pub enum UnaryOperator {
     Construct(ExtensionType),
     /// `isEmpty()`, of a set.
     IsEmpty,
+    /// A method of an extension type that takes no argument, such as `isLoopback()`.
+    Call(UnaryMethod),
 }
 
 impl UnaryOperator {
@@ -40,6 +42,7 @@ impl UnaryOperator {
             UnaryOperator::Is(ty) => Ok(UnaryOperator::Is(ty.try_clone(alloc)?)),
             UnaryOperator::Construct(ty) => Ok(UnaryOperator::Construct(*ty)),
             UnaryOperator::IsEmpty => Ok(UnaryOperator::IsEmpty),
+            UnaryOperator::Call(method) => Ok(UnaryOperator::Call(*method)),
         }
     }
 }
@@ -81,6 +84,7 @@ pub(crate) fn same_operator(one: &UnaryOperator, two: &UnaryOperator) -> bool
         (UnaryOperator::Is(first), UnaryOperator::Is(second)) => first == second,
         (UnaryOperator::Like(first), UnaryOperator::Like(second)) => first == second,
         (UnaryOperator::Construct(first), UnaryOperator::Construct(second)) => first.same(*second),
+        (UnaryOperator::Call(first), UnaryOperator::Call(second)) => first == second,
         _ => false,
     }
 }
@@ -91,9 +95,9 @@ pub(crate) fn same_operator(one: &UnaryOperator, two: &UnaryOperator) -> bool
 pub enum BinaryOperator {
     /// `==`, of values of any kind.
     Equal,
-    /// `<`, of numbers.
+    /// `<`, of numbers, of datetimes or of durations.
     Less,
-    /// `<=`, of numbers.
+    /// `<=`, of numbers, of datetimes or of durations.
     LessEqual,
     /// `+`, of numbers.
     Add,
@@ -109,6 +113,6 @@ pub enum BinaryOperator {
     ContainsAll,
     /// `containsAny`, of sets.
     ContainsAny,
-    /// A method of an extension type, such as `lessThan`.
+    /// A method of an extension type that takes one argument, such as `lessThan`.
     Call(BinaryMethod),
 }

@@ -14,6 +14,11 @@ use Rattle.cedar_ext.proofs.decimal.Decimal.TheSendSync as decimal
 use Rattle.cedar_ext.proofs.extension.Extension.TheSendSync as extension
 use Rattle.cedar_ext.proofs.extension.ExtensionType.TheSendSync as extension_type
 use Rattle.cedar_ext.proofs.method.BinaryMethod.TheSendSync as method
+use Rattle.cedar_ext.proofs.unary_method.UnaryMethod.TheSendSync as unary_method
+use Rattle.cedar_ext_ip.proofs.ip.Ip.TheSendSync as ip
+use Rattle.cedar_ext_ip.proofs.ip_version.IpVersion.TheSendSync as ip_version
+use Rattle.cedar_ext_time.proofs.datetime.Datetime.TheSendSync as datetime
+use Rattle.cedar_ext_time.proofs.duration.Duration.TheSendSync as duration
 use Rattle.cedar_value.proofs.name.Name.TheSendSync as name
 use Rattle.cedar_value.proofs.text.Text.TheSendSync as text
 use Rattle.cedar_value.proofs.uid.Uid.TheSendSync as uid
@@ -56,10 +61,10 @@ use Rattle.cedar_auth.specs.contracts.ready.Ready as Ready
 use Rattle.cedar_auth.specs.contracts.validated.Validated as Validated
 
 -- strings, names, uids, and values of extension types
-ruleset names = (decimal.the_send, decimal.the_sync, extension.the_send, extension.the_sync, extension.the_field_send, extension.the_field_sync, extension_type.the_send, extension_type.the_sync, extension_type.the_field_send, extension_type.the_field_sync, text.the_send, text.the_sync, shared.the_send, shared.the_sync, name.the_send, name.the_sync, uid.the_send, uid.the_sync, uid.the_field_send, uid.the_field_sync)
+ruleset names = (decimal.the_send, decimal.the_sync, ip.the_send, ip.the_sync, ip_version.the_send, ip_version.the_sync, ip_version.the_field_send, ip_version.the_field_sync, datetime.the_send, datetime.the_sync, duration.the_send, duration.the_sync, extension.the_send, extension.the_sync, extension.the_field_send, extension.the_field_sync, extension_type.the_send, extension_type.the_sync, extension_type.the_field_send, extension_type.the_field_sync, text.the_send, text.the_sync, shared.the_send, shared.the_sync, name.the_send, name.the_sync, uid.the_send, uid.the_sync, uid.the_field_send, uid.the_field_sync)
 
 -- what stands in an expression or a code beside values
-ruleset words = (unary.the_send, unary.the_sync, unary.the_field_send, unary.the_field_sync, binary.the_send, binary.the_sync, binary.the_field_send, binary.the_field_sync, variable.the_send, variable.the_sync, variable.the_field_send, variable.the_field_sync, keys.the_send, keys.the_sync, method.the_send, method.the_sync, method.the_field_send, method.the_field_sync)
+ruleset words = (unary.the_send, unary.the_sync, unary.the_field_send, unary.the_field_sync, binary.the_send, binary.the_sync, binary.the_field_send, binary.the_field_sync, variable.the_send, variable.the_sync, variable.the_field_send, variable.the_field_sync, keys.the_send, keys.the_sync, method.the_send, method.the_sync, method.the_field_send, method.the_field_sync, unary_method.the_send, unary_method.the_sync, unary_method.the_field_send, unary_method.the_field_sync)
 
 value-send : IsSend Value.the_row
 value-send = search (value.send-Value, names, sendable, crosses) depth 40

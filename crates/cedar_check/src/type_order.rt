@@ -86,7 +86,7 @@ fn order_extensions(left: ExtensionType, right: ExtensionType) -> Ordering
     if left.same(right) {
         return Ordering::Equal;
     }
-    unlike(extension_rank(left) < extension_rank(right))
+    unlike(left.rank() < right.rank())
 }
 
 // The order of two that are not equal.
@@ -105,12 +105,6 @@ fn truth_rank(truth: Truth) -> u8 {
         Truth::True => 0,
         Truth::False => 1,
         Truth::Any => 2,
-    }
-}
-
-fn extension_rank(ty: ExtensionType) -> u8 {
-    match ty {
-        ExtensionType::Decimal => 0,
     }
 }
 

@@ -66,6 +66,14 @@ fn add_taken_by_one(words: &mut Words, operator: &UnaryOperator) {
                 .add_all(&["`", made.constructor(), "` takes ", Kind::String.one()]);
         }
         UnaryOperator::IsEmpty => "`isEmpty` takes a set",
+        UnaryOperator::Call(method) => {
+            return words.says.add_all(&[
+                "`",
+                method.name(),
+                "` takes ",
+                method.row().operand.one(),
+            ]);
+        }
     };
     words.says.add(taken);
 }
@@ -155,10 +163,18 @@ fn advice_of(operator: BinaryOperator, left: Kind, right: Kind) -> Option<&'stat
             ExtensionType::Decimal => Some(
                 "compare decimals with `.lessThan(..)`, `.lessThanOrEqual(..)`, `.greaterThan(..)` or `.greaterThanOrEqual(..)`",
             ),
+            ExtensionType::Ip => Some("compare IP addresses with `==` or `.isInRange(..)`"),
+            ExtensionType::Datetime | ExtensionType::Duration => Some(
+                "`<`, `<=`, `>` and `>=` compare two datetimes, or two durations",
+            ),
         },
         BinaryOperator::Add | BinaryOperator::Subtract | BinaryOperator::Multiply => {
             match extension_in(left, right)? {
                 ExtensionType::Decimal => Some("there is no arithmetic on decimals"),
+                ExtensionType::Ip => Some("there is no arithmetic on IP addresses"),
+                ExtensionType::Datetime | ExtensionType::Duration => Some(
+                    "`.offset(..)` adds a duration to a datetime, and `.durationSince(..)` gives the duration between two",
+                ),
             }
         }
         BinaryOperator::In => advice_of_in(left, right),
@@ -208,7 +224,7 @@ fn advice_of_in(left: Kind, right: Kind) -> Option<&'static str> {
 // What to do about operands of a method of an extension type.
 fn advice_of_method(method: BinaryMethod, left: Kind, right: Kind) -> Option<&'static str> {
     let row = method.row();
-    if left == Kind::Long && right == Kind::Long {
+    if row.left == ExtensionType::Decimal && left == Kind::Long && right == Kind::Long {
         Some("compare Longs with `<`, `<=`, `>` or `>=`")
     } else if left != Kind::Extension(row.left) {
         Some(written_as(row.left))

@@ -15,6 +15,15 @@ fn form_of(made: ExtensionType) -> &'static str {
         ExtensionType::Decimal => {
             "write digits, a point and one to four digits, for example `decimal(\"1.5\")`"
         }
+        ExtensionType::Ip => {
+            "write an address, perhaps with a prefix, for example `ip(\"10.0.0.1\")` or `ip(\"10.0.0.0/8\")`"
+        }
+        ExtensionType::Datetime => {
+            "write a date, or a date and a time, for example `datetime(\"2024-10-15\")` or `datetime(\"2024-10-15T11:35:00Z\")`"
+        }
+        ExtensionType::Duration => {
+            "write numbers of `d`, `h`, `m`, `s` and `ms` in this order, for example `duration(\"1d12h\")`"
+        }
     }
 }
 
@@ -77,6 +86,7 @@ pub(crate) fn constructor_words(spot: Spot<'_>, words: &mut Words) -> Result<(),
     words.hint.add(if is_string(spot)? {
         match made {
             ExtensionType::Decimal => "the option `--any-decimal` allows any String",
+            ExtensionType::Ip | ExtensionType::Datetime | ExtensionType::Duration => form_of(made),
         }
     } else {
         form_of(made)
@@ -131,6 +141,7 @@ fn of_literal(words: &mut Words, made: ExtensionType, value: &Value) {
     words.says.add_all(&["this string is not ", made.one()]);
     let is_whole = match made {
         ExtensionType::Decimal => are_digits(text) && text.len() < 16,
+        ExtensionType::Ip | ExtensionType::Datetime | ExtensionType::Duration => false,
     };
     if is_whole {
         words.hint.add_all(&["write `", made.constructor(), "(\""]);

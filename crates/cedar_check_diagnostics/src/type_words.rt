@@ -110,6 +110,9 @@ impl Kind {
 pub(crate) fn written_as(ty: ExtensionType) -> &'static str {
     match ty {
         ExtensionType::Decimal => "write a decimal as `decimal(\"1.5\")`",
+        ExtensionType::Ip => "write an IP address as `ip(\"10.0.0.1\")`",
+        ExtensionType::Datetime => "write a datetime as `datetime(\"2024-10-15T11:35:00Z\")`",
+        ExtensionType::Duration => "write a duration as `duration(\"1d12h\")`",
     }
 }
 

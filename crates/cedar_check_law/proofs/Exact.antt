@@ -7,7 +7,8 @@ use Rattle.std.proofs.lemmas.Slice.Eq.{bytes_eq-Decides}
 use Rattle.cedar_ext.specs.declared.extension.ExtensionType.{ExtensionType}
 use Rattle.cedar_ext.specs.declared.method.BinaryMethod.{BinaryMethod}
 use Rattle.cedar_ext.specs.Extensions.{same_type}
-use Rattle.cedar_ext.specs.Methods.{row_of}
+use Rattle.cedar_ext.specs.UnaryMethods.{unary_row_of}
+use Rattle.cedar_ext.specs.Methods.{row_of, is_ordered}
 use Rattle.cedar_ext.specs.Private.ExtensionLemmas.{same_type-Decides}
 use Rattle.cedar_value.specs.Datum.{text, uid, same}
 use Rattle.cedar_value.specs.declared.uid.Uid.{Uid}
@@ -28,7 +29,7 @@ use Rattle.cedar_schema_spec.specs.SchemaTree.{SchemaTree}
 use Rattle.cedar_schema_types.specs.Membership.{known}
 use Rattle.cedar_schema_spec.specs.Declarations.{IsAction, is_entity_type, is_action, is_action_type, type_below}
 use Rattle.cedar_check_spec.specs.Capabilities.{Capability, Capabilities, Has, IsUnion, IsCommon, AreSame}
-use Rattle.cedar_check_spec.specs.Typing.{flipped, is_arithmetic, is_comparison, type_of_scalar, takes_any_string, is_set_comparison, MayHold, written_uids, AreWritten, IsInOne, Target, one_entity, entity_set, is_literal, TypesWith, of_uid, of_not, and_false, and_then_false, and_then_true, and_then_any, or_true, or_false, or_any_true, or_any_false, or_any_any, if_true, if_false, if_any, of_negative, of_arithmetic, of_comparison, equal_literals, equal_joined, equal_apart, has_none, has_held, has_required, has_any, of_get, of_like, of_is, in_written, in_related, in_unrelated, of_contains, of_set_comparison, of_is_empty, of_set, of_record, of_constructor, of_any_string, of_method, JoinsOnto, joined_all, joined_more, AddsOnto, added_all, added_more}
+use Rattle.cedar_check_spec.specs.Typing.{flipped, is_arithmetic, is_comparison, type_of_scalar, takes_any_string, is_set_comparison, MayHold, written_uids, AreWritten, IsInOne, Target, one_entity, entity_set, is_literal, TypesWith, of_uid, of_not, and_false, and_then_false, and_then_true, and_then_any, or_true, or_false, or_any_true, or_any_false, or_any_any, if_true, if_false, if_any, of_negative, of_arithmetic, of_comparison, equal_literals, equal_joined, equal_apart, has_none, has_held, has_required, has_any, of_get, of_like, of_is, in_written, in_related, in_unrelated, of_contains, of_set_comparison, of_is_empty, of_set, of_record, of_constructor, of_any_string, of_method, JoinsOnto, joined_all, joined_more, AddsOnto, added_all, added_more, of_ordered, of_unary_method}
 use Rattle.cedar_schema_types.specs.Lookup.{attribute_at}
 use Rattle.cedar_schema_types.specs.Ordered.{with_attribute}
 use Rattle.cedar_check_spec.specs.Rows.{Typed, as_type, gaining, truth_in, entity_in, target_in, apart, any_or, equal_literal_type, any_if, names_action, is_or_descends, is_in_written, in_truth, any_where, binary_type, constructor_type}
@@ -167,6 +168,11 @@ module _ (settings : Settings) (s : SchemaTree) (env : Environment) where
   type_itself : (x : ExtensionType) → same_type x x ≡ true
   type_itself x = (same_type-Decides x x).1 refl
 
+  ordered_exact : (op : BinaryOperator) (a b : Expression) (x : ExtensionType) → is_comparison op ≡ true → is_ordered x ≡ true → binary_type s op a b (kind.extension x) (kind.extension x) ≡ Some (kind.boolean Any)
+  ordered_exact binary_operator.Less a b x e o = ap₂ (λ c d. let r : Option TypeTree = only_if (c && d) (Some (kind.boolean Any)) in r) o (type_itself x)
+  ordered_exact binary_operator.LessEqual a b x e o = ap₂ (λ c d. let r : Option TypeTree = only_if (c && d) (Some (kind.boolean Any)) in r) o (type_itself x)
+  ordered_exact _ a b x e o = cc
+
   method_exact : (m : BinaryMethod) (a b : Expression) → binary_type s (binary_operator.Call m) a b (kind.extension (row_of m).left) (kind.extension (row_of m).right) ≡ Some (type_of_scalar (row_of m).result)
   method_exact m a b =
       let made = type_of_scalar (row_of m).result in
@@ -276,6 +282,7 @@ module _ (settings : Settings) (s : SchemaTree) (env : Environment) where
     exact (in_unrelated {ga = ga} {gb = gb} {a = a} {b = b} {m = m} {n = n} {v = v} da db w e r) k p =
         two k binary_operator.In a b (kind.entity m) v (kind.boolean False) ga gb (exact da k p) (exact db k p) (in_exact a b m n v False w (truth_by_types a b m n false e (test_false (bytes_eq m n || type_below s m n) (λ c. r ((related-Decides settings s env m n).0 c)))))
     exact (of_contains {ga = ga} {gb = gb} {a = a} {b = b} {t = t} {u = u} da db j) k p = two k binary_operator.Contains a b (kind.set t) u (kind.boolean Any) ga gb (exact da k p) (exact db k p) (ap any_where (join_found j))
+    exact (of_ordered {ga = ga} {gb = gb} {a = a} {b = b} {op = op} {x = x} is o da db) k p = two k op a b (kind.extension x) (kind.extension x) (kind.boolean Any) ga gb (exact da k p) (exact db k p) (ordered_exact op a b x is o)
     exact (of_set_comparison {ga = ga} {gb = gb} {a = a} {b = b} {t = t} {u = u} {v = v} {op = op} is da db j) k p = two k op a b (kind.set t) (kind.set u) (kind.boolean Any) ga gb (exact da k p) (exact db k p) (sets_exact op a b t u v is j)
     exact (of_is_empty {g = g} {e = e} {t = t} d) k p = one k operator.IsEmpty e (kind.set t) (kind.boolean Any) g (exact d k p) (λ h. refl)
     exact (of_set {g = g} {e = e} {es = es} {t = t} {v = v} d ds) k p =
@@ -288,6 +295,9 @@ module _ (settings : Settings) (s : SchemaTree) (env : Environment) where
         (ap₂ (λ x y. only_if x (option_and_then (λ (at : Attributes). as_type (kind.record_of at)) y)) (test_from_distinct (keys_in fs) d) (exact_entries ds k p))
     exact (of_constructor {x = x} {t = t} e) k p = plainly k (unary (operator.Construct x) (literal (text t))) (kind.extension x) (ap (λ r. only_if (is_some r) (as_type (kind.extension x))) e)
     exact (of_any_string {g = g} {x = x} {e = e} on n d) k p = one k (operator.Construct x) e kind.string (kind.extension x) g (exact d k p) (λ h. constructor_exact x e n on)
+    exact (of_unary_method {g = g} {e = e} {m = m} d) k p =
+        let made = type_of_scalar (unary_row_of m).result in
+        one k (operator.Call m) e (kind.extension (unary_row_of m).operand) made g (exact d k p) (λ h. ap (λ b. only_if b (as_type made)) (type_itself (unary_row_of m).operand))
     exact (of_method {ga = ga} {gb = gb} {a = a} {b = b} {m = m} da db) k p =
         two k (binary_operator.Call m) a b (kind.extension (row_of m).left) (kind.extension (row_of m).right) (type_of_scalar (row_of m).result) ga gb (exact da k p) (exact db k p) (method_exact m a b)
     exact _ k p = plainly k _ _ refl

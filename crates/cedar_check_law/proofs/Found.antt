@@ -7,7 +7,8 @@ use Rattle.std.proofs.lemmas.Slice.Eq.{bytes_eq-Decides}
 use Rattle.cedar_ext.specs.declared.extension.ExtensionType.{ExtensionType}
 use Rattle.cedar_ext.specs.declared.method.BinaryMethod.{BinaryMethod}
 use Rattle.cedar_ext.specs.Extensions.{extension_of}
-use Rattle.cedar_ext.specs.Methods.{row_of}
+use Rattle.cedar_ext.specs.UnaryMethods.{unary_row_of}
+use Rattle.cedar_ext.specs.Methods.{row_of, is_ordered}
 use Rattle.cedar_ext.specs.Private.ExtensionLemmas.{same_type-Decides}
 use Rattle.cedar_value.specs.Datum.{Datum, boolean, long, text, uid, same, same_uid}
 use Rattle.cedar_value.specs.Private.Equality.{same_uid-Decides}
@@ -33,11 +34,11 @@ use Rattle.cedar_schema_spec.specs.Descents.{ActionDescends, TypeDescends}
 use Rattle.cedar_schema_types.specs.Membership.{known}
 use Rattle.cedar_schema_spec.specs.Declarations.{is_entity_type, is_action, is_action_type, action_below, type_below}
 use Rattle.cedar_check_spec.specs.Capabilities.{Capability, Capabilities, Has, IsUnion, IsCommon}
-use Rattle.cedar_check_spec.specs.Typing.{attributes_in, flipped, is_arithmetic, is_comparison, type_of_scalar, takes_any_string, is_set_comparison, MayHold, two_literals, written_uids, NamesAction, AreWritten, IsInOne, IsOrDescends, Target, one_entity, entity_set, is_literal, TypesWith, of_boolean, of_long, of_text, of_uid, of_principal, of_resource, of_context, of_not, and_false, and_then_false, and_then_true, and_then_any, or_true, or_false, or_any_true, or_any_false, or_any_any, if_true, if_false, if_any, of_negative, of_arithmetic, of_comparison, equal_literals, equal_joined, equal_apart, has_none, has_held, has_required, has_any, of_get, of_like, of_is, in_written, in_related, in_unrelated, of_contains, of_set_comparison, of_is_empty, of_set, of_record, of_constructor, of_any_string, of_method, JoinsOnto, joined_all, joined_more, AddsOnto, added_all, added_more}
+use Rattle.cedar_check_spec.specs.Typing.{attributes_in, flipped, is_arithmetic, is_comparison, type_of_scalar, takes_any_string, is_set_comparison, MayHold, two_literals, written_uids, NamesAction, AreWritten, IsInOne, IsOrDescends, Target, one_entity, entity_set, is_literal, TypesWith, of_boolean, of_long, of_text, of_uid, of_principal, of_resource, of_context, of_not, and_false, and_then_false, and_then_true, and_then_any, or_true, or_false, or_any_true, or_any_false, or_any_any, if_true, if_false, if_any, of_negative, of_arithmetic, of_comparison, equal_literals, equal_joined, equal_apart, has_none, has_held, has_required, has_any, of_get, of_like, of_is, in_written, in_related, in_unrelated, of_contains, of_set_comparison, of_is_empty, of_set, of_record, of_constructor, of_any_string, of_method, JoinsOnto, joined_all, joined_more, AddsOnto, added_all, added_more, of_ordered, of_unary_method}
 use Rattle.cedar_schema_types.specs.Lookup.{attribute_at}
 use Rattle.cedar_schema_types.specs.declared.attribute.Attribute.{Attribute}
 use Rattle.cedar_schema_types.specs.Ordered.{with_attribute}
-use Rattle.cedar_check_spec.specs.Rows.{Typed, as_type, gaining, truth_in, entity_in, element_in, target_in, is_long, is_string, is_extension, constructed_literal_type, constructor_type, apart, any_or, equal_literal_type, any_if, names_action, is_or_descends, is_in_written, in_truth, any_where, sets_type, longs_type, method_type, binary_type}
+use Rattle.cedar_check_spec.specs.Rows.{Typed, as_type, gaining, truth_in, entity_in, element_in, target_in, is_long, is_string, is_extension, constructed_literal_type, constructor_type, apart, any_or, equal_literal_type, any_if, names_action, is_or_descends, is_in_written, in_truth, any_where, sets_type, longs_type, method_type, binary_type, comparison_type, unary_method_type}
 use Rattle.cedar_check_spec.specs.Private.Checking.{is_held, common, are_distinct, on_boolean, on_two, literal_type, variable_type, and_right, and_type, or_right, or_type, if_type, has_type, get_type, unary_type, type_of_with, types_all, types_onto, types_entries}
 use Rattle.base_reach.proofs.Listed.{both_true, either_true, either_decides, any_decides}
 use Rattle.cedar_check_law.proofs.Descents.{is_action-Decides, is_action_type-Decides, action_below-Decides, type_below-Decides}
@@ -291,6 +292,11 @@ module _ (settings : Settings) (s : SchemaTree) (env : Environment) where
   found_unary h operator.IsEmpty e t x d r =
       let p = and_then_some (λ (m : TypeTree). as_type (kind.boolean Any)) (element_in t.ty) x r in
       from_some h (unary operator.IsEmpty e) (record { ty = kind.boolean Any; gained = [] }) x p.2 (of_is_empty (as_form h e t.ty t.gained (kind.set p.0) (element_is t.ty p.0 p.1) d))
+  found_unary h (operator.Call m) e t x d r =
+      let operand = (unary_row_of m).operand in
+      let made = type_of_scalar (unary_row_of m).result in
+      let p = only_if_some (is_extension operand t.ty) (as_type made) x r in
+      from_some h (unary (operator.Call m) e) (record { ty = made; gained = [] }) x p.1 (of_unary_method {m = m} (as_form h e t.ty t.gained (kind.extension operand) (extension_is operand t.ty p.0) d))
 
   -- two operands
   not_apart : (m n : List ℕ) → not (bytes_eq m n) ≡ true → m ≡ n → ⊥
@@ -379,11 +385,18 @@ module _ (settings : Settings) (s : SchemaTree) (env : Environment) where
     found_arithmetic : is_arithmetic op ≡ true → longs_type kind.long t u ≡ Some v → TypesWith settings s env h (binary op a b) v []
     found_arithmetic is r = let p = longs_found t u v kind.long r in from_type h (binary op a b) kind.long v p.end (of_arithmetic is (as_form h a t ga kind.long p.is_left da) (as_form h b u gb kind.long p.is_right db))
 
-    found_comparison : is_comparison op ≡ true → longs_type (kind.boolean Any) t u ≡ Some v → TypesWith settings s env h (binary op a b) v []
-    found_comparison is r = let p = longs_found t u v (kind.boolean Any) r in from_type h (binary op a b) (kind.boolean Any) v p.end (of_comparison is (as_form h a t ga kind.long p.is_left da) (as_form h b u gb kind.long p.is_right db))
-
     found_sets : is_set_comparison op ≡ true → sets_type t u ≡ Some v → TypesWith settings s env h (binary op a b) v []
     found_sets is r = let p = sets_found t u v r in from_type h (binary op a b) (kind.boolean Any) v p.end (of_set_comparison is (as_form h a t ga (kind.set p.left) p.is_left da) (as_form h b u gb (kind.set p.right) p.is_right db) p.join)
+
+  found_comparison : (h ga gb : Capabilities) (op : BinaryOperator) (a b : Expression) (t u v : TypeTree) → TypesWith settings s env h a t ga → TypesWith settings s env h b u gb → is_comparison op ≡ true → comparison_type t u ≡ Some v → TypesWith settings s env h (binary op a b) v []
+  found_comparison h ga gb op a b kind.long u v da db is r =
+      let p = only_if_some (is_long u) (Some (kind.boolean Any)) v r in
+      from_type h (binary op a b) (kind.boolean Any) v p.1 (of_comparison is da (as_form h b u gb kind.long (long_is u p.0) db))
+  found_comparison h ga gb op a b (kind.extension x) u v da db is r =
+      let p = only_if_some (is_ordered x && is_extension x u) (Some (kind.boolean Any)) v r in
+      let q = both_true (is_ordered x) (is_extension x u) p.0 in
+      from_type h (binary op a b) (kind.boolean Any) v p.1 (of_ordered {x = x} is q.0 da (as_form h b u gb (kind.extension x) (extension_is x u q.1) db))
+  found_comparison h ga gb op a b _ u v da db is r = cc
 
   found_method : (h ga gb : Capabilities) (m : BinaryMethod) (a b : Expression) (t u v : TypeTree) → TypesWith settings s env h a t ga → TypesWith settings s env h b u gb → method_type m t u ≡ Some v → TypesWith settings s env h (binary (binary_operator.Call m) a b) v []
   found_method h ga gb m a b t u v da db r =

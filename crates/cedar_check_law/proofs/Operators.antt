@@ -1,6 +1,6 @@
 -- Each operator, on values of the types that its rule asks for.
 use Rattle.std.proofs.Common.{◌≡◌, ℕ, ℤ, Bool, true, false, cond, not, ◌&&◌, ◌||◌, is_some, List, [], ◌∷◌, map, Contains, ◌⊎◌, inl, inr, ⊎_elim, Option, Some, None, refl, sym, ap, subst, ◌∙◌}
-use Rattle.std.specs.Prelude.{Ok, Err, IsTrue, pos, ◌+ℤ◌, ◌-ℤ◌, ◌*ℤ◌}
+use Rattle.std.specs.Prelude.{Ok, Err, IsTrue, pos, ◌+ℤ◌, ◌-ℤ◌, ◌*ℤ◌, int_lt, int_le, Result}
 use Rattle.std.specs.Option.{option_map}
 use Rattle.std.specs.Bool.{Decides, one_answer}
 use Rattle.std.specs.List.{AllByRecursion, list_all, list_any}
@@ -10,14 +10,18 @@ use Rattle.cedar_ext.specs.declared.extension.Extension.{Extension}
 use Rattle.cedar_ext.specs.declared.extension.ExtensionType.{ExtensionType}
 use Rattle.cedar_ext.specs.declared.extension.ExtensionType.TheVariants as extension_type
 use Rattle.cedar_ext.specs.declared.method.BinaryMethod.{BinaryMethod}
+use Rattle.cedar_ext.specs.declared.method_error.MethodError.{MethodError}
+use Rattle.cedar_ext.specs.declared.method_error.MethodError.TheVariants as method_error
 use Rattle.cedar_ext.specs.declared.scalar.Scalar.{Scalar}
 use Rattle.cedar_ext.specs.declared.scalar.Scalar.TheVariants as scalar
 use Rattle.cedar_ext.specs.declared.scalar.ScalarType.{ScalarType}
 use Rattle.cedar_ext.specs.declared.scalar.ScalarType.TheVariants as scalar_type
+use Rattle.cedar_ext.specs.declared.unary_method.UnaryMethod.{UnaryMethod}
 use Rattle.cedar_ext.specs.Extensions.{type_of, extension_of}
-use Rattle.cedar_ext.specs.Methods.{row_of, call_of, HasType, Gives}
+use Rattle.cedar_ext.specs.UnaryMethods.{unary_row_of, unary_call_of}
+use Rattle.cedar_ext.specs.Methods.{row_of, call_of, HasType, Gives, is_ordered, ordered_of}
 use Rattle.cedar_ext.specs.Private.ExtensionLemmas.{extension_of-typed}
-use Rattle.cedar_ext.specs.Private.RowsTyped.{rows_typed}
+use Rattle.cedar_ext.specs.Private.RowsTyped.{rows_typed, unary_typed, ordered_typed}
 use Rattle.cedar_value.specs.Datum.{Datum, boolean, long, text, uid, set, record_of, extension, same, same_uid, list_of, members_of, pairs_of, fields_of}
 use Rattle.cedar_value.specs.Private.Equality.{same_uid-Decides}
 use Rattle.cedar_value.specs.Private.Lists.{list_of-members_of, pairs_of-fields_of}
@@ -33,7 +37,7 @@ use Rattle.cedar_ast_expressions.specs.declared.error.EvaluationError.TheVariant
 use Rattle.cedar_ast_expressions.specs.Answer.{Answer, with_answer}
 use Rattle.cedar_ast_expressions.specs.Expression.{Expression, literal, set_with, Expressions, no_more, and_then}
 use Rattle.cedar_ast_expressions.specs.Evaluation.{truth_of, and_of, or_of, if_of, set_of_values, eval, eval_all}
-use Rattle.cedar_ast_expressions.specs.Operators.{is_long, long_or_overflow, not_of, negative_of, Source, no_source, absent, present, entity_source, source, has_in, attribute_of, get_in, like_of, is_of, extension_or_error, constructed, datum_of_scalar, scalar_or_error, called, binary_of, of_longs, of_set, of_sets, is_uid, is_in, in_of}
+use Rattle.cedar_ast_expressions.specs.Operators.{is_long, long_or_overflow, not_of, negative_of, Source, no_source, absent, present, entity_source, source, has_in, attribute_of, get_in, like_of, is_of, extension_or_error, constructed, datum_of_scalar, scalar_or_error, called, binary_of, of_longs, of_set, of_sets, is_uid, is_in, in_of, called_alone, compared}
 use Rattle.cedar_schema_types.specs.declared.truth.Truth.{Truth}
 use Rattle.cedar_schema_types.specs.declared.truth.Truth.TheVariants.{True, False, Any}
 use Rattle.cedar_schema_types.specs.Types.{TypeTree, Attributes, no_attributes}
@@ -148,6 +152,7 @@ negative_good settings _ h = absurd h
 -- constructors
 decimal_allowed : (settings : Settings) (x : ExtensionType) → takes_any_string settings x ≡ true → IsTrue settings.any_decimal
 decimal_allowed settings extension_type.Decimal on = on
+decimal_allowed settings _ on = cc
 
 read_good : (settings : Settings) (x : ExtensionType) (o : Option Extension) → takes_any_string settings x ≡ true → ((e : Extension) → o ≡ Some e → type_of e ≡ x) → GoodWith settings (Member (kind.extension x)) (extension_or_error o)
 read_good settings x None on typed = decimal_allowed settings x on
@@ -177,25 +182,47 @@ arithmetic_good settings w binary_operator.Subtract v x e h k = longs_good setti
 arithmetic_good settings w binary_operator.Multiply v x e h k = longs_good settings kind.long (λ m n. long_or_overflow (m *ℤ n)) v x h k (λ a b. long_good settings (a *ℤ b))
 arithmetic_good settings w _ v x e h k = cc
 
-pub comparison_good : (settings : Settings) (w : World) (op : BinaryOperator) (v x : Datum) → is_comparison op ≡ true → Member kind.long v → Member kind.long x → GoodWith settings (Member (kind.boolean Any)) (binary_of w op v x)
-comparison_good settings w binary_operator.Less v x e h k = longs_good settings (kind.boolean Any) _ v x h k (λ a b. tt)
-comparison_good settings w binary_operator.LessEqual v x e h k = longs_good settings (kind.boolean Any) _ v x h k (λ a b. tt)
-comparison_good settings w _ v x e h k = cc
-
 -- methods
 scalar_member : (k : ScalarType) (v : Scalar) → HasType k v → Member (type_of_scalar k) (datum_of_scalar v)
 scalar_member scalar_type.Boolean (scalar.Boolean b) h = tt
+scalar_member scalar_type.Long (scalar.Long n) h = tt
 scalar_member (scalar_type.Extension t) (scalar.Extension e) h = h
 scalar_member _ _ h = absurd h
 
-gives_good : (settings : Settings) (k : ScalarType) (o : Option Scalar) → Gives k o → GoodWith settings (Member (type_of_scalar k)) (scalar_or_error o)
-gives_good settings k None h = absurd h
-gives_good settings k (Some v) h = scalar_member k v h
+gives_good : (settings : Settings) (k : ScalarType) (r : Result Scalar MethodError) → Gives k r → GoodWith settings (Member (type_of_scalar k)) (scalar_or_error r)
+gives_good settings k (Ok v) h = scalar_member k v h
+gives_good settings k (Err method_error.Overflow) h = tt
+gives_good settings k (Err method_error.«Type») h = absurd h
+
+pub unary_method_good : (settings : Settings) (m : UnaryMethod) (v : Datum) → Member (kind.extension (unary_row_of m).operand) v → GoodWith settings (Member (type_of_scalar (unary_row_of m).result)) (called_alone m v)
+unary_method_good settings m (extension e) h = gives_good settings (unary_row_of m).result (unary_call_of m e) (unary_typed m e h)
+unary_method_good settings m _ h = absurd h
 
 pub method_good : (settings : Settings) (m : BinaryMethod) (v x : Datum) → Member (kind.extension (row_of m).left) v → Member (kind.extension (row_of m).right) x → GoodWith settings (Member (type_of_scalar (row_of m).result)) (called m v x)
 method_good settings m (extension a) (extension b) h k = gives_good settings (row_of m).result (call_of m a b) (rows_typed m a b h k)
 method_good settings m (extension a) _ h k = absurd k
 method_good settings m _ x h k = absurd h
+
+-- `<` and `<=`
+longs_compared : (settings : Settings) (f : ℤ → ℤ → Bool) (v x : Datum) → Member kind.long v → Member kind.long x → GoodWith settings (Member (kind.boolean Any)) (compared f v x)
+longs_compared settings f (long a) (long b) h k = tt
+longs_compared settings f (long a) _ h k = absurd k
+longs_compared settings f _ x h k = absurd h
+
+pub comparison_good : (settings : Settings) (w : World) (op : BinaryOperator) (v x : Datum) → is_comparison op ≡ true → Member kind.long v → Member kind.long x → GoodWith settings (Member (kind.boolean Any)) (binary_of w op v x)
+comparison_good settings w binary_operator.Less v x e h k = longs_compared settings int_lt v x h k
+comparison_good settings w binary_operator.LessEqual v x e h k = longs_compared settings int_le v x h k
+comparison_good settings w _ v x e h k = cc
+
+extensions_compared : (settings : Settings) (f : ℤ → ℤ → Bool) (t : ExtensionType) (v x : Datum) → is_ordered t ≡ true → Member (kind.extension t) v → Member (kind.extension t) x → GoodWith settings (Member (kind.boolean Any)) (compared f v x)
+extensions_compared settings f t (extension a) (extension b) o h k = gives_good settings scalar_type.Boolean (ordered_of f a b) (ordered_typed f t a b o h k)
+extensions_compared settings f t (extension a) _ o h k = absurd k
+extensions_compared settings f t _ x o h k = absurd h
+
+pub ordered_good : (settings : Settings) (w : World) (op : BinaryOperator) (t : ExtensionType) (v x : Datum) → is_comparison op ≡ true → is_ordered t ≡ true → Member (kind.extension t) v → Member (kind.extension t) x → GoodWith settings (Member (kind.boolean Any)) (binary_of w op v x)
+ordered_good settings w binary_operator.Less t v x e o h k = extensions_compared settings int_lt t v x o h k
+ordered_good settings w binary_operator.LessEqual t v x e o h k = extensions_compared settings int_le t v x o h k
+ordered_good settings w _ t v x e o h k = cc
 
 pub apart_good : (settings : Settings) (m n : List ℕ) (v x : Datum) → Member (kind.entity m) v → Member (kind.entity n) x → (m ≡ n → ⊥) → GoodWith settings (Member (kind.boolean False)) (Ok (boolean (same v x)))
 apart_good settings m n (uid a) (uid b) h k d = is_false (same_uid a b) (λ e. d (sym h ∙ ap (λ (u : Uid). u.ty) ((same_uid-Decides a b).0 e) ∙ k))

@@ -5,6 +5,7 @@ use Rattle.std.specs.List.{AllByRecursion}
 use Rattle.std.specs.Str.{bytes_eq}
 use Rattle.cedar_ext.specs.declared.extension.Extension.{Extension}
 use Rattle.cedar_ext.specs.Matching.{is_match}
+use Rattle.cedar_ext.specs.UnaryMethods.{unary_row_of}
 use Rattle.cedar_ext.specs.Methods.{row_of}
 use Rattle.cedar_ext.specs.Private.ExtensionLemmas.{extension_of-typed}
 use Rattle.cedar_value.specs.Datum.{Datum, boolean, uid, record_of, extension, same, fields_of}
@@ -34,7 +35,7 @@ use Rattle.cedar_schema_types.specs.Membership.{known, HasTruth, Member, At}
 use Rattle.cedar_schema_spec.specs.WellFormed.{AreTypesApart}
 use Rattle.cedar_schema_spec.specs.Conformance.{Conforms, FitsIn}
 use Rattle.cedar_check_spec.specs.Capabilities.{Capability, Capabilities, Has, Hold}
-use Rattle.cedar_check_spec.specs.Typing.{attributes_in, flipped, type_of_scalar, TypesWith, of_boolean, of_long, of_text, of_uid, of_principal, of_resource, of_context, of_not, and_false, and_then_false, and_then_true, and_then_any, or_true, or_false, or_any_true, or_any_false, or_any_any, if_true, if_false, if_any, of_negative, of_arithmetic, of_comparison, equal_literals, equal_joined, equal_apart, has_none, has_held, has_required, has_any, of_get, of_like, of_is, in_written, in_related, in_unrelated, of_contains, of_set_comparison, of_is_empty, of_set, of_record, of_constructor, of_any_string, of_method, JoinsOnto, joined_all, joined_more, AddsOnto, added_all, added_more}
+use Rattle.cedar_check_spec.specs.Typing.{attributes_in, flipped, type_of_scalar, TypesWith, of_boolean, of_long, of_text, of_uid, of_principal, of_resource, of_context, of_not, and_false, and_then_false, and_then_true, and_then_any, or_true, or_false, or_any_true, or_any_false, or_any_any, if_true, if_false, if_any, of_negative, of_arithmetic, of_comparison, equal_literals, equal_joined, equal_apart, has_none, has_held, has_required, has_any, of_get, of_like, of_is, in_written, in_related, in_unrelated, of_contains, of_set_comparison, of_is_empty, of_set, of_record, of_constructor, of_any_string, of_method, JoinsOnto, joined_all, joined_more, AddsOnto, added_all, added_more, of_ordered, of_unary_method}
 use Rattle.cedar_schema_types.specs.Lookup.{attribute_at}
 use Rattle.cedar_schema_types.specs.declared.attribute.Attribute.{Attribute}
 use Rattle.cedar_ast_expressions.specs.Replacement.{replace, replace_all, replace_entries}
@@ -42,7 +43,7 @@ use Rattle.cedar_check_spec.specs.Soundness.{GoodWith, IsTruth, SoundTypingWith,
 use Rattle.cedar_check_law.proofs.Goodness.{then_good, good_weaker, then_good_after, holds_union, holds_common_left, holds_common_right}
 use Rattle.cedar_check_spec.proofs.Members.{join_left, join_right, HaveAttributes, pair_fits}
 use Rattle.cedar_check_spec.proofs.Made.{keys, onto, record_onto}
-use Rattle.cedar_check_law.proofs.Operators.{Fine, nothing_held, plain, members, and_good, or_good, if_good, known_truth, not_good, negative_good, constructor_good, like_good, is_good, arithmetic_good, comparison_good, method_good, apart_good, contains_good, sets_good, set_good, related_good, unrelated_good, source_fits, has_none_good, has_good, has_required_good, get_good, written_good}
+use Rattle.cedar_check_law.proofs.Operators.{Fine, nothing_held, plain, members, and_good, or_good, if_good, known_truth, not_good, negative_good, constructor_good, like_good, is_good, arithmetic_good, comparison_good, method_good, apart_good, contains_good, sets_good, set_good, related_good, unrelated_good, source_fits, has_none_good, has_good, has_required_good, get_good, written_good, ordered_good, unary_method_good}
 use Rattle.cedar_check_spec.specs.declared.settings.Settings.{Settings}
 
 -- all the premises
@@ -148,6 +149,7 @@ module _ (settings : Settings) (s : SchemaTree) (env : Environment) (q : Request
     sound (in_related {ga = ga} {gb = gb} {a = a} {b = b} {m = m} {n = n} {v = v} da db k e r) held = two binary_operator.In a b (kind.entity m) v (kind.boolean Any) ga gb (sound da held) (sound db held) (λ x y i j. related_good s w stands.apart stands.world settings m n v x y k i j)
     sound (in_unrelated {ga = ga} {gb = gb} {a = a} {b = b} {m = m} {n = n} {v = v} da db k e r) held = two binary_operator.In a b (kind.entity m) v (kind.boolean False) ga gb (sound da held) (sound db held) (λ x y i j. unrelated_good s w stands.apart stands.world settings m n v x y k i j r)
     sound (of_contains {ga = ga} {gb = gb} {a = a} {b = b} {t = t} {u = u} da db j) held = two binary_operator.Contains a b (kind.set t) u (kind.boolean Any) ga gb (sound da held) (sound db held) (λ v x m k. contains_good settings t (λ ms. has_member ms x) v m)
+    sound (of_ordered {ga = ga} {gb = gb} {a = a} {b = b} {op = op} {x = x} is o da db) held = two op a b (kind.extension x) (kind.extension x) (kind.boolean Any) ga gb (sound da held) (sound db held) (λ v y m k. ordered_good settings w op x v y is o m k)
     sound (of_set_comparison {ga = ga} {gb = gb} {a = a} {b = b} {t = t} {u = u} {op = op} is da db j) held = two op a b (kind.set t) (kind.set u) (kind.boolean Any) ga gb (sound da held) (sound db held) (λ v x m k. sets_good settings w op t u v x is m k)
     sound (of_is_empty {g = g} {e = e} {t = t} d) held = one operator.IsEmpty e (kind.set t) (kind.boolean Any) g (sound d held) (contains_good settings t is_empty)
     sound (of_set {g = g} {e = e} {es = es} {t = t} {v = v} d ds) held =
@@ -162,6 +164,7 @@ module _ (settings : Settings) (s : SchemaTree) (env : Environment) (q : Request
     sound (of_constructor {x = x} {t = t} {v = v} e) held =
         subst (λ (o : Option Extension). GoodWith settings (Fine q w (kind.extension x) []) (extension_or_error o)) (sym e) (value_fine (kind.extension x) (extension v) (extension_of-typed x t v e))
     sound (of_any_string {g = g} {x = x} {e = e} on n d) held = one (operator.Construct x) e kind.string (kind.extension x) g (sound d held) (λ v m. constructor_good settings x v on m)
+    sound (of_unary_method {g = g} {e = e} {m = m} d) held = one (operator.Call m) e (kind.extension (unary_row_of m).operand) (type_of_scalar (unary_row_of m).result) g (sound d held) (λ v h. unary_method_good settings m v h)
     sound (of_method {ga = ga} {gb = gb} {a = a} {b = b} {m = m} da db) held =
         two (binary_operator.Call m) a b (kind.extension (row_of m).left) (kind.extension (row_of m).right) (type_of_scalar (row_of m).result) ga gb (sound da held) (sound db held) (λ v x h k. method_good settings m v x h k)
 

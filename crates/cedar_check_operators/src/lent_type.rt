@@ -1,6 +1,6 @@
 //! Types, lent where they can be.
 ghost use Rattle.std.specs.Prelude.{◌≡◌, IfOk, IfSome, option_map};
-ghost use Rattle.cedar_check_spec.specs.Rows.{element_in, entity_in, is_extension, is_long, is_string, target_in, truth_in};
+ghost use Rattle.cedar_check_spec.specs.Rows.{compares, element_in, entity_in, is_extension, is_long, is_string, target_in, truth_in};
 ghost use Rattle.cedar_check_spec.specs.Typing.{type_of_scalar};
 ghost use Rattle.cedar_schema_types.specs.Types.{is_record};
 ghost use Rattle.cedar_check_operators.specs.View.{tree_of};
@@ -71,6 +71,7 @@ impl<'a> LentType<'a> {
     {
         match ty {
             ScalarType::Boolean => LentType::Boolean(Truth::Any),
+            ScalarType::Long => LentType::Long,
             ScalarType::Extension(extension) => LentType::Extension(extension),
         }
     }
@@ -171,6 +172,19 @@ impl<'a> LentType<'a> {
     {
         match self.glance() {
             TypeGlance::Extension(extension) => ty.same(extension),
+            _ => false,
+        }
+    }
+
+    /// Whether `<` and `<=` compare values of the two types: whole numbers, or values of one extension type that is ordered.
+    pub(crate) fn compares_with(&self, other: &LentType<'_>) -> bool
+        ensures { result ≡ compares (tree_of self.now) (tree_of other.now) }
+    {
+        match self.glance() {
+            TypeGlance::Long => other.is_long(),
+            TypeGlance::Extension(extension) => {
+                extension.is_ordered() && other.is_extension(extension)
+            }
             _ => false,
         }
     }

@@ -8,7 +8,7 @@ use crate::capability::Capability;
 use crate::equality::equal_type;
 use crate::hierarchy::{in_type, is_type};
 use crate::lent_type::LentType;
-use crate::operands::{flipped, longs_type, method_type};
+use crate::operands::{comparison_type, flipped, longs_type, method_type, unary_method_type};
 use crate::sets::{contains_type, is_empty_type, sets_type};
 use crate::type_fault::TypeFault;
 use crate::typing::{Typed, Typing};
@@ -125,6 +125,7 @@ pub fn unary_type<'a>(
             alloc, settings, *made, operand, &typed.ty,
         )),
         UnaryOperator::IsEmpty => Ok(is_empty_type(alloc, &typed.ty)),
+        UnaryOperator::Call(method) => Ok(unary_method_type(alloc, *method, &typed.ty)),
     }
 }
 
@@ -142,9 +143,7 @@ pub fn binary_type<'a>(
 {
     match operator {
         BinaryOperator::Equal => equal_type(alloc, left, right, one, two),
-        BinaryOperator::Less | BinaryOperator::LessEqual => {
-            longs_type(alloc, LentType::Boolean(Truth::Any), one, two)
-        }
+        BinaryOperator::Less | BinaryOperator::LessEqual => comparison_type(alloc, one, two),
         BinaryOperator::Add | BinaryOperator::Subtract | BinaryOperator::Multiply => {
             longs_type(alloc, LentType::Long, one, two)
         }

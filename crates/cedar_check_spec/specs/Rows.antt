@@ -6,7 +6,9 @@ use Rattle.std.specs.Str.{bytes_eq}
 use Rattle.cedar_ext.specs.declared.extension.ExtensionType.{ExtensionType}
 use Rattle.cedar_ext.specs.declared.method.BinaryMethod.{BinaryMethod}
 use Rattle.cedar_ext.specs.Extensions.{extension_of, same_type}
-use Rattle.cedar_ext.specs.Methods.{row_of}
+use Rattle.cedar_ext.specs.UnaryMethods.{unary_row_of}
+use Rattle.cedar_ext.specs.declared.unary_method.UnaryMethod.{UnaryMethod}
+use Rattle.cedar_ext.specs.Methods.{row_of, is_ordered}
 use Rattle.cedar_value.specs.Datum.{Datum, text, uid, same, same_uid}
 use Rattle.cedar_value.specs.declared.uid.Uid.{Uid}
 use Rattle.cedar_ast_expressions.specs.declared.operator.UnaryOperator.{UnaryOperator}
@@ -102,6 +104,11 @@ abbrev pub constructor_type : Settings → ExtensionType → Expression → Type
 constructor_type settings x (literal v) t = constructed_literal_type x v
 constructor_type settings x _ t = only_if (takes_any_string settings x && is_string t) (as_type (kind.extension x))
 
+-- The row of a method that takes no argument: the type of what it gives, for an operand of the type that its row takes (Cedar
+-- documentation, strict validation: extension functions).
+abbrev pub unary_method_type : UnaryMethod → TypeTree → Option Typed
+unary_method_type m t = only_if (is_extension (unary_row_of m).operand t) (as_type (type_of_scalar (unary_row_of m).result))
+
 -- The rows of the operators on one operand, given its expression and its typing, with a test of which capabilities are held
 -- (Cedar documentation, strict validation).
 abbrev pub unary_row : Settings → SchemaTree → (Capability → Bool) → UnaryOperator → Expression → Typed → Option Typed
@@ -113,6 +120,7 @@ unary_row settings s holds (operator.Like p) e t = only_if (is_string t.ty) (as_
 unary_row settings s holds (operator.Is n) e t = option_and_then (λ m. only_if (is_entity_type s n || is_action_type s n) (as_type (kind.boolean (known (bytes_eq m n))))) (entity_in t.ty)
 unary_row settings s holds (operator.Construct x) e t = constructor_type settings x e t.ty
 unary_row settings s holds operator.IsEmpty e t = option_and_then (λ m. as_type (kind.boolean Any)) (element_in t.ty)
+unary_row settings s holds (operator.Call m) e t = unary_method_type m t.ty
 
 -- The typing is what the rows of the operators on one operand give where these capabilities are held (Cedar documentation,
 -- strict validation).
@@ -172,9 +180,20 @@ any_where r = option_map (λ v. kind.boolean Any) r
 abbrev pub sets_type : TypeTree → TypeTree → Option TypeTree
 sets_type t u = option_and_then (λ m. option_and_then (λ n. any_where (join m n)) (element_in u)) (element_in t)
 
--- This type, for two whole numbers (Cedar documentation, strict validation: arithmetic and comparison).
+-- This type, for two whole numbers (Cedar documentation, strict validation: arithmetic).
 abbrev pub longs_type : TypeTree → TypeTree → TypeTree → Option TypeTree
 longs_type v t u = only_if (is_long t && is_long u) (Some v)
+
+-- Whether `<` and `<=` compare values of the two types: two whole numbers, two datetimes or two durations (Cedar language reference,
+-- comparison operators).
+abbrev pub compares : TypeTree → TypeTree → Bool
+compares kind.long u = is_long u
+compares (kind.extension x) u = is_ordered x && is_extension x u
+compares _ u = false
+
+-- The row of `<` and `<=`: any Boolean, for types whose values they compare (Cedar documentation, strict validation: comparison).
+abbrev pub comparison_type : TypeTree → TypeTree → Option TypeTree
+comparison_type t u = only_if (compares t u) (Some (kind.boolean Any))
 
 -- The type of what a method gives, for operands of the types that its row takes (Cedar documentation, strict validation:
 -- extension functions).
@@ -184,8 +203,8 @@ method_type m t u = only_if (is_extension (row_of m).left t && is_extension (row
 -- The rows of the operators on two operands, given their expressions and their types (Cedar documentation, strict validation).
 abbrev pub binary_type : SchemaTree → BinaryOperator → Expression → Expression → TypeTree → TypeTree → Option TypeTree
 binary_type s binary_operator.Equal a b t u = equal_type a b t u
-binary_type s binary_operator.Less a b t u = longs_type (kind.boolean Any) t u
-binary_type s binary_operator.LessEqual a b t u = longs_type (kind.boolean Any) t u
+binary_type s binary_operator.Less a b t u = comparison_type t u
+binary_type s binary_operator.LessEqual a b t u = comparison_type t u
 binary_type s binary_operator.Add a b t u = longs_type kind.long t u
 binary_type s binary_operator.Subtract a b t u = longs_type kind.long t u
 binary_type s binary_operator.Multiply a b t u = longs_type kind.long t u

@@ -9,8 +9,10 @@ use Rattle.cedar_ext.specs.declared.method.BinaryMethod.{BinaryMethod}
 use Rattle.cedar_ext.specs.declared.pattern.Element.{Element}
 use Rattle.cedar_ext.specs.declared.scalar.ScalarType.{ScalarType}
 use Rattle.cedar_ext.specs.declared.scalar.ScalarType.TheVariants as scalar_type
+use Rattle.cedar_ext.specs.declared.unary_method.UnaryMethod.{UnaryMethod}
 use Rattle.cedar_ext.specs.Extensions.{extension_of}
-use Rattle.cedar_ext.specs.Methods.{row_of}
+use Rattle.cedar_ext.specs.UnaryMethods.{unary_row_of}
+use Rattle.cedar_ext.specs.Methods.{row_of, is_ordered}
 use Rattle.cedar_value.specs.Datum.{Datum, boolean, long, text, uid, same}
 use Rattle.cedar_value.specs.declared.uid.Uid.{Uid}
 use Rattle.cedar_ast_expressions.specs.declared.variable.Variable.TheVariants.{Principal, Resource, Context}
@@ -77,12 +79,14 @@ is_comparison _ = false
 -- functions).
 abbrev pub type_of_scalar : ScalarType → TypeTree
 type_of_scalar scalar_type.Boolean = kind.boolean Any
+type_of_scalar scalar_type.Long = kind.long
 type_of_scalar (scalar_type.Extension x) = kind.extension x
 
 -- Whether the settings have the constructor of a type take any string, and not literals alone: `any_decimal` has that of
 -- decimals do so (own).
 abbrev pub takes_any_string : Settings → ExtensionType → Bool
 takes_any_string settings extension_type.Decimal = settings.any_decimal
+takes_any_string settings _ = false
 
 -- `containsAll` and `containsAny` (Cedar language reference, set operators).
 abbrev pub is_set_comparison : BinaryOperator → Bool
@@ -183,6 +187,8 @@ mutual
     of_arithmetic : {h ga gb : Capabilities} {a b : Expression} {op : BinaryOperator} → is_arithmetic op ≡ true → TypesWith settings s env h a kind.long ga → TypesWith settings s env h b kind.long gb → TypesWith settings s env h (binary op a b) kind.long []
     -- `<` and `<=`: any Boolean, of whole numbers
     of_comparison : {h ga gb : Capabilities} {a b : Expression} {op : BinaryOperator} → is_comparison op ≡ true → TypesWith settings s env h a kind.long ga → TypesWith settings s env h b kind.long gb → TypesWith settings s env h (binary op a b) (kind.boolean Any) []
+    -- and of two datetimes or two durations
+    of_ordered : {h ga gb : Capabilities} {a b : Expression} {op : BinaryOperator} {x : ExtensionType} → is_comparison op ≡ true → is_ordered x ≡ true → TypesWith settings s env h a (kind.extension x) ga → TypesWith settings s env h b (kind.extension x) gb → TypesWith settings s env h (binary op a b) (kind.boolean Any) []
     -- `==`: of two literals it is known; else any Boolean where the types join, and known false of two entity types
     equal_literals : {h ga gb : Capabilities} {v w : Datum} {t u : TypeTree} → TypesWith settings s env h (literal v) t ga → TypesWith settings s env h (literal w) u gb → TypesWith settings s env h (binary binary_operator.Equal (literal v) (literal w)) (kind.boolean (known (same v w))) []
     equal_joined : {h ga gb : Capabilities} {a b : Expression} {t u v : TypeTree} → two_literals a b ≡ false → TypesWith settings s env h a t ga → TypesWith settings s env h b u gb → Join t u v → TypesWith settings s env h (binary binary_operator.Equal a b) (kind.boolean Any) []
@@ -217,7 +223,10 @@ mutual
     of_constructor : {h : Capabilities} {x : ExtensionType} {t : List ℕ} {v : Extension} → extension_of x t ≡ Some v → TypesWith settings s env h (unary (operator.Construct x) (literal (text t))) (kind.extension x) []
     -- where the settings speak of it, also of any string that is not written as a literal
     of_any_string : {h g : Capabilities} {x : ExtensionType} {e : Expression} → takes_any_string settings x ≡ true → is_literal e ≡ false → TypesWith settings s env h e kind.string g → TypesWith settings s env h (unary (operator.Construct x) e) (kind.extension x) []
-    -- a method of an extension type, such as `lessThan`: what its row gives, of operands of the types that its row takes
+    -- a method of an extension type that takes no argument, such as `isLoopback`: what its row gives, of an operand of the type
+    -- that its row takes
+    of_unary_method : {h g : Capabilities} {e : Expression} {m : UnaryMethod} → TypesWith settings s env h e (kind.extension (unary_row_of m).operand) g → TypesWith settings s env h (unary (operator.Call m) e) (type_of_scalar (unary_row_of m).result) []
+    -- a method that takes one argument, such as `lessThan`: what its row gives, of operands of the types that its row takes
     of_method : {h ga gb : Capabilities} {a b : Expression} {m : BinaryMethod} → TypesWith settings s env h a (kind.extension (row_of m).left) ga → TypesWith settings s env h b (kind.extension (row_of m).right) gb → TypesWith settings s env h (binary (binary_operator.Call m) a b) (type_of_scalar (row_of m).result) []
 
   -- The type of the members so far joins with that of each further one, from the left (Cedar documentation, strict

@@ -22,6 +22,7 @@ impl Settings {
     {
         match ty {
             ExtensionType::Decimal => self.any_decimal,
+            ExtensionType::Ip | ExtensionType::Datetime | ExtensionType::Duration => false,
         }
     }
 }

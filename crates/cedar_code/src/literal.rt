@@ -2,18 +2,16 @@
 ghost use Rattle.std.specs.Prelude.{◌≡◌, IfOk};
 ghost use Rattle.cedar_value.specs.Glance.{datum_seen};
 
-use cedar_ext::Extension;
 use cedar_value::{Glance, Uid, Value};
 use std::alloc::{AllocError, Global};
 use std::marker::Model;
 
-// A plain value is in the instruction itself, another value in a box. So an instruction is small, and a plain value is at hand. Most
-// boxed literals are uids, which are in a box of their own, without that of a value.
+// A Boolean or a number is in the instruction itself, another value in a box. So an instruction is small, and a plain value is at hand.
+// Most boxed literals are uids, which are in a box of their own, without that of a value.
 #[derive(Drop)]
 enum Kept {
     Boolean(bool),
     Long(i64),
-    Extension(Extension),
     Uid(Box<Uid>),
     Boxed(Box<Value>),
 }
@@ -37,14 +35,13 @@ impl Model for Literal {
 }
 
 impl Literal {
-    /// A copy of a value. A Boolean, a number or a value of an extension type takes no memory.
+    /// A copy of a value. A Boolean or a number takes no memory.
     pub fn new(alloc: Global, value: &Value) -> Result<Self, AllocError>
         ensures { IfOk result (λ l. l ≡ value.now) }
     {
         let kept = match value.glance() {
             Glance::Boolean(truth) => Kept::Boolean(truth),
             Glance::Long(number) => Kept::Long(number),
-            Glance::Extension(value) => Kept::Extension(*value),
             Glance::Uid(entity) => Kept::Uid(Box::new(alloc, entity.try_clone(alloc)?)?),
             _ => Kept::Boxed(Box::new(alloc, value.try_clone(alloc)?)?),
         };
@@ -59,7 +56,6 @@ impl Literal {
         match &self.kept {
             Kept::Boolean(truth) => Glance::Boolean(*truth),
             Kept::Long(number) => Glance::Long(*number),
-            Kept::Extension(value) => Glance::Extension(value),
             Kept::Uid(entity) => Glance::Uid(entity),
             Kept::Boxed(value) => value.as_ref().glance(),
         }

@@ -153,22 +153,37 @@ fn unquoted_hint(ty: &Type, text: &str) -> Option<&'static str> {
     }
 }
 
+// How to write a value of an extension type.
+fn extension_hint(ty: ExtensionType, json: &Json) -> &'static str {
+    match (ty, json) {
+        (ExtensionType::Decimal, Json::Number(_)) => {
+            "write a string of digits, a point and one to four digits, for example \"9.5\""
+        }
+        (ExtensionType::Decimal, Json::Object(_)) if extension_text(ty, json).is_none() => {
+            "write \"9.5\", or {\"__extn\":{\"fn\":\"decimal\",\"arg\":\"9.5\"}}"
+        }
+        (ExtensionType::Decimal, _) => {
+            "write digits, a point and one to four digits, for example \"9.5\""
+        }
+        (ExtensionType::Ip, _) => {
+            "write an address, perhaps with a prefix, for example \"10.0.0.1\" or \"10.0.0.0/8\""
+        }
+        (ExtensionType::Datetime, _) => {
+            "write a date, or a date and a time, for example \"2024-10-15\" or \"2024-10-15T11:35:00Z\""
+        }
+        (ExtensionType::Duration, _) => {
+            "write numbers of `d`, `h`, `m`, `s` and `ms` in this order, for example \"1d12h\""
+        }
+    }
+}
+
 // The hint that a type has in words of its own.
 fn fixed_hint(ty: &Type, json: &Json) -> Option<&'static str> {
     match (ty.kind(), json) {
         (_, Json::Null) => Some(
             "Cedar has no null: leave out an optional attribute that has no value",
         ),
-        (TypeKind::Extension(ExtensionType::Decimal), Json::Number(_)) => Some(
-            "write a string of digits, a point and one to four digits, for example \"9.5\"",
-        ),
-        (TypeKind::Extension(ExtensionType::Decimal), Json::Object(_))
-            if extension_text(ExtensionType::Decimal, json).is_none() => Some(
-            "write \"9.5\", or {\"__extn\":{\"fn\":\"decimal\",\"arg\":\"9.5\"}}",
-        ),
-        (TypeKind::Extension(ExtensionType::Decimal), _) => Some(
-            "write digits, a point and one to four digits, for example \"9.5\"",
-        ),
+        (TypeKind::Extension(extension), _) => Some(extension_hint(*extension, json)),
         (TypeKind::Set(_), _) => Some("write a set as a list"),
         (TypeKind::Record(_), _) => Some("write a record as an object"),
         (_, Json::String(text)) => unquoted_hint(ty, text.as_str()),

@@ -5,3 +5,4 @@ pub mod Matching
 pub mod Methods
 pub mod Private
 pub mod SamePattern
+pub mod UnaryMethods

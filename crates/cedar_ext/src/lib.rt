@@ -13,18 +13,28 @@
 //! pattern takes memory.
 #![tactic(auto)]
 
+mod comparison;
 mod constructor;
 mod decimal;
 mod extension;
+mod language;
 mod laws;
 mod method;
+mod method_error;
 mod pattern;
 mod scalar;
+mod unary_method;
 mod words;
 
+pub use cedar_ext_ip::Ip;
+pub use cedar_ext_time::{Datetime, Duration};
+pub use comparison::ordered_are_typed;
 pub use decimal::Decimal;
 pub use extension::{Extension, ExtensionType};
+pub use language::Language;
 pub use laws::{decimal_of_tells_decimals, is_match_tells_cuts};
 pub use method::{BinaryMethod, Row, rows_are_typed};
+pub use method_error::MethodError;
 pub use pattern::{Element, Pattern};
 pub use scalar::{Scalar, ScalarType};
+pub use unary_method::{UnaryMethod, UnaryRow, unary_rows_are_typed};

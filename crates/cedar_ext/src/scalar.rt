@@ -6,6 +6,8 @@ use crate::extension::{Extension, ExtensionType};
 pub enum Scalar {
     /// A Boolean.
     Boolean(bool),
+    /// A whole number of 64 bits.
+    Long(i64),
     /// A value of an extension type.
     Extension(Extension),
 }
@@ -15,6 +17,8 @@ pub enum Scalar {
 pub enum ScalarType {
     /// Booleans.
     Boolean,
+    /// Whole numbers of 64 bits.
+    Long,
     /// Values of an extension type.
     Extension(ExtensionType),
 }

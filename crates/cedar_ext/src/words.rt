@@ -6,6 +6,9 @@ impl ExtensionType {
     pub fn one(self) -> &'static str {
         match self {
             ExtensionType::Decimal => "a decimal",
+            ExtensionType::Ip => "an IP address",
+            ExtensionType::Datetime => "a datetime",
+            ExtensionType::Duration => "a duration",
         }
     }
 
@@ -13,6 +16,9 @@ impl ExtensionType {
     pub fn many(self) -> &'static str {
         match self {
             ExtensionType::Decimal => "decimals",
+            ExtensionType::Ip => "IP addresses",
+            ExtensionType::Datetime => "datetimes",
+            ExtensionType::Duration => "durations",
         }
     }
 }

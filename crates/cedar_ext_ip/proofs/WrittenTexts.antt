@@ -1,5 +1,5 @@
 -- What is written of a value is a text of it.
-use Rattle.std.proofs.Common.{◌≡◌, ℕ, zero, suc, ◌+◌, ◌*◌, ◌/◌, ◌%◌, ◌^◌, ◌<◌, ◌≤◌, Bool, true, false, if◌then◌else◌, List, [], ◌++◌, decimal, codes, refl, sym, subst, arith, append-nil, inl, inr, shr-shr, eqb-true, Result, Ok, Err, IfOk}
+use Rattle.std.proofs.Common.{◌≡◌, ℕ, zero, suc, ◌+◌, ◌*◌, ◌/◌, ◌%◌, ◌^◌, ◌<◌, ◌≤◌, Bool, true, false, if◌then◌else◌, List, [], ◌++◌, decimal, codes, refl, sym, subst, ◌∙◌, arith, append-nil, inl, inr, shr-shr, eqb-true, Result, Ok, Err, IfOk}
 use Rattle.std.specs.Bool.{◌==◌}
 use Rattle.std.proofs.lemmas.List.Elements.{All-weaker}
 use Rattle.std.proofs.lemmas.List.Folds.{list_any_none}
@@ -65,37 +65,38 @@ IsIp-written version n prefix text h le = at (prefix == width_of version) refl
 
 -- from the fields of a value
 
-small : (high low : ℕ) → high * 2 ^ 64 + low < 2 ^ 32 → high * 2 ^ 64 + low ≡ low
-small high low h = omega arith
+small : (n : ℕ) → n < 2 ^ 32 → n ≡ n % 2 ^ 32
+small n h = omega arith
 
-half : (high low : ℕ) → high * 2 ^ 64 + low < 2 ^ 128 → high < 2 ^ 64
-half high low h = omega arith
-
-pub four_fits : (ip : Inside) → IsInside ip → ip.version ≡ V4 → ip.low < 2 ^ 32
-four_fits ip h version =
-    let fits : ip.high * 2 ^ 64 + ip.low < 2 ^ 32 = subst (λ (v : IpVersion). ip.high * 2 ^ 64 + ip.low < 2 ^ width_of v) version h.1.0 in
-    let same = small ip.high ip.low fits in
-    omega arith
+fourth_is : (ip : Inside) → IsInside ip → (value_of ip).address % 2 ^ 32 ≡ ip.fourth
+fourth_is ip h = let fourth : ip.fourth < 2 ^ 32 = h.2 in omega arith
 
 pub weaker : {A E : Type 0} (P Q : A → Type 0) (r : Result A E) → ((x : A) → P x → Q x) → IfOk r P → IfOk r Q
 weaker P Q (Ok x) f h = f x h
 weaker P Q (Err e) f h = tt
 
-pub four_is : (ip : Inside) → IsInside ip → ip.version ≡ V4 → (text : List ℕ) → text ≡ written 32 ip.prefix (ipv4_text (octets_of ip.low)) → IsIp text (value_of ip)
+pub four_is : (ip : Inside) → IsInside ip → ip.version ≡ V4 → (text : List ℕ) → text ≡ written 32 ip.prefix (ipv4_text (octets_of ip.fourth)) → IsIp text (value_of ip)
 four_is ip h version text is =
-    let fits : ip.high * 2 ^ 64 + ip.low < 2 ^ 32 = subst (λ (v : IpVersion). ip.high * 2 ^ 64 + ip.low < 2 ^ width_of v) version h.1.0 in
-    let le : ip.prefix ≤ 32 = subst (λ (v : IpVersion). ip.prefix ≤ width_of v) version h.1.1 in
-    let same = small ip.high ip.low fits in
-    let low : ip.low < 2 ^ 32 = omega arith in
-    let found = IsIp-written V4 ip.low ip.prefix (ipv4_text (octets_of ip.low)) (IsFour-octets ip.low low) le in
-    let whole : record { version = V4; address = ip.low; prefix = ip.prefix } ≡ value_of ip = λ i. record { version = sym version i; address = sym same i; prefix = ip.prefix } in
-    subst (λ (t : List ℕ). IsIp t (value_of ip)) (sym is) (subst (IsIp (written 32 ip.prefix (ipv4_text (octets_of ip.low)))) whole found)
+    let fits : (value_of ip).address < 2 ^ 32 = subst (λ (v : IpVersion). (value_of ip).address < 2 ^ width_of v) version h.3.0 in
+    let le : ip.prefix ≤ 32 = subst (λ (v : IpVersion). ip.prefix ≤ width_of v) version h.3.1 in
+    let same = small (value_of ip).address fits ∙ fourth_is ip h in
+    let found = IsIp-written V4 ip.fourth ip.prefix (ipv4_text (octets_of ip.fourth)) (IsFour-octets ip.fourth h.2) le in
+    let whole : record { version = V4; address = ip.fourth; prefix = ip.prefix } ≡ value_of ip = λ i. record { version = sym version i; address = sym same i; prefix = ip.prefix } in
+    subst (λ (t : List ℕ). IsIp t (value_of ip)) (sym is) (subst (IsIp (written 32 ip.prefix (ipv4_text (octets_of ip.fourth)))) whole found)
 
-pub six_is : (ip : Inside) → IsInside ip → ip.version ≡ V6 → (text : List ℕ) → text ≡ written 128 ip.prefix (hex_groups_text (groups_of ip.high ip.low)) → IsIp text (value_of ip)
+half : (high low : ℕ) → high * 2 ^ 64 + low < 2 ^ 128 → high < 2 ^ 64
+half high low h = omega arith
+
+joined : (a b : ℕ) → a < 2 ^ 32 → b < 2 ^ 32 → a * 2 ^ 32 + b < 2 ^ 64
+joined a b p q = omega arith
+
+pub six_is : (ip : Inside) → IsInside ip → ip.version ≡ V6 → (text : List ℕ) → text ≡ written 128 ip.prefix (hex_groups_text (groups_of (ip.first * 2 ^ 32 + ip.second) (ip.third * 2 ^ 32 + ip.fourth))) → IsIp text (value_of ip)
 six_is ip h version text is =
-    let fits : ip.high * 2 ^ 64 + ip.low < 2 ^ 128 = subst (λ (v : IpVersion). ip.high * 2 ^ 64 + ip.low < 2 ^ width_of v) version h.1.0 in
-    let high : ip.high < 2 ^ 64 = half ip.high ip.low fits in
-    let le : ip.prefix ≤ 128 = subst (λ (v : IpVersion). ip.prefix ≤ width_of v) version h.1.1 in
-    let found = IsIp-written V6 (ip.high * 2 ^ 64 + ip.low) ip.prefix (hex_groups_text (groups_of ip.high ip.low)) (IsSix-groups ip.high ip.low high h.0) le in
-    let whole : record { version = V6; address = ip.high * 2 ^ 64 + ip.low; prefix = ip.prefix } ≡ value_of ip = λ i. record { version = sym version i; address = ip.high * 2 ^ 64 + ip.low; prefix = ip.prefix } in
-    subst (λ (t : List ℕ). IsIp t (value_of ip)) (sym is) (subst (IsIp (written 128 ip.prefix (hex_groups_text (groups_of ip.high ip.low)))) whole found)
+    let high = ip.first * 2 ^ 32 + ip.second in
+    let low = ip.third * 2 ^ 32 + ip.fourth in
+    let fits : high * 2 ^ 64 + low < 2 ^ 128 = subst (λ (v : IpVersion). high * 2 ^ 64 + low < 2 ^ width_of v) version h.3.0 in
+    let le : ip.prefix ≤ 128 = subst (λ (v : IpVersion). ip.prefix ≤ width_of v) version h.3.1 in
+    let groups = IsSix-groups high low (half high low fits) (joined ip.third ip.fourth h.1 h.2) in
+    let found = IsIp-written V6 (high * 2 ^ 64 + low) ip.prefix (hex_groups_text (groups_of high low)) groups le in
+    let whole : record { version = V6; address = high * 2 ^ 64 + low; prefix = ip.prefix } ≡ value_of ip = λ i. record { version = sym version i; address = high * 2 ^ 64 + low; prefix = ip.prefix } in
+    subst (λ (t : List ℕ). IsIp t (value_of ip)) (sym is) (subst (IsIp (written 128 ip.prefix (hex_groups_text (groups_of high low)))) whole found)

@@ -21,8 +21,11 @@ use std::marker::Model;
 pub struct Ip {
     version: IpVersion,
     prefix: u8,
-    high: u64,
-    low: u64,
+    // The address in four parts of 32 bits, the highest first. With parts of 64 bits, what holds an address would grow by a word.
+    first: u32,
+    second: u32,
+    third: u32,
+    fourth: u32,
 }
 
 impl Model for Ip {
@@ -60,8 +63,10 @@ impl Ip {
         Ip {
             version: IpVersion::V4,
             prefix: 32,
-            high: 0,
-            low: ((u64::from(a) * 256 + u64::from(b)) * 256 + u64::from(c)) * 256 + u64::from(d),
+            first: 0,
+            second: 0,
+            third: 0,
+            fourth: ((u32::from(a) * 256 + u32::from(b)) * 256 + u32::from(c)) * 256 + u32::from(d),
         }
     }
 
@@ -73,8 +78,10 @@ impl Ip {
         Ip {
             version: IpVersion::V6,
             prefix: 128,
-            high: four_groups(a, b, c, d),
-            low: four_groups(e, f, g, h),
+            first: two_groups(a, b),
+            second: two_groups(c, d),
+            third: two_groups(e, f),
+            fourth: two_groups(g, h),
         }
     }
 
@@ -84,8 +91,13 @@ impl Ip {
         ensures { IfOk result (λ text. IsIp (string_bytes text) self.now) }
     {
         match self.version {
-            IpVersion::V4 => four_text(alloc, self.low, self.prefix),
-            IpVersion::V6 => six_text(alloc, self.high, self.low, self.prefix),
+            IpVersion::V4 => four_text(alloc, self.fourth, self.prefix),
+            IpVersion::V6 => six_text(
+                alloc,
+                joined(self.first, self.second),
+                joined(self.third, self.fourth),
+                self.prefix,
+            ),
         }
     }
 
@@ -97,8 +109,10 @@ impl Ip {
         Ip {
             version: self.version,
             prefix,
-            high: self.high,
-            low: self.low,
+            first: self.first,
+            second: self.second,
+            third: self.third,
+            fourth: self.fourth,
         }
     }
 
@@ -114,7 +128,8 @@ impl Ip {
         ensures number { result ≡ self.now.address }
         ensures fits { IsIpValue self.now }
     {
-        u128::from(self.high) * (1 << 64) + u128::from(self.low)
+        u128::from(joined(self.first, self.second)) * (1 << 64)
+            + u128::from(joined(self.third, self.fourth))
     }
 
     /// How many of the first bits of the address its range has: at most 32 or 128, as the version says.
@@ -241,12 +256,20 @@ impl Ord for Ip {
     }
 }
 
-// The number of 16 bits for each of four groups.
-fn four_groups(a: u16, b: u16, c: u16, d: u16) -> u64
-    ensures number { result ≡ ((a * 65536 + b) * 65536 + c) * 65536 + d }
+// The number of two parts of 32 bits.
+fn joined(high: u32, low: u32) -> u64
+    ensures number { result ≡ high * 2 ^ 32 + low }
     ensures fits { result < 2 ^ 64 }
 {
-    ((u64::from(a) * 65536 + u64::from(b)) * 65536 + u64::from(c)) * 65536 + u64::from(d)
+    u64::from(high) * 0x1_0000_0000 + u64::from(low)
+}
+
+// The number of two groups of 16 bits.
+fn two_groups(a: u16, b: u16) -> u32
+    ensures number { result ≡ a * 65536 + b }
+    ensures fits { result < 2 ^ 32 }
+{
+    u32::from(a) * 65536 + u32::from(b)
 }
 
 // The bits of an address without so many of the last ones.
@@ -265,14 +288,18 @@ fn loopback(version: IpVersion) -> Ip
         IpVersion::V4 => Ip {
             version: IpVersion::V4,
             prefix: 8,
-            high: 0,
-            low: 127 << 24,
+            first: 0,
+            second: 0,
+            third: 0,
+            fourth: 127 << 24,
         },
         IpVersion::V6 => Ip {
             version: IpVersion::V6,
             prefix: 128,
-            high: 0,
-            low: 1,
+            first: 0,
+            second: 0,
+            third: 0,
+            fourth: 1,
         },
     }
 }
@@ -285,14 +312,18 @@ fn multicast(version: IpVersion) -> Ip
         IpVersion::V4 => Ip {
             version: IpVersion::V4,
             prefix: 4,
-            high: 0,
-            low: 224 << 24,
+            first: 0,
+            second: 0,
+            third: 0,
+            fourth: 224 << 24,
         },
         IpVersion::V6 => Ip {
             version: IpVersion::V6,
             prefix: 8,
-            high: 255 << 56,
-            low: 0,
+            first: 255 << 24,
+            second: 0,
+            third: 0,
+            fourth: 0,
         },
     }
 }

@@ -8,8 +8,7 @@ use std::alloc::{AllocError, Global};
 use std::net::{Ipv4Addr, Ipv6Addr};
 
 // The text of an address of version 4, with the prefix where it is not 32.
-pub(crate) fn four_text(alloc: Global, address: u64, prefix: u8) -> Result<String, AllocError>
-    requires { address < 2 ^ 32 }
+pub(crate) fn four_text(alloc: Global, address: u32, prefix: u8) -> Result<String, AllocError>
     ensures { IfOk result (λ s. string_bytes s ≡ written 32 prefix (ipv4_text (octets_of address))) }
 {
     let octets = Ipv4Addr::new(

@@ -2,15 +2,15 @@
 ghost use Rattle.std.specs.Prelude.{◌≡◌, ◌+ℤ◌, ◌-ℤ◌, ◌*ℤ◌, int_lt, int_le};
 ghost use Rattle.std.specs.List.{list_all, list_any};
 ghost use Rattle.cedar_ext.specs.Matching.{is_match};
-ghost use Rattle.cedar_value.specs.Datum.{boolean, uid, set, members_of};
+ghost use Rattle.cedar_value.specs.Datum.{uid, set, members_of};
 ghost use Rattle.cedar_value.specs.Glance.{datum_seen};
 ghost use Rattle.cedar_value.specs.Sets.{has_member};
-ghost use Rattle.cedar_ast_expressions.specs.Operators.{unary_of, binary_of, not_of, negative_of, source, has_in, like_of, is_of, constructed, called, of_longs, of_set, of_sets, is_empty, long_or_overflow, in_of, is_uid};
+ghost use Rattle.cedar_ast_expressions.specs.Operators.{unary_of, binary_of, not_of, negative_of, source, has_in, like_of, is_of, constructed, called, called_alone, compared, scalar_or_error, of_longs, of_set, of_sets, is_empty, long_or_overflow, in_of, is_uid};
 ghost use Rattle.cedar_machine_stack.specs.Access.{IsNoAccess};
 
 use crate::operand::Operand;
 use cedar_ast_expressions::{BinaryOperator, EvaluationError, UnaryOperator};
-use cedar_ext::{BinaryMethod, ExtensionType, Pattern, Scalar};
+use cedar_ext::{BinaryMethod, ExtensionType, MethodError, Pattern, Scalar, UnaryMethod};
 use cedar_value::{Glance, Hierarchy, Name, Uid, Value, ValueKind, ValueSet};
 
 /// The answer of an operator for its operand (Cedar language reference, operators).
@@ -45,6 +45,7 @@ pub fn unary_but_get<H: Hierarchy>(
         UnaryOperator::Is(ty) => is(ty, operand),
         UnaryOperator::Construct(ty) => construct(*ty, operand),
         UnaryOperator::IsEmpty => is_empty(operand),
+        UnaryOperator::Call(method) => call_alone(*method, operand),
     }
 }
 
@@ -180,20 +181,22 @@ pub fn binary<H: Hierarchy>(
 
 // `<`
 fn less(left: Glance<'_>, right: Glance<'_>) -> Result<Operand<'static>, EvaluationError>
-    ensures { result ≡ of_longs (λ m n. Ok (boolean (int_lt m n))) (datum_seen left.entry) (datum_seen right.entry) }
+    ensures { result ≡ compared int_lt (datum_seen left.entry) (datum_seen right.entry) }
 {
     match (left, right) {
         (Glance::Long(left), Glance::Long(right)) => Ok(Operand::boolean(left < right)),
+        (Glance::Extension(left), Glance::Extension(right)) => answer(left.less(right)),
         _ => Err(EvaluationError::Type),
     }
 }
 
 // `<=`
 fn less_equal(left: Glance<'_>, right: Glance<'_>) -> Result<Operand<'static>, EvaluationError>
-    ensures { result ≡ of_longs (λ m n. Ok (boolean (int_le m n))) (datum_seen left.entry) (datum_seen right.entry) }
+    ensures { result ≡ compared int_le (datum_seen left.entry) (datum_seen right.entry) }
 {
     match (left, right) {
         (Glance::Long(left), Glance::Long(right)) => Ok(Operand::boolean(left <= right)),
+        (Glance::Extension(left), Glance::Extension(right)) => answer(left.less_equal(right)),
         _ => Err(EvaluationError::Type),
     }
 }
@@ -237,7 +240,30 @@ fn multiply(left: Glance<'_>, right: Glance<'_>) -> Result<Operand<'static>, Eva
     }
 }
 
-// A method of an extension type.
+// What a method of an extension type gives.
+fn answer(given: Result<Scalar, MethodError>) -> Result<Operand<'static>, EvaluationError>
+    ensures { result ≡ scalar_or_error given }
+{
+    match given {
+        Ok(Scalar::Boolean(truth)) => Ok(Operand::boolean(truth)),
+        Ok(Scalar::Long(number)) => Ok(Operand::long(number)),
+        Ok(Scalar::Extension(value)) => Ok(Operand::extension(value)),
+        Err(MethodError::Type) => Err(EvaluationError::Type),
+        Err(MethodError::Overflow) => Err(EvaluationError::Overflow),
+    }
+}
+
+// A method of an extension type that takes no argument.
+fn call_alone(method: UnaryMethod, operand: Glance<'_>) -> Result<Operand<'static>, EvaluationError>
+    ensures { result ≡ called_alone method (datum_seen operand.entry) }
+{
+    match operand {
+        Glance::Extension(value) => answer(method.call(value)),
+        _ => Err(EvaluationError::Type),
+    }
+}
+
+// A method of an extension type that takes one argument.
 fn call(
     method: BinaryMethod,
     left: Glance<'_>,
@@ -246,11 +272,7 @@ fn call(
     ensures { result ≡ called method (datum_seen left.entry) (datum_seen right.entry) }
 {
     match (left, right) {
-        (Glance::Extension(left), Glance::Extension(right)) => match method.call(*left, *right) {
-            Some(Scalar::Boolean(truth)) => Ok(Operand::boolean(truth)),
-            Some(Scalar::Extension(value)) => Ok(Operand::extension(value)),
-            None => Err(EvaluationError::Type),
-        },
+        (Glance::Extension(left), Glance::Extension(right)) => answer(method.call(left, right)),
         _ => Err(EvaluationError::Type),
     }
 }

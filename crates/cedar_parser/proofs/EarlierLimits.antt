@@ -21,7 +21,8 @@ use Rattle.cedar_parser_statements.proofs.EarlierPaths.{AskForNoPath}
 use Rattle.cedar_parser_limits.specs.declared.functions.Method.{Method}
 use Rattle.cedar_parser_limits.specs.declared.side_condition.SideCondition.{SideCondition}
 use Rattle.cedar_parser_limits.specs.declared.side_condition.SideCondition.TheVariants.{Strings, Numbers, Keys, Names, Counts, Slots, Annotations}
-use Rattle.cedar_ext.specs.Extensions.{constructor_named}
+use Rattle.cedar_ext.specs.Extensions.{constructor_in}
+use Rattle.cedar_ext.specs.declared.language.Language.TheVariants.{Profile}
 use Rattle.cedar_parser_limits.specs.Meaning.{method_of}
 use Rattle.cedar_parser_limits.specs.Limits.{Stands, Fits, FitsNegative, IsKnown, count_of, arity_of, function_arity, method_arity, HasArity, HasDistinctKeys, HasNoSlot, Keeps, KeepLinks, KeepMembers, KeepFields, size_of, max_height, max_nodes}
 use Rattle.cedar_parser_limits.specs.StatementLimits.{IsOwn, KeepsReference, KeepsEntityScope, KeepUids, KeepsActionScope, HasDistinctNames, KeepAnnotations, KeepConditions, KeepsStatement, condition_size, IsWithinLimits}
@@ -38,7 +39,7 @@ record AsksOfCalls (c : SideCondition) : Type 0 where
   pub own : (x y : Variable) → IsOwn c x y
   pub keys : (fs : Fields) → HasDistinctKeys c fs
   pub annotations : (notes : List WrittenAnnotation) → HasDistinctNames c notes
-  pub function : (name : List ℕ) → IsTrue (bytes_eq name (codes "decimal")) → IsKnown c (constructor_named name)
+  pub function : (name : List ℕ) → IsTrue (bytes_eq name (codes "decimal")) → IsKnown c (constructor_in Profile name)
   pub argument : (name : List ℕ) (ms : Members) → IsTrue (bytes_eq name (codes "decimal")) → count_of ms ≡ 1 → HasArity c (function_arity name) ms
   pub method_is : (name : List ℕ) → IsSome (earlier_method_of name) → IsKnown c (method_of name)
   pub method_argument : (name : List ℕ) (ms : Members) → IsSome (earlier_method_of name) → count_of ms ≡ 1 → HasArity c (method_arity name) ms

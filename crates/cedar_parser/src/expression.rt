@@ -9,7 +9,8 @@ ghost use Rattle.cedar_parser_tree.specs.Written as tree;
 ghost use Rattle.cedar_parser_tree.specs.Written.{chain, members_of};
 ghost use Rattle.cedar_parser_tree.specs.WrittenKind.{links_of, fields_of};
 ghost use Rattle.cedar_parser_limits.specs.Meaning.{to_expression, to_expressions, to_entries, related, linked, called, applied, method_of};
-ghost use Rattle.cedar_ext.specs.Extensions.{constructor_named};
+ghost use Rattle.cedar_ext.specs.Extensions.{constructor_in};
+ghost use Rattle.cedar_ext.specs.declared.language.Language.TheVariants.{Profile};
 ghost use Rattle.cedar_parser_limits.specs.declared.functions.Method.TheVariants.{IsEmpty, Binary};
 ghost use Rattle.cedar_parser_tokens.specs.Content.{text_of};
 ghost use Rattle.cedar_parser_limits.specs.Limits.{Keeps, KeepMembers, KeepFields, arity_of};
@@ -23,6 +24,7 @@ use crate::has::to_has;
 use cedar_ast_expressions::{
     BinaryOperator, Expr, ExprKind, ExtensionType, RecordFault, UnaryOperator,
 };
+use cedar_ext::Language;
 use cedar_parser_limits::{Method, method_of};
 use cedar_parser_tokens::{Content, WrittenUid};
 use cedar_parser_tree::{ChainSign, Field, Link, RelationSign, Written, WrittenKind};
@@ -318,11 +320,11 @@ fn binary_method_call(
 // A function of one argument.
 #[inline(never)]
 fn function_call(alloc: Global, name: &str, arguments: Vec<Expr>) -> Result<Box<Expr>, AllocError>
-    requires known { IsSome (constructor_named name.now) }
+    requires known { IsSome (constructor_in Profile name.now) }
     requires argument { length arguments.items ≡ 1 }
-    ensures { IfOk result (λ b. b.value ≡ called (constructor_named name.now) (expressions_of arguments.items)) }
+    ensures { IfOk result (λ b. b.value ≡ called (constructor_in Profile name.now) (expressions_of arguments.items)) }
 {
-    let Some(ty) = ExtensionType::of_constructor(name) else {
+    let Some(ty) = ExtensionType::of_constructor_in(Language::Profile, name) else {
         unreachable!()
     };
     let argument = sole_argument(alloc, arguments)?;

@@ -10,7 +10,8 @@ use Rattle.cedar_parser_limits.specs.declared.functions.Method.TheVariants.{IsEm
 use Rattle.cedar_parser_limits.specs.declared.size.Size.{Size}
 use Rattle.cedar_parser_tokens.specs.Content.{Content}
 use Rattle.cedar_parser_tree.specs.Written.{Written, number, negative, text, entity, slot, group, not, negated, relation, has, like, is, is_in, chain, choice, set, record_of, call, Links, no_links, operand, attribute, method, Members, no_members, member, Fields, no_fields, field}
-use Rattle.cedar_ext.specs.Extensions.{constructor_named}
+use Rattle.cedar_ext.specs.Extensions.{constructor_in}
+use Rattle.cedar_ext.specs.declared.language.Language.TheVariants.{Profile}
 use Rattle.cedar_parser_limits.specs.Meaning.{method_of}
 
 -- ---- side conditions
@@ -47,7 +48,7 @@ arity_of (Binary op) = 1
 
 -- How many arguments the function of a name takes, if there is such a function (Cedar language reference, functions).
 abbrev pub function_arity : List ℕ → Option ℕ
-function_arity name = option_map (λ ty. 1) (constructor_named name)
+function_arity name = option_map (λ ty. 1) (constructor_in Profile name)
 
 -- How many arguments the method of a name takes, if there is such a method (Cedar language reference, functions).
 abbrev pub method_arity : List ℕ → Option ℕ
@@ -95,7 +96,7 @@ abbrev mutual
   Keeps c (choice q a b) = Keeps c q × Keeps c a × Keeps c b
   Keeps c (set ms) = KeepMembers c ms
   Keeps c (record_of fs) = HasDistinctKeys c fs × KeepFields c fs
-  Keeps c (call name ms) = IsKnown c (constructor_named name) × HasArity c (function_arity name) ms × KeepMembers c ms
+  Keeps c (call name ms) = IsKnown c (constructor_in Profile name) × HasArity c (function_arity name) ms × KeepMembers c ms
   Keeps c _ = Unit {0}
 
   -- The links of a chain keep a side condition where each of them does (own).

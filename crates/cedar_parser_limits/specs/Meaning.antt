@@ -3,8 +3,9 @@ use Rattle.std.specs.Prelude.{false, ℕ, Bool, pos, neg_ℤ, List, [], ◌∷�
 use Rattle.std.specs.Str.{bytes_eq}
 use Rattle.cedar_ext.specs.declared.extension.ExtensionType.{ExtensionType}
 use Rattle.cedar_ext.specs.declared.method.BinaryMethod.{BinaryMethod}
-use Rattle.cedar_ext.specs.Extensions.{constructor_named}
-use Rattle.cedar_ext.specs.Methods.{method_named}
+use Rattle.cedar_ext.specs.Extensions.{constructor_in}
+use Rattle.cedar_ext.specs.declared.language.Language.TheVariants.{Profile}
+use Rattle.cedar_ext.specs.Methods.{has_method, method_named}
 use Rattle.cedar_value.specs.Datum as datum
 use Rattle.cedar_ast_expressions.specs.declared.operator.UnaryOperator.TheVariants.{Not, Negate, Has, Get, Like, Is, Construct, IsEmpty}
 use Rattle.cedar_ast_expressions.specs.declared.operator.BinaryOperator.TheVariants as operator
@@ -38,6 +39,11 @@ related relation_sign.Equal a b = e.binary operator.Equal a b
 related relation_sign.NotEqual a b = e.unary Not (e.binary operator.Equal a b)
 related relation_sign.In a b = e.binary operator.In a b
 
+-- The method, if the profile has it (own).
+abbrev pub in_profile : Option BinaryMethod → Option BinaryMethod
+in_profile None = None
+in_profile (Some named) = if has_method Profile named then Some named else None
+
 -- The method of an extension type, where there is one; else `isEmpty`, where that is the name (Cedar language reference, functions).
 abbrev pub method_or_empty : (is_empty : Bool) → Option BinaryMethod → Option Method
 method_or_empty is_empty (Some named) = Some (m.Binary (operator.Call named))
@@ -49,7 +55,7 @@ method_of name =
     if bytes_eq name (codes "contains") then Some (m.Binary operator.Contains)
     else (if bytes_eq name (codes "containsAll") then Some (m.Binary operator.ContainsAll)
     else (if bytes_eq name (codes "containsAny") then Some (m.Binary operator.ContainsAny)
-    else method_or_empty (bytes_eq name (codes "isEmpty")) (method_named name)))
+    else method_or_empty (bytes_eq name (codes "isEmpty")) (in_profile (method_named name))))
 
 -- The call of a function of one argument. A call of an unknown function or with other arguments is refused, and this is not its
 -- meaning (Cedar language reference, functions).
@@ -97,7 +103,7 @@ abbrev mutual
   to_expression (choice c a b) = e.if_else (to_expression c) (to_expression a) (to_expression b)
   to_expression (set ms) = e.set_with (to_expressions ms)
   to_expression (record_of fs) = e.record_with (to_entries fs)
-  to_expression (call name ms) = called (constructor_named name) (to_expressions ms)
+  to_expression (call name ms) = called (constructor_in Profile name) (to_expressions ms)
 
   -- The expression to the left with each link after it, from left to right (Cedar language reference, operators).
   pub grouped : Expression → Links → Expression

@@ -2,7 +2,8 @@
 ghost use Rattle.std.specs.Prelude.{◌≡◌, ◌≤◌, IfOk, length, map};
 ghost use Rattle.cedar_parser_tree.specs.Written.{members_of};
 ghost use Rattle.cedar_parser_tree.specs.WrittenKind.{links_of, fields_of};
-ghost use Rattle.cedar_ext.specs.Extensions.{constructor_named};
+ghost use Rattle.cedar_ext.specs.Extensions.{constructor_in};
+ghost use Rattle.cedar_ext.specs.declared.language.Language.TheVariants.{Profile};
 ghost use Rattle.cedar_parser_limits.specs.Meaning.{method_of};
 ghost use Rattle.cedar_parser_limits.specs.Limits.{Stands, Fits, FitsNegative, IsKnown, HasArity, HasDistinctKeys, HasNoSlot, Keeps, KeepLinks, KeepMembers, KeepFields, keys_in};
 ghost use Rattle.cedar_parser_limits.specs.Private.Judging.{Judges};
@@ -171,7 +172,7 @@ fn judge_slot(sought: Sought, start: usize) -> Result<(), Breach>
 }
 
 fn judge_function(sought: Sought, start: usize, name: &Name) -> Result<(), Breach>
-    ensures { Judges sought (λ c. IsKnown c (constructor_named name.now)) result }
+    ensures { Judges sought (λ c. IsKnown c (constructor_in Profile name.now)) result }
 {
     if sought.has(SideCondition::Names) && !is_function(name.as_str()) {
         return Err(Breach::Of(SideCondition::Names, start));

@@ -4,7 +4,8 @@ ghost use Rattle.cedar_ast_expressions.specs.Expression.{Expression};
 ghost use Rattle.cedar_parser_tree.specs.Written.{chain, members_of};
 ghost use Rattle.cedar_parser_tree.specs.WrittenKind.{links_of, fields_of};
 ghost use Rattle.cedar_parser_limits.specs.Meaning.{to_expression, to_expressions, to_entries, related, linked, called, applied, method_of};
-ghost use Rattle.cedar_ext.specs.Extensions.{constructor_named};
+ghost use Rattle.cedar_ext.specs.Extensions.{constructor_in};
+ghost use Rattle.cedar_ext.specs.declared.language.Language.TheVariants.{Profile};
 ghost use Rattle.cedar_ast_expressions.specs.declared.operator.BinaryOperator.{BinaryOperator};
 ghost use Rattle.cedar_parser_limits.specs.declared.functions.Method.TheVariants.{IsEmpty, Binary};
 ghost use Rattle.cedar_parser_limits.specs.Limits.{size_of, size_of_all, size_of_entries};
@@ -130,7 +131,7 @@ fn binary_method_size(left: Size, arguments: &[Written]) -> Size
 
 #[cycle(expression_size)]
 fn call_size(name: &str, arguments: &[Written]) -> Size
-    ensures { result ≡ capped (size_of (called (constructor_named name.now) (to_expressions (members_of arguments.now)))) }
+    ensures { result ≡ capped (size_of (called (constructor_in Profile name.now) (to_expressions (members_of arguments.now)))) }
 {
     let refused = leaf();
     if !is_function(name) {

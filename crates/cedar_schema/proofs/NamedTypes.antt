@@ -7,6 +7,7 @@ use Rattle.serde_json.specs.Data.{Data, null, boolean, number, string, array, ob
 use Rattle.serde_json.specs.Find.{get}
 use Rattle.cedar_ext.specs.declared.extension.ExtensionType.{ExtensionType}
 use Rattle.cedar_ext.specs.Extensions as extension
+use Rattle.cedar_ext.specs.declared.language.Language.TheVariants.{Profile}
 use Rattle.cedar_value.specs.Order.{text_cmp}
 use Rattle.cedar_value.specs.declared.uid.Uid.{Uid}
 use Rattle.cedar_schema_types.specs.Types.{TypeTree, Attributes, no_attributes, attribute}
@@ -139,7 +140,7 @@ module _ (sc : Scope) where
 
   extension_read_named : (o : Option (List ℕ)) → ReadNames (needed extension_named o)
   extension_read_named None = tt
-  extension_read_named (Some s) = extension_is s (extension.type_named s)
+  extension_read_named (Some s) = extension_is s (extension.type_in Profile s)
 
   set_read : (el : Option Read) → IfSome el ReadNames → ReadNames (needed set_of el)
   set_read None h = tt

@@ -7,10 +7,12 @@ use crate::common_circle::refused_common_circle;
 use crate::declared::Declared;
 use crate::forms::Forms;
 use crate::kinds::kind_of;
-use crate::part::{Refusal, RefusedPart, part_of};
+use crate::part::{Refusal, RefusedPart, part_with};
 use crate::sections::refused_entries;
 use crate::spaces::refused_spaces;
+use crate::text::joined;
 use base_json::read_json;
+use base_places::Draft;
 use serde_json::{Map, Value};
 use std::alloc::{AllocError, Global};
 
@@ -41,19 +43,22 @@ pub fn refused_part(
 fn refused_in(alloc: Global, json: &Value, number: u16) -> Result<Option<Refusal>, AllocError> {
     match json.as_object() {
         Some(root) => refused_in_root(alloc, root, number),
-        None if number == 302 => {
-            let says = [
-                "a schema must be an object of namespaces, not ",
-                kind_of(json),
-            ];
-            let hint: &[&str] = match json {
-                Value::Array(_) => &["a list goes into the file of `--entities` or of `--links`"],
-                _ => &[],
-            };
-            Ok(part_of(alloc, &says, hint))
-        }
+        None if number == 302 => Ok(Some(refused_root(alloc, json))),
         None => Ok(None),
     }
+}
+
+// A schema that is not an object.
+fn refused_root(alloc: Global, json: &Value) -> Refusal {
+    let says = [
+        "a schema must be an object of namespaces, not ",
+        kind_of(json),
+    ];
+    let mut hint = Draft::new(alloc);
+    if let Value::Array(_) = json {
+        hint.add("a list goes into the file of `--entities` or of `--links`");
+    }
+    part_with(alloc, joined(alloc, &says), hint)
 }
 
 fn refused_in_root(

@@ -85,20 +85,27 @@ fn refused_kind(alloc: Global, part: Part, json: &Value) -> Option<Refusal> {
 
 // A key that a part may not have.
 fn refused_key(alloc: Global, part: Part, key: &str) -> Option<Refusal> {
-    let found = match (left_out_key(part, key), other_owner(part, key)) {
-        (Some((says, hint)), _) => part_of(alloc, &[says], &[hint]),
-        (None, Some(owner)) => part_of(
-            alloc,
-            &[name_of(part), " has no key `", shown(key), "`"],
-            &["it is a key of ", owner],
-        ),
-        (None, None) => Some(unknown_key(alloc, name_of(part), key, keys_of(part))),
+    let found = match left_out_key(part, key) {
+        Some((says, hint)) => part_of(alloc, &[says], &[hint]),
+        None => misplaced_key(alloc, part, key),
     };
     at(alloc, Step::Key(key), found)
 }
 
-// The part whose key this is, in words, if it is not near to a key of the part in which it is written.
-fn other_owner(part: Part, key: &str) -> Option<&'static str> {
+// A key that a part does not have, with the part that has it, if there is one.
+fn misplaced_key(alloc: Global, part: Part, key: &str) -> Option<Refusal> {
+    match other_owner(part, key) {
+        Some(owner) => part_of(
+            alloc,
+            &[name_of(part), " has no key `", shown(key), "`"],
+            &["it is a key of ", name_of(owner)],
+        ),
+        None => Some(unknown_key(alloc, name_of(part), key, keys_of(part))),
+    }
+}
+
+// The part whose key this is, if it is not near to a key of the part in which it is written.
+fn other_owner(part: Part, key: &str) -> Option<Part> {
     if nearest_key(key, keys_of(part)).is_some() {
         return None;
     }
@@ -109,7 +116,7 @@ fn other_owner(part: Part, key: &str) -> Option<&'static str> {
         Part::Namespace,
     ] {
         if has_key(keys_of(other), key) {
-            return Some(name_of(other));
+            return Some(other);
         }
     }
     None

@@ -39,7 +39,7 @@ pub(crate) fn left_out_key(part: Part, key: &str) -> Option<(&'static str, &'sta
 pub(crate) fn left_out_extension(name: &str) -> Option<&'static str> {
     match name {
         "ipaddr" | "ip" | "IP" | "IpAddr" => Some(
-            "write {\"type\":\"String\"}, and compare it with `==` or `like`",
+            "write {\"type\":\"String\"}, and compare it with `==`",
         ),
         "datetime" | "DateTime" | "date" | "Date" | "timestamp" | "Timestamp" => Some(
             "write {\"type\":\"Long\"}, for example milliseconds since 1970",

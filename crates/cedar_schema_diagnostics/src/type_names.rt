@@ -11,7 +11,7 @@ use crate::type_shape::SET;
 use crate::undeclared::{as_written, last_word, meant_name, say_nowhere};
 use base_names::apart;
 use base_places::Draft;
-use cedar_ext::ExtensionType;
+use cedar_ext::{ExtensionType, Language};
 use std::alloc::{AllocError, Global};
 
 /// Why the name of an entity type is refused (302, 303, 306), or none. `is_type` says whether it is in a type, and not in a list.
@@ -125,7 +125,7 @@ fn hint_type(hint: &mut Draft, setting: Setting<'_>, text: &str, is_entity: bool
         "Decimal" | "Float" | "float" | "Double" | "double" => "decimal",
         _ => text,
     };
-    if let Some(extension) = ExtensionType::named(number) {
+    if let Some(extension) = ExtensionType::named_in(Language::Profile, number) {
         let name = extension.name();
         hint.add_all(&["write {\"type\":\"Extension\",\"name\":\"", name, "\"}"]);
     } else if is_entity {
@@ -165,7 +165,7 @@ fn hint_meant(hint: &mut Draft, setting: Setting<'_>, text: &str) {
 
 /// Why the name of an extension type is refused (302, 303, 306), or none.
 pub(crate) fn refused_extension_name(alloc: Global, number: u16, text: &str) -> Option<Refusal> {
-    if ExtensionType::named(text).is_some() {
+    if ExtensionType::named_in(Language::Profile, text).is_some() {
         return None;
     }
     let found = refused_name(alloc, number, text);

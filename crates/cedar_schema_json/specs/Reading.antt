@@ -5,7 +5,8 @@ use Rattle.std.specs.Ordering.{nat_cmp, match_ordering}
 use Rattle.std.specs.Cmp.Lexicographic.{slice_cmp}
 use Rattle.serde_json.specs.Data.{Data, boolean, object, Members, no_members, member}
 use Rattle.serde_json.specs.Find.{get, as_str, as_object}
-use Rattle.cedar_ext.specs.Extensions.{type_named}
+use Rattle.cedar_ext.specs.Extensions.{type_in}
+use Rattle.cedar_ext.specs.declared.language.Language.TheVariants.{Profile}
 use Rattle.cedar_schema_json.specs.declared.schema_fault.SchemaFault.{SchemaFault}
 use Rattle.cedar_schema_json.specs.declared.schema_fault.SchemaFault.TheVariants.{Shape, UnknownType, OpenRecord}
 use Rattle.cedar_schema_json.specs.declared.form.kind.Kind.{Kind}
@@ -89,9 +90,9 @@ needed f o = unwrap_or (option_map f o) (bad Shape)
 abbrev pub entity_read : Scope → Option (List ℕ) → Read
 entity_read sc o = needed (form_named (λ n. entity_form n.0) sc.entities sc.namespace) o
 
--- The extension type of this name; 303 where there is none (Cedar documentation, JSON schema format: Extension).
+-- The extension type of this name in the profile; 303 where there is none (Cedar documentation, JSON schema format: Extension).
 abbrev pub extension_named : List ℕ → Read
-extension_named s = unwrap_or (option_map (λ t. fine (extension_form t)) (type_named s)) (record { form = no_form; faults = text_faults s ++ UnknownType ∷ [] })
+extension_named s = unwrap_or (option_map (λ t. fine (extension_form t)) (type_in Profile s)) (record { form = no_form; faults = text_faults s ++ UnknownType ∷ [] })
 
 -- A declared common type (Cedar documentation, JSON schema format: commonTypes).
 abbrev pub common_read : Scope → List ℕ → Read

@@ -61,7 +61,7 @@ impl Glance<'_> {
             (Glance::Uid(one), Glance::Uid(two)) => one == two,
             (Glance::Set(one), Glance::Set(two)) => one == two,
             (Glance::Record(one), Glance::Record(two)) => one == two,
-            (Glance::Extension(one), Glance::Extension(two)) => one.same(*two),
+            (Glance::Extension(one), Glance::Extension(two)) => one.same(two),
             _ => false,
         }
     }

@@ -22,7 +22,7 @@ pub(crate) fn order_glance(left: &Value, right: Glance<'_>) -> Ordering
         (ValueKind::Uid(one), Glance::Uid(two)) => one.as_ref().cmp(two),
         (ValueKind::Set(one), Glance::Set(two)) => order_members(one.members(), two.members()),
         (ValueKind::Record(one), Glance::Record(two)) => order_pairs(one.pairs(), two.pairs()),
-        (ValueKind::Extension(one), Glance::Extension(two)) => one.order(**two),
+        (ValueKind::Extension(one), Glance::Extension(two)) => one.order(two),
         _ => kind_number(left.glance()).cmp(&kind_number(right)),
     }
 }

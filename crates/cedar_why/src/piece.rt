@@ -36,7 +36,7 @@ pub fn written(alloc: Global, piece: Piece<'_>) -> Result<String, AllocError> {
         let Some(next) = rest.pop() else {
             break;
         };
-        write_piece(&mut text, &mut rest, next);
+        write_piece(alloc, &mut text, &mut rest, next);
     }
     if rest.is_refused() {
         text.refuse();
@@ -46,11 +46,16 @@ pub fn written(alloc: Global, piece: Piece<'_>) -> Result<String, AllocError> {
 }
 
 // Adds a piece. What it is made of is put before the rest, the next piece last.
-fn write_piece<'e>(text: &mut Draft, rest: &mut DraftList<Piece<'e>>, piece: Piece<'e>) {
+fn write_piece<'e>(
+    alloc: Global,
+    text: &mut Draft,
+    rest: &mut DraftList<Piece<'e>>,
+    piece: Piece<'e>,
+) {
     match piece {
         Piece::Text(characters) => text.add(characters),
         Piece::Key(key) => add_key(text, key),
-        Piece::Value(value) => write_value(text, rest, value),
+        Piece::Value(value) => write_value(alloc, text, rest, value),
         Piece::Part(part, least) => write_part(text, rest, part, least),
         Piece::After(operator) => add_after(text, operator),
     }

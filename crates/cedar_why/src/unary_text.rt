@@ -11,7 +11,10 @@ pub fn level_of_unary(operator: &UnaryOperator) -> u8 {
     match operator {
         UnaryOperator::Not | UnaryOperator::Negate => UNARY,
         UnaryOperator::Has(_) | UnaryOperator::Like(_) | UnaryOperator::Is(_) => RELATION,
-        UnaryOperator::Get(_) | UnaryOperator::Construct(_) | UnaryOperator::IsEmpty => MEMBER,
+        UnaryOperator::Get(_)
+        | UnaryOperator::Construct(_)
+        | UnaryOperator::IsEmpty
+        | UnaryOperator::Call(_) => MEMBER,
     }
 }
 
@@ -20,7 +23,7 @@ pub fn level_of_operand(operator: &UnaryOperator) -> u8 {
     match operator {
         UnaryOperator::Not | UnaryOperator::Negate => MEMBER,
         UnaryOperator::Has(_) | UnaryOperator::Like(_) | UnaryOperator::Is(_) => SUM,
-        UnaryOperator::Get(_) | UnaryOperator::IsEmpty => MEMBER,
+        UnaryOperator::Get(_) | UnaryOperator::IsEmpty | UnaryOperator::Call(_) => MEMBER,
         UnaryOperator::Construct(_) => CHOICE,
     }
 }
@@ -54,6 +57,7 @@ pub fn add_after(text: &mut Draft, operator: &UnaryOperator) {
         }
         UnaryOperator::Construct(_) => text.add_char(')'),
         UnaryOperator::IsEmpty => text.add(".isEmpty()"),
+        UnaryOperator::Call(method) => text.add_all(&[".", method.name(), "()"]),
     }
 }
 

@@ -2,7 +2,7 @@
 use crate::piece::{Piece, written};
 use crate::shortened::{is_full, shortened};
 use base_places::{Draft, DraftList};
-use cedar_ext::{Decimal, Extension};
+use cedar_ext::{Datetime, Decimal, Duration, Extension};
 use cedar_value::{SharedText, Uid, Value, ValueKind};
 use std::alloc::{AllocError, Global};
 
@@ -23,7 +23,12 @@ pub fn uid_text(alloc: Global, uid: &Uid) -> Result<String, AllocError> {
 }
 
 /// Adds the beginning of a value. The rest of it is put before the rest.
-pub fn write_value<'e>(text: &mut Draft, rest: &mut DraftList<Piece<'e>>, value: &'e Value) {
+pub fn write_value<'e>(
+    alloc: Global,
+    text: &mut Draft,
+    rest: &mut DraftList<Piece<'e>>,
+    value: &'e Value,
+) {
     match value.kind() {
         ValueKind::Boolean(truth) => text.add(if *truth { "true" } else { "false" }),
         ValueKind::Long(number) => text.add_display(*number),
@@ -31,7 +36,7 @@ pub fn write_value<'e>(text: &mut Draft, rest: &mut DraftList<Piece<'e>>, value:
         ValueKind::Uid(uid) => add_uid(text, uid),
         ValueKind::Set(members) => write_members(text, rest, members.members()),
         ValueKind::Record(pairs) => write_pairs(text, rest, pairs.pairs()),
-        ValueKind::Extension(value) => add_extension(text, value),
+        ValueKind::Extension(value) => add_extension(alloc, text, value),
     }
 }
 
@@ -77,17 +82,35 @@ pub fn add_uid(text: &mut Draft, uid: &Uid) {
 }
 
 // Adds a value of an extension type as its constructor writes it, for example `decimal("1.5")`.
-fn add_extension(text: &mut Draft, value: &Extension) {
+fn add_extension(alloc: Global, text: &mut Draft, value: &Extension) {
     text.add_all(&[value.ty().constructor(), "(\""]);
-    add_content(text, value);
+    match value {
+        Extension::Decimal(decimal) => add_decimal(text, *decimal),
+        Extension::Ip(ip) => text.add_made(ip.to_text(alloc)),
+        Extension::Datetime(moment) => return add_datetime(alloc, text, *moment),
+        Extension::Duration(duration) => add_duration(text, *duration),
+    }
     text.add("\")");
 }
 
-// Adds the text that the constructor of a value reads.
-fn add_content(text: &mut Draft, value: &Extension) {
-    match value {
-        Extension::Decimal(decimal) => add_decimal(text, *decimal),
+// Adds the text of a datetime, and what is after it. Where no text writes the datetime, it is written as one that is later or earlier
+// than 1970.
+fn add_datetime(alloc: Global, text: &mut Draft, moment: Datetime) {
+    match moment.to_text(alloc) {
+        Ok(Some(written)) => text.add_all(&[written.as_str(), "\")"]),
+        Ok(None) => {
+            text.add("1970-01-01\").offset(duration(\"");
+            add_duration(text, Duration::from_milliseconds(moment.milliseconds()));
+            text.add("\"))");
+        }
+        Err(_) => text.refuse(),
     }
+}
+
+// Adds the text of a duration.
+fn add_duration(text: &mut Draft, duration: Duration) {
+    text.add_display(duration.to_milliseconds());
+    text.add("ms");
 }
 
 // Adds the text of a decimal.

@@ -4,18 +4,20 @@ use Rattle.std.specs.Bool.{Decides}
 use Rattle.std.specs.Cmp.{IsEquivalence, decided}
 use Rattle.std.proofs.lemmas.Slice.Eq.{bytes_eq-Decides}
 use Rattle.cedar_ext.specs.Private.ExtensionLemmas.{same_type-Decides}
+use Rattle.cedar_ext.specs.declared.method.BinaryMethod.{BinaryMethod}
+use Rattle.cedar_ext.specs.declared.method.BinaryMethod.TheVariants as method
+use Rattle.cedar_ext.specs.declared.unary_method.UnaryMethod.{UnaryMethod}
+use Rattle.cedar_ext.specs.declared.unary_method.UnaryMethod.TheVariants as unary_method
 use Rattle.cedar_ext.specs.Private.SamePattern.{same_pattern-Decides}
 use Rattle.cedar_value.specs.Private.Equality.{same-Decides}
 use Rattle.cedar_ast_expressions.specs.declared.variable.Variable.{Variable}
 use Rattle.cedar_ast_expressions.specs.declared.variable.Variable.TheVariants.{Principal, Action, Resource, Context}
-use Rattle.cedar_ext.specs.declared.method.BinaryMethod.{BinaryMethod}
-use Rattle.cedar_ext.specs.declared.method.BinaryMethod.TheVariants as method
 use Rattle.cedar_ast_expressions.specs.declared.operator.UnaryOperator.{UnaryOperator}
-use Rattle.cedar_ast_expressions.specs.declared.operator.UnaryOperator.TheVariants.{Not, Negate, Has, Get, Like, Is, Construct, IsEmpty}
+use Rattle.cedar_ast_expressions.specs.declared.operator.UnaryOperator.TheVariants.{Not, Negate, Has, Get, Like, Is, Construct, IsEmpty, Call}
 use Rattle.cedar_ast_expressions.specs.declared.operator.BinaryOperator.{BinaryOperator}
 use Rattle.cedar_ast_expressions.specs.declared.operator.BinaryOperator.TheVariants as operator
 use Rattle.cedar_ast_expressions.specs.Expression.{Expression, literal, variable, and, or, if_else, unary, binary, set_with, record_with, Expressions, no_more, and_then, Entries, no_entries, entry}
-use Rattle.cedar_ast_expressions.specs.SameExpression.{same_variable, same_method, same_binary}
+use Rattle.cedar_ast_expressions.specs.SameExpression.{same_variable, same_method, same_unary_method, same_binary}
 unfoldable pub use Rattle.cedar_ast_expressions.specs.SameExpression.{same_unary, same_expression, same_expressions, same_entries}
 
 both : (a b : Bool) {P Q : Type 0} → Decides a P → Decides b Q → Decides (a && b) (P × Q)
@@ -34,7 +36,24 @@ same_method-Decides method.LessThan method.LessThan = (λ e. refl, λ e. refl)
 same_method-Decides method.LessThanOrEqual method.LessThanOrEqual = (λ e. refl, λ e. refl)
 same_method-Decides method.GreaterThan method.GreaterThan = (λ e. refl, λ e. refl)
 same_method-Decides method.GreaterThanOrEqual method.GreaterThanOrEqual = (λ e. refl, λ e. refl)
+same_method-Decides method.IsInRange method.IsInRange = (λ e. refl, λ e. refl)
+same_method-Decides method.Offset method.Offset = (λ e. refl, λ e. refl)
+same_method-Decides method.DurationSince method.DurationSince = (λ e. refl, λ e. refl)
 same_method-Decides _ _ = (λ e. absurd (cc), λ e. absurd (cc))
+
+same_unary_method-Decides : (a b : UnaryMethod) → Decides (same_unary_method a b) (a ≡ b)
+same_unary_method-Decides unary_method.IsIpv4 unary_method.IsIpv4 = (λ e. refl, λ e. refl)
+same_unary_method-Decides unary_method.IsIpv6 unary_method.IsIpv6 = (λ e. refl, λ e. refl)
+same_unary_method-Decides unary_method.IsLoopback unary_method.IsLoopback = (λ e. refl, λ e. refl)
+same_unary_method-Decides unary_method.IsMulticast unary_method.IsMulticast = (λ e. refl, λ e. refl)
+same_unary_method-Decides unary_method.ToDate unary_method.ToDate = (λ e. refl, λ e. refl)
+same_unary_method-Decides unary_method.ToTime unary_method.ToTime = (λ e. refl, λ e. refl)
+same_unary_method-Decides unary_method.ToMilliseconds unary_method.ToMilliseconds = (λ e. refl, λ e. refl)
+same_unary_method-Decides unary_method.ToSeconds unary_method.ToSeconds = (λ e. refl, λ e. refl)
+same_unary_method-Decides unary_method.ToMinutes unary_method.ToMinutes = (λ e. refl, λ e. refl)
+same_unary_method-Decides unary_method.ToHours unary_method.ToHours = (λ e. refl, λ e. refl)
+same_unary_method-Decides unary_method.ToDays unary_method.ToDays = (λ e. refl, λ e. refl)
+same_unary_method-Decides _ _ = (λ e. absurd (cc), λ e. absurd (cc))
 
 pub same_unary-Decides : (a b : UnaryOperator) → Decides (same_unary a b) (a ≡ b)
 unfolding same_unary
@@ -46,6 +65,7 @@ same_unary-Decides (Like p) (Like q) = let d = same_pattern-Decides p q in (λ e
 same_unary-Decides (Is t) (Is u) = let d = bytes_eq-Decides t u in (λ e. ap Is (d.0 e), λ e. d.1 cc)
 same_unary-Decides (Construct c) (Construct d) = let h = same_type-Decides c d in (λ e. ap Construct (h.0 e), λ e. h.1 cc)
 same_unary-Decides IsEmpty IsEmpty = (λ e. refl, λ e. refl)
+same_unary-Decides (Call m) (Call n) = let d = same_unary_method-Decides m n in (λ e. ap Call (d.0 e), λ e. d.1 cc)
 same_unary-Decides _ _ = (λ e. absurd (cc), λ e. absurd (cc))
 
 same_binary-Decides : (a b : BinaryOperator) → Decides (same_binary a b) (a ≡ b)

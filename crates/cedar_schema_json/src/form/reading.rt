@@ -14,7 +14,7 @@ use crate::form::{Form, FormField};
 use crate::json::naming::{read_declared, read_name};
 use crate::json::scope::Scope;
 use crate::schema_fault::SchemaFault;
-use cedar_ext::ExtensionType;
+use cedar_ext::{ExtensionType, Language};
 use serde_json::{Map, Value};
 use std::alloc::Global;
 
@@ -66,7 +66,7 @@ fn read_extension(alloc: Global, json: &Value) -> Result<Form, SchemaFault>
     ensures { Reads result (needed extension_named (text_at (codes "name") (view json.now))) }
 {
     match text_at(json, "name") {
-        Some(text) => match ExtensionType::named(text) {
+        Some(text) => match ExtensionType::named_in(Language::Profile, text) {
             Some(extension) => Ok(Form::Extension(extension)),
             None => {
                 read_name(alloc, text)?;

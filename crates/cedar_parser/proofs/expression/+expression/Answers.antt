@@ -8,7 +8,8 @@ use Rattle.cedar_parser_tree.specs.Written.{Written, members_of}
 use Rattle.cedar_parser_tree.specs.WrittenKind.{written_of, links_of, fields_of}
 use Rattle.cedar_parser_tree.specs.declared.written.WrittenKind.{WrittenKind}
 use Rattle.cedar_parser_limits.specs.Meaning.{to_expression, to_expressions, method_of}
-use Rattle.cedar_ext.specs.Extensions.{constructor_named}
+use Rattle.cedar_ext.specs.Extensions.{constructor_in}
+use Rattle.cedar_ext.specs.declared.language.Language.TheVariants.{Profile}
 use Rattle.cedar_parser_limits.specs.Limits.{Keeps, KeepLinks, KeepMembers, KeepFields}
 use Rattle.cedar_parser_limits.specs.Private.Parts.{KeepLink}
 use Rattle.cedar_parser_limits.proofs.PartLemmas.{link_lighter, member_lighter, field_lighter, links_here, members_here, fields_here, behind_all, expressions_next, keys_of_pairs, entries_of_pairs}
@@ -65,7 +66,7 @@ append_link-method_call-requires t c =
 
 pub to_boxed-function_call-requires-clause-argument : goal.to_boxed-function_call-requires-clause-argument
 to_boxed-function_call-requires-clause-argument t c =
-    function_argument (constructor_named c.in-Call.name) (members_of c.in-Call.arguments) c.in_ok-arguments-in-Call.arguments.items
+    function_argument (constructor_in Profile c.in-Call.name) (members_of c.in-Call.arguments) c.in_ok-arguments-in-Call.arguments.items
     (subst (λ (k : WrittenKind). Keeps Names (written_of k)) c.in-Call.is (subst (Keeps Names) (sym c.kind.ensures) c.requires.3)).0
     (subst (λ (k : WrittenKind). Keeps Counts (written_of k)) c.in-Call.is (subst (Keeps Counts) (sym c.kind.ensures) c.requires.4)).1
     (c.in_ok-arguments-in-Call.ensures ∙ ap (λ (xs : List Written). to_expressions (members_of xs)) c.items-in-Call.ensures)

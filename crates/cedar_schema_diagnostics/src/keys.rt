@@ -87,21 +87,26 @@ fn refused_kind(alloc: Global, part: Part, json: &Value) -> Option<Refusal> {
 fn refused_key(alloc: Global, part: Part, key: &str) -> Option<Refusal> {
     let found = match left_out_key(part, key) {
         Some((says, hint)) => part_of(alloc, &[says], &[hint]),
-        None => misplaced_key(alloc, part, key),
+        None => Some(misplaced_key(alloc, part, key)),
     };
     at(alloc, Step::Key(key), found)
 }
 
 // A key that a part does not have, with the part that has it, if there is one.
-fn misplaced_key(alloc: Global, part: Part, key: &str) -> Option<Refusal> {
+fn misplaced_key(alloc: Global, part: Part, key: &str) -> Refusal {
     match other_owner(part, key) {
-        Some(owner) => part_of(
+        Some(owner) => part_with(
             alloc,
-            &[name_of(part), " has no key `", shown(key), "`"],
-            &["it is a key of ", name_of(owner)],
+            no_key(alloc, name_of(part), key),
+            joined(alloc, &["it is a key of ", name_of(owner)]),
         ),
-        None => Some(unknown_key(alloc, name_of(part), key, keys_of(part))),
+        None => unknown_key(alloc, name_of(part), key, keys_of(part)),
     }
+}
+
+// Says that there is not such a key.
+fn no_key(alloc: Global, what: &str, key: &str) -> Draft {
+    joined(alloc, &[shown(what), " has no key `", shown(key), "`"])
 }
 
 // The part whose key this is, if it is not near to a key of the part in which it is written.
@@ -125,7 +130,7 @@ fn other_owner(part: Part, key: &str) -> Option<Part> {
 /// What is said of a key that is not among these, with the key that is likely meant, or with all of them. `what` is what has the keys,
 /// in words.
 pub(crate) fn unknown_key(alloc: Global, what: &str, key: &str, keys: &[&'static str]) -> Refusal {
-    let says = joined(alloc, &[shown(what), " has no key `", shown(key), "`"]);
+    let says = no_key(alloc, what, key);
     let hint = match nearest_key(key, keys) {
         Some(meant) => joined(alloc, &["did you mean `", shown(meant), "`?"]),
         None => list_of(alloc, keys),

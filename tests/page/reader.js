@@ -8,7 +8,7 @@ const reader = {
     return page.dialog.open;
   },
 
-  // From here on, `reader.closed` is the promise that the page has heard that the dialog was closed. A browser tells it after the dialog is gone.
+  // From here on, `reader.closed` is the promise that the page has heard that the dialog was closed. A browser reports it after the dialog is gone.
   closing() {
     reader.closed = new Promise(done => page.dialog.addEventListener('close', () => setTimeout(done), { once: true }));
   },

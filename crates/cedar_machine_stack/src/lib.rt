@@ -24,6 +24,6 @@ mod owning;
 mod stack;
 
 pub use operand::Operand;
-pub use operators::{of_two, unary, unary_but_get};
+pub use operators::{of_two, truth_of_one, truth_of_two, unary, unary_but_get};
 pub use owning::attribute_copy;
 pub use stack::{INLINE_PLACES, Stack};

@@ -1,12 +1,14 @@
 //! The operators on values (Cedar language reference, operators).
-ghost use Rattle.std.specs.Prelude.{◌≡◌, ◌+ℤ◌, ◌-ℤ◌, ◌*ℤ◌, int_lt, int_le};
+ghost use Rattle.std.specs.Prelude.{◌≡◌, ◌+ℤ◌, ◌-ℤ◌, ◌*ℤ◌, IfSome, Ok, int_lt, int_le};
 ghost use Rattle.std.specs.List.{list_all, list_any};
 ghost use Rattle.cedar_ext.specs.Matching.{is_match};
-ghost use Rattle.cedar_value.specs.Datum.{uid, set, members_of};
+ghost use Rattle.cedar_value.specs.Datum.{boolean, long, uid, set, members_of};
 ghost use Rattle.cedar_value.specs.Glance.{datum_seen};
 ghost use Rattle.cedar_value.specs.Sets.{has_member};
+ghost use Rattle.cedar_value.specs.World.{World};
 ghost use Rattle.cedar_ast_expressions.specs.Operators.{unary_of, binary_of, not_of, negative_of, source, has_in, like_of, is_of, constructed, called, called_alone, compared, scalar_or_error, of_longs, of_set, of_sets, is_empty, long_or_overflow, in_of, is_uid};
 ghost use Rattle.cedar_machine_stack.specs.Access.{IsNoAccess};
+ghost use Rattle.cedar_machine_stack.specs.Truth.{truth_found};
 
 use crate::operand::Operand;
 use cedar_ast_expressions::{BinaryOperator, EvaluationError, UnaryOperator};
@@ -46,6 +48,35 @@ pub fn unary_but_get<H: Hierarchy>(
         UnaryOperator::Construct(ty) => construct(*ty, operand),
         UnaryOperator::IsEmpty => is_empty(operand),
         UnaryOperator::Call(method) => call_alone(*method, operand),
+    }
+}
+
+/// The truth of an operator's answer for a value that is looked at, where a Boolean is expected, or the error (Cedar language
+/// reference, operators).
+pub fn truth_of_one<H: Hierarchy>(
+    hierarchy: &H,
+    operator: &UnaryOperator,
+    operand: Glance<'_>,
+) -> Result<bool, EvaluationError>
+    ensures { result ≡ truth_found (unary_of (H.world hierarchy.now) operator.now (datum_seen operand.entry)) }
+{
+    match operator {
+        UnaryOperator::Get(_) => truth_or_error(unary(hierarchy, operator, Operand::lent(operand))),
+        _ => truth_or_error(unary_but_get(hierarchy, operator, operand)),
+    }
+}
+
+// The truth of an answer, where a Boolean is expected.
+#[inline(always)]
+fn truth_or_error(answer: Result<Operand<'_>, EvaluationError>) -> Result<bool, EvaluationError>
+    ensures { result ≡ truth_found answer.entry }
+{
+    match answer {
+        Ok(operand) => match operand.truth() {
+            Some(truth) => Ok(truth),
+            None => Err(EvaluationError::Type),
+        },
+        Err(error) => Err(error),
     }
 }
 
@@ -144,15 +175,59 @@ pub fn of_two<H: Hierarchy>(
 ) -> Result<Operand<'static>, EvaluationError>
     ensures { result ≡ binary_of (H.world hierarchy.now) operator left.now right.now }
 {
-    if let (Some(one), Some(two)) = (left.number(), right.number()) {
-        match operator {
-            BinaryOperator::Equal => return Ok(Operand::boolean(one == two)),
-            BinaryOperator::Less => return Ok(Operand::boolean(one < two)),
-            BinaryOperator::LessEqual => return Ok(Operand::boolean(one <= two)),
-            _ => {}
-        }
+    if let (Some(one), Some(two)) = (left.number(), right.number())
+        && let Some(truth) = compare_numbers(operator, one, two)
+    {
+        return Ok(Operand::boolean(truth));
     }
     binary(hierarchy, operator, left.glance(), right.glance())
+}
+
+/// The truth of an operator's answer for two values that are looked at, where a Boolean is expected, or the error (Cedar language
+/// reference, operators). Two numbers are compared directly, without the general case, and no operand is made of the answer.
+#[inline(always)]
+pub fn truth_of_two<H: Hierarchy>(
+    hierarchy: &H,
+    operator: BinaryOperator,
+    left: Glance<'_>,
+    right: Glance<'_>,
+) -> Result<bool, EvaluationError>
+    ensures { result ≡ truth_found (binary_of (H.world hierarchy.now) operator (datum_seen left.entry) (datum_seen right.entry)) }
+{
+    if let (Glance::Long(one), Glance::Long(two)) = (left, right)
+        && let Some(truth) = compare_numbers(operator, one, two)
+    {
+        return Ok(truth);
+    }
+    truth_in_general(hierarchy, operator, left, right)
+}
+
+// The truth of the answer for two values of any types.
+fn truth_in_general<H: Hierarchy>(
+    hierarchy: &H,
+    operator: BinaryOperator,
+    left: Glance<'_>,
+    right: Glance<'_>,
+) -> Result<bool, EvaluationError>
+    ensures { result ≡ truth_found (binary_of (H.world hierarchy.now) operator (datum_seen left.entry) (datum_seen right.entry)) }
+{
+    match operator {
+        BinaryOperator::Equal => Ok(left.same(right)),
+        _ => truth_or_error(binary(hierarchy, operator, left, right)),
+    }
+}
+
+// Whether two numbers compare as the operator says, for an operator that compares numbers.
+#[inline(always)]
+fn compare_numbers(operator: BinaryOperator, one: i64, two: i64) -> Option<bool>
+    ensures { IfSome result (λ b. (w : World) → binary_of w operator (long one) (long two) ≡ Ok (boolean b)) }
+{
+    match operator {
+        BinaryOperator::Equal => Some(one == two),
+        BinaryOperator::Less => Some(one < two),
+        BinaryOperator::LessEqual => Some(one <= two),
+        _ => None,
+    }
 }
 
 /// The answer of an operator for its two operands (Cedar language reference, operators).

@@ -5,7 +5,7 @@ use crate::words::Words;
 use base_places::Draft;
 use cedar_ast_expressions::{BinaryMethod, BinaryOperator, Expr, ExprKind, UnaryOperator};
 use cedar_check_operators::LentType;
-use cedar_ext::ExtensionType;
+use cedar_ext::{ExtensionType, Language, UnaryMethod};
 use std::alloc::AllocError;
 
 /// What is said of operands of the wrong type.
@@ -29,7 +29,7 @@ pub(crate) fn operand_words(spot: Spot<'_>, words: &mut Words) -> Result<(), All
         }
         ExprKind::Unary(operator, _) => {
             add_taken_by_one(words, operator);
-            of_one(spot, words)
+            of_unary(spot, words, operator)
         }
         ExprKind::Binary(operator, _, _) => {
             add_taken_by_two(words, spot, *operator);
@@ -97,23 +97,32 @@ fn add_taken_by_method(says: &mut Draft, method: BinaryMethod) {
     }
 }
 
+// Adds what a comparison takes in a language.
+fn add_compared(says: &mut Draft, sign: &'static str, language: Language) {
+    says.add_all(&["`", sign, "` takes two Longs"]);
+    if language == Language::Cedar4 {
+        says.add(", two datetimes or two durations");
+    }
+}
+
 // Adds what an operator on two operands takes. After a `!` the operator may be written as its opposite.
 fn add_taken_by_two(words: &mut Words, spot: Spot<'_>, operator: BinaryOperator) {
     let denied = match spot.parent() {
         Some(around) => is_not(around),
         None => false,
     };
+    let language = spot.checking.settings.language;
     if denied {
         match operator {
-            BinaryOperator::Less => words.turned.add("`>=` takes two Longs"),
-            BinaryOperator::LessEqual => words.turned.add("`>` takes two Longs"),
+            BinaryOperator::Less => add_compared(&mut words.turned, ">=", language),
+            BinaryOperator::LessEqual => add_compared(&mut words.turned, ">", language),
             _ => {}
         }
     }
     let taken = match operator {
         BinaryOperator::Call(method) => return add_taken_by_method(&mut words.says, method),
-        BinaryOperator::Less => "`<` takes two Longs",
-        BinaryOperator::LessEqual => "`<=` takes two Longs",
+        BinaryOperator::Less => return add_compared(&mut words.says, "<", language),
+        BinaryOperator::LessEqual => return add_compared(&mut words.says, "<=", language),
         BinaryOperator::Add => "`+` takes two Longs",
         BinaryOperator::Subtract => "`-` takes two Longs",
         BinaryOperator::Multiply => "`*` takes two Longs",
@@ -146,6 +155,38 @@ fn of_one(spot: Spot<'_>, words: &mut Words) -> Result<(), AllocError> {
     }
 }
 
+// Adds the operand of an operator on one operand, and what to do about its kind.
+fn of_unary(spot: Spot<'_>, words: &mut Words, operator: &UnaryOperator) -> Result<(), AllocError> {
+    let Some(ty) = spot.part_type(0)? else {
+        return Ok(());
+    };
+    if let Some(advice) = advice_of_one(operator, kind_of(&ty)) {
+        words.hint.add(advice);
+    }
+    spot.add_operand(words, 0, &ty)
+}
+
+// What to do about an operand of this kind, where one thing is likely.
+fn advice_of_one(operator: &UnaryOperator, operand: Kind) -> Option<&'static str> {
+    match operator {
+        UnaryOperator::Like(_) if operand == Kind::Extension(ExtensionType::Ip) => Some(
+            "`.isInRange(ip(\"10.0.0.0/8\"))` tests whether an address is in a network",
+        ),
+        UnaryOperator::Get(key) if is_method(key.as_str(), operand) => Some(
+            "this is a method: write `()` after its name",
+        ),
+        _ => None,
+    }
+}
+
+// Whether a value of this kind has a method of this name that takes no arguments.
+fn is_method(name: &str, operand: Kind) -> bool {
+    match (UnaryMethod::named(name), operand) {
+        (Some(method), Kind::Extension(ty)) => method.row().operand == ty,
+        _ => false,
+    }
+}
+
 // Adds the operands of an operator on two, and what to do about their kinds.
 fn of_two(spot: Spot<'_>, words: &mut Words, operator: BinaryOperator) -> Result<(), AllocError> {
     if let Some((left, right)) = spot.add_operands(words, 0, 1)? {
@@ -159,23 +200,9 @@ fn of_two(spot: Spot<'_>, words: &mut Words, operator: BinaryOperator) -> Result
 // What to do about operands of these kinds, where one thing is likely.
 fn advice_of(operator: BinaryOperator, left: Kind, right: Kind) -> Option<&'static str> {
     match operator {
-        BinaryOperator::Less | BinaryOperator::LessEqual => match extension_in(left, right)? {
-            ExtensionType::Decimal => Some(
-                "compare decimals with `.lessThan(..)`, `.lessThanOrEqual(..)`, `.greaterThan(..)` or `.greaterThanOrEqual(..)`",
-            ),
-            ExtensionType::Ip => Some("compare IP addresses with `==` or `.isInRange(..)`"),
-            ExtensionType::Datetime | ExtensionType::Duration => Some(
-                "`<`, `<=`, `>` and `>=` compare two datetimes, or two durations",
-            ),
-        },
+        BinaryOperator::Less | BinaryOperator::LessEqual => advice_of_order(left, right),
         BinaryOperator::Add | BinaryOperator::Subtract | BinaryOperator::Multiply => {
-            match extension_in(left, right)? {
-                ExtensionType::Decimal => Some("there is no arithmetic on decimals"),
-                ExtensionType::Ip => Some("there is no arithmetic on IP addresses"),
-                ExtensionType::Datetime | ExtensionType::Duration => Some(
-                    "`.offset(..)` adds a duration to a datetime, and `.durationSince(..)` gives the duration between two",
-                ),
-            }
+            advice_of_arithmetic(left, right)
         }
         BinaryOperator::In => advice_of_in(left, right),
         BinaryOperator::Contains if left == Kind::String => Some(
@@ -187,6 +214,45 @@ fn advice_of(operator: BinaryOperator, left: Kind, right: Kind) -> Option<&'stat
         BinaryOperator::Call(method) => advice_of_method(method, left, right),
         _ => None,
     }
+}
+
+// What to do about operands of `<` and its kin.
+fn advice_of_order(left: Kind, right: Kind) -> Option<&'static str> {
+    let ty = extension_in(left, right)?;
+    let other = if left == Kind::Extension(ty) {
+        right
+    } else {
+        left
+    };
+    Some(match ty {
+        ExtensionType::Decimal => {
+            "compare decimals with `.lessThan(..)`, `.lessThanOrEqual(..)`, `.greaterThan(..)` or `.greaterThanOrEqual(..)`"
+        }
+        ExtensionType::Ip => "compare IP addresses with `==` or `.isInRange(..)`",
+        ExtensionType::Duration if other == Kind::Long => {
+            "write a duration as `duration(\"8h\")`, or compare a number of hours, `.toHours()`"
+        }
+        ExtensionType::Datetime | ExtensionType::Duration if other == Kind::String => written_as(
+            ty,
+        ),
+        ExtensionType::Datetime | ExtensionType::Duration => {
+            "`<`, `<=`, `>` and `>=` compare two datetimes, or two durations"
+        }
+    })
+}
+
+// What to do about operands of `+`, `-` and `*`.
+fn advice_of_arithmetic(left: Kind, right: Kind) -> Option<&'static str> {
+    Some(match extension_in(left, right)? {
+        ExtensionType::Decimal => "there is no arithmetic on decimals",
+        ExtensionType::Ip => "there is no arithmetic on IP addresses",
+        ExtensionType::Duration if left == right => {
+            "durations are not added: write one literal, or add their `.toMilliseconds()`"
+        }
+        ExtensionType::Datetime | ExtensionType::Duration => {
+            "`.offset(..)` adds a duration to a datetime, and `.durationSince(..)` gives the duration between two"
+        }
+    })
 }
 
 // The extension type of one of the two, the left one first.
@@ -221,10 +287,20 @@ fn advice_of_in(left: Kind, right: Kind) -> Option<&'static str> {
     }
 }
 
+// Whether `<` and its kin compare values of an extension type that are of this kind.
+fn is_ordered(kind: Kind) -> bool {
+    match kind {
+        Kind::Extension(ty) => ty.is_ordered(),
+        _ => false,
+    }
+}
+
 // What to do about operands of a method of an extension type.
 fn advice_of_method(method: BinaryMethod, left: Kind, right: Kind) -> Option<&'static str> {
     let row = method.row();
-    if row.left == ExtensionType::Decimal && left == Kind::Long && right == Kind::Long {
+    if row.left == ExtensionType::Decimal && is_ordered(left) {
+        Some("compare datetimes and durations with `<`, `<=`, `>` or `>=`")
+    } else if row.left == ExtensionType::Decimal && left == Kind::Long && right == Kind::Long {
         Some("compare Longs with `<`, `<=`, `>` or `>=`")
     } else if left != Kind::Extension(row.left) {
         Some(written_as(row.left))

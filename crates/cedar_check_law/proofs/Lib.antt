@@ -12,3 +12,4 @@ pub mod Reports
 pub mod Responses
 pub mod Rows
 pub mod Sound
+pub mod Languages

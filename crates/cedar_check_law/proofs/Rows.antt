@@ -23,6 +23,7 @@ use Rattle.cedar_schema_types.specs.declared.truth.Truth.TheVariants.{True, Fals
 use Rattle.cedar_schema_types.specs.Types.{no_attributes, attribute}
 use Rattle.cedar_schema_types.specs.Types as kind
 use Rattle.cedar_schema_spec.specs.SchemaTree.{SchemaTree, EntityTypeTree, ActionTree, environments_of}
+use Rattle.cedar_ext.specs.declared.language.Language.TheVariants.{Profile}
 use Rattle.cedar_check_spec.specs.Settings.{default_settings}
 use Rattle.cedar_check_spec.specs.declared.settings.Settings.{Settings}
 use Rattle.cedar_check_spec.specs.Private.Reporting.{faults_of_with}
@@ -173,7 +174,7 @@ no_decimal = refl
 
 -- with the setting on, of any text, and still of no literal that does not read
 abbrev any_decimal : Settings
-any_decimal = record { any_decimal = true }
+any_decimal = record { any_decimal = true; language = Profile }
 
 abbrev below_two : Expression → Expression
 below_two e = binary (two.Call method.LessThan) (unary (one.Construct extension_type.Decimal) e) (unary (one.Construct extension_type.Decimal) (literal (text (codes "2.0"))))

@@ -10,6 +10,7 @@
 
 ghost use Rattle.cedar_check_spec.specs.Candidates.{CandidatesAreEnough, FalseOnesMayGo};
 ghost use Rattle.cedar_check_spec.specs.Determined.{AcceptedHaveNoFaultWith, FaultsAreRefusalsWith, ImpossibleHasNoFaultWith, KnownGainsNothingWith, ReportIsOneWith, TypingIsOneWith};
+ghost use Rattle.cedar_check_spec.specs.Languages.{AcceptanceIsKept, ReportsAreKept};
 ghost use Rattle.cedar_check_spec.specs.Soundness.{PremisesAreMet, PremisesAreMetWith, SoundAcceptance, SoundAcceptanceWith, SoundReplacement, SoundResponse, SoundResponseWith, SoundTyping, SoundTypingWith};
 
 use cedar_check_spec::Settings;
@@ -51,4 +52,11 @@ pub fn typing_is_determined()
 pub fn candidates_are_enough()
     ensures others { CandidatesAreEnough }
     ensures response { FalseOnesMayGo }
+{}
+
+/// The language has no part in validation: settings that take the same choices accept the same policies, and give the same report.
+/// A law: it runs no code.
+pub fn validation_in_each_language()
+    ensures acceptance { AcceptanceIsKept }
+    ensures report { ReportsAreKept }
 {}

@@ -8,3 +8,4 @@ pub mod Determined
 pub mod Candidates
 pub mod Rows
 pub mod Private
+pub mod Languages

@@ -1,7 +1,8 @@
--- Which choices beyond strict validation a service has taken (own).
+-- Which language a service reads, and which choices beyond strict validation it has taken (own).
 use Rattle.std.specs.Prelude.{false}
+use Rattle.cedar_ext.specs.declared.language.Language.TheVariants.{Profile}
 use Rattle.cedar_check_spec.specs.declared.settings.Settings.{Settings}
 
--- None of them: strict validation as it is documented (Cedar documentation, strict validation).
+-- The profile, and no choice: strict validation as it is documented (Cedar documentation, strict validation).
 abbrev pub default_settings : Settings
-default_settings = record { any_decimal = false }
+default_settings = record { any_decimal = false; language = Profile }

@@ -2,6 +2,7 @@ pub mod Ends
 pub mod EntitiesFiles
 pub mod Found
 pub mod Holding
+pub mod Languages
 pub mod Links
 pub mod NextParts
 pub mod Parts

@@ -37,7 +37,7 @@ unusable-is P role unread.Device why e refused unnamed device memory = subst P (
 unusable-is P role unread.Memory why e refused unnamed device memory = subst P (sym e) memory
 
 module _ (settings : Settings) (holds : Holdings) where
-  by-fault : (r : NotValidated) (f : ValidationFault) → r.fault ≡ f → Hold holds r.schema r.policies → HasFaultWith settings r.schema r.policies.policies f
+  by-fault : (r : NotValidated) (f : ValidationFault) → r.fault ≡ f → Hold settings.language holds r.schema r.policies → HasFaultWith settings r.schema r.policies.policies f
       → IsUnprepared settings holds (unaccepted_by r f)
   by-fault r fault.OutOfMemory e hold has = tt
   by-fault r (fault.Faults report) e hold has =
@@ -50,11 +50,11 @@ module _ (settings : Settings) (holds : Holdings) where
       subst (λ (x : SchemaTree). HasFaultWith settings x back_set.policies f) (sym same.0) (subst (λ (x : PolicySetTree). HasFaultWith settings s x.policies f) (sym same.1) has)
 
   -- policies that strict validation does not accept
-  pub unaccepted-is : (s : SchemaTree) (set : PolicySetTree) (r : NotValidated) (why : Unprepared) → why ≡ unaccepted_of r → Hold holds s set
+  pub unaccepted-is : (s : SchemaTree) (set : PolicySetTree) (r : NotValidated) (why : Unprepared) → why ≡ unaccepted_of r → Hold settings.language holds s set
       → (r.schema ≡ s) × (r.policies ≡ set) → HasFaultWith settings s set.policies r.fault → IsUnprepared settings holds why
   unaccepted-is s set r why e hold same has =
       subst (IsUnprepared settings holds) (sym e)
-      (by-fault r r.fault refl (hold-back holds s r.schema set r.policies hold same) (fault-back s r.schema set r.policies r.fault has same))
+      (by-fault r r.fault refl (hold-back settings.language holds s r.schema set r.policies hold same) (fault-back s r.schema set r.policies r.fault has same))
 
   -- the fault of policies with faults
   pub has-fault : (r : NotValidated) → AreFaulty settings holds r → HasFaultWith settings r.schema r.policies.policies r.fault

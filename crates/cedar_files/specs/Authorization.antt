@@ -1,5 +1,6 @@
 -- What the files hold for authorization, and which of them is refused first.
 use Rattle.std.specs.Prelude.{◌≡◌, ◌⊎◌, ℕ, List, None, IfSome}
+use Rattle.cedar_ext.specs.declared.language.Language.{Language}
 use Rattle.cedar_value.specs.World.{World}
 use Rattle.cedar_value.specs.declared.request.Request.{Request}
 use Rattle.cedar_ast.specs.PolicySetTree.{PolicySetTree}
@@ -25,7 +26,7 @@ use Rattle.cedar_files.specs.declared.refusal.FileRefusal.{FileRefusal}
 -- request that a line denotes for it is answered soundly (own; Cedar documentation, policy validation; cedar-spec, Lean:
 -- Cedar.Thm).
 pub record HoldAll (settings : Settings) (holds : Holdings) (r : ReadyTree) : Type 0 where
-  pub hold : Hold holds r.schema r.policies
+  pub hold : Hold settings.language holds r.schema r.policies
   pub settings_are : r.settings ≡ settings
   pub validated : IsValidatedWith settings r.schema r.policies.policies
   pub is_world : IfSome (holds Entities) (λ held. HoldsWorld r.schema held r.world)
@@ -41,16 +42,16 @@ AreAnsweredSoundlyWithEntities r =
 
 -- The code of one of the policies, or of one that is linked, would have over 1,000,000 instructions. The policy file is then
 -- refused with 701, without a place (own).
-abbrev pub IsTooLong : Holdings → FileRefusal → Type 0
-IsTooLong holds refusal =
-    (s : SchemaTree) × (set : PolicySetTree) × Hold holds s set × HasLongCode set.policies × (refusal ≡ record { number = 701; offset = None })
+abbrev pub IsTooLong : Language → Holdings → FileRefusal → Type 0
+IsTooLong language holds refusal =
+    (s : SchemaTree) × (set : PolicySetTree) × Hold language holds s set × HasLongCode set.policies × (refusal ≡ record { number = 701; offset = None })
 
 -- The file that is judged first among those that are refused, and why: the schema file; or the policy file beside a schema; or the
 -- links file beside both; or, for too long a code, the policy file; or the entities file beside a schema and policies that strict
 -- validation under these settings accepts (own).
 abbrev pub IsFirstRefused : Settings → Holdings → Role → FileRefusal → Type 0
-IsFirstRefused settings holds Schema refusal = IsRefused holds Schema refusal
-IsFirstRefused settings holds Policies refusal = IsRefused holds Policies refusal ⊎ IsTooLong holds refusal
-IsFirstRefused settings holds Links refusal = IsRefused holds Links refusal
+IsFirstRefused settings holds Schema refusal = IsRefused settings.language holds Schema refusal
+IsFirstRefused settings holds Policies refusal = IsRefused settings.language holds Policies refusal ⊎ IsTooLong settings.language holds refusal
+IsFirstRefused settings holds Links refusal = IsRefused settings.language holds Links refusal
 IsFirstRefused settings holds Entities refusal =
-    (s : SchemaTree) × (set : PolicySetTree) × Hold holds s set × IsValidatedWith settings s set.policies × IfSome (holds Entities) (λ held. HoldsNoWorld s held refusal)
+    (s : SchemaTree) × (set : PolicySetTree) × Hold settings.language holds s set × IsValidatedWith settings s set.policies × IfSome (holds Entities) (λ held. HoldsNoWorld s held refusal)

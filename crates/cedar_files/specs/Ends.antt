@@ -25,11 +25,11 @@ IsUnnamed held = IfSome held (λ file. file ≡ None)
 -- validation).
 abbrev pub ReportsFaults : Settings → Holdings → Option (List ℕ) → Option (List ℕ) → Type 0
 ReportsFaults settings holds old new =
-    (s : SchemaTree) × (set : PolicySetTree) × Hold holds s set × ¬ AreFaultsWith settings s set.policies [] × Writes old new (IsReportText settings s set.policies)
+    (s : SchemaTree) × (set : PolicySetTree) × Hold settings.language holds s set × ¬ AreFaultsWith settings s set.policies [] × Writes old new (IsReportText settings s set.policies)
 
 -- A beginning of the report on what the files hold was written (own).
 abbrev pub BeginsReporting : Settings → Holdings → Option (List ℕ) → Option (List ℕ) → Type 0
-BeginsReporting settings holds old new = (s : SchemaTree) × (set : PolicySetTree) × Hold holds s set × Writes old new (BeginsReport settings s set.policies)
+BeginsReporting settings holds old new = (s : SchemaTree) × (set : PolicySetTree) × Hold settings.language holds s set × Writes old new (BeginsReport settings s set.policies)
 
 -- How `validate` ends under these settings, and what it has written by then: the report on policies, which have no faults or have
 -- some; or the line of a refused file. Nothing is written where a file that is needed is not named. Where memory runs out, it is
@@ -37,14 +37,14 @@ BeginsReporting settings holds old new = (s : SchemaTree) × (set : PolicySetTre
 -- is a beginning of these, or nothing (own).
 abbrev pub Validates : Settings → Holdings → Type 0 → Option (List ℕ) → Option (List ℕ) → End → Type 0
 Validates settings holds failed old new Done =
-    (s : SchemaTree) × (set : PolicySetTree) × Hold holds s set × AreFaultsWith settings s set.policies [] × Writes old new (IsReportText settings s set.policies)
+    (s : SchemaTree) × (set : PolicySetTree) × Hold settings.language holds s set × AreFaultsWith settings s set.policies [] × Writes old new (IsReportText settings s set.policies)
 Validates settings holds failed old new Faults = ReportsFaults settings holds old new
-Validates settings holds failed old new Refused = (role : Role) × (refusal : FileRefusal) × IsRefused holds role refusal × Writes old new (IsRefusalLine role refusal)
+Validates settings holds failed old new Refused = (role : Role) × (refusal : FileRefusal) × IsRefused settings.language holds role refusal × Writes old new (IsRefusalLine role refusal)
 Validates settings holds failed old new CommandLine = (IsUnnamed (holds Schema) ⊎ IsUnnamed (holds Policies)) × Keeps old new
 Validates settings holds failed old new Device = (((holds Schema ≡ None) ⊎ (holds Policies ≡ None) ⊎ (holds Links ≡ None)) ⊎ failed)
     × (Keeps old new
     ⊎ BeginsReporting settings holds old new
-    ⊎ ((role : Role) × (refusal : FileRefusal) × IsRefused holds role refusal × Writes old new (BeginsRefusal role refusal)))
+    ⊎ ((role : Role) × (refusal : FileRefusal) × IsRefused settings.language holds role refusal × Writes old new (BeginsRefusal role refusal)))
 Validates settings holds failed old new Memory = Keeps old new ⊎ BeginsReporting settings holds old new
 
 -- How the program ends where it reads all files and nothing is ready to answer, and what it has written by then: the report on

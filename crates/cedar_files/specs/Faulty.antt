@@ -12,7 +12,7 @@ use Rattle.cedar_files.specs.Validation.{Hold}
 -- The files hold the schema and the policies that are handed back. Strict validation under these settings finds faults in them, and
 -- they are handed back with its report (own; Cedar documentation, policy validation).
 pub record AreFaulty (settings : Settings) (holds : Holdings) (refused : NotValidated) : Type 0 where
-  pub hold : Hold holds refused.schema refused.policies
+  pub hold : Hold settings.language holds refused.schema refused.policies
   pub some : ¬ AreFaultsWith settings refused.schema refused.policies.policies []
   pub report : Report
   pub is_report : refused.fault ≡ Faults report

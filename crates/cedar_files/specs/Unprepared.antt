@@ -1,5 +1,6 @@
 -- What is promised where the files hold nothing that can answer, or policies that cannot be reported on.
 use Rattle.std.specs.Prelude.{◌≡◌, ◌⊎◌, None, IfSome}
+use Rattle.cedar_ext.specs.declared.language.Language.{Language}
 use Rattle.cedar_check_spec.specs.declared.settings.Settings.{Settings}
 use Rattle.cedar_files.specs.Authorization.{IsFirstRefused}
 use Rattle.cedar_files.specs.Faulty.{AreFaulty}
@@ -22,9 +23,9 @@ IsUnprepared settings holds Memory = Unit {0}
 
 -- This is why the files hold no policies that can be reported on: as above, but never for faults, and the entities are not
 -- read (own).
-abbrev pub IsUnreported : Holdings → Unprepared → Type 0
-IsUnreported holds (Refused role refusal) = IsRefused holds role refusal
-IsUnreported holds (Faults refused) = ⊥
-IsUnreported holds Unnamed = IfSome (holds Schema) (λ held. held ≡ None) ⊎ IfSome (holds Policies) (λ held. held ≡ None)
-IsUnreported holds Device = (holds Schema ≡ None) ⊎ (holds Policies ≡ None) ⊎ (holds Links ≡ None)
-IsUnreported holds Memory = Unit {0}
+abbrev pub IsUnreported : Language → Holdings → Unprepared → Type 0
+IsUnreported language holds (Refused role refusal) = IsRefused language holds role refusal
+IsUnreported language holds (Faults refused) = ⊥
+IsUnreported language holds Unnamed = IfSome (holds Schema) (λ held. held ≡ None) ⊎ IfSome (holds Policies) (λ held. held ≡ None)
+IsUnreported language holds Device = (holds Schema ≡ None) ⊎ (holds Policies ≡ None) ⊎ (holds Links ≡ None)
+IsUnreported language holds Memory = Unit {0}

@@ -35,7 +35,7 @@ mod validating;
 pub use ending::End;
 pub use file_names::FileNames;
 pub use files::{FileFault, Files, MemoryFiles, NamedFiles, Role};
-pub use law::parts_are_the_report;
+pub use law::{files_of_the_profile, parts_are_the_report};
 pub use linking::enter_links;
 pub use preparing::prepare;
 pub use reading::{Unread, read_changed, read_over, read_policies, read_ready, read_schema};

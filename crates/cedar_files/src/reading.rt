@@ -14,7 +14,8 @@ use crate::refusal::FileRefusal;
 use cedar_ast::PolicySet;
 use cedar_auth::{NotReady, Ready, Validated};
 use cedar_conform_values::ConformFault;
-use cedar_parser::parse;
+use cedar_ext::Language;
+use cedar_parser::parse_in;
 use cedar_parser_tokens::ParseFault;
 use cedar_schema::{Schema, SchemaFault};
 use std::alloc::Global;
@@ -58,36 +59,40 @@ pub(crate) fn read_file<F: Files>(alloc: Global, files: &F, role: Role) -> Resul
     }
 }
 
-/// The schema of the schema file.
+/// The schema of the schema file, in a language.
 ///
 /// # Errors
 ///
 /// `Refused` where the file's bytes write no schema: 301 to 309, with no place. Otherwise `Unnamed`, `Device` or `Memory`.
-pub fn read_schema<F: Files>(alloc: Global, files: &F) -> Result<Schema, Unread>
-    ensures found { IfOk result (λ s. IfSome (F.holds files.now Role.Schema) (λ held. HoldsSchema held s)) }
+pub fn read_schema<F: Files>(alloc: Global, files: &F, language: Language) -> Result<Schema, Unread>
+    ensures found { IfOk result (λ s. IfSome (F.holds files.now Role.Schema) (λ held. HoldsSchema language held s)) }
     ensures refused { IfErr result (λ unread. IfRefused unread (λ refusal.
-        IfSome (F.holds files.now Role.Schema) (λ held. HoldsNoSchema held refusal))) }
+        IfSome (F.holds files.now Role.Schema) (λ held. HoldsNoSchema language held refusal))) }
     ensures unnamed { IsErrOf result Unread.Unnamed → IfSome (F.holds files.now Role.Schema) (λ held. held ≡ None) }
     ensures device { IsErrOf result Unread.Device → F.holds files.now Role.Schema ≡ None }
 {
     let bytes = read_file(alloc, files, Role::Schema)?;
-    match Schema::read(alloc, &bytes) {
+    match Schema::read_in(alloc, language, &bytes) {
         Ok(schema) => Ok(schema),
         Err(SchemaFault::OutOfMemory) => Err(Unread::Memory),
         Err(fault) => Err(Unread::Refused(FileRefusal::whole(fault.number()))),
     }
 }
 
-/// The policies of the policy file.
+/// The policies of the policy file, in a language.
 ///
 /// # Errors
 ///
 /// `Refused` where the file is not UTF-8 (105, with no place), or where its text has a fault (101 to 104 and 201 to 209, with
 /// its place). Otherwise `Unnamed`, `Device` or `Memory`.
-pub fn read_policies<F: Files>(alloc: Global, files: &F) -> Result<PolicySet, Unread>
-    ensures found { IfOk result (λ set. IfSome (F.holds files.now Role.Policies) (λ held. HoldsPolicies held set)) }
+pub fn read_policies<F: Files>(
+    alloc: Global,
+    files: &F,
+    language: Language,
+) -> Result<PolicySet, Unread>
+    ensures found { IfOk result (λ set. IfSome (F.holds files.now Role.Policies) (λ held. HoldsPolicies language held set)) }
     ensures refused { IfErr result (λ unread. IfRefused unread (λ refusal.
-        IfSome (F.holds files.now Role.Policies) (λ held. HoldsNoPolicies held refusal))) }
+        IfSome (F.holds files.now Role.Policies) (λ held. HoldsNoPolicies language held refusal))) }
     ensures unnamed { IsErrOf result Unread.Unnamed → IfSome (F.holds files.now Role.Policies) (λ held. held ≡ None) }
     ensures device { IsErrOf result Unread.Device → F.holds files.now Role.Policies ≡ None }
 {
@@ -95,7 +100,7 @@ pub fn read_policies<F: Files>(alloc: Global, files: &F) -> Result<PolicySet, Un
     let Ok(text) = str::from_utf8(&bytes) else {
         return Err(Unread::Refused(FileRefusal::whole(NO_UTF8)));
     };
-    match parse(alloc, text) {
+    match parse_in(alloc, language, text) {
         Ok(policies) => Ok(policies),
         Err(fault) => Err(refusal_of_text(&fault)),
     }

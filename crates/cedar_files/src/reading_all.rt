@@ -39,7 +39,7 @@ fn with_validated<F: Files>(
     files: &F,
     validated: Validated,
 ) -> Result<Ready, Unprepared>
-    requires held { Hold (F.holds files.now) validated.schema validated.policies }
+    requires held { Hold validated.settings.language (F.holds files.now) validated.schema validated.policies }
     requires accepted { IsValidatedWith validated.settings validated.schema validated.policies.policies }
     ensures held { IfOk result (λ ready. HoldAll validated.settings (F.holds files.now) ready) }
     ensures unprepared { IfErr result (IsUnprepared validated.settings (F.holds files.now)) }
@@ -62,7 +62,7 @@ fn with_policies<F: Files>(
     policies: PolicySet,
     settings: Settings,
 ) -> Result<Ready, Unprepared>
-    requires held { Hold (F.holds files.now) schema policies }
+    requires held { Hold settings.language (F.holds files.now) schema policies }
     ensures held { IfOk result (λ ready. HoldAll settings (F.holds files.now) ready) }
     ensures unprepared { IfErr result (IsUnprepared settings (F.holds files.now)) }
 {
@@ -80,7 +80,7 @@ fn with_text<F: Files>(
     mut policies: PolicySet,
     settings: Settings,
 ) -> Result<Ready, Unprepared>
-    requires held { HoldText (F.holds files.now) schema policies }
+    requires held { HoldText settings.language (F.holds files.now) schema policies }
     ensures held { IfOk result (λ ready. HoldAll settings (F.holds files.now) ready) }
     ensures unprepared { IfErr result (IsUnprepared settings (F.holds files.now)) }
 {
@@ -102,11 +102,11 @@ pub fn read_all<F: Files>(alloc: Global, files: &F, settings: Settings) -> Resul
     ensures held { IfOk result (λ ready. HoldAll settings (F.holds files.now) ready) }
     ensures unprepared { IfErr result (IsUnprepared settings (F.holds files.now)) }
 {
-    let schema = match read_schema(alloc, files) {
+    let schema = match read_schema(alloc, files, settings.language) {
         Ok(schema) => schema,
         Err(unread) => return Err(unusable(Role::Schema, unread)),
     };
-    let policies = match read_policies(alloc, files) {
+    let policies = match read_policies(alloc, files, settings.language) {
         Ok(policies) => policies,
         Err(unread) => return Err(unusable(Role::Policies, unread)),
     };

@@ -106,11 +106,11 @@ pub fn report_part<F: Files>(
     settings: Settings,
     place: ReportPlace,
 ) -> Result<Option<ReportPart>, Unprepared>
-    ensures part { IfOk result (λ found. (s : SchemaTree) × (set : PolicySetTree) × Hold (F.holds files.now) s set
+    ensures part { IfOk result (λ found. (s : SchemaTree) × (set : PolicySetTree) × Hold settings.language (F.holds files.now) s set
         × MatchOption found (IsMisplaced settings s set.policies place) (IsNextPart settings s set.policies place)) }
-    ensures unprepared { IfErr result (IsUnreported (F.holds files.now)) }
+    ensures unprepared { IfErr result (IsUnreported settings.language (F.holds files.now)) }
 {
-    let (schema, policies) = read_linked(alloc, files)?;
+    let (schema, policies) = read_linked(alloc, files, settings.language)?;
     let reporting = Reporting::new(alloc, &schema, &policies, settings)?;
     let part = next_part(alloc, &reporting, place)?;
     Ok(part)

@@ -170,7 +170,7 @@ pub fn validate_keeping<F: Files, K: Sink>(
     ensures ends { Validates settings (F.holds files.now) (K.failed sink.old < K.failed sink.new) (K.written sink.old) (K.written sink.new) result }
     ensures untouched { result ≡ End.CommandLine → sink.new ≡ sink.old }
 {
-    match read_linked(alloc, files) {
+    match read_linked(alloc, files, settings.language) {
         Ok((schema, policies)) => {
             let end = report_to(alloc, &schema, &policies, settings, sink);
             *kept = Some((schema, policies));

@@ -2,6 +2,7 @@
 use cedar_ast::{Link, PolicySet};
 use cedar_conform::read_links;
 use cedar_conform_values::ConformFault;
+use cedar_ext::Language;
 use cedar_files::{FileFault, Files, Role, Unread, read_policies, read_schema};
 use cedar_schema::Schema;
 use cedar_text::{TextFault, Token, tokens};
@@ -20,24 +21,26 @@ pub(crate) fn bytes_again<F: Files>(
     }
 }
 
-/// The schema of the schema file; none if it is refused or cannot be read.
+/// The schema of the schema file in a language; none if it is refused or cannot be read.
 pub(crate) fn schema_again<F: Files>(
     alloc: Global,
     files: &F,
+    language: Language,
 ) -> Result<Option<Schema>, AllocError> {
-    match read_schema(alloc, files) {
+    match read_schema(alloc, files, language) {
         Ok(schema) => Ok(Some(schema)),
         Err(Unread::Memory) => Err(AllocError),
         Err(Unread::Refused(_) | Unread::Unnamed | Unread::Device) => Ok(None),
     }
 }
 
-/// The policies of the policy file; none if it is refused or cannot be read.
+/// The policies of the policy file in a language; none if it is refused or cannot be read.
 pub(crate) fn policies_again<F: Files>(
     alloc: Global,
     files: &F,
+    language: Language,
 ) -> Result<Option<PolicySet>, AllocError> {
-    match read_policies(alloc, files) {
+    match read_policies(alloc, files, language) {
         Ok(policies) => Ok(Some(policies)),
         Err(Unread::Memory) => Err(AllocError),
         Err(Unread::Refused(_) | Unread::Unnamed | Unread::Device) => Ok(None),

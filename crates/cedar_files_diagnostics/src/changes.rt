@@ -7,6 +7,7 @@ use crate::json_text::explain_json;
 use crate::words::words_of;
 use base_json::read_json;
 use cedar_conform_diagnostics::{RefusedEntry, refused_entry};
+use cedar_ext::Language;
 use cedar_schema::{Schema, SchemaFault};
 use serde_json::Value;
 use std::alloc::{AllocError, Global};
@@ -64,13 +65,15 @@ fn upserts_of(alloc: Global, changes: &[u8]) -> Result<Option<Vec<u8>>, AllocErr
     }
 }
 
-// The first of these entries that is refused for the schema of some bytes; none if no entry is, and if the bytes write no schema.
+// The first of these entries that is refused for the schema of some bytes in a language; none if no entry is, and if the bytes write
+// no schema.
 fn refused_upsert(
     alloc: Global,
+    language: Language,
     schema: &[u8],
     entries: Vec<u8>,
 ) -> Result<Option<RefusedEntry>, AllocError> {
-    let schema = match Schema::read(alloc, schema) {
+    let schema = match Schema::read_in(alloc, language, schema) {
         Ok(schema) => schema,
         Err(SchemaFault::OutOfMemory) => return Err(AllocError),
         Err(fault) => {
@@ -86,11 +89,12 @@ fn refused_upsert(
 // The first entry that is upserted and refused; none if no entry is.
 fn refused_part(
     alloc: Global,
+    language: Language,
     schema: &[u8],
     changes: &[u8],
 ) -> Result<Option<RefusedEntry>, AllocError> {
     match upserts_of(alloc, changes)? {
-        Some(entries) => refused_upsert(alloc, schema, entries),
+        Some(entries) => refused_upsert(alloc, language, schema, entries),
         None => Ok(None),
     }
 }
@@ -98,6 +102,7 @@ fn refused_part(
 // What is explained of changes; none of a number that changes do not get.
 fn explained(
     alloc: Global,
+    language: Language,
     schema: &[u8],
     changes: &[u8],
     number: u16,
@@ -109,7 +114,7 @@ fn explained(
     let Some((reason, hint)) = words_of_changes(number) else {
         return Ok(None);
     };
-    let refused = refused_part(alloc, schema, changes)?;
+    let refused = refused_part(alloc, language, schema, changes)?;
     let mut diagnostic = DiagnosticDraft::error(alloc, number, reason);
     diagnostic.advise(hint);
     match &refused {
@@ -122,7 +127,7 @@ fn explained(
     diagnostic.alone(NAME).map(Some)
 }
 
-/// Explains in a form why changes of entities are refused with this number, for the schema of these bytes. They are called
+/// Explains in a form why changes of entities are refused with this number, for the schema of these bytes in a language. They are called
 /// `changes.json`. Of no bytes where changes do not get the number.
 ///
 /// # Errors
@@ -130,12 +135,13 @@ fn explained(
 /// Fails only when out of memory.
 pub fn explain_changes(
     alloc: Global,
+    language: Language,
     schema: &[u8],
     changes: &[u8],
     number: u16,
     format: Format,
 ) -> Result<Vec<u8>, AllocError> {
-    match explained(alloc, schema, changes, number)? {
+    match explained(alloc, language, schema, changes, number)? {
         Some(explained) => {
             let text = explained.to_text(alloc, format)?;
             Ok(text.into_bytes())

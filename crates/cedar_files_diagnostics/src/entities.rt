@@ -9,6 +9,7 @@ use base_places::Draft;
 use cedar_conform::read_entities_owned;
 use cedar_conform_diagnostics::{CircleEntry, circle_through, entries_of_uid, refused_entry};
 use cedar_conform_values::ConformFault;
+use cedar_ext::Language;
 use cedar_files::{Files, Role};
 use cedar_schema::Schema;
 use cedar_value::Uid;
@@ -174,18 +175,19 @@ fn add_store_fault<F: Files>(
 }
 
 /// What is explained of an entities file that is refused with another number than 501: the entry, its uid and the path of the
-/// attribute. None if the schema cannot be read again. The bytes are read once; for 401 and 402 once more, for the entries of the uid.
+/// attribute. None if the schema cannot be read again, in this language. The bytes are read once; for 401 and 402 once more, for the entries of the uid.
 pub fn explain_entities<F: Files>(
     alloc: Global,
     files: &F,
     file: &str,
     number: u16,
     bytes: Vec<u8>,
+    language: Language,
 ) -> Result<Option<Explanation>, AllocError> {
     let (Some((_, hint)), Some(reason)) = (words_of(number), reason_of(number)) else {
         return Ok(None);
     };
-    let Some(schema) = schema_again(alloc, files)? else {
+    let Some(schema) = schema_again(alloc, files, language)? else {
         return Ok(None);
     };
     let mut diagnostic = DiagnosticDraft::error(alloc, number, reason);

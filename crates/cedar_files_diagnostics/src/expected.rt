@@ -1,6 +1,7 @@
 //! What the grammar allows at a place where it does not allow the token that is there.
 use base_places::Draft;
-use cedar_parser::parse;
+use cedar_ext::Language;
+use cedar_parser::parse_in;
 use cedar_parser_tokens::ParseFault;
 use std::alloc::{AllocError, Global};
 
@@ -96,16 +97,20 @@ pub(crate) struct Expected {
 }
 
 impl Expected {
-    /// What is allowed after this beginning of a statement. Nothing is known to be after a beginning of more than 10,000 bytes.
+    /// What is allowed after this beginning of a statement in a language. Nothing is known to be after a beginning of more than 10,000 bytes.
     ///
     /// # Errors
     ///
     /// Fails only when out of memory.
-    pub(crate) fn after(alloc: Global, before: &str) -> Result<Expected, AllocError> {
+    pub(crate) fn after(
+        alloc: Global,
+        language: Language,
+        before: &str,
+    ) -> Result<Expected, AllocError> {
         let mut allowed = Vec::new(alloc);
         if before.len() <= MOST_BEFORE {
             for tried in TRIED {
-                if is_allowed(alloc, before, tried)? {
+                if is_allowed(alloc, language, before, tried)? {
                     allowed.push(tried)?;
                 }
             }
@@ -182,9 +187,14 @@ impl Expected {
 }
 
 // Whether the parser goes on with a text after the beginning of a statement: whatever it refuses then, it is not this text.
-fn is_allowed(alloc: Global, before: &str, tried: &str) -> Result<bool, AllocError> {
+fn is_allowed(
+    alloc: Global,
+    language: Language,
+    before: &str,
+    tried: &str,
+) -> Result<bool, AllocError> {
     let text = format!(in alloc; "{before} {tried}")?;
-    match parse(alloc, text.as_str()) {
+    match parse_in(alloc, language, text.as_str()) {
         Ok(policies) => {
             drop(policies);
             Ok(true)

@@ -8,10 +8,12 @@ use crate::policy_text::explain_policies;
 use crate::refused::RefusedFile;
 use crate::schemas::explain_schema;
 use crate::words::explain_number;
+use cedar_ext::Language;
 use cedar_files::{Files, Role};
 use std::alloc::{AllocError, Global};
 
-/// What is explained of a file that is refused, which has this name; or none if it cannot be read again.
+/// What is explained of a file that is refused where schemas and policies are read in a language, and that has this name; or none if it
+/// cannot be read again.
 ///
 /// # Errors
 ///
@@ -21,6 +23,7 @@ pub fn explain_file<F: Files>(
     files: &F,
     name: &str,
     refused: RefusedFile,
+    language: Language,
 ) -> Result<Option<Explanation>, AllocError> {
     let Some(bytes) = bytes_again(alloc, files, refused.role)? else {
         return Ok(None);
@@ -28,11 +31,11 @@ pub fn explain_file<F: Files>(
     let number = refused.refusal.number;
     let explained = match (refused.role, number) {
         (Role::Policies, 701) => Ok(None),
-        (Role::Policies, _) => explain_policies(alloc, name, bytes),
+        (Role::Policies, _) => explain_policies(alloc, language, name, bytes),
         (_, 301 | 501) => explain_json(alloc, name, number, bytes),
-        (Role::Schema, _) => explain_schema(alloc, name, number, &bytes),
-        (Role::Links, _) => explain_links(alloc, files, name, number, &bytes),
-        (Role::Entities, _) => explain_entities(alloc, files, name, number, bytes),
+        (Role::Schema, _) => explain_schema(alloc, name, number, &bytes, language),
+        (Role::Links, _) => explain_links(alloc, files, name, number, &bytes, language),
+        (Role::Entities, _) => explain_entities(alloc, files, name, number, bytes, language),
     };
     match explained? {
         Some(explained) => Ok(Some(explained)),

@@ -32,7 +32,8 @@ fn explained<F: Files>(
         }
         Err(Unprepared::Refused(role, refusal)) => {
             let name = name_of(names, role);
-            explain_file(alloc, files, name, RefusedFile { role, refusal })
+            let refused = RefusedFile { role, refusal };
+            explain_file(alloc, files, name, refused, settings.language)
         }
         Err(Unprepared::Faults(refused)) => {
             let name = name_of(names, Role::Policies);

@@ -6,6 +6,7 @@ use crate::fault_part::{Checked, add_place, add_words, mark_statement};
 use crate::guards::push_guards;
 use crate::own_statement::{MOST_OF_ID, OwnStatement};
 use cedar_check::{Fault, Report};
+use cedar_ext::Language;
 use cedar_parser_places::StatementPlaces;
 use cedar_value::Text;
 use std::alloc::{AllocError, Global};
@@ -19,8 +20,8 @@ const IMPOSSIBLE: u16 = 650;
 /// The numbers of faults of policies.
 const NUMBERS: [u16; 7] = [601, 602, 603, 604, 605, 606, 607];
 
-// Why a policy has a fault, and what to do about it.
-fn words_of(number: u16) -> (&'static str, &'static str) {
+// Why a policy of a language has a fault, and what to do about it.
+fn words_of(language: Language, number: u16) -> (&'static str, &'static str) {
     match number {
         601 => (
             "an entity type or an action is not declared",
@@ -46,9 +47,20 @@ fn words_of(number: u16) -> (&'static str, &'static str) {
             "an operand has the wrong type",
             "docs/TYPING.md lists the types of operands; compare decimals with `.lessThan(..)`",
         ),
-        _ => (
+        _ => words_of_constructors(language),
+    }
+}
+
+// Why the argument of a constructor is refused, and what to do about it.
+fn words_of_constructors(language: Language) -> (&'static str, &'static str) {
+    match language {
+        Language::Profile => (
             "`decimal` needs a string literal that is a valid decimal",
             "write digits, a point and one to four digits, for example `decimal(\"1.5\")`",
+        ),
+        Language::Cedar4 => (
+            "a constructor needs a string literal that is a valid value of its type",
+            "docs/GRAMMAR.md lists the functions and methods",
         ),
     }
 }
@@ -203,7 +215,7 @@ fn diagnostic_of<'s>(
     let statement = OwnStatement::new(statements, checked, group.first.policy.as_str());
     let environments = checked.schema.environments().len();
     let says = says_of_environments(alloc, group, environments);
-    let (reason, hint) = words_of(group.first.number());
+    let (reason, hint) = words_of(checked.settings.language, group.first.number());
     let mut diagnostic = DiagnosticDraft::error(alloc, group.first.number(), reason);
     match &part {
         Some(part) => add_place(alloc, &mut diagnostic, statement, part)?,

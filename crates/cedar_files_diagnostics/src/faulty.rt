@@ -49,7 +49,7 @@ pub fn explain_policy_faults<F: Files>(
     name: &str,
     settings: Settings,
 ) -> Result<Option<Explanation>, AllocError> {
-    match read_linked(alloc, files) {
+    match read_linked(alloc, files, settings.language) {
         Ok((schema, policies)) => {
             let explained = explain_report(alloc, files, name, &schema, &policies, settings);
             drop(policies);

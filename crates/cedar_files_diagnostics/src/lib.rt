@@ -1,10 +1,11 @@
 //! Explains to a person why a file is refused: file, line and column, the line with a mark, the reason in words, and a hint.
 //!
 //! ```rust
+//! use cedar_ext::Language;
 //! use cedar_files_diagnostics::explain_policies;
 //!
 //! let bytes = Vec::from_slice(alloc, b"permit(principal, action, resource) when { principal.age = 18 };")?;
-//! if let Some(explained) = explain_policies(alloc, "policies.cedar", bytes)? {
+//! if let Some(explained) = explain_policies(alloc, Language::Profile, "policies.cedar", bytes)? {
 //!     assert!(rt; explained.to_lines(alloc)?.starts_with("error[101]: "));
 //! }
 //! ```

@@ -8,6 +8,7 @@ use crate::link_words::add_meaning;
 use crate::words::words_of;
 use cedar_ast::{Link, LinkFault, PolicySet};
 use cedar_conform_diagnostics::refused_link;
+use cedar_ext::Language;
 use cedar_files::Files;
 use std::alloc::{AllocError, Global};
 
@@ -49,8 +50,9 @@ fn add_refused<F: Files>(
     files: &F,
     links: &[Link],
     bytes: &[u8],
+    language: Language,
 ) -> Result<(), AllocError> {
-    let Some(mut policies) = policies_again(alloc, files)? else {
+    let Some(mut policies) = policies_again(alloc, files, language)? else {
         return Ok(());
     };
     let refused = first_refused(&mut policies, links);
@@ -78,13 +80,15 @@ fn add_malformed(
     Ok(())
 }
 
-/// What is explained of a links file that is refused with another number than 501; or none of a number that links do not get.
+/// What is explained of a links file that is refused with another number than 501, where policies are read in a language; or none of a
+/// number that links do not get.
 pub fn explain_links<F: Files>(
     alloc: Global,
     files: &F,
     file: &str,
     number: u16,
     bytes: &[u8],
+    language: Language,
 ) -> Result<Option<Explanation>, AllocError> {
     let Some((reason, hint)) = words_of(number) else {
         return Ok(None);
@@ -92,7 +96,7 @@ pub fn explain_links<F: Files>(
     let mut diagnostic = DiagnosticDraft::error(alloc, number, reason);
     diagnostic.advise(hint);
     match links_of(alloc, bytes)? {
-        Some(links) => add_refused(alloc, &mut diagnostic, files, &links, bytes)?,
+        Some(links) => add_refused(alloc, &mut diagnostic, files, &links, bytes, language)?,
         None => add_malformed(alloc, &mut diagnostic, bytes)?,
     }
     diagnostic.alone(file).map(Some)

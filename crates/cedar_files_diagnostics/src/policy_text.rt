@@ -14,7 +14,8 @@ use crate::second_place::{SecondPlace, before_unexpected, second_place};
 use crate::token_words::{meant_by_character, meant_by_function};
 use crate::unexpected::mark_unexpected;
 use base_places::Place;
-use cedar_parser::parse;
+use cedar_ext::Language;
+use cedar_parser::parse_in;
 use cedar_parser_tokens::ParseFault;
 use cedar_text::TextFault;
 use std::alloc::{AllocError, Global};
@@ -30,14 +31,18 @@ pub struct PolicyPlace {
     pub place: Place,
 }
 
-/// The fault for which `cedar` refuses a policy text, with its line and column; or none if the text has policies.
-pub fn policy_place(alloc: Global, text: &str) -> Result<Option<PolicyPlace>, AllocError>
-    ensures none { IfOk result (λ o. IfNone o ((set : PolicySetTree) × IsPolicyText text.now set)) }
-    ensures fault { IfOk result (λ o. IfSome o (λ found. HasFault text.now found.fault)) }
+/// The fault for which `cedar` refuses a policy text in a language, with its line and column; or none if the text has policies.
+pub fn policy_place(
+    alloc: Global,
+    language: Language,
+    text: &str,
+) -> Result<Option<PolicyPlace>, AllocError>
+    ensures none { IfOk result (λ o. IfNone o ((set : PolicySetTree) × IsPolicyText language text.now set)) }
+    ensures fault { IfOk result (λ o. IfSome o (λ found. HasFault language text.now found.fault)) }
     ensures offset { IfOk result (λ o. IfSome o (λ found. offset_of found.fault ≡ Some found.offset)) }
     ensures place { IfOk result (λ o. IfSome o (λ found. found.place ≡ place_of text.now found.offset)) }
 {
-    let fault = match parse(alloc, text) {
+    let fault = match parse_in(alloc, language, text) {
         Ok(policies) => {
             drop(policies);
             return Ok(None);
@@ -54,14 +59,15 @@ pub fn policy_place(alloc: Global, text: &str) -> Result<Option<PolicyPlace>, Al
     }
 }
 
-/// What is explained of a policy file that `cedar` refuses; or none if its text has policies.
+/// What is explained of a policy file that `cedar` refuses in a language; or none if its text has policies.
 pub fn explain_policies(
     alloc: Global,
+    language: Language,
     file: &str,
     bytes: Vec<u8>,
 ) -> Result<Option<Explanation>, AllocError> {
     match String::from_utf8(bytes) {
-        Ok(text) => explain_text(alloc, file, text),
+        Ok(text) => explain_text(alloc, language, file, text),
         Err(fault) => {
             let bytes = fault.into_bytes();
             explain_bytes(alloc, file, &bytes).map(Some)
@@ -71,27 +77,31 @@ pub fn explain_policies(
 
 fn explain_text(
     alloc: Global,
+    language: Language,
     file: &str,
     text: String,
 ) -> Result<Option<Explanation>, AllocError> {
-    let Some(found) = policy_place(alloc, text.as_str())? else {
+    let Some(found) = policy_place(alloc, language, text.as_str())? else {
         return Ok(None);
     };
-    let diagnostic = diagnostic_of(alloc, text.as_str(), found)?;
+    let diagnostic = diagnostic_of(alloc, language, text.as_str(), found)?;
     let mut explanation = diagnostic.alone(file)?;
     explanation.text = text;
     Ok(Some(explanation))
 }
 
 // What to do about a fault of a text, if one thing is likely.
-fn hint_for(text: &str, fault: ParseFault) -> Option<&'static str> {
+fn hint_for(language: Language, text: &str, fault: ParseFault) -> Option<&'static str> {
     match fault {
         ParseFault::Text(TextFault::BadCharacter(at)) => {
             let (before, rest) = text.split_at_checked(at).unwrap_or((text, ""));
             meant_by_character(before, rest)
         }
-        ParseFault::UnknownFunction(at) => Some(meant_by_function(text.get(at..).unwrap_or(""))),
-        _ => hint_of(fault),
+        ParseFault::UnknownFunction(at) => Some(meant_by_function(
+            language,
+            text.get(at..).unwrap_or(""),
+        )),
+        _ => hint_of(language, fault),
     }
 }
 
@@ -112,6 +122,7 @@ fn add_rest(
 // Marks the token at a place where it is not allowed, and what explains it. The text is cut into tokens once for all of this.
 fn add_unexpected(
     alloc: Global,
+    language: Language,
     diagnostic: &mut DiagnosticDraft,
     text: &str,
     at: usize,
@@ -120,7 +131,7 @@ fn add_unexpected(
     let second = before_unexpected(alloc, &found, at)?;
     let around = Around::of(&found, at);
     drop(found);
-    let hint = mark_unexpected(alloc, diagnostic, text, around, at)?;
+    let hint = mark_unexpected(alloc, language, diagnostic, text, around, at)?;
     add_rest(diagnostic, second, hint);
     Ok(())
 }
@@ -128,6 +139,7 @@ fn add_unexpected(
 // What is explained of a fault of a text.
 fn diagnostic_of(
     alloc: Global,
+    language: Language,
     text: &str,
     found: PolicyPlace,
 ) -> Result<DiagnosticDraft, AllocError> {
@@ -135,12 +147,12 @@ fn diagnostic_of(
     let mut diagnostic = DiagnosticDraft::error(alloc, fault.number(), reason_of(fault));
     diagnostic.place = Some(found.place);
     if let ParseFault::Syntax(at) = fault {
-        add_unexpected(alloc, &mut diagnostic, text, at)?;
+        add_unexpected(alloc, language, &mut diagnostic, text, at)?;
         return Ok(diagnostic);
     }
     diagnostic.mark(found.offset, found.offset, mark_of(fault));
     let second = second_place(alloc, text, fault)?;
-    add_rest(&mut diagnostic, second, hint_for(text, fault));
+    add_rest(&mut diagnostic, second, hint_for(language, text, fault));
     Ok(diagnostic)
 }
 

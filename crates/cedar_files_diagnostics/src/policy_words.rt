@@ -1,4 +1,5 @@
 //! Words for the faults of policy texts.
+use cedar_ext::Language;
 use cedar_parser_tokens::ParseFault;
 use cedar_text::TextFault;
 
@@ -51,8 +52,8 @@ pub fn mark_of(fault: ParseFault) -> &'static str {
     }
 }
 
-/// What to do about it, if one thing is likely.
-pub fn hint_of(fault: ParseFault) -> Option<&'static str> {
+/// What to do about it in a language, if one thing is likely.
+pub fn hint_of(language: Language, fault: ParseFault) -> Option<&'static str> {
     match fault {
         ParseFault::Text(TextFault::UnclosedString(_)) => Some(
             "a string may contain line ends: if this one is closed, a `\"` may be missing in a line above",
@@ -65,12 +66,22 @@ pub fn hint_of(fault: ParseFault) -> Option<&'static str> {
         ParseFault::SlotMisplaced(_) => {
             Some("`?principal` and `?resource` are allowed only in the scope of their own variable")
         }
-        ParseFault::Arity(_) => Some(
-            "`isEmpty` takes no argument, all others take one; several members are one set: `[1, 2]`",
-        ),
+        ParseFault::Arity(_) => Some(hint_of_arity(language)),
         ParseFault::TooDeep(_) | ParseFault::TooHigh(_) | ParseFault::TooLarge(_) => {
             Some("split the policy into several")
         }
         _ => None,
+    }
+}
+
+// Which methods of a language take no argument.
+fn hint_of_arity(language: Language) -> &'static str {
+    match language {
+        Language::Profile => {
+            "`isEmpty` takes no argument, all others take one; several members are one set: `[1, 2]`"
+        }
+        Language::Cedar4 => {
+            "`isEmpty`, `isIpv4`, `isIpv6`, `isLoopback`, `isMulticast` and the methods that begin with `to` take no argument, all others take one; several members are one set: `[1, 2]`"
+        }
     }
 }

@@ -1,5 +1,6 @@
 //! What is likely meant by characters with which no token begins, and by names that no function has.
 use base_names::Nearest;
+use cedar_ext::{BinaryMethod, ExtensionType, Language, UnaryMethod};
 
 // What to do about patterns.
 const LIKE: &str = "`like` compares a string with a pattern: write `x like \"abc*\"`";
@@ -66,8 +67,8 @@ fn meant_by_question(before: &str, rest: &str) -> &'static str {
     }
 }
 
-/// What is likely meant by a function or method that does not exist. The text is what is from its name on.
-pub fn meant_by_function(rest: &str) -> &'static str {
+/// What is likely meant by a function or method that a language does not have. The text is what is from its name on.
+pub fn meant_by_function(language: Language, rest: &str) -> &'static str {
     let end = rest
         .find(|letter: char| !letter.is_ascii_alphanumeric() && letter != '_')
         .unwrap_or(rest.len());
@@ -75,21 +76,15 @@ pub fn meant_by_function(rest: &str) -> &'static str {
     if after.starts_with("::") {
         return "an entity is written with its id as a string: `User::\"ann\"`";
     }
-    match name {
-        "ip" | "isIpv4" | "isIpv6" | "isLoopback" | "isMulticast" | "isInRange" => {
-            "functions of IP addresses are not supported: see docs/GRAMMAR.md"
-        }
-        "datetime"
-        | "duration"
-        | "offset"
-        | "durationSince"
-        | "toDate"
-        | "toTime"
-        | "toMilliseconds"
-        | "toSeconds"
-        | "toMinutes"
-        | "toHours"
-        | "toDays" => { "functions of dates and durations are not supported: see docs/GRAMMAR.md" }
+    meant_by_extension(language, name)
+        .or_else(|| meant_by_word(name))
+        .or_else(|| nearest_function(language, name))
+        .unwrap_or("docs/GRAMMAR.md lists the functions and methods")
+}
+
+// What is meant by a word that other languages have, or none.
+fn meant_by_word(name: &str) -> Option<&'static str> {
+    let meant = match name {
         "hasTag" | "getTag" => "entity tags are not supported: see docs/GRAMMAR.md",
         "startsWith" | "endsWith" | "matches" | "starts_with" | "ends_with" | "substring" => LIKE,
         "not" => "write `!` instead of `not`",
@@ -102,26 +97,89 @@ pub fn meant_by_function(rest: &str) -> &'static str {
         "toLowerCase" | "toUpperCase" | "lower" | "upper" | "trim" | "split" | "concat" => {
             "strings are compared with `==` and `like`, and cannot be changed"
         }
+        "ipaddr" | "ipAddress" | "ip_address" | "inet" | "cidr" => {
+            "an IP address or a network is written `ip(\"10.0.0.0/8\")`, which is read with `--language 4`"
+        }
         "now" | "today" | "time" | "date" => "a policy has no clock: give the time in `context`",
         "size" | "length" | "len" | "count" | "empty" => {
             "`x.isEmpty()` tests whether a set is empty; the number of its members cannot be asked for"
         }
         "includes" | "has" | "in" => "write `x.contains(y)` for a set, and `x in y` for entities",
-        _ => nearest_function(name).unwrap_or("docs/GRAMMAR.md lists the functions and methods"),
+        _ => return None,
+    };
+    Some(meant)
+}
+
+// What is meant by the name of a function or method of an extension type: one of another language, or one that is written in the
+// place of the other kind. None of another name.
+fn meant_by_extension(language: Language, name: &str) -> Option<&'static str> {
+    if let Some(ty) = ExtensionType::of_constructor(name) {
+        return Some(if ty.is_in(language) {
+            "this is a function: it is written alone, as `decimal(\"1.5\")`"
+        } else {
+            "this function is read with `--language 4`"
+        });
+    }
+    match is_method_in(language, name)? {
+        true => Some("this is a method: it is written after its operand, as `x.isEmpty()`"),
+        false => Some("this method is read with `--language 4`"),
     }
 }
 
-// The function or method with the nearest name.
-fn nearest_function(name: &str) -> Option<&'static str> {
-    Nearest::new(name)
-        .compare("decimal", "did you mean `decimal`?")
-        .compare("contains", "did you mean `contains`?")
-        .compare("containsAll", "did you mean `containsAll`?")
-        .compare("containsAny", "did you mean `containsAny`?")
-        .compare("isEmpty", "did you mean `isEmpty`?")
-        .compare("lessThan", "did you mean `lessThan`?")
-        .compare("lessThanOrEqual", "did you mean `lessThanOrEqual`?")
-        .compare("greaterThan", "did you mean `greaterThan`?")
-        .compare("greaterThanOrEqual", "did you mean `greaterThanOrEqual`?")
-        .name()
+// Whether a language has the method of an extension type that has this name; none if no extension type has such a method.
+fn is_method_in(language: Language, name: &str) -> Option<bool> {
+    match (BinaryMethod::named(name), UnaryMethod::named(name)) {
+        (Some(method), _) => Some(method.is_in(language)),
+        (None, Some(method)) => Some(method.is_in(language)),
+        (None, None) => None,
+    }
+}
+
+// Whether a language has a function or method of a name, of those in the table. The methods of sets are in each language.
+fn is_in(language: Language, name: &str) -> bool {
+    match ExtensionType::of_constructor(name) {
+        Some(ty) => ty.is_in(language),
+        None => is_method_in(language, name).unwrap_or(true),
+    }
+}
+
+/// The functions and methods, and what is said of a name that is near to one.
+const FUNCTIONS: [(&str, &str); 26] = [
+    ("decimal", "did you mean `decimal`?"),
+    ("contains", "did you mean `contains`?"),
+    ("containsAll", "did you mean `containsAll`?"),
+    ("containsAny", "did you mean `containsAny`?"),
+    ("isEmpty", "did you mean `isEmpty`?"),
+    ("lessThan", "did you mean `lessThan`?"),
+    ("lessThanOrEqual", "did you mean `lessThanOrEqual`?"),
+    ("greaterThan", "did you mean `greaterThan`?"),
+    ("greaterThanOrEqual", "did you mean `greaterThanOrEqual`?"),
+    ("ip", "did you mean `ip`?"),
+    ("isInRange", "did you mean `isInRange`?"),
+    ("isIpv4", "did you mean `isIpv4`?"),
+    ("isIpv6", "did you mean `isIpv6`?"),
+    ("isLoopback", "did you mean `isLoopback`?"),
+    ("isMulticast", "did you mean `isMulticast`?"),
+    ("datetime", "did you mean `datetime`?"),
+    ("duration", "did you mean `duration`?"),
+    ("offset", "did you mean `offset`?"),
+    ("durationSince", "did you mean `durationSince`?"),
+    ("toDate", "did you mean `toDate`?"),
+    ("toTime", "did you mean `toTime`?"),
+    ("toMilliseconds", "did you mean `toMilliseconds`?"),
+    ("toSeconds", "did you mean `toSeconds`?"),
+    ("toMinutes", "did you mean `toMinutes`?"),
+    ("toHours", "did you mean `toHours`?"),
+    ("toDays", "did you mean `toDays`?"),
+];
+
+// The function or method of a language with the nearest name.
+fn nearest_function(language: Language, name: &str) -> Option<&'static str> {
+    let mut nearest = Nearest::new(name);
+    for (other, says) in FUNCTIONS {
+        if is_in(language, other) {
+            nearest = nearest.compare(other, says);
+        }
+    }
+    nearest.name()
 }

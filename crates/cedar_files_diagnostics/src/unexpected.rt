@@ -5,6 +5,7 @@ use crate::excerpt::first_of;
 use crate::expected::Expected;
 use crate::syntax_hint::{meant_by_name, meant_by_tokens};
 use base_places::Draft;
+use cedar_ext::Language;
 use cedar_text::{Token, TokenKind};
 use std::alloc::{AllocError, Global};
 
@@ -62,20 +63,21 @@ fn lone_name<'t>(around: Around<'t>, expected: &Expected) -> Option<Token<'t>> {
     is_alone.then_some(name)
 }
 
-/// Marks what is wrong at a place where the grammar does not allow the token, and says what is expected there and what is likely meant.
+/// Marks what is wrong at a place where the grammar of a language does not allow the token, and says what is expected there and what is likely meant.
 ///
 /// # Errors
 ///
 /// Fails only when out of memory.
 pub(crate) fn mark_unexpected(
     alloc: Global,
+    language: Language,
     diagnostic: &mut DiagnosticDraft,
     text: &str,
     around: Around<'_>,
     at: usize,
 ) -> Result<Option<&'static str>, AllocError> {
     let before = text.get(around.start..around.end()).unwrap_or("");
-    let expected = Expected::after(alloc, before)?;
+    let expected = Expected::after(alloc, language, before)?;
     let hint = match lone_name(around, &expected) {
         Some(name) => {
             diagnostic.mark_made(name.start(), name.start(), unknown(alloc, name));

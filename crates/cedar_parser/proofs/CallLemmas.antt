@@ -1,5 +1,7 @@
 -- As many expressions are made of arguments as there are arguments.
 use Rattle.std.proofs.Common.{◌≡◌, ℕ, suc, List, [], ◌∷◌, Option, Some, None, IsSome, length, refl, sym, ap, subst, ◌∙◌, option_map}
+use Rattle.cedar_ext.specs.Extensions.{in_language}
+use Rattle.cedar_ext.specs.declared.language.Language.TheVariants.{Cedar4}
 use Rattle.cedar_ext.specs.declared.extension.ExtensionType.{ExtensionType}
 use Rattle.cedar_ast_expressions.specs.Expression as e
 use Rattle.cedar_ast_expressions.specs.Expression.{Expression, Expressions, expressions_of}
@@ -31,6 +33,11 @@ length_count xs ms h = sym (count_list xs) ∙ ap count h ∙ count_members ms
 pub method_arguments : (o : Option Method) (m : Method) (ms : Members) (xs : List Expression) → o ≡ Some m → HasArity Counts (option_map arity_of o) ms → expressions_of xs ≡ to_expressions ms
     → length xs ≡ arity_of m
 method_arguments o m ms xs is h q = length_count xs ms q ∙ subst (λ (p : Option Method). HasArity Counts (option_map arity_of p) ms) is h
+
+-- a function of Cedar 4 is a function
+pub known_named : (o : Option ExtensionType) → IsSome (in_language Cedar4 o) → IsSome o
+known_named None h = absurd cc
+known_named (Some ty) h = refl
 
 -- a function has one argument
 pub function_argument : (o : Option ExtensionType) (ms : Members) (xs : List Expression) → IsSome o → HasArity Counts (option_map (λ f. 1) o) ms → expressions_of xs ≡ to_expressions ms → length xs ≡ 1

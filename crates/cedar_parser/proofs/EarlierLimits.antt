@@ -1,5 +1,5 @@
 -- A statement that was within the limits is within them.
-use Rattle.std.proofs.Common.{◌≡◌, ℕ, ◌≤◌, List, [], ◌∷◌, Option, IsSome, IsTrue, All, codes, refl, sym, subst, option_map}
+use Rattle.std.proofs.Common.{◌≡◌, ℕ, ◌≤◌, List, [], ◌∷◌, Bool, true, false, cond, Option, Some, None, IsSome, IsTrue, All, codes, refl, sym, subst, option_map}
 use Rattle.std.proofs.lemmas.List.Elements.{All-head, All-tail}
 use Rattle.std.specs.Str.{bytes_eq}
 use Rattle.cedar_ext.specs.declared.extension.ExtensionType.{ExtensionType}
@@ -19,16 +19,18 @@ use Rattle.cedar_parser_tree.specs.Written.{Written, truth, number, negative, te
 use Rattle.cedar_parser_tree.specs.StatementTree.{StatementTree, WrittenEntityScope, WrittenActionScope}
 use Rattle.cedar_parser_statements.proofs.EarlierPaths.{AskForNoPath}
 use Rattle.cedar_parser_limits.specs.declared.functions.Method.{Method}
+use Rattle.cedar_parser_limits.specs.declared.functions.Method.TheVariants.{Binary}
+use Rattle.cedar_ast_expressions.specs.declared.operator.BinaryOperator.{BinaryOperator}
 use Rattle.cedar_parser_limits.specs.declared.side_condition.SideCondition.{SideCondition}
 use Rattle.cedar_parser_limits.specs.declared.side_condition.SideCondition.TheVariants.{Strings, Numbers, Keys, Names, Counts, Slots, Annotations}
 use Rattle.cedar_ext.specs.Extensions.{constructor_in}
 use Rattle.cedar_ext.specs.declared.language.Language.TheVariants.{Profile}
 use Rattle.cedar_parser_limits.specs.Meaning.{method_of}
-use Rattle.cedar_parser_limits.specs.Limits.{Stands, Fits, FitsNegative, IsKnown, count_of, arity_of, function_arity, method_arity, HasArity, HasDistinctKeys, HasNoSlot, Keeps, KeepLinks, KeepMembers, KeepFields, size_of, max_height, max_nodes}
+use Rattle.cedar_parser_limits.specs.Limits.{Stands, Fits, FitsNegative, IsKnown, count_of, arity_of, function_arity, has_operator, method_arity, method_in, only_in, HasArity, HasDistinctKeys, HasNoSlot, Keeps, KeepLinks, KeepMembers, KeepFields, size_of, max_height, max_nodes}
 use Rattle.cedar_parser_limits.specs.StatementLimits.{IsOwn, KeepsReference, KeepsEntityScope, KeepUids, KeepsActionScope, HasDistinctNames, KeepAnnotations, KeepConditions, KeepsStatement, condition_size, IsWithinLimits}
 use Rattle.cedar_parser.specs.EarlierMeaning.{earlier_method_of}
 use Rattle.cedar_parser.specs.Earlier.{UsesEarlier, LinksUseEarlier, MembersUseEarlier, FieldsUseEarlier, WasWithinLimits}
-use Rattle.cedar_parser.proofs.EarlierMeanings.{known_method, earlier_method, earlier_function, same_policy}
+use Rattle.cedar_parser.proofs.EarlierMeanings.{known_method, earlier_method, earlier_constructor, earlier_function, earlier_operator, same_policy}
 
 -- a side condition that asks for nothing but what is kept by functions and methods that there were, of one argument
 record AsksOfCalls (c : SideCondition) : Type 0 where
@@ -41,13 +43,20 @@ record AsksOfCalls (c : SideCondition) : Type 0 where
   pub annotations : (notes : List WrittenAnnotation) → HasDistinctNames c notes
   pub function : (name : List ℕ) → IsTrue (bytes_eq name (codes "decimal")) → IsKnown c (constructor_in Profile name)
   pub argument : (name : List ℕ) (ms : Members) → IsTrue (bytes_eq name (codes "decimal")) → count_of ms ≡ 1 → HasArity c (function_arity name) ms
-  pub method_is : (name : List ℕ) → IsSome (earlier_method_of name) → IsKnown c (method_of name)
+  pub method_is : (name : List ℕ) → IsSome (earlier_method_of name) → IsKnown c (method_in Profile name)
   pub method_argument : (name : List ℕ) (ms : Members) → IsSome (earlier_method_of name) → count_of ms ≡ 1 → HasArity c (method_arity name) ms
 
-some_method : (name : List ℕ) → IsSome (earlier_method_of name) → IsSome (method_of name)
+in_profile : (op : BinaryOperator) → IsTrue (has_operator Profile op) → IsSome (only_in Profile (Some (Binary op)))
+in_profile op h = by (has_operator Profile op) h
+  where
+    by : (b : Bool) → IsTrue b → IsSome (cond b (Some (Binary op)) None)
+    by true h = refl
+    by false h = absurd cc
+
+some_method : (name : List ℕ) → IsSome (earlier_method_of name) → IsSome (method_in Profile name)
 some_method name h =
     let known = known_method (earlier_method_of name) (method_of name) h (earlier_method name) in
-    subst (λ (m : Option Method). IsSome m) (sym known.2) refl
+    subst (λ (m : Option Method). IsSome (only_in Profile m)) (sym known.2) (in_profile known.0 (earlier_operator name known.0 known.1))
 
 one_of_method : (name : List ℕ) (ms : Members) → IsSome (earlier_method_of name) → count_of ms ≡ 1 → HasArity Counts (method_arity name) ms
 one_of_method name ms h q =
@@ -79,13 +88,13 @@ of_counts = record {
   keys = λ fs. tt;
   annotations = λ notes. tt;
   function = λ name h. tt;
-  argument = λ name ms h q. subst (λ (o : Option ExtensionType). HasArity Counts (option_map (λ op. 1) o) ms) (sym (earlier_function name h)) q;
+  argument = λ name ms h q. subst (λ (o : Option ExtensionType). HasArity Counts (option_map (λ op. 1) o) ms) (sym (earlier_constructor name h)) q;
   method_is = λ name h. tt;
   method_argument = one_of_method;
 }
 
 mutual
-  keeps : (c : SideCondition) → AsksOfCalls c → (w : Written) → UsesEarlier w → Keeps c w
+  keeps : (c : SideCondition) → AsksOfCalls c → (w : Written) → UsesEarlier w → Keeps Profile c w
   keeps c k (truth b) u = tt
   keeps c k (number n) u = k.fits n
   keeps c k (negative n) u = k.fits_negative n
@@ -107,17 +116,17 @@ mutual
   keeps c k (record_of fs) u = (k.keys fs, keep_fields c k fs u)
   keeps c k (call name ms) u = (k.function name u.0, k.argument name ms u.0 u.1, keep_members c k ms u.2)
 
-  keep_links : (c : SideCondition) → AsksOfCalls c → (ls : Links) → LinksUseEarlier ls → KeepLinks c ls
+  keep_links : (c : SideCondition) → AsksOfCalls c → (ls : Links) → LinksUseEarlier ls → KeepLinks Profile c ls
   keep_links c k no_links u = tt
   keep_links c k (operand sign a ls) u = (keeps c k a u.0, keep_links c k ls u.1)
   keep_links c k (attribute s ls) u = (k.stands s, keep_links c k ls u)
   keep_links c k (method name ms ls) u = ((k.method_is name u.0, k.method_argument name ms u.0 u.1, keep_members c k ms u.2), keep_links c k ls u.3)
 
-  keep_members : (c : SideCondition) → AsksOfCalls c → (ms : Members) → MembersUseEarlier ms → KeepMembers c ms
+  keep_members : (c : SideCondition) → AsksOfCalls c → (ms : Members) → MembersUseEarlier ms → KeepMembers Profile c ms
   keep_members c k no_members u = tt
   keep_members c k (member a ms) u = (keeps c k a u.0, keep_members c k ms u.1)
 
-  keep_fields : (c : SideCondition) → AsksOfCalls c → (fs : Fields) → FieldsUseEarlier fs → KeepFields c fs
+  keep_fields : (c : SideCondition) → AsksOfCalls c → (fs : Fields) → FieldsUseEarlier fs → KeepFields Profile c fs
   keep_fields c k no_fields u = tt
   keep_fields c k (field key a fs) u = ((k.stands key, keeps c k a u.0), keep_fields c k fs u.1)
 
@@ -148,12 +157,12 @@ keep_annotations : (c : SideCondition) → AsksOfCalls c → (notes : List Writt
 keep_annotations c k [] = tt
 keep_annotations c k (a ∷ notes) = (k.stands a.value, keep_annotations c k notes)
 
-keep_conditions : (c : SideCondition) → AsksOfCalls c → (cs : List WrittenCondition) → All (λ (q : WrittenCondition). UsesEarlier q.body) cs → KeepConditions c cs
+keep_conditions : (c : SideCondition) → AsksOfCalls c → (cs : List WrittenCondition) → All (λ (q : WrittenCondition). UsesEarlier q.body) cs → KeepConditions Profile c cs
 keep_conditions c k [] u = tt
 keep_conditions c k (q ∷ cs) u =
     (keeps c k q.body (All-head (λ (q : WrittenCondition). UsesEarlier q.body) q cs u), keep_conditions c k cs (All-tail (λ (q : WrittenCondition). UsesEarlier q.body) q cs u))
 
-keep_statement : (c : SideCondition) → AsksOfCalls c → (s : StatementTree) → All (λ (q : WrittenCondition). UsesEarlier q.body) s.conditions → KeepsStatement c s
+keep_statement : (c : SideCondition) → AsksOfCalls c → (s : StatementTree) → All (λ (q : WrittenCondition). UsesEarlier q.body) s.conditions → KeepsStatement Profile c s
 keep_statement c k s u = record {
   names = k.annotations s.annotations;
   annotations = keep_annotations c k s.annotations;
@@ -163,7 +172,7 @@ keep_statement c k s u = record {
   conditions = keep_conditions c k s.conditions u;
 }
 
-keeps_each : (s : StatementTree) → WasWithinLimits s → (c : SideCondition) → KeepsStatement c s
+keeps_each : (s : StatementTree) → WasWithinLimits s → (c : SideCondition) → KeepsStatement Profile c s
 keeps_each s h Strings = h.others Strings tt
 keeps_each s h Numbers = h.others Numbers tt
 keeps_each s h Keys = h.others Keys tt
@@ -172,7 +181,7 @@ keeps_each s h Counts = keep_statement Counts of_counts s h.calls
 keeps_each s h Slots = h.others Slots tt
 keeps_each s h Annotations = h.others Annotations tt
 
-pub within_limits : (s : StatementTree) → AskForNoPath s.conditions → WasWithinLimits s → IsWithinLimits s
+pub within_limits : (s : StatementTree) → AskForNoPath s.conditions → WasWithinLimits s → IsWithinLimits Profile s
 unfolding condition_size
 within_limits s p h =
     let policy = same_policy [] s p h.calls in

@@ -2,9 +2,11 @@
 use Rattle.std.proofs.Common.{◌≡◌, ℕ, ◌+◌, List, [], ◌∷◌, Bool, true, false, cond, Option, Some, None, IsSome, IsTrue, All, codes, refl, sym, subst, ap, ◌∙◌, map}
 use Rattle.std.proofs.lemmas.List.Elements.{All-head, All-tail}
 use Rattle.std.specs.Str.{bytes_eq}
-use Rattle.cedar_ext.specs.Extensions.{constructor_in, in_language}
+use Rattle.cedar_ext.specs.Extensions.{constructor_in, constructor_named, in_language}
 use Rattle.cedar_ext.specs.declared.language.Language.TheVariants.{Profile}
 use Rattle.cedar_ext.specs.declared.method.BinaryMethod.{BinaryMethod}
+use Rattle.cedar_ext.specs.declared.unary_method.UnaryMethod.{UnaryMethod}
+use Rattle.cedar_parser_limits.specs.Limits.{has_operator}
 use Rattle.cedar_ext.specs.declared.extension.ExtensionType.{ExtensionType}
 use Rattle.cedar_ext.specs.declared.extension.ExtensionType.TheVariants as constructor
 use Rattle.cedar_ext.specs.declared.method.BinaryMethod.TheVariants as method_called
@@ -27,7 +29,7 @@ use Rattle.cedar_parser_tree.specs.StatementTree.{StatementTree}
 use Rattle.cedar_parser_statements.proofs.EarlierPaths.{HasNoPath, LinksHaveNoPath, MembersHaveNoPath, FieldsHaveNoPath, AskForNoPath}
 use Rattle.cedar_parser_limits.specs.declared.functions.Method.{Method}
 use Rattle.cedar_parser_limits.specs.declared.functions.Method.TheVariants.{IsEmpty, Binary}
-use Rattle.cedar_parser_limits.specs.Meaning.{in_profile, linked, related, method_or_empty, method_of, called, applied, asked_of, to_expression, to_expressions, to_entries, grouped}
+use Rattle.cedar_parser_limits.specs.Meaning.{linked, related, method_or_empty, method_of, called, applied, asked_of, to_expression, to_expressions, to_entries, grouped}
 use Rattle.cedar_parser_limits.specs.StatementMeaning.{to_condition, to_policy, to_template, statement_of, id_at, has_slot, entered_from}
 use Rattle.cedar_parser.specs.EarlierMeaning.{earlier_method_of, earlier_linked, earlier_related, earlier_call, earlier_applied, earlier_expression, earlier_expressions, earlier_entries, earlier_grouped, earlier_condition, earlier_policy, earlier_template, earlier_statement, earlier_entered}
 use Rattle.cedar_parser.specs.Earlier.{UsesEarlier, LinksUseEarlier, MembersUseEarlier, FieldsUseEarlier}
@@ -35,19 +37,41 @@ use Rattle.cedar_parser.specs.Earlier.{UsesEarlier, LinksUseEarlier, MembersUseE
 -- ---- functions and methods
 
 -- by which of the names it is
-by_names : (a b c d e f g h : Bool) (others : Option BinaryMethod) (op : BinaryOperator)
+by_names : (a b c d e f g h : Bool) (alone : Option UnaryMethod) (others : Option BinaryMethod) (op : BinaryOperator)
     → cond a (Some operator.Contains) (cond b (Some operator.ContainsAll) (cond c (Some operator.ContainsAny) (cond d (Some (operator.Call method_called.LessThan)) (cond e (Some (operator.Call method_called.LessThanOrEqual))
     (cond f (Some (operator.Call method_called.GreaterThan)) (cond g (Some (operator.Call method_called.GreaterThanOrEqual)) None)))))) ≡ Some op
     → cond a (Some (Binary operator.Contains)) (cond b (Some (Binary operator.ContainsAll)) (cond c (Some (Binary operator.ContainsAny))
-    (method_or_empty h (in_profile (cond d (Some method_called.LessThan) (cond e (Some method_called.LessThanOrEqual) (cond f (Some method_called.GreaterThan) (cond g (Some method_called.GreaterThanOrEqual) others))))))))
+    (method_or_empty h alone (cond d (Some method_called.LessThan) (cond e (Some method_called.LessThanOrEqual) (cond f (Some method_called.GreaterThan) (cond g (Some method_called.GreaterThanOrEqual) others)))))))
     ≡ Some (Binary op)
-by_names false false false false false false false h others op q = absurd cc
-by_names _ _ _ _ _ _ _ h others op q = cc
+by_names false false false false false false false h alone others op q = absurd cc
+by_names _ _ _ _ _ _ _ h alone others op q = cc
 
 pub earlier_method : (name : List ℕ) (op : BinaryOperator) → earlier_method_of name ≡ Some op → method_of name ≡ Some (Binary op)
 earlier_method name op =
     by_names (bytes_eq name (codes "contains")) (bytes_eq name (codes "containsAll")) (bytes_eq name (codes "containsAny")) (bytes_eq name (codes "lessThan"))
-    (bytes_eq name (codes "lessThanOrEqual")) (bytes_eq name (codes "greaterThan")) (bytes_eq name (codes "greaterThanOrEqual")) (bytes_eq name (codes "isEmpty")) _ op
+    (bytes_eq name (codes "lessThanOrEqual")) (bytes_eq name (codes "greaterThan")) (bytes_eq name (codes "greaterThanOrEqual")) (bytes_eq name (codes "isEmpty")) _ _ op
+
+one : {a b : BinaryOperator} → Some a ≡ Some b → a ≡ b
+one q = cc
+
+-- each operator of these names is one of the profile
+in_profile_by : (a b c d e f g : Bool) (op : BinaryOperator)
+    → cond a (Some operator.Contains) (cond b (Some operator.ContainsAll) (cond c (Some operator.ContainsAny) (cond d (Some (operator.Call method_called.LessThan)) (cond e (Some (operator.Call method_called.LessThanOrEqual))
+    (cond f (Some (operator.Call method_called.GreaterThan)) (cond g (Some (operator.Call method_called.GreaterThanOrEqual)) None)))))) ≡ Some op
+    → IsTrue (has_operator Profile op)
+in_profile_by true b c d e f g op q = subst (λ (o : BinaryOperator). IsTrue (has_operator Profile o)) (one q) refl
+in_profile_by false true c d e f g op q = subst (λ (o : BinaryOperator). IsTrue (has_operator Profile o)) (one q) refl
+in_profile_by false false true d e f g op q = subst (λ (o : BinaryOperator). IsTrue (has_operator Profile o)) (one q) refl
+in_profile_by false false false true e f g op q = subst (λ (o : BinaryOperator). IsTrue (has_operator Profile o)) (one q) refl
+in_profile_by false false false false true f g op q = subst (λ (o : BinaryOperator). IsTrue (has_operator Profile o)) (one q) refl
+in_profile_by false false false false false true g op q = subst (λ (o : BinaryOperator). IsTrue (has_operator Profile o)) (one q) refl
+in_profile_by false false false false false false true op q = subst (λ (o : BinaryOperator). IsTrue (has_operator Profile o)) (one q) refl
+in_profile_by false false false false false false false op q = absurd cc
+
+pub earlier_operator : (name : List ℕ) (op : BinaryOperator) → earlier_method_of name ≡ Some op → IsTrue (has_operator Profile op)
+earlier_operator name op =
+    in_profile_by (bytes_eq name (codes "contains")) (bytes_eq name (codes "containsAll")) (bytes_eq name (codes "containsAny")) (bytes_eq name (codes "lessThan"))
+    (bytes_eq name (codes "lessThanOrEqual")) (bytes_eq name (codes "greaterThan")) (bytes_eq name (codes "greaterThanOrEqual")) op
 
 -- a method that there was, with what it is today
 pub known_method : (o : Option BinaryOperator) (m : Option Method) → IsSome o → ((op : BinaryOperator) → o ≡ Some op → m ≡ Some (Binary op)) → (op : BinaryOperator) × (o ≡ Some op) × (m ≡ Some (Binary op))
@@ -66,12 +90,15 @@ same_method o m left es h f =
     subst (λ (x : Option BinaryOperator). earlier_applied x left es ≡ applied m left es) (sym known.1)
     (subst (λ (x : Option Method). earlier_applied (Some known.0) left es ≡ applied x left es) (sym known.2) (same_applied known.0 left es))
 
-by_name : (b : Bool) (others : Option ExtensionType) → IsTrue b → in_language Profile (cond b (Some constructor.Decimal) others) ≡ Some constructor.Decimal
+by_name : (b : Bool) (others : Option ExtensionType) → IsTrue b → cond b (Some constructor.Decimal) others ≡ Some constructor.Decimal
 by_name true others h = refl
 by_name false others h = absurd cc
 
+pub earlier_constructor : (name : List ℕ) → IsTrue (bytes_eq name (codes "decimal")) → constructor_named name ≡ Some constructor.Decimal
+earlier_constructor name h = by_name (bytes_eq name (codes "decimal")) _ h
+
 pub earlier_function : (name : List ℕ) → IsTrue (bytes_eq name (codes "decimal")) → constructor_in Profile name ≡ Some constructor.Decimal
-earlier_function name h = by_name (bytes_eq name (codes "decimal")) _ h
+earlier_function name h = ap (in_language Profile) (earlier_constructor name h)
 
 same_called : (es : Expressions) → earlier_call es ≡ called (Some constructor.Decimal) es
 same_called e.no_more = refl
@@ -115,7 +142,7 @@ mutual
   same_expression (set ms) p u = ap e.set_with (same_expressions ms p u)
   same_expression (record_of fs) p u = ap e.record_with (same_entries fs p u)
   same_expression (call name ms) p u =
-      ap earlier_call (same_expressions ms p u.2) ∙ same_call (constructor_in Profile name) (to_expressions ms) (earlier_function name u.0)
+      ap earlier_call (same_expressions ms p u.2) ∙ same_call (constructor_named name) (to_expressions ms) (earlier_constructor name u.0)
   same_expression _ p u = refl
 
   pub same_grouped : (ls : Links) → LinksHaveNoPath ls → LinksUseEarlier ls → (left right : Expression) → left ≡ right → earlier_grouped left ls ≡ grouped right ls

@@ -7,3 +7,4 @@ pub mod EarlierLimits
 pub mod EarlierLemmas
 pub mod CallLemmas
 pub mod Drained
+pub mod WidestTexts

@@ -1,5 +1,6 @@
 -- No text is read in two ways.
 use Rattle.std.proofs.Common.{◌≡◌, refl, sym, ap, subst, ◌∙◌, ℕ, ◌<◌, List, [], ◌∷◌, length, Ok, Err, arith}
+use Rattle.cedar_ext.specs.declared.language.Language.{Language}
 use Rattle.cedar_ast.specs.PolicySetTree.{PolicySetTree, no_policies}
 use Rattle.cedar_text.specs.Lexeme.{Lexemes}
 use Rattle.cedar_text.specs.Tokens.{AreTokens}
@@ -38,12 +39,12 @@ statements_one ts _ xs (next {us = us} {s = s} {ss = ss} i h) g =
     let same = statements_one us ss c.others h (subst (λ (ms : Marks). Statements 101 ms c.others []) (sym p.1) c.readings) in
     (λ k. p.0 k ∷ same k) ∙ sym c.whole
 
-set_one : (ts : Marks) (set other : PolicySetTree) → ArePolicies ts [] set → ArePolicies ts [] other → set ≡ other
-set_one ts set other h g = h.meaning ∙ ap (entered_from no_policies 0) (statements_one ts h.statements g.statements h.reading g.reading) ∙ sym g.meaning
+set_one : (l m : Language) (ts : Marks) (set other : PolicySetTree) → ArePolicies l ts [] set → ArePolicies m ts [] other → set ≡ other
+set_one l m ts set other h g = h.meaning ∙ ap (entered_from no_policies 0) (statements_one ts h.statements g.statements h.reading g.reading) ∙ sym g.meaning
 
 pub one_policy_set_by : ((source : List ℕ) (ts us : Lexemes) → AreTokens source ts → AreTokens source us → ts ≡ us) → OneSpelling
-    → (source : List ℕ) (set other : PolicySetTree) → IsPolicyText source set → IsPolicyText source other → set ≡ other
-one_policy_set_by lists spellings source set other h g =
+    → (l m : Language) (source : List ℕ) (set other : PolicySetTree) → IsPolicyText l source set → IsPolicyText m source other → set ≡ other
+one_policy_set_by lists spellings l m source set other h g =
     let a = h.are_tokens in
     let same : h.tokens ≡ g.tokens = all_same spellings a.0 h.tokens g.tokens {source = source} (λ us t. lists source a.0 us a.1 t) a.2 g.are_tokens in
-    set_one h.tokens set other h.are_policies (subst (λ (ms : Marks). ArePolicies ms [] other) (sym same) g.are_policies)
+    set_one l m h.tokens set other h.are_policies (subst (λ (ms : Marks). ArePolicies m ms [] other) (sym same) g.are_policies)

@@ -10,6 +10,7 @@ use Rattle.std.proofs.lemmas.Map.Views.{Contains-from_any}
 use Rattle.std.proofs.lemmas.Slice.Eq.{bytes_eq-Decides}
 use Rattle.cedar_value.specs.Private.Equality.{text_equivalence}
 use Rattle.std.proofs.lemmas.List.Elements.{All-append, All-cons, All-nil, Contains-append_cases}
+use Rattle.cedar_ext.specs.declared.language.Language.{Language}
 use Rattle.cedar_ast.specs.declared.statement.Statement.{Statement as Entry}
 use Rattle.cedar_ast.specs.declared.statement.Statement.TheVariants as entry
 use Rattle.cedar_ast.specs.PolicyTree.{PolicyTree}
@@ -27,8 +28,8 @@ use Rattle.cedar_parser_statements.proofs.StatementsSound.{statement_is}
 use Rattle.cedar_parser_statements.proofs.StatementsComplete.{statement_same}
 use Rattle.cedar_parser.specs.PolicyText.{ArePolicies}
 
-pub All-one : (s : StatementTree) → IsWithinLimits s → All IsWithinLimits (s ∷ [])
-All-one s w = All-cons IsWithinLimits s [] w (All-nil IsWithinLimits)
+pub All-one : (l : Language) (s : StatementTree) → IsWithinLimits l s → All (IsWithinLimits l) (s ∷ [])
+All-one l s w = All-cons (IsWithinLimits l) s [] w (All-nil (IsWithinLimits l))
 
 -- one more statement after others
 pub one_behind : (d : ℕ) (ts us vs : Marks) (ss : List StatementTree) (s : StatementTree) → Statements d ts ss us → Statement d us s vs → Statements d ts (ss ++ s ∷ []) vs
@@ -173,14 +174,14 @@ pub record GoesOn (d : ℕ) (us : Marks) (before all : List StatementTree) : Typ
   pub whole : all ≡ before ++ behind
 
 -- From ts to us there are so many statements, this is the set of them, and each reading of all tokens begins with them.
-pub record IsReadSoFar (ts us : Marks) (count : ℕ) (set : PolicySetTree) : Type 0 where
-  pub are_policies : ArePolicies ts us set
+pub record IsReadSoFar (l : Language) (ts us : Marks) (count : ℕ) (set : PolicySetTree) : Type 0 where
+  pub are_policies : ArePolicies l ts us set
   pub all : length are_policies.statements ≡ count
   pub only : (d : ℕ) (ss : List StatementTree) → Statements d ts ss [] → GoesOn d us are_policies.statements ss
 
-pub read_none : (ts : Marks) (set : PolicySetTree) → set ≡ no_policies → IsReadSoFar ts ts 0 set
-read_none ts set e = record {
-  are_policies = record { statements = []; reading = end; limits = All-nil IsWithinLimits; meaning = e; distinct = λ i j d less within. omega arith };
+pub read_none : (l : Language) (ts : Marks) (set : PolicySetTree) → set ≡ no_policies → IsReadSoFar l ts ts 0 set
+read_none l ts set e = record {
+  are_policies = record { statements = []; reading = end; limits = All-nil (IsWithinLimits l); meaning = e; distinct = λ i j d less within. omega arith };
   all = refl;
   only = λ d ss h. record { behind = ss; reading = h; whole = refl };
 }
@@ -208,9 +209,9 @@ goes_more d us vs before all s some e g =
       whole = g.whole ∙ ap (λ (xs : List StatementTree). before ++ xs) n.whole ∙ ap (λ (x : StatementTree). before ++ x ∷ n.others) (sym same.0) ∙ sym (append_assoc before (s ∷ []) n.others);
     }
 
-pub read_more : (ts us vs : Marks) (n : ℕ) (set more : PolicySetTree) (s : StatementTree) → IsReadSoFar ts us n set → 0 < length us → r.statement 101 us ≡ Ok (s, vs) → IsWithinLimits s
-    → (Contains (ids_in set) (id_at n s) → ⊥) → more ≡ entered set (statement_of n s) → IsReadSoFar ts vs (n + 1) more
-read_more ts us vs n set more s so some i w none e =
+pub read_more : (l : Language) (ts us vs : Marks) (n : ℕ) (set more : PolicySetTree) (s : StatementTree) → IsReadSoFar l ts us n set → 0 < length us → r.statement 101 us ≡ Ok (s, vs) → IsWithinLimits l s
+    → (Contains (ids_in set) (id_at n s) → ⊥) → more ≡ entered set (statement_of n s) → IsReadSoFar l ts vs (n + 1) more
+read_more l ts us vs n set more s so some i w none e =
     let a = so.are_policies in
     let count : n ≡ 0 + length a.statements = omega (arith, so.all) in
     let fresh : Contains (ids_from 0 a.statements) (id_at (0 + length a.statements) s) → ⊥ =
@@ -219,7 +220,7 @@ read_more ts us vs n set more s so some i w none e =
       are_policies = record {
         statements = a.statements ++ s ∷ [];
         reading = one_behind 101 ts us vs a.statements s a.reading (statement_is 101 us vs s i);
-        limits = All-append IsWithinLimits a.statements (s ∷ []) a.limits (All-one s w);
+        limits = All-append (IsWithinLimits l) a.statements (s ∷ []) a.limits (All-one l s w);
         meaning = e ∙ ap (λ (q : PolicySetTree). entered q (statement_of n s)) a.meaning ∙ ap (λ m. entered (entered_from no_policies 0 a.statements) (statement_of m s)) count ∙ sym (entered_more no_policies 0 a.statements s);
         distinct = subst AreDistinct (sym (ids-append 0 a.statements (s ∷ []))) (distinct_then (ids_from 0 a.statements) (id_at (0 + length a.statements) s) a.distinct fresh);
       };
@@ -228,5 +229,5 @@ read_more ts us vs n set more s so some i w none e =
     }
 
 -- no token is left
-pub read_all : (ts us : Marks) (n : ℕ) (ps : PolicySetTree) → IsReadSoFar ts us n ps → length us ≡ 0 → ArePolicies ts [] ps
-read_all ts us n ps so e = subst (λ (xs : Marks). ArePolicies ts xs ps) (none_left us e) so.are_policies
+pub read_all : (l : Language) (ts us : Marks) (n : ℕ) (ps : PolicySetTree) → IsReadSoFar l ts us n ps → length us ≡ 0 → ArePolicies l ts [] ps
+read_all l ts us n ps so e = subst (λ (xs : Marks). ArePolicies l ts xs ps) (none_left us e) so.are_policies

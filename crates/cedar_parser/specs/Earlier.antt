@@ -11,6 +11,7 @@ use Rattle.cedar_parser_tree.specs.Written.{Written, group, not, negated, relati
 use Rattle.cedar_parser_tree.specs.StatementTree.{StatementTree}
 use Rattle.cedar_parser_statements.specs.StatementText.{max_open}
 use Rattle.cedar_parser_statements.specs.Earlier.{EarlierStatements}
+use Rattle.cedar_ext.specs.declared.language.Language.TheVariants.{Profile}
 use Rattle.cedar_parser_limits.specs.declared.side_condition.SideCondition.{SideCondition}
 use Rattle.cedar_parser_limits.specs.declared.side_condition.SideCondition.TheVariants.{Names, Counts}
 use Rattle.cedar_parser_limits.specs.declared.size.Size.{Size}
@@ -69,7 +70,7 @@ earlier_size s = size_of (condition_of (earlier_policy [] s))
 -- calls, and its condition was neither too high nor too large (own).
 pub record WasWithinLimits (s : StatementTree) : Type 0 where
   pub calls : All (λ c. UsesEarlier c.body) s.conditions
-  pub others : (c : SideCondition) → IsOfNoCall c → KeepsStatement c s
+  pub others : (c : SideCondition) → IsOfNoCall c → KeepsStatement Profile c s
   pub low : (earlier_size s).height ≤ max_height
   pub small : (earlier_size s).nodes ≤ max_nodes
 

@@ -1,5 +1,6 @@
 -- What a policy text is, and why a text is not one (Cedar language reference, grammar; policies).
 use Rattle.std.specs.Prelude.{◌≡◌, ℕ, suc, List, [], ◌∷◌, ◌++◌, length, Some, All, Contains}
+use Rattle.cedar_ext.specs.declared.language.Language.{Language}
 use Rattle.cedar_ast_expressions.specs.Keys.{AreDistinct}
 use Rattle.cedar_ast.specs.PolicySetTree.{PolicySetTree, no_policies}
 use Rattle.cedar_parser_tokens.specs.Faults.{LacksTokens}
@@ -13,30 +14,30 @@ use Rattle.cedar_parser_expressions.specs.Nesting.{IsDeep}
 use Rattle.cedar_parser_tokens.specs.declared.parse_fault.ParseFault.{ParseFault}
 use Rattle.cedar_parser_tokens.specs.declared.parse_fault.ParseFault.TheVariants as f
 
--- The tokens from ts up to us are statements within the limits, each with an id of its own, and this is the set of their
+-- The tokens from ts up to us are statements within the limits of a language, each with an id of its own, and this is the set of their
 -- policies and templates (Cedar language reference, grammar; policies).
-pub record ArePolicies (ts us : Marks) (set : PolicySetTree) : Type 0 where
+pub record ArePolicies (language : Language) (ts us : Marks) (set : PolicySetTree) : Type 0 where
   pub statements : List StatementTree
   pub reading : Statements (suc max_open) ts statements us
-  pub limits : All IsWithinLimits statements
+  pub limits : All (IsWithinLimits language) statements
   pub meaning : set ≡ entered_from no_policies 0 statements
   pub distinct : AreDistinct (ids_from 0 statements)
 
--- The text has tokens, and this is the set of its policies and templates (Cedar language reference, grammar; policies).
-pub record IsPolicyText (source : List ℕ) (set : PolicySetTree) : Type 0 where
+-- The text has tokens, and in the language this is the set of its policies and templates (Cedar language reference, grammar; policies).
+pub record IsPolicyText (language : Language) (source : List ℕ) (set : PolicySetTree) : Type 0 where
   pub tokens : Marks
   pub are_tokens : IsMarked source tokens
-  pub are_policies : ArePolicies tokens [] set
+  pub are_policies : ArePolicies language tokens [] set
 
 -- ---- refusals
 
 -- From ts on there are statements, the last of which breaks the side condition or the limit of the refusal (own).
-pub record BreaksLimit (ts : Marks) (fault : ParseFault) : Type 0 where
+pub record BreaksLimit (language : Language) (ts : Marks) (fault : ParseFault) : Type 0 where
   pub statements : List StatementTree
   pub last : StatementTree
   pub rest : Marks
   pub reading : Statements (suc max_open) ts (statements ++ last ∷ []) rest
-  pub broken : Breaks last fault
+  pub broken : Breaks language last fault
 
 -- From ts on there are statements, the last of which has the id of one before it. A statement whose annotation `id` denotes no
 -- string has no id (own).
@@ -50,17 +51,17 @@ pub record RepeatsId (ts : Marks) : Type 0 where
   pub repeated : Contains (written_ids_from 0 statements) (Some id)
 
 -- The tokens of a policy text have the fault of the refusal. Out of memory says nothing about them (own).
-abbrev pub TokensFault : Marks → ParseFault → Type 0
-TokensFault ts f.OutOfMemory = Unit {0}
-TokensFault ts (f.Text fault) = ⊥
-TokensFault ts (f.Syntax at) = (d : ℕ) (ss : List StatementTree) → Statements d ts ss [] → ⊥
-TokensFault ts (f.TooDeep at) = IsDeep max_open ts
-TokensFault ts (f.DuplicateId at) = RepeatsId ts
-TokensFault ts fault = BreaksLimit ts fault
+abbrev pub TokensFault : Language → Marks → ParseFault → Type 0
+TokensFault l ts f.OutOfMemory = Unit {0}
+TokensFault l ts (f.Text fault) = ⊥
+TokensFault l ts (f.Syntax at) = (d : ℕ) (ss : List StatementTree) → Statements d ts ss [] → ⊥
+TokensFault l ts (f.TooDeep at) = IsDeep max_open ts
+TokensFault l ts (f.DuplicateId at) = RepeatsId ts
+TokensFault l ts fault = BreaksLimit l ts fault
 
 -- A text is refused since it has no tokens, or since its tokens have the fault of the refusal. Out of memory says nothing about
 -- it (own).
-abbrev pub HasFault : List ℕ → ParseFault → Type 0
-HasFault source f.OutOfMemory = Unit {0}
-HasFault source (f.Text fault) = LacksTokens source fault
-HasFault source fault = (ts : Marks) × IsMarked source ts × TokensFault ts fault
+abbrev pub HasFault : Language → List ℕ → ParseFault → Type 0
+HasFault l source f.OutOfMemory = Unit {0}
+HasFault l source (f.Text fault) = LacksTokens source fault
+HasFault l source fault = (ts : Marks) × IsMarked source ts × TokensFault l ts fault

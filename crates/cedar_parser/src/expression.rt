@@ -9,9 +9,9 @@ ghost use Rattle.cedar_parser_tree.specs.Written as tree;
 ghost use Rattle.cedar_parser_tree.specs.Written.{chain, members_of};
 ghost use Rattle.cedar_parser_tree.specs.WrittenKind.{links_of, fields_of};
 ghost use Rattle.cedar_parser_limits.specs.Meaning.{to_expression, to_expressions, to_entries, related, linked, called, applied, method_of};
-ghost use Rattle.cedar_ext.specs.Extensions.{constructor_in};
-ghost use Rattle.cedar_ext.specs.declared.language.Language.TheVariants.{Profile};
-ghost use Rattle.cedar_parser_limits.specs.declared.functions.Method.TheVariants.{IsEmpty, Binary};
+ghost use Rattle.cedar_ext.specs.Extensions.{constructor_in, constructor_named};
+ghost use Rattle.cedar_ext.specs.declared.language.Language.TheVariants.{Cedar4};
+ghost use Rattle.cedar_parser_limits.specs.declared.functions.Method.TheVariants.{IsEmpty, Unary, Binary};
 ghost use Rattle.cedar_parser_tokens.specs.Content.{text_of};
 ghost use Rattle.cedar_parser_limits.specs.Limits.{Keeps, KeepMembers, KeepFields, arity_of};
 ghost use Rattle.cedar_parser_limits.specs.Private.Parts.{KeepLink, behind, pairs_of};
@@ -22,9 +22,8 @@ use crate::boxes::{
 };
 use crate::has::to_has;
 use cedar_ast_expressions::{
-    BinaryOperator, Expr, ExprKind, ExtensionType, RecordFault, UnaryOperator,
+    BinaryOperator, Expr, ExprKind, ExtensionType, RecordFault, UnaryMethod, UnaryOperator,
 };
-use cedar_ext::Language;
 use cedar_parser_limits::{Method, method_of};
 use cedar_parser_tokens::{Content, WrittenUid};
 use cedar_parser_tree::{ChainSign, Field, Link, RelationSign, Written, WrittenKind};
@@ -33,12 +32,12 @@ use std::alloc::{AllocError, Global};
 
 /// The expression that is written: the meaning of its form.
 pub fn to_expression(alloc: Global, written: &Written) -> Result<Expr, AllocError>
-    requires numbers { Keeps Numbers written.now }
-    requires keys { Keeps Keys written.now }
-    requires strings { Keeps Strings written.now }
-    requires names { Keeps Names written.now }
-    requires counts { Keeps Counts written.now }
-    requires slots { Keeps Slots written.now }
+    requires numbers { Keeps Cedar4 Numbers written.now }
+    requires keys { Keeps Cedar4 Keys written.now }
+    requires strings { Keeps Cedar4 Strings written.now }
+    requires names { Keeps Cedar4 Names written.now }
+    requires counts { Keeps Cedar4 Counts written.now }
+    requires slots { Keeps Cedar4 Slots written.now }
     ensures { IfOk result (λ e. e ≡ to_expression written.now) }
 {
     let expression = to_boxed(alloc, written)?;
@@ -49,7 +48,7 @@ pub fn to_expression(alloc: Global, written: &Written) -> Result<Expr, AllocErro
 // expression needs little of the call stack.
 #[cycle(expression)]
 fn to_boxed(alloc: Global, written: &Written) -> Result<Box<Expr>, AllocError>
-    requires { Every (λ c. Keeps c written.now) }
+    requires { Every (λ c. Keeps Cedar4 c written.now) }
     ensures { IfOk result (λ b. b.value ≡ to_expression written.now) }
 {
     match written.kind() {
@@ -111,7 +110,7 @@ fn to_unary(
     operator: UnaryOperator,
     operand: &Written,
 ) -> Result<Box<Expr>, AllocError>
-    requires { Every (λ c. Keeps c operand.now) }
+    requires { Every (λ c. Keeps Cedar4 c operand.now) }
     ensures { IfOk result (λ b. b.value ≡ unary operator (to_expression operand.now)) }
 {
     let operand = to_boxed(alloc, operand)?;
@@ -150,7 +149,7 @@ fn to_is_in(
     ty: &Name,
     right: &Written,
 ) -> Result<Box<Expr>, AllocError>
-    requires { Every (λ c. Keeps c (tree.is_in left.now ty.now right.now)) }
+    requires { Every (λ c. Keeps Cedar4 c (tree.is_in left.now ty.now right.now)) }
     ensures { IfOk result (λ b. b.value ≡ to_expression (tree.is_in left.now ty.now right.now)) }
 {
     let asked = make_is(alloc, to_boxed(alloc, left)?, ty)?;
@@ -181,7 +180,7 @@ fn to_if_else(
     if_true: &Written,
     if_false: &Written,
 ) -> Result<Box<Expr>, AllocError>
-    requires { Every (λ c. Keeps c (tree.choice condition.now if_true.now if_false.now)) }
+    requires { Every (λ c. Keeps Cedar4 c (tree.choice condition.now if_true.now if_false.now)) }
     ensures { IfOk result (λ b. b.value ≡ to_expression (tree.choice condition.now if_true.now if_false.now)) }
 {
     let condition = to_boxed(alloc, condition)?;
@@ -194,7 +193,7 @@ fn to_if_else(
 #[cycle(expression)]
 #[inline(never)]
 fn to_chain(alloc: Global, first: &Written, links: &[Link]) -> Result<Box<Expr>, AllocError>
-    requires { Every (λ c. Keeps c (chain first.now (links_of links.now))) }
+    requires { Every (λ c. Keeps Cedar4 c (chain first.now (links_of links.now))) }
     ensures { IfOk result (λ b. b.value ≡ to_expression (chain first.now (links_of links.now))) }
 {
     let mut left = to_boxed(alloc, first)?;
@@ -207,7 +206,7 @@ fn to_chain(alloc: Global, first: &Written, links: &[Link]) -> Result<Box<Expr>,
 // The expression to the left with the link after it.
 #[cycle(expression)]
 fn append_link(alloc: Global, left: Box<Expr>, link: &Link) -> Result<Box<Expr>, AllocError>
-    requires { Every (λ c. KeepLink c link.now) }
+    requires { Every (λ c. KeepLink Cedar4 c link.now) }
     ensures { IfOk result (λ b. b.value ≡ behind left.value link.now) }
 {
     match link {
@@ -237,7 +236,7 @@ fn attribute(alloc: Global, left: Box<Expr>, key: &Content) -> Result<Box<Expr>,
 #[cycle(expression)]
 #[inline(never)]
 fn to_expressions(alloc: Global, members: &[Written]) -> Result<Vec<Expr>, AllocError>
-    requires { Every (λ c. KeepMembers c (members_of members.now)) }
+    requires { Every (λ c. KeepMembers Cedar4 c (members_of members.now)) }
     ensures { IfOk result (λ v. expressions_of v.items ≡ to_expressions (members_of members.now)) }
 {
     let mut found = Vec::new(alloc);
@@ -251,7 +250,7 @@ fn to_expressions(alloc: Global, members: &[Written]) -> Result<Vec<Expr>, Alloc
 #[cycle(expression)]
 #[inline(never)]
 fn to_record(alloc: Global, fields: &[Field]) -> Result<Box<Expr>, AllocError>
-    requires { Every (λ c. Keeps c (tree.record_of (fields_of fields.now))) }
+    requires { Every (λ c. Keeps Cedar4 c (tree.record_of (fields_of fields.now))) }
     ensures { IfOk result (λ b. b.value ≡ to_expression (tree.record_of (fields_of fields.now))) }
 {
     let pairs = to_pairs(alloc, fields)?;
@@ -260,7 +259,7 @@ fn to_record(alloc: Global, fields: &[Field]) -> Result<Box<Expr>, AllocError>
 
 #[cycle(expression)]
 fn to_pairs(alloc: Global, fields: &[Field]) -> Result<Vec<(SharedText, Expr)>, AllocError>
-    requires { Every (λ c. KeepFields c (fields_of fields.now)) }
+    requires { Every (λ c. KeepFields Cedar4 c (fields_of fields.now)) }
     ensures { IfOk result (λ v. v.items ≡ pairs_of fields.now) }
 {
     let mut found = Vec::new(alloc);
@@ -285,6 +284,7 @@ fn method_call(
 {
     match method {
         Method::IsEmpty => is_empty_call(alloc, left, arguments),
+        Method::Unary(method) => unary_method_call(alloc, method, left, arguments),
         Method::Binary(operator) => binary_method_call(alloc, operator, left, arguments),
     }
 }
@@ -301,6 +301,21 @@ fn is_empty_call(
 {
     drop(arguments);
     unary(alloc, UnaryOperator::IsEmpty, left)
+}
+
+// A method of an extension type without arguments.
+#[tactic(auto, using(cedar_parser_limits::proofs::PartLemmas::alone_all))]
+fn unary_method_call(
+    alloc: Global,
+    method: UnaryMethod,
+    left: Box<Expr>,
+    arguments: Vec<Expr>,
+) -> Result<Box<Expr>, AllocError>
+    requires { length arguments.items ≡ 0 }
+    ensures { IfOk result (λ b. b.value ≡ applied (Some (Unary method)) left.value (expressions_of arguments.items)) }
+{
+    drop(arguments);
+    unary(alloc, UnaryOperator::Call(method), left)
 }
 
 // A method of one argument.
@@ -320,11 +335,11 @@ fn binary_method_call(
 // A function of one argument.
 #[inline(never)]
 fn function_call(alloc: Global, name: &str, arguments: Vec<Expr>) -> Result<Box<Expr>, AllocError>
-    requires known { IsSome (constructor_in Profile name.now) }
+    requires known { IsSome (constructor_in Cedar4 name.now) }
     requires argument { length arguments.items ≡ 1 }
-    ensures { IfOk result (λ b. b.value ≡ called (constructor_in Profile name.now) (expressions_of arguments.items)) }
+    ensures { IfOk result (λ b. b.value ≡ called (constructor_named name.now) (expressions_of arguments.items)) }
 {
-    let Some(ty) = ExtensionType::of_constructor_in(Language::Profile, name) else {
+    let Some(ty) = ExtensionType::of_constructor(name) else {
         unreachable!()
     };
     let argument = sole_argument(alloc, arguments)?;

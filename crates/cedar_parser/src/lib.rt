@@ -19,4 +19,4 @@ mod parser;
 mod policy;
 
 pub use cedar_parser_tokens::{ParseFault, read_uid};
-pub use parser::{earlier_texts, one_policy_set, parse};
+pub use parser::{earlier_texts, one_policy_set, parse, parse_in, texts_of_each_language};

@@ -2,6 +2,7 @@
 ghost use Rattle.std.specs.Prelude.{◌≡◌, ◌++◌, ◌∷◌, [], false, IfOk, OnOk, map, option_map};
 ghost use Rattle.std.specs.Option.{ForSome};
 ghost use Rattle.cedar_ast.specs.Scope.{entity_in};
+ghost use Rattle.cedar_ext.specs.declared.language.Language.TheVariants.{Cedar4};
 ghost use Rattle.cedar_parser_limits.specs.declared.side_condition.SideCondition.TheVariants.{Strings, Numbers, Keys, Names, Counts, Slots};
 ghost use Rattle.cedar_parser_tokens.specs.Content.{text_of};
 ghost use Rattle.cedar_parser_tokens.specs.Names.{to_uid};
@@ -29,12 +30,12 @@ pub fn to_statement(
     id: Text,
     statement: WrittenStatement,
 ) -> Result<Statement, AllocError>
-    requires numbers { KeepConditions Numbers statement.conditions }
-    requires keys { KeepConditions Keys statement.conditions }
-    requires strings { KeepConditions Strings statement.conditions }
-    requires names { KeepConditions Names statement.conditions }
-    requires counts { KeepConditions Counts statement.conditions }
-    requires slots { KeepConditions Slots statement.conditions }
+    requires numbers { KeepConditions Cedar4 Numbers statement.conditions }
+    requires keys { KeepConditions Cedar4 Keys statement.conditions }
+    requires strings { KeepConditions Cedar4 Strings statement.conditions }
+    requires names { KeepConditions Cedar4 Names statement.conditions }
+    requires counts { KeepConditions Cedar4 Counts statement.conditions }
+    requires slots { KeepConditions Cedar4 Slots statement.conditions }
     ensures { IfOk result (λ s. s ≡ to_statement id statement) }
 {
     let is_template = has_slot(&statement.scope);
@@ -167,7 +168,7 @@ fn to_annotation(alloc: Global, annotation: WrittenAnnotation) -> Annotation
 }
 
 fn to_conditions(alloc: Global, written: &[WrittenCondition]) -> Result<Conditions, AllocError>
-    requires { Every (λ c. KeepConditions c written.now) }
+    requires { Every (λ c. KeepConditions Cedar4 c written.now) }
     ensures { IfOk result (λ v. v ≡ map to_condition written.now) }
 {
     let mut found = Vec::with_capacity(alloc, written.len())?;

@@ -3,6 +3,7 @@ use Rattle.std.proofs.Common.{◌≡◌, sym, ap, subst, ◌<◌, ◌≤◌, Lis
 use Rattle.std.specs.Prelude.{OnOk, IfErr}
 use Rattle.cedar_parser_tokens.specs.declared.parse_fault.ParseFault.{ParseFault}
 use Rattle.cedar_parser_tokens.specs.declared.parse_fault.ParseFault.TheVariants as f
+use Rattle.cedar_ext.specs.declared.language.Language.{Language}
 use Rattle.cedar_ast_expressions.specs.Keys.{AreDistinct}
 use Rattle.cedar_parser_tree.specs.declared.written_statement.WrittenAnnotation.{WrittenAnnotation}
 use Rattle.cedar_parser_limits.specs.Private.Judging.{BreaksSize, Judges, IsLeft, IsOfCondition, condition_of}
@@ -45,12 +46,12 @@ high_from r s e lt = let h = ap (λ (z : Size). z.height) e in omega arith
 large_from : (r s : Size) → r ≡ capped s → 100000 < r.nodes → 100000 < s.nodes
 large_from r s e lt = let h = ap (λ (z : Size). z.nodes) e in omega arith
 
-broken_by : (z : Size) (s : StatementTree) → z ≡ capped (condition_size s) → (x : ParseFault) → BreaksSize z x → Breaks s x
-broken_by z s e (f.TooHigh at) h = high_from z (condition_size s) e h
-broken_by z s e (f.TooLarge at) h = large_from z (condition_size s) e h
-broken_by z s e f.OutOfMemory h = tt
-broken_by z s e _ h = absurd h
+broken_by : (l : Language) (z : Size) (s : StatementTree) → z ≡ capped (condition_size s) → (x : ParseFault) → BreaksSize z x → Breaks l s x
+broken_by l z s e (f.TooHigh at) h = high_from z (condition_size s) e h
+broken_by l z s e (f.TooLarge at) h = large_from z (condition_size s) e h
+broken_by l z s e f.OutOfMemory h = tt
+broken_by l z s e _ h = absurd h
 
-pub broken_of : (r : Result (Unit {0}) ParseFault) (z : Size) (s : StatementTree) → z ≡ capped (condition_size s) → IfErr r (BreaksSize z) → IfErr r (Breaks s)
-broken_of (Ok u) z s e h = tt
-broken_of (Err x) z s e h = broken_by z s e x h
+pub broken_of : (l : Language) (r : Result (Unit {0}) ParseFault) (z : Size) (s : StatementTree) → z ≡ capped (condition_size s) → IfErr r (BreaksSize z) → IfErr r (Breaks l s)
+broken_of l (Ok u) z s e h = tt
+broken_of l (Err x) z s e h = broken_by l z s e x h

@@ -1,3 +1,4 @@
 pub mod PartLemmas
 pub mod JudgeLemmas
 pub mod AskedLemmas
+pub mod Widening

@@ -5,8 +5,9 @@ use Rattle.std.proofs.lemmas.List.{take_all}
 use Rattle.cedar_value.specs.Datum.{boolean}
 use Rattle.cedar_ast_expressions.specs.Keys.{keys_of}
 use Rattle.cedar_ext.specs.declared.extension.ExtensionType.{ExtensionType}
+use Rattle.cedar_ext.specs.declared.unary_method.UnaryMethod.{UnaryMethod}
 use Rattle.cedar_ast_expressions.specs.declared.operator.UnaryOperator.TheVariants as operator
-use Rattle.cedar_parser_limits.specs.declared.functions.Method.TheVariants.{IsEmpty, Binary}
+use Rattle.cedar_parser_limits.specs.declared.functions.Method.TheVariants.{IsEmpty, Unary, Binary}
 use Rattle.cedar_ast_expressions.specs.declared.operator.BinaryOperator.{BinaryOperator}
 use Rattle.cedar_parser_limits.specs.declared.size.Size.{Size}
 use Rattle.cedar_parser_limits.specs.Private.Capped.{capped}
@@ -14,6 +15,7 @@ use Rattle.cedar_ast.specs.Condition.{entity_literal}
 use Rattle.cedar_parser_tokens.specs.declared.content.WrittenUid.{WrittenUid}
 use Rattle.cedar_ast_expressions.specs.Expression as e
 use Rattle.cedar_ast_expressions.specs.Expression.{Expression, entries_of}
+use Rattle.cedar_ext.specs.declared.language.Language.{Language}
 use Rattle.cedar_parser_limits.specs.declared.side_condition.SideCondition.{SideCondition}
 use Rattle.cedar_parser_limits.specs.declared.side_condition.SideCondition.TheVariants.{Strings}
 use Rattle.cedar_parser_tree.specs.declared.written.Field.{Field}
@@ -76,20 +78,20 @@ field_lighter xs i x lt e = subst (λ (y : Field). suc (parts y.value) ≤ field
 
 -- ---- what they keep
 
-links_split : (c : SideCondition) (l : Link) (ls : List Link) → KeepLinks c (links_of (l ∷ ls)) → KeepLink c l × KeepLinks c (links_of ls)
-links_split c (Operand s a) ls h = (h.0, h.1)
-links_split c (Attribute k) ls h = (h.0, h.1)
-links_split c (Method n ms) ls h = (h.0, h.1)
+links_split : (l : Language) (c : SideCondition) (k : Link) (ls : List Link) → KeepLinks l c (links_of (k ∷ ls)) → KeepLink l c k × KeepLinks l c (links_of ls)
+links_split l c (Operand s a) ls h = (h.0, h.1)
+links_split l c (Attribute k) ls h = (h.0, h.1)
+links_split l c (Method n ms) ls h = (h.0, h.1)
 
 -- what the parts from a place on keep, and the part there with those after
-pub links_here : (c : SideCondition) (ls : List Link) (i : ℕ) (x : Link) → i < length ls → x ≡ get_or ls i x → KeepLinks c (links_of (drop i ls)) → KeepLink c x × KeepLinks c (links_of (drop (i + 1) ls))
-links_here c ls i x lt e h = links_split c x (drop (i + 1) ls) (subst (λ (ys : List Link). KeepLinks c (links_of ys)) (from_place ls i x lt e) h)
+pub links_here : (l : Language) (c : SideCondition) (ls : List Link) (i : ℕ) (x : Link) → i < length ls → x ≡ get_or ls i x → KeepLinks l c (links_of (drop i ls)) → KeepLink l c x × KeepLinks l c (links_of (drop (i + 1) ls))
+links_here l c ls i x lt e h = links_split l c x (drop (i + 1) ls) (subst (λ (ys : List Link). KeepLinks l c (links_of ys)) (from_place ls i x lt e) h)
 
-pub members_here : (c : SideCondition) (xs : List Written) (i : ℕ) (x : Written) → i < length xs → x ≡ get_or xs i x → KeepMembers c (members_of (drop i xs)) → Keeps c x × KeepMembers c (members_of (drop (i + 1) xs))
-members_here c xs i x lt e h = subst (λ (ys : List Written). KeepMembers c (members_of ys)) (from_place xs i x lt e) h
+pub members_here : (l : Language) (c : SideCondition) (xs : List Written) (i : ℕ) (x : Written) → i < length xs → x ≡ get_or xs i x → KeepMembers l c (members_of (drop i xs)) → Keeps l c x × KeepMembers l c (members_of (drop (i + 1) xs))
+members_here l c xs i x lt e h = subst (λ (ys : List Written). KeepMembers l c (members_of ys)) (from_place xs i x lt e) h
 
-pub fields_here : (c : SideCondition) (xs : List Field) (i : ℕ) (x : Field) → i < length xs → x ≡ get_or xs i x → KeepFields c (fields_of (drop i xs)) → KeepField c x × KeepFields c (fields_of (drop (i + 1) xs))
-fields_here c xs i x lt e h = subst (λ (ys : List Field). KeepFields c (fields_of ys)) (from_place xs i x lt e) h
+pub fields_here : (l : Language) (c : SideCondition) (xs : List Field) (i : ℕ) (x : Field) → i < length xs → x ≡ get_or xs i x → KeepFields l c (fields_of (drop i xs)) → KeepField l c x × KeepFields l c (fields_of (drop (i + 1) xs))
+fields_here l c xs i x lt e h = subst (λ (ys : List Field). KeepFields l c (fields_of ys)) (from_place xs i x lt e) h
 
 -- ---- what they make
 
@@ -118,9 +120,9 @@ keys_one : (key : Content) (a : Written) (fs : Fields) → IsSome key → keys_i
 keys_one (Some k) a fs h = refl
 keys_one None a fs h = absurd cc
 
-pub keys_of_pairs : (fs : List Field) → KeepFields Strings (fields_of fs) → keys_of (pairs_of fs) ≡ keys_in (fields_of fs)
-keys_of_pairs [] h = refl
-keys_of_pairs (f ∷ fs) h = ap (λ ks. text_of f.key ∷ ks) (keys_of_pairs fs h.1) ∙ sym (keys_one f.key f.value (fields_of fs) h.0.0)
+pub keys_of_pairs : (l : Language) (fs : List Field) → KeepFields l Strings (fields_of fs) → keys_of (pairs_of fs) ≡ keys_in (fields_of fs)
+keys_of_pairs l [] h = refl
+keys_of_pairs l (f ∷ fs) h = ap (λ ks. text_of f.key ∷ ks) (keys_of_pairs l fs h.1) ∙ sym (keys_one f.key f.value (fields_of fs) h.0.0)
 
 pub entries_of_pairs : (fs : List Field) → entries_of (pairs_of fs) ≡ to_entries (fields_of fs)
 entries_of_pairs [] = refl
@@ -154,6 +156,10 @@ pub applied_some : (a : Expression) (xs : List Written) → (length xs ≡ 0 →
 applied_some a [] n = absurd (n refl)
 applied_some a (x ∷ xs) n = refl
 
+pub applied_alone : (m : UnaryMethod) (a : Expression) (xs : List Written) → (length xs ≡ 0 → ⊥) → applied (Some (Unary m)) a (to_expressions (members_of xs)) ≡ a
+applied_alone m a [] n = absurd (n refl)
+applied_alone m a (x ∷ xs) n = refl
+
 pub called_other : (o : Option ExtensionType) (xs : List Written) → (length xs ≡ 1 → ⊥) → called o (to_expressions (members_of xs)) ≡ e.literal (boolean false)
 called_other None xs n = refl
 called_other (Some op) [] n = refl
@@ -163,6 +169,10 @@ called_other (Some op) (x ∷ y ∷ xs) n = refl
 pub empty_all : (a : Expression) (xs : List Expression) → length xs ≡ 0 → applied (Some IsEmpty) a (e.expressions_of xs) ≡ e.unary operator.IsEmpty a
 empty_all a [] n = refl
 empty_all a (x ∷ xs) n = absurd (omega arith)
+
+pub alone_all : (m : UnaryMethod) (a : Expression) (xs : List Expression) → length xs ≡ 0 → applied (Some (Unary m)) a (e.expressions_of xs) ≡ e.unary (operator.Call m) a
+alone_all m a [] n = refl
+alone_all m a (x ∷ xs) n = absurd (omega arith)
 
 -- ---- sizes
 

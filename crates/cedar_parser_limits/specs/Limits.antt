@@ -1,17 +1,21 @@
 -- What an expression must keep beside the grammar: side conditions, and the limits of a condition (own).
-use Rattle.std.specs.Prelude.{ℕ, suc, ◌+◌, ◌<◌, ◌≤◌, ◌^◌, ◌≡◌, max, List, [], ◌∷◌, Option, Some, None, IsSome, option_map}
+use Rattle.std.specs.Prelude.{ℕ, Bool, true, suc, ◌+◌, ◌<◌, ◌≤◌, ◌^◌, ◌≡◌, max, List, [], ◌∷◌, Option, Some, None, IsSome, option_map, if◌then◌else◌}
 use Rattle.cedar_ast_expressions.specs.Expression as e
 use Rattle.cedar_ast_expressions.specs.Expression.{Expression, Expressions, Entries}
 use Rattle.cedar_ast_expressions.specs.Keys.{AreDistinct}
 use Rattle.cedar_parser_limits.specs.declared.side_condition.SideCondition.{SideCondition}
 use Rattle.cedar_parser_limits.specs.declared.side_condition.SideCondition.TheVariants.{Strings, Numbers, Keys, Names, Counts, Slots}
 use Rattle.cedar_parser_limits.specs.declared.functions.Method.{Method}
-use Rattle.cedar_parser_limits.specs.declared.functions.Method.TheVariants.{IsEmpty, Binary}
+use Rattle.cedar_parser_limits.specs.declared.functions.Method.TheVariants.{IsEmpty, Unary, Binary}
+use Rattle.cedar_ast_expressions.specs.declared.operator.BinaryOperator.{BinaryOperator}
+use Rattle.cedar_ast_expressions.specs.declared.operator.BinaryOperator.TheVariants.{Call}
 use Rattle.cedar_parser_limits.specs.declared.size.Size.{Size}
 use Rattle.cedar_parser_tokens.specs.Content.{Content}
 use Rattle.cedar_parser_tree.specs.Written.{Written, number, negative, text, entity, slot, group, not, negated, relation, has, like, is, is_in, chain, choice, set, record_of, call, Links, no_links, operand, attribute, method, Members, no_members, member, Fields, no_fields, field}
-use Rattle.cedar_ext.specs.Extensions.{constructor_in}
-use Rattle.cedar_ext.specs.declared.language.Language.TheVariants.{Profile}
+use Rattle.cedar_ext.specs.Extensions.{constructor_in, constructor_named}
+use Rattle.cedar_ext.specs.Methods.{has_method}
+use Rattle.cedar_ext.specs.UnaryMethods.{has_unary}
+use Rattle.cedar_ext.specs.declared.language.Language.{Language}
 use Rattle.cedar_parser_limits.specs.Meaning.{method_of}
 
 -- ---- side conditions
@@ -31,6 +35,27 @@ abbrev pub FitsNegative : SideCondition → ℕ → Type 0
 FitsNegative Numbers n = n ≤ 2 ^ 63
 FitsNegative _ n = Unit {0}
 
+-- Whether a language has an operator: it has each that is not a method of an extension type (Cedar language reference,
+-- functions).
+abbrev pub has_operator : Language → BinaryOperator → Bool
+has_operator l (Call named) = has_method l named
+has_operator l _ = true
+
+-- Whether a language has a method (Cedar language reference, functions).
+abbrev pub has_meaning : Language → Method → Bool
+has_meaning l IsEmpty = true
+has_meaning l (Unary named) = has_unary l named
+has_meaning l (Binary op) = has_operator l op
+
+-- The method, if the language has it (own).
+abbrev pub only_in : Language → Option Method → Option Method
+only_in l None = None
+only_in l (Some m) = if has_meaning l m then Some m else None
+
+-- The method of this name in a language (Cedar language reference, functions).
+abbrev pub method_in : Language → List ℕ → Option Method
+method_in l name = only_in l (method_of name)
+
 -- There is a function or a method of the name (Cedar language reference, functions).
 abbrev pub IsKnown : {A : Type 0} → SideCondition → Option A → Type 0
 IsKnown Names o = IsSome o
@@ -41,14 +66,15 @@ abbrev pub count_of : Members → ℕ
 count_of no_members = 0
 count_of (member a ms) = suc (count_of ms)
 
--- How many arguments a method takes: `isEmpty` none, all others one (Cedar language reference, functions).
+-- How many arguments a method takes (Cedar language reference, functions).
 abbrev pub arity_of : Method → ℕ
 arity_of IsEmpty = 0
+arity_of (Unary named) = 0
 arity_of (Binary op) = 1
 
 -- How many arguments the function of a name takes, if there is such a function (Cedar language reference, functions).
 abbrev pub function_arity : List ℕ → Option ℕ
-function_arity name = option_map (λ ty. 1) (constructor_in Profile name)
+function_arity name = option_map (λ ty. 1) (constructor_named name)
 
 -- How many arguments the method of a name takes, if there is such a method (Cedar language reference, functions).
 abbrev pub method_arity : List ℕ → Option ℕ
@@ -77,44 +103,44 @@ HasNoSlot Slots = ⊥
 HasNoSlot _ = Unit {0}
 
 abbrev mutual
-  -- An expression keeps a side condition where each part of it does (own).
-  pub Keeps : SideCondition → Written → Type 0
-  Keeps c (number n) = Fits c n
-  Keeps c (negative n) = FitsNegative c n
-  Keeps c (text s) = Stands c s
-  Keeps c (entity u) = Stands c u.id
-  Keeps c (slot x) = HasNoSlot c
-  Keeps c (group a) = Keeps c a
-  Keeps c (not a) = Keeps c a
-  Keeps c (negated a) = Keeps c a
-  Keeps c (relation sign a b) = Keeps c a × Keeps c b
-  Keeps c (has a s more) = Keeps c a × Stands c s
-  Keeps c (like a p) = Keeps c a
-  Keeps c (is a ty) = Keeps c a
-  Keeps c (is_in a ty b) = Keeps c a × Keeps c b
-  Keeps c (chain a ls) = Keeps c a × KeepLinks c ls
-  Keeps c (choice q a b) = Keeps c q × Keeps c a × Keeps c b
-  Keeps c (set ms) = KeepMembers c ms
-  Keeps c (record_of fs) = HasDistinctKeys c fs × KeepFields c fs
-  Keeps c (call name ms) = IsKnown c (constructor_in Profile name) × HasArity c (function_arity name) ms × KeepMembers c ms
-  Keeps c _ = Unit {0}
+  -- An expression keeps a side condition of a language where each part of it does (own).
+  pub Keeps : Language → SideCondition → Written → Type 0
+  Keeps l c (number n) = Fits c n
+  Keeps l c (negative n) = FitsNegative c n
+  Keeps l c (text s) = Stands c s
+  Keeps l c (entity u) = Stands c u.id
+  Keeps l c (slot x) = HasNoSlot c
+  Keeps l c (group a) = Keeps l c a
+  Keeps l c (not a) = Keeps l c a
+  Keeps l c (negated a) = Keeps l c a
+  Keeps l c (relation sign a b) = Keeps l c a × Keeps l c b
+  Keeps l c (has a s more) = Keeps l c a × Stands c s
+  Keeps l c (like a p) = Keeps l c a
+  Keeps l c (is a ty) = Keeps l c a
+  Keeps l c (is_in a ty b) = Keeps l c a × Keeps l c b
+  Keeps l c (chain a ls) = Keeps l c a × KeepLinks l c ls
+  Keeps l c (choice q a b) = Keeps l c q × Keeps l c a × Keeps l c b
+  Keeps l c (set ms) = KeepMembers l c ms
+  Keeps l c (record_of fs) = HasDistinctKeys c fs × KeepFields l c fs
+  Keeps l c (call name ms) = IsKnown c (constructor_in l name) × HasArity c (function_arity name) ms × KeepMembers l c ms
+  Keeps l c _ = Unit {0}
 
   -- The links of a chain keep a side condition where each of them does (own).
-  pub KeepLinks : SideCondition → Links → Type 0
-  KeepLinks c no_links = Unit {0}
-  KeepLinks c (operand sign a ls) = Keeps c a × KeepLinks c ls
-  KeepLinks c (attribute s ls) = Stands c s × KeepLinks c ls
-  KeepLinks c (method name ms ls) = (IsKnown c (method_of name) × HasArity c (method_arity name) ms × KeepMembers c ms) × KeepLinks c ls
+  pub KeepLinks : Language → SideCondition → Links → Type 0
+  KeepLinks l c no_links = Unit {0}
+  KeepLinks l c (operand sign a ls) = Keeps l c a × KeepLinks l c ls
+  KeepLinks l c (attribute s ls) = Stands c s × KeepLinks l c ls
+  KeepLinks l c (method name ms ls) = (IsKnown c (method_in l name) × HasArity c (method_arity name) ms × KeepMembers l c ms) × KeepLinks l c ls
 
   -- Members or arguments keep a side condition where each of them does (own).
-  pub KeepMembers : SideCondition → Members → Type 0
-  KeepMembers c no_members = Unit {0}
-  KeepMembers c (member a ms) = Keeps c a × KeepMembers c ms
+  pub KeepMembers : Language → SideCondition → Members → Type 0
+  KeepMembers l c no_members = Unit {0}
+  KeepMembers l c (member a ms) = Keeps l c a × KeepMembers l c ms
 
   -- The entries of a record keep a side condition where each key and each value does (own).
-  pub KeepFields : SideCondition → Fields → Type 0
-  KeepFields c no_fields = Unit {0}
-  KeepFields c (field key a fs) = (Stands c key × Keeps c a) × KeepFields c fs
+  pub KeepFields : Language → SideCondition → Fields → Type 0
+  KeepFields l c no_fields = Unit {0}
+  KeepFields l c (field key a fs) = (Stands c key × Keeps l c a) × KeepFields l c fs
 
 -- ---- sizes
 

@@ -3,11 +3,12 @@ use Rattle.std.specs.Prelude.{false, ℕ, Bool, pos, neg_ℤ, List, [], ◌∷�
 use Rattle.std.specs.Str.{bytes_eq}
 use Rattle.cedar_ext.specs.declared.extension.ExtensionType.{ExtensionType}
 use Rattle.cedar_ext.specs.declared.method.BinaryMethod.{BinaryMethod}
-use Rattle.cedar_ext.specs.Extensions.{constructor_in}
-use Rattle.cedar_ext.specs.declared.language.Language.TheVariants.{Profile}
-use Rattle.cedar_ext.specs.Methods.{has_method, method_named}
+use Rattle.cedar_ext.specs.declared.unary_method.UnaryMethod.{UnaryMethod}
+use Rattle.cedar_ext.specs.Extensions.{constructor_named}
+use Rattle.cedar_ext.specs.Methods.{method_named}
+use Rattle.cedar_ext.specs.UnaryMethods.{unary_named}
 use Rattle.cedar_value.specs.Datum as datum
-use Rattle.cedar_ast_expressions.specs.declared.operator.UnaryOperator.TheVariants.{Not, Negate, Has, Get, Like, Is, Construct, IsEmpty}
+use Rattle.cedar_ast_expressions.specs.declared.operator.UnaryOperator.TheVariants.{Not, Negate, Has, Get, Like, Is, Construct, IsEmpty, Call}
 use Rattle.cedar_ast_expressions.specs.declared.operator.BinaryOperator.TheVariants as operator
 use Rattle.cedar_ast_expressions.specs.Expression as e
 use Rattle.cedar_ast_expressions.specs.Expression.{Expression, Expressions, Entries}
@@ -39,15 +40,12 @@ related relation_sign.Equal a b = e.binary operator.Equal a b
 related relation_sign.NotEqual a b = e.unary Not (e.binary operator.Equal a b)
 related relation_sign.In a b = e.binary operator.In a b
 
--- The method, if the profile has it (own).
-abbrev pub in_profile : Option BinaryMethod → Option BinaryMethod
-in_profile None = None
-in_profile (Some named) = if has_method Profile named then Some named else None
-
--- The method of an extension type, where there is one; else `isEmpty`, where that is the name (Cedar language reference, functions).
-abbrev pub method_or_empty : (is_empty : Bool) → Option BinaryMethod → Option Method
-method_or_empty is_empty (Some named) = Some (m.Binary (operator.Call named))
-method_or_empty is_empty None = if is_empty then Some m.IsEmpty else None
+-- A method of an extension type that takes one argument, where there is one; else one that takes none, where there is one; else
+-- `isEmpty`, where that is the name (Cedar language reference, functions).
+abbrev pub method_or_empty : (is_empty : Bool) → Option UnaryMethod → Option BinaryMethod → Option Method
+method_or_empty is_empty alone (Some named) = Some (m.Binary (operator.Call named))
+method_or_empty is_empty (Some named) None = Some (m.Unary named)
+method_or_empty is_empty None None = if is_empty then Some m.IsEmpty else None
 
 -- What the method of this name does (Cedar language reference, functions).
 abbrev pub method_of : List ℕ → Option Method
@@ -55,7 +53,7 @@ method_of name =
     if bytes_eq name (codes "contains") then Some (m.Binary operator.Contains)
     else (if bytes_eq name (codes "containsAll") then Some (m.Binary operator.ContainsAll)
     else (if bytes_eq name (codes "containsAny") then Some (m.Binary operator.ContainsAny)
-    else method_or_empty (bytes_eq name (codes "isEmpty")) (in_profile (method_named name))))
+    else method_or_empty (bytes_eq name (codes "isEmpty")) (unary_named name) (method_named name)))
 
 -- The call of a function of one argument. A call of an unknown function or with other arguments is refused, and this is not its
 -- meaning (Cedar language reference, functions).
@@ -68,6 +66,7 @@ called _ _ = e.literal (datum.boolean false)
 abbrev pub applied : Option Method → Expression → Expressions → Expression
 applied (Some (m.Binary op)) left (e.and_then a e.no_more) = e.binary op left a
 applied (Some m.IsEmpty) left e.no_more = e.unary IsEmpty left
+applied (Some (m.Unary named)) left e.no_more = e.unary (Call named) left
 applied _ left _ = left
 
 -- The tests so far and then, for each further attribute, whether the place so far has it; the next place is that attribute
@@ -103,7 +102,7 @@ abbrev mutual
   to_expression (choice c a b) = e.if_else (to_expression c) (to_expression a) (to_expression b)
   to_expression (set ms) = e.set_with (to_expressions ms)
   to_expression (record_of fs) = e.record_with (to_entries fs)
-  to_expression (call name ms) = called (constructor_in Profile name) (to_expressions ms)
+  to_expression (call name ms) = called (constructor_named name) (to_expressions ms)
 
   -- The expression to the left with each link after it, from left to right (Cedar language reference, operators).
   pub grouped : Expression → Links → Expression

@@ -7,6 +7,7 @@ use Rattle.cedar_ast_expressions.specs.declared.variable.Variable.{Variable}
 use Rattle.cedar_ast_expressions.specs.declared.variable.Variable.TheVariants.{Principal, Resource}
 use Rattle.cedar_parser_tokens.specs.declared.parse_fault.ParseFault.{ParseFault}
 use Rattle.cedar_parser_tokens.specs.declared.parse_fault.ParseFault.TheVariants as f
+use Rattle.cedar_ext.specs.declared.language.Language.{Language}
 use Rattle.cedar_parser_limits.specs.declared.side_condition.SideCondition.{SideCondition}
 use Rattle.cedar_parser_limits.specs.declared.side_condition.SideCondition.TheVariants.{Strings, Numbers, Keys, Names, Counts, Slots, Annotations}
 use Rattle.cedar_parser_limits.specs.declared.size.Size.{Size}
@@ -59,39 +60,39 @@ abbrev pub KeepAnnotations : SideCondition → List WrittenAnnotation → Type 0
 KeepAnnotations c = AllByRecursion (λ a. Stands c a.value)
 
 -- The conditions of a statement keep a side condition where the expression of each does (own).
-abbrev pub KeepConditions : SideCondition → List WrittenCondition → Type 0
-KeepConditions c = AllByRecursion (λ q. Keeps c q.body)
+abbrev pub KeepConditions : Language → SideCondition → List WrittenCondition → Type 0
+KeepConditions l c = AllByRecursion (λ q. Keeps l c q.body)
 
--- A statement keeps a side condition where its annotations, its scope and its conditions do (own).
-pub record KeepsStatement (c : SideCondition) (s : StatementTree) : Type 0 where
+-- A statement keeps a side condition of a language where its annotations, its scope and its conditions do (own).
+pub record KeepsStatement (language : Language) (c : SideCondition) (s : StatementTree) : Type 0 where
   pub names : HasDistinctNames c s.annotations
   pub annotations : KeepAnnotations c s.annotations
   pub principal : KeepsEntityScope c Principal s.scope.principal
   pub action : KeepsActionScope c s.scope.action
   pub resource : KeepsEntityScope c Resource s.scope.resource
-  pub conditions : KeepConditions c s.conditions
+  pub conditions : KeepConditions language c s.conditions
 
 -- The size of the condition of the policy that a statement writes: of its scope and all of its conditions as one expression
 -- (own).
 unfoldable pub condition_size : StatementTree → Size
 condition_size s = size_of (condition_of (to_policy [] s))
 
--- A statement is within the limits: it keeps each side condition, and its condition is neither too high nor too large (own).
-pub record IsWithinLimits (s : StatementTree) : Type 0 where
-  pub keeps : (c : SideCondition) → KeepsStatement c s
+-- A statement is within the limits of a language: it keeps each side condition, and its condition is neither too high nor too large (own).
+pub record IsWithinLimits (language : Language) (s : StatementTree) : Type 0 where
+  pub keeps : (c : SideCondition) → KeepsStatement language c s
   pub low : (condition_size s).height ≤ max_height
   pub small : (condition_size s).nodes ≤ max_nodes
 
 -- A refused statement breaks the side condition or the limit of its refusal. Out of memory says nothing about it (own).
-abbrev pub Breaks : StatementTree → ParseFault → Type 0
-Breaks s f.OutOfMemory = Unit {0}
-Breaks s (f.EscapedStar at) = KeepsStatement Strings s → ⊥
-Breaks s (f.NumberTooLarge at) = KeepsStatement Numbers s → ⊥
-Breaks s (f.DuplicateKey at) = KeepsStatement Keys s → ⊥
-Breaks s (f.UnknownFunction at) = KeepsStatement Names s → ⊥
-Breaks s (f.Arity at) = KeepsStatement Counts s → ⊥
-Breaks s (f.SlotMisplaced at) = KeepsStatement Slots s → ⊥
-Breaks s (f.DuplicateAnnotation at) = KeepsStatement Annotations s → ⊥
-Breaks s (f.TooHigh at) = max_height < (condition_size s).height
-Breaks s (f.TooLarge at) = max_nodes < (condition_size s).nodes
-Breaks s _ = ⊥
+abbrev pub Breaks : Language → StatementTree → ParseFault → Type 0
+Breaks l s f.OutOfMemory = Unit {0}
+Breaks l s (f.EscapedStar at) = KeepsStatement l Strings s → ⊥
+Breaks l s (f.NumberTooLarge at) = KeepsStatement l Numbers s → ⊥
+Breaks l s (f.DuplicateKey at) = KeepsStatement l Keys s → ⊥
+Breaks l s (f.UnknownFunction at) = KeepsStatement l Names s → ⊥
+Breaks l s (f.Arity at) = KeepsStatement l Counts s → ⊥
+Breaks l s (f.SlotMisplaced at) = KeepsStatement l Slots s → ⊥
+Breaks l s (f.DuplicateAnnotation at) = KeepsStatement l Annotations s → ⊥
+Breaks l s (f.TooHigh at) = max_height < (condition_size s).height
+Breaks l s (f.TooLarge at) = max_nodes < (condition_size s).nodes
+Breaks l s _ = ⊥

@@ -3,14 +3,12 @@ ghost use Rattle.std.specs.Prelude.{◌≡◌, ◌≤◌, IfOk, length, map};
 ghost use Rattle.cedar_parser_tree.specs.Written.{members_of};
 ghost use Rattle.cedar_parser_tree.specs.WrittenKind.{links_of, fields_of};
 ghost use Rattle.cedar_ext.specs.Extensions.{constructor_in};
-ghost use Rattle.cedar_ext.specs.declared.language.Language.TheVariants.{Profile};
-ghost use Rattle.cedar_parser_limits.specs.Meaning.{method_of};
-ghost use Rattle.cedar_parser_limits.specs.Limits.{Stands, Fits, FitsNegative, IsKnown, HasArity, HasDistinctKeys, HasNoSlot, Keeps, KeepLinks, KeepMembers, KeepFields, keys_in};
+ghost use Rattle.cedar_parser_limits.specs.Limits.{Stands, Fits, FitsNegative, IsKnown, HasArity, HasDistinctKeys, HasNoSlot, Keeps, KeepLinks, KeepMembers, KeepFields, keys_in, method_in};
 ghost use Rattle.cedar_parser_limits.specs.Private.Judging.{Judges};
 ghost use Rattle.cedar_parser_limits.specs.Private.Parts.{KeepLink, KeepField};
 
 use crate::breach::Breach;
-use crate::functions::{function_arity, is_function, method_arity, method_of};
+use crate::functions::{function_arity, is_function_in, method_arity, method_in};
 use crate::side_condition::SideCondition;
 use crate::sought::Sought;
 use cedar_ast_expressions::first_repeated;
@@ -22,7 +20,7 @@ use std::alloc::{AllocError, Global};
 /// Refuses an expression that breaks a side condition which is sought.
 #[cycle(judgement)]
 pub fn judge_expression(alloc: Global, sought: Sought, written: &Written) -> Result<(), Breach>
-    ensures { Judges sought (λ c. Keeps c written.now) result }
+    ensures { Judges sought (λ c. Keeps sought.language c written.now) result }
 {
     match written.kind() {
         WrittenKind::Truth(_) => Ok(()),
@@ -74,7 +72,7 @@ fn judge_pair(
     first: &Written,
     second: &Written,
 ) -> Result<(), Breach>
-    ensures { Judges sought (λ c. Keeps c first.now × Keeps c second.now) result }
+    ensures { Judges sought (λ c. Keeps sought.language c first.now × Keeps sought.language c second.now) result }
 {
     judge_expression(alloc, sought, first)?;
     judge_expression(alloc, sought, second)
@@ -82,7 +80,7 @@ fn judge_pair(
 
 #[cycle(judgement)]
 fn judge_links(alloc: Global, sought: Sought, links: &[Link]) -> Result<(), Breach>
-    ensures { Judges sought (λ c. KeepLinks c (links_of links.now)) result }
+    ensures { Judges sought (λ c. KeepLinks sought.language c (links_of links.now)) result }
 {
     for link in links {
         judge_link(alloc, sought, link)?;
@@ -92,7 +90,7 @@ fn judge_links(alloc: Global, sought: Sought, links: &[Link]) -> Result<(), Brea
 
 #[cycle(judgement)]
 fn judge_link(alloc: Global, sought: Sought, link: &Link) -> Result<(), Breach>
-    ensures { Judges sought (λ c. KeepLink c link.now) result }
+    ensures { Judges sought (λ c. KeepLink sought.language c link.now) result }
 {
     match link {
         Link::Operand(_, operand) => judge_expression(alloc, sought, operand),
@@ -108,7 +106,7 @@ fn judge_link(alloc: Global, sought: Sought, link: &Link) -> Result<(), Breach>
 
 #[cycle(judgement)]
 fn judge_members(alloc: Global, sought: Sought, members: &[Written]) -> Result<(), Breach>
-    ensures { Judges sought (λ c. KeepMembers c (members_of members.now)) result }
+    ensures { Judges sought (λ c. KeepMembers sought.language c (members_of members.now)) result }
 {
     for member in members {
         judge_expression(alloc, sought, member)?;
@@ -118,7 +116,7 @@ fn judge_members(alloc: Global, sought: Sought, members: &[Written]) -> Result<(
 
 #[cycle(judgement)]
 fn judge_fields(alloc: Global, sought: Sought, fields: &[Field]) -> Result<(), Breach>
-    ensures { Judges sought (λ c. KeepFields c (fields_of fields.now)) result }
+    ensures { Judges sought (λ c. KeepFields sought.language c (fields_of fields.now)) result }
 {
     for field in fields {
         judge_field(alloc, sought, field)?;
@@ -128,7 +126,7 @@ fn judge_fields(alloc: Global, sought: Sought, fields: &[Field]) -> Result<(), B
 
 #[cycle(judgement)]
 fn judge_field(alloc: Global, sought: Sought, field: &Field) -> Result<(), Breach>
-    ensures { Judges sought (λ c. KeepField c field.now) result }
+    ensures { Judges sought (λ c. KeepField sought.language c field.now) result }
 {
     judge_content(sought, &field.key)?;
     judge_expression(alloc, sought, &field.value)
@@ -172,18 +170,18 @@ fn judge_slot(sought: Sought, start: usize) -> Result<(), Breach>
 }
 
 fn judge_function(sought: Sought, start: usize, name: &Name) -> Result<(), Breach>
-    ensures { Judges sought (λ c. IsKnown c (constructor_in Profile name.now)) result }
+    ensures { Judges sought (λ c. IsKnown c (constructor_in sought.language name.now)) result }
 {
-    if sought.has(SideCondition::Names) && !is_function(name.as_str()) {
+    if sought.has(SideCondition::Names) && !is_function_in(sought.language, name.as_str()) {
         return Err(Breach::Of(SideCondition::Names, start));
     }
     Ok(())
 }
 
 fn judge_method(sought: Sought, name: &Word) -> Result<(), Breach>
-    ensures { Judges sought (λ c. IsKnown c (method_of name.now)) result }
+    ensures { Judges sought (λ c. IsKnown c (method_in sought.language name.now)) result }
 {
-    if sought.has(SideCondition::Names) && method_of(name.as_str()).is_none() {
+    if sought.has(SideCondition::Names) && method_in(sought.language, name.as_str()).is_none() {
         return Err(Breach::Of(SideCondition::Names, name.place()));
     }
     Ok(())

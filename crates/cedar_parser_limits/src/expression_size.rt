@@ -4,10 +4,10 @@ ghost use Rattle.cedar_ast_expressions.specs.Expression.{Expression};
 ghost use Rattle.cedar_parser_tree.specs.Written.{chain, members_of};
 ghost use Rattle.cedar_parser_tree.specs.WrittenKind.{links_of, fields_of};
 ghost use Rattle.cedar_parser_limits.specs.Meaning.{to_expression, to_expressions, to_entries, related, linked, called, applied, method_of};
-ghost use Rattle.cedar_ext.specs.Extensions.{constructor_in};
-ghost use Rattle.cedar_ext.specs.declared.language.Language.TheVariants.{Profile};
+ghost use Rattle.cedar_ext.specs.Extensions.{constructor_named};
 ghost use Rattle.cedar_ast_expressions.specs.declared.operator.BinaryOperator.{BinaryOperator};
-ghost use Rattle.cedar_parser_limits.specs.declared.functions.Method.TheVariants.{IsEmpty, Binary};
+ghost use Rattle.cedar_parser_limits.specs.declared.functions.Method.TheVariants.{IsEmpty, Unary, Binary};
+ghost use Rattle.cedar_ext.specs.declared.unary_method.UnaryMethod.{UnaryMethod};
 ghost use Rattle.cedar_parser_limits.specs.Limits.{size_of, size_of_all, size_of_entries};
 ghost use Rattle.cedar_parser_limits.specs.Private.Capped.{capped};
 ghost use Rattle.cedar_parser_limits.specs.Private.Parts.{behind};
@@ -103,14 +103,15 @@ fn method_size(method: Option<Method>, left: Size, arguments: &[Written]) -> Siz
 {
     match method {
         None => left,
-        Some(Method::IsEmpty) => is_empty_size(left, arguments),
+        Some(Method::IsEmpty) | Some(Method::Unary(_)) => alone_size(left, arguments),
         Some(Method::Binary(_)) => binary_method_size(left, arguments),
     }
 }
 
 // The size of a method without arguments.
-fn is_empty_size(left: Size, arguments: &[Written]) -> Size
-    ensures { (a : Expression) → left ≡ capped (size_of a) → result ≡ capped (size_of (applied (Some IsEmpty) a (to_expressions (members_of arguments.now)))) }
+fn alone_size(left: Size, arguments: &[Written]) -> Size
+    ensures is_empty { (a : Expression) → left ≡ capped (size_of a) → result ≡ capped (size_of (applied (Some IsEmpty) a (to_expressions (members_of arguments.now)))) }
+    ensures method { (m : UnaryMethod) (a : Expression) → left ≡ capped (size_of a) → result ≡ capped (size_of (applied (Some (Unary m)) a (to_expressions (members_of arguments.now)))) }
 {
     match arguments {
         [] => left.above(),
@@ -131,7 +132,7 @@ fn binary_method_size(left: Size, arguments: &[Written]) -> Size
 
 #[cycle(expression_size)]
 fn call_size(name: &str, arguments: &[Written]) -> Size
-    ensures { result ≡ capped (size_of (called (constructor_in Profile name.now) (to_expressions (members_of arguments.now)))) }
+    ensures { result ≡ capped (size_of (called (constructor_named name.now) (to_expressions (members_of arguments.now)))) }
 {
     let refused = leaf();
     if !is_function(name) {

@@ -4,6 +4,7 @@ ghost use Rattle.cedar_parser_limits.specs.StatementLimits.{KeepsReference, Keep
 ghost use Rattle.cedar_parser_limits.specs.Limits.{max_height, max_nodes};
 ghost use Rattle.cedar_parser_limits.specs.Private.Judging.{BreaksSize, Seeks, Judges};
 ghost use Rattle.cedar_parser_limits.specs.declared.side_condition.SideCondition.{SideCondition as Conditions};
+ghost use Rattle.cedar_ext.specs.declared.language.Language.{Language as Languages};
 
 use crate::breach::Breach;
 use crate::condition_size::condition_size;
@@ -13,6 +14,7 @@ use crate::size::Size;
 use crate::sought::Sought;
 use cedar_ast::{ActionScope, EntityScope};
 use cedar_ast_expressions::{Variable, first_repeated};
+use cedar_ext::Language;
 use cedar_parser_tokens::{ParseFault, WrittenUid};
 use cedar_parser_tree::{
     Reference, WrittenActionScope, WrittenAnnotation, WrittenCondition, WrittenEntityScope,
@@ -52,27 +54,40 @@ const IN_ORDER: [SideCondition; 7] = [
 /// - 208: an annotation is repeated.
 /// - 202: the condition is too high.
 /// - 209: the condition is too large.
-pub fn judge(alloc: Global, statement: &WrittenStatement) -> Result<(), ParseFault>
-    ensures kept { OnOk result (IsWithinLimits statement.now) }
-    ensures broken { IfErr result (Breaks statement.now) }
+pub fn judge(
+    alloc: Global,
+    language: Language,
+    statement: &WrittenStatement,
+) -> Result<(), ParseFault>
+    ensures kept { OnOk result (IsWithinLimits language statement.now) }
+    ensures broken { IfErr result (Breaks language statement.now) }
 {
-    judge_side_conditions(alloc, statement)?;
+    judge_side_conditions(alloc, language, statement)?;
     judge_size(statement)?;
     Ok(())
 }
 
 // Refuses a statement that breaks a side condition. One walk looks for all of them. Where it refuses the statement, a walk for
 // each of them finds the first in order. Where none of these refuses it, memory failed in the first walk.
-fn judge_side_conditions(alloc: Global, statement: &WrittenStatement) -> Result<(), ParseFault>
-    ensures kept { OnOk result ((c : Conditions) → KeepsStatement c statement.now) }
-    ensures broken { IfErr result (Breaks statement.now) }
+fn judge_side_conditions(
+    alloc: Global,
+    language: Language,
+    statement: &WrittenStatement,
+) -> Result<(), ParseFault>
+    ensures kept { OnOk result ((c : Conditions) → KeepsStatement language c statement.now) }
+    ensures broken { IfErr result (Breaks language statement.now) }
 {
-    let fault = match judge_sought(alloc, Sought::All, statement) {
+    let all = Sought {
+        language,
+        only: None,
+    };
+    let fault = match judge_sought(alloc, all, statement) {
         Ok(()) => return Ok(()),
         Err(fault) => fault,
     };
     for condition in IN_ORDER {
-        judge_sought(alloc, Sought::Only(condition), statement)?;
+        let only = Some(condition);
+        judge_sought(alloc, Sought { language, only }, statement)?;
     }
     Err(fault)
 }
@@ -81,7 +96,7 @@ fn judge_side_conditions(alloc: Global, statement: &WrittenStatement) -> Result<
 fn judge_size(statement: &WrittenStatement) -> Result<(), ParseFault>
     ensures low { OnOk result ((condition_size statement.now).height ≤ max_height) }
     ensures small { OnOk result ((condition_size statement.now).nodes ≤ max_nodes) }
-    ensures broken { IfErr result (Breaks statement.now) }
+    ensures broken { (l : Languages) → IfErr result (Breaks l statement.now) }
 {
     let size = condition_size(statement);
     judge_limits(size, statement.start)
@@ -108,8 +123,8 @@ fn judge_sought(
     sought: Sought,
     statement: &WrittenStatement,
 ) -> Result<(), ParseFault>
-    ensures kept { (c : Conditions) → Seeks sought c → OnOk result (KeepsStatement c statement.now) }
-    ensures broken { IfErr result (Breaks statement.now) }
+    ensures kept { (c : Conditions) → Seeks sought c → OnOk result (KeepsStatement sought.language c statement.now) }
+    ensures broken { IfErr result (Breaks sought.language statement.now) }
 {
     let Err(breach) = judge_parts(alloc, sought, statement) else {
         return Ok(());
@@ -128,7 +143,7 @@ fn judge_sought(
 
 // Judges the parts of a statement, one after another.
 fn judge_parts(alloc: Global, sought: Sought, statement: &WrittenStatement) -> Result<(), Breach>
-    ensures { Judges sought (λ c. KeepsStatement c statement.now) result }
+    ensures { Judges sought (λ c. KeepsStatement sought.language c statement.now) result }
 {
     judge_annotation_names(alloc, sought, &statement.annotations)?;
     judge_annotations(sought, &statement.annotations)?;
@@ -203,7 +218,7 @@ fn judge_conditions(
     sought: Sought,
     conditions: &[WrittenCondition],
 ) -> Result<(), Breach>
-    ensures { Judges sought (λ c. KeepConditions c conditions.now) result }
+    ensures { Judges sought (λ c. KeepConditions sought.language c conditions.now) result }
 {
     for clause in conditions {
         judge_expression(alloc, sought, &clause.body)?;

@@ -1,13 +1,14 @@
 //! What a statement must keep beside the grammar: side conditions, and the limits of its condition.
 //!
 //! ```
+//! use cedar_ext::Language;
 //! use cedar_parser_limits::judge;
 //!
 //! let source = "permit(principal, action, resource) when { principal.isEmpty(1) };";
 //! let tokens = spelled_tokens(rt.alloc(), source)?;
 //! let mut cursor = tokens.cursor(source.len());
 //! let written = parse_statement(rt.alloc(), &mut cursor)?;
-//! assert!(rt; matches!(judge(rt.alloc(), &written), Err(ParseFault::Arity(_))));
+//! assert!(rt; matches!(judge(rt.alloc(), Language::Profile, &written), Err(ParseFault::Arity(_))));
 //! ```
 //!
 //! The expression that a text writes is defined in `specs/Meaning.antt`, the policy or template that a statement writes in
@@ -25,6 +26,8 @@ mod judgement;
 mod side_condition;
 mod size;
 mod sought;
+mod widest;
 
 pub use functions::{Method, method_of};
 pub use judgement::judge;
+pub use widest::cedar4_is_widest;

@@ -2,6 +2,7 @@
 use Rattle.std.proofs.Common.{◌≡◌, ◌≢◌, ℕ, List, [], ◌++◌, Result, Ok, Err, inl, inr, sym, ap, ◌∙◌, subst}
 use Rattle.std.proofs.lemmas.List.Elements.{Contains-append_right}
 use Rattle.serde_json.specs.Data.{Members}
+use Rattle.cedar_ext.specs.declared.language.Language.{Language}
 use Rattle.cedar_value.specs.declared.uid.Uid.{Uid}
 use Rattle.cedar_schema_json.specs.declared.schema_fault.SchemaFault.{SchemaFault}
 use Rattle.cedar_schema_json.specs.declared.schema_fault.SchemaFault.TheVariants.{OutOfMemory}
@@ -48,25 +49,28 @@ module _ (s : Setting) (es as' : List EntryTree) where
       let none : setting_faults s es as' ≡ [] = λ i. table i ++ (entities.0 i ++ actions.0 i) in
       subst (λ (fs : List SchemaFault). Answers r fs tree) (sym none) made
 
-pub sections_forms : (x : Sections) (es cs : List (List ℕ)) (e : SchemaFault) → es ≡ whole_names x.entities → cs ≡ whole_names x.commons → Told (each_faults (common_faults es cs) x.commons) e → Refuses (sections_faults x) (schema_in (setting_of x) x.entities x.actions) e
+pub sections_forms : (language : Language) (x : Sections) (es cs : List (List ℕ)) (e : SchemaFault) → es ≡ whole_names x.entities → cs ≡ whole_names x.commons → Told (each_faults (common_faults language es cs) x.commons) e
+    → Refuses (sections_faults language x) (schema_in (setting_of language x) x.entities x.actions) e
 unfolding sections_faults
-sections_forms x es cs e p q h =
-    refuses (sections_faults x) (schema_in (setting_of x) x.entities x.actions) e (told_first _ (setting_faults (setting_of x) x.entities x.actions) e (subst (λ n. Told (each_faults (common_faults n (whole_names x.commons)) x.commons) e) p (subst (λ n. Told (each_faults (common_faults es n) x.commons) e) q h)))
+sections_forms language x es cs e p q h =
+    refuses (sections_faults language x) (schema_in (setting_of language x) x.entities x.actions) e (told_first _ (setting_faults (setting_of language x) x.entities x.actions) e
+    (subst (λ n. Told (each_faults (common_faults language n (whole_names x.commons)) x.commons) e) p (subst (λ n. Told (each_faults (common_faults language es n) x.commons) e) q h)))
 
-pub sections_all : (x : Sections) (s : Setting) (r : Result SchemaTree SchemaFault) → s.entities ≡ whole_names x.entities → s.commons ≡ whole_names x.commons → (each_faults (common_faults s.entities s.commons) x.commons ≡ []) × (s.table ≡ forms_of s.entities s.commons x.commons)
-    → s.uids ≡ uids_onto [] x.actions → Answers r (setting_faults s x.entities x.actions) (schema_in s x.entities x.actions) → Answers r (sections_faults x) (schema_in (setting_of x) x.entities x.actions)
+pub sections_all : (x : Sections) (s : Setting) (r : Result SchemaTree SchemaFault) → s.entities ≡ whole_names x.entities → s.commons ≡ whole_names x.commons → (each_faults (common_faults s.language s.entities s.commons) x.commons ≡ []) × (s.table ≡ forms_of s.language s.entities s.commons x.commons)
+    → s.uids ≡ uids_onto [] x.actions → Answers r (setting_faults s x.entities x.actions) (schema_in s x.entities x.actions) → Answers r (sections_faults s.language x) (schema_in (setting_of s.language x) x.entities x.actions)
 unfolding sections_faults
 sections_all x s r p q forms u a =
-    let table : s.table ≡ forms_of (whole_names x.entities) (whole_names x.commons) x.commons = forms.1 ∙ (λ i. forms_of (p i) (q i) x.commons) in
-    let same : s ≡ setting_of x = λ i. record { entities = p i; commons = q i; table = table i; uids = u i } in
-    let none : each_faults (common_faults (whole_names x.entities) (whole_names x.commons)) x.commons ≡ [] = sym (λ i. each_faults (common_faults (p i) (q i)) x.commons) ∙ forms.0 in
+    let table : s.table ≡ forms_of s.language (whole_names x.entities) (whole_names x.commons) x.commons = forms.1 ∙ (λ i. forms_of s.language (p i) (q i) x.commons) in
+    let same : s ≡ setting_of s.language x = λ i. record { language = s.language; entities = p i; commons = q i; table = table i; uids = u i } in
+    let none : each_faults (common_faults s.language (whole_names x.entities) (whole_names x.commons)) x.commons ≡ [] = sym (λ i. each_faults (common_faults s.language (p i) (q i)) x.commons) ∙ forms.0 in
     answers_then r _ _ _ none (subst (λ (t : Setting). Answers r (setting_faults t x.entities x.actions) (schema_in t x.entities x.actions)) same a)
 
-pub root_spaces : (root : Members) (e : SchemaFault) → Told (root_faults root) e → Refuses (written_faults root) (schema_of root) e
+pub root_spaces : (language : Language) (root : Members) (e : SchemaFault) → Told (root_faults root) e → Refuses (written_faults language root) (schema_of language root) e
 unfolding written_faults
-root_spaces root e h = refuses (written_faults root) (schema_of root) e (told_first (root_faults root) _ e h)
+root_spaces language root e h = refuses (written_faults language root) (schema_of language root) e (told_first (root_faults root) _ e h)
 
-pub root_all : (root : Members) (x : Sections) (r : Result SchemaTree SchemaFault) → root_faults root ≡ [] → x ≡ sections_of root → Answers r (sections_faults x) (schema_in (setting_of x) x.entities x.actions) → Answers r (written_faults root) (schema_of root)
+pub root_all : (language : Language) (root : Members) (x : Sections) (r : Result SchemaTree SchemaFault) → root_faults root ≡ [] → x ≡ sections_of root → Answers r (sections_faults language x) (schema_in (setting_of language x) x.entities x.actions)
+    → Answers r (written_faults language root) (schema_of language root)
 unfolding written_faults
-root_all root x r none same a =
-    answers_then r (root_faults root) (sections_faults (sections_of root)) (schema_of root) none (subst (λ (y : Sections). Answers r (sections_faults y) (schema_in (setting_of y) y.entities y.actions)) same a)
+root_all language root x r none same a =
+    answers_then r (root_faults root) (sections_faults language (sections_of root)) (schema_of language root) none (subst (λ (y : Sections). Answers r (sections_faults language y) (schema_in (setting_of language y) y.entities y.actions)) same a)

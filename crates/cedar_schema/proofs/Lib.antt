@@ -11,6 +11,7 @@ pub mod NameEnds
 pub mod NamedTypes
 pub mod Numbered
 pub mod PlaceLemmas
+pub mod ProfileLemmas
 pub mod ResolvedNames
 pub mod TypeLemmas
 pub mod WrittenLemmas

@@ -7,7 +7,7 @@ use Rattle.serde_json.specs.Data.{Data, null, boolean, number, string, array, ob
 use Rattle.serde_json.specs.Find.{get}
 use Rattle.cedar_ext.specs.declared.extension.ExtensionType.{ExtensionType}
 use Rattle.cedar_ext.specs.Extensions as extension
-use Rattle.cedar_ext.specs.declared.language.Language.TheVariants.{Profile}
+use Rattle.cedar_ext.specs.declared.language.Language.{Language}
 use Rattle.cedar_value.specs.Order.{text_cmp}
 use Rattle.cedar_value.specs.declared.uid.Uid.{Uid}
 use Rattle.cedar_schema_types.specs.Types.{TypeTree, Attributes, no_attributes, attribute}
@@ -111,7 +111,7 @@ picked P Equal x y h g = g
 picked P Greater x y h g = h
 
 -- what holds of both holds of either
-of_either : {K : Type 0} (P : K → Type 0) (b : Bool) (x y : K) → P x → P y → P (cond b x y)
+pub of_either : {K : Type 0} (P : K → Type 0) (b : Bool) (x y : K) → P x → P y → P (cond b x y)
 of_either P true x y h g = h
 of_either P false x y h g = g
 
@@ -138,9 +138,9 @@ module _ (sc : Scope) where
   extension_is s None = tt
   extension_is s (Some t) = tt
 
-  extension_read_named : (o : Option (List ℕ)) → ReadNames (needed extension_named o)
+  extension_read_named : (o : Option (List ℕ)) → ReadNames (needed (extension_named sc.language) o)
   extension_read_named None = tt
-  extension_read_named (Some s) = extension_is s (extension.type_in Profile s)
+  extension_read_named (Some s) = extension_is s (extension.type_in sc.language s)
 
   set_read : (el : Option Read) → IfSome el ReadNames → ReadNames (needed set_of el)
   set_read None h = tt
@@ -198,9 +198,9 @@ module _ (sc : Scope) where
     all_named no_members = tt
     all_named (member k d ms) = (read_named true d, all_named ms)
 
-pub forms_named : (entities commons : List (List ℕ)) (xs : List EntryTree) → AllByRecursion (FormNames entities) (forms_of entities commons xs)
-forms_named entities commons [] = tt
-forms_named entities commons (x ∷ xs) = (read_named (scope_at entities commons x.namespace) false x.body, forms_named entities commons xs)
+pub forms_named : (language : Language) (entities commons : List (List ℕ)) (xs : List EntryTree) → AllByRecursion (FormNames entities) (forms_of language entities commons xs)
+forms_named language entities commons [] = tt
+forms_named language entities commons (x ∷ xs) = (read_named (scope_at language entities commons x.namespace) false x.body, forms_named language entities commons xs)
 
 -- ---- shapes and contexts
 

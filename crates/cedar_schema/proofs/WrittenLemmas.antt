@@ -7,6 +7,7 @@ use Rattle.std.specs.BTreeMap.{insert_entry}
 use Rattle.std.specs.Ordering.{match_ordering}
 use Rattle.serde_json.specs.Data.{Members}
 use Rattle.base_reach.proofs.Listed.{here, there, first_or_later, nowhere, mapped}
+use Rattle.cedar_ext.specs.declared.language.Language.{Language}
 use Rattle.cedar_value.specs.Order.{text_cmp, uid_cmp}
 use Rattle.cedar_value.specs.Private.Same.{text_same, uid_same}
 use Rattle.cedar_value.specs.declared.uid.Uid.{Uid}
@@ -108,32 +109,32 @@ module _ {K V : Type 0} (R : K → K → Ordering) (exact : (a b : K) → R a b 
 abbrev name_in : EntryTree → List ℕ
 name_in e = qualified e.namespace e.key
 
-abbrev type_in : Members → EntryTree → EntityTypeTree
-type_in root e = entity_type_of (scope_in (setting_of (sections_of root)) e) (setting_of (sections_of root)).table e
+abbrev type_in : Language → Members → EntryTree → EntityTypeTree
+type_in language root e = entity_type_of (scope_in (setting_of language (sections_of root)) e) (setting_of language (sections_of root)).table e
 
-abbrev action_in : Members → EntryTree → ActionTree
-action_in root e = action_of (scope_in (setting_of (sections_of root)) e) (setting_of (sections_of root)).table (setting_of (sections_of root)).uids e
+abbrev action_in : Language → Members → EntryTree → ActionTree
+action_in language root e = action_of (scope_in (setting_of language (sections_of root)) e) (setting_of language (sections_of root)).table (setting_of language (sections_of root)).uids e
 
 pub types_written : TypesAreWritten
 unfolding schema_in
-types_written root n t = (
-  λ h. elim (onto_from text_cmp text_same name_in (type_in root) (entries (codes "entityTypes") root) [] n t h) [
+types_written language root n t = (
+  λ h. elim (onto_from text_cmp text_same name_in (type_in language root) (entries (codes "entityTypes") root) [] n t h) [
     | inl x ↦ record { entry = x.0; written = x.1; name = x.2; content = x.3 }
     | inr none ↦ absurd (nowhere (n, t) none)
   ],
-  λ apart w. subst (λ (x : List ℕ × EntityTypeTree). Contains (each_onto (add text_cmp text_same name_in (type_in root)) [] (entries (codes "entityTypes") root)) x)
-      (λ i. (sym w.name i, sym w.content i)) (onto_new text_cmp text_same name_in (type_in root) (entries (codes "entityTypes") root) [] apart w.entry w.written),
+  λ apart w. subst (λ (x : List ℕ × EntityTypeTree). Contains (each_onto (add text_cmp text_same name_in (type_in language root)) [] (entries (codes "entityTypes") root)) x)
+      (λ i. (sym w.name i, sym w.content i)) (onto_new text_cmp text_same name_in (type_in language root) (entries (codes "entityTypes") root) [] apart w.entry w.written),
 )
 
 pub actions_written : ActionsAreWritten
 unfolding schema_in
-actions_written root u a = (
-  λ h. elim (onto_from uid_cmp uid_same uid_of (action_in root) (entries (codes "actions") root) [] u a h) [
+actions_written language root u a = (
+  λ h. elim (onto_from uid_cmp uid_same uid_of (action_in language root) (entries (codes "actions") root) [] u a h) [
     | inl x ↦ record { entry = x.0; written = x.1; uid = x.2; content = x.3 }
     | inr none ↦ absurd (nowhere (u, a) none)
   ],
-  λ apart w. subst (λ (x : Uid × ActionTree). Contains (each_onto (add uid_cmp uid_same uid_of (action_in root)) [] (entries (codes "actions") root)) x)
-      (λ i. (sym w.uid i, sym w.content i)) (onto_new uid_cmp uid_same uid_of (action_in root) (entries (codes "actions") root) [] apart w.entry w.written),
+  λ apart w. subst (λ (x : Uid × ActionTree). Contains (each_onto (add uid_cmp uid_same uid_of (action_in language root)) [] (entries (codes "actions") root)) x)
+      (λ i. (sym w.uid i, sym w.content i)) (onto_new uid_cmp uid_same uid_of (action_in language root) (entries (codes "actions") root) [] apart w.entry w.written),
 )
 
 -- ---- lists that are put in order

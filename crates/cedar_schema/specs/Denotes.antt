@@ -3,6 +3,7 @@ use Rattle.std.specs.Prelude.{◌≡◌, ◌⊎◌, ℕ, List, [], Contains, Mat
 use Rattle.serde_json.specs.Data.{Data}
 use Rattle.serde_json.specs.Find.{as_object}
 use Rattle.base_json.specs.JsonTree.{json_of}
+use Rattle.cedar_ext.specs.declared.language.Language.{Language}
 use Rattle.cedar_value.specs.declared.uid.Uid.{Uid}
 use Rattle.cedar_schema_json.specs.declared.schema_fault.SchemaFault.{SchemaFault}
 use Rattle.cedar_schema_json.specs.declared.schema_fault.SchemaFault.TheVariants.{Json, Shape, ActionCycle}
@@ -22,19 +23,19 @@ pub record IsFine (faults : List SchemaFault) (tree s : SchemaTree) : Type 0 whe
 abbrev pub IsThere : List SchemaFault → SchemaTree → SchemaFault → Type 0
 IsThere faults tree e = Contains faults e ⊎ ((e ≡ ActionCycle) × ((u : Uid) × ActionDescends tree u u))
 
--- A JSON denotes a schema where it is an object without faults (Cedar documentation, JSON schema format).
-abbrev pub Denotes : Data → SchemaTree → Type 0
-Denotes d s = MatchOption (as_object d) ⊥ (λ root. IsFine (written_faults root) (schema_of root) s)
+-- A JSON denotes a schema in a language where it is an object without faults (Cedar documentation, JSON schema format; own).
+abbrev pub Denotes : Language → Data → SchemaTree → Type 0
+Denotes language d s = MatchOption (as_object d) ⊥ (λ root. IsFine (written_faults language root) (schema_of language root) s)
 
--- A JSON is refused with a fault that is there, and with 302 where it is not an object (Cedar documentation, JSON schema
--- format; own).
-abbrev pub IsRefusedWith : Data → SchemaFault → Type 0
-IsRefusedWith d e = MatchOption (as_object d) (e ≡ Shape) (λ root. IsThere (written_faults root) (schema_of root) e)
+-- A JSON is refused in a language with a fault that is there, and with 302 where it is not an object (Cedar documentation, JSON
+-- schema format; own).
+abbrev pub IsRefusedWith : Language → Data → SchemaFault → Type 0
+IsRefusedWith language d e = MatchOption (as_object d) (e ≡ Shape) (λ root. IsThere (written_faults language root) (schema_of language root) e)
 
--- The bytes denote a schema where they are JSON that does (Cedar documentation, JSON schema format).
-abbrev pub BytesDenote : List ℕ → SchemaTree → Type 0
-BytesDenote bytes s = MatchOption (json_of bytes) ⊥ (λ d. Denotes d s)
+-- The bytes denote a schema in a language where they are JSON that does (Cedar documentation, JSON schema format; own).
+abbrev pub BytesDenote : Language → List ℕ → SchemaTree → Type 0
+BytesDenote language bytes s = MatchOption (json_of bytes) ⊥ (λ d. Denotes language d s)
 
 -- A refusal other than out of memory names a fault that is there: 301 where the bytes are not JSON (own).
-abbrev pub BytesAreRefusedWith : List ℕ → SchemaFault → Type 0
-BytesAreRefusedWith bytes e = MatchOption (json_of bytes) (e ≡ Json) (λ d. IsRefusedWith d e)
+abbrev pub BytesAreRefusedWith : Language → List ℕ → SchemaFault → Type 0
+BytesAreRefusedWith language bytes e = MatchOption (json_of bytes) (e ≡ Json) (λ d. IsRefusedWith language d e)

@@ -2,6 +2,7 @@ pub mod Cycles
 pub mod Declaring
 pub mod Denotes
 pub mod Each
+pub mod Languages
 pub mod Positions
 pub mod Private
 pub mod Schemas

@@ -3,6 +3,7 @@ use Rattle.std.specs.Prelude.{ℕ, List, [], ◌∷◌, ◌++◌, map, false, co
 use Rattle.std.specs.BTreeMap.{insert_entry}
 use Rattle.std.specs.BTreeSet.{insert_key}
 use Rattle.serde_json.specs.Data.{Members}
+use Rattle.cedar_ext.specs.declared.language.Language.{Language}
 use Rattle.cedar_value.specs.Order.{text_cmp, uid_cmp}
 use Rattle.cedar_value.specs.declared.uid.Uid.{Uid}
 use Rattle.cedar_schema_json.specs.declared.schema_fault.SchemaFault.{SchemaFault}
@@ -15,32 +16,33 @@ use Rattle.cedar_schema_json.specs.Entries.{EntryTree, entries, whole_names, roo
 use Rattle.cedar_schema.specs.Declaring.{uid_of, entity_type_of, entity_type_faults, action_of, action_faults}
 use Rattle.cedar_schema_spec.specs.SchemaTree.{EntityTypeTree, ActionTree, SchemaTree}
 
--- What is declared: the names of the entity types and of the common types, these as they are written, and the uids of the
--- actions, ascending (Cedar documentation, JSON schema format: namespaces).
+-- What is declared in a schema of a language: the names of the entity types and of the common types, these as they are written,
+-- and the uids of the actions, ascending (Cedar documentation, JSON schema format: namespaces; own).
 pub record Setting : Type 0 where
+  pub language : Language
   pub entities : List (List ℕ)
   pub commons : List (List ℕ)
   pub table : Table
   pub uids : List Uid
 
--- A namespace among what is declared (Cedar documentation, JSON schema format: namespaces).
-abbrev pub scope_at : List (List ℕ) → List (List ℕ) → List ℕ → Scope
-scope_at entities commons namespace = record { namespace = namespace; entities = entities; commons = commons }
+-- A namespace among what is declared in a language (Cedar documentation, JSON schema format: namespaces; own).
+abbrev pub scope_at : Language → List (List ℕ) → List (List ℕ) → List ℕ → Scope
+scope_at language entities commons namespace = record { language = language; namespace = namespace; entities = entities; commons = commons }
 
 -- The namespace of an entry among what is declared (Cedar documentation, JSON schema format: namespaces).
 abbrev pub scope_in : Setting → EntryTree → Scope
-scope_in s e = scope_at s.entities s.commons e.namespace
+scope_in s e = scope_at s.language s.entities s.commons e.namespace
 
 -- ---- common types
 
 -- The common types as they are written (Cedar documentation, JSON schema format: commonTypes).
-abbrev pub forms_of : List (List ℕ) → List (List ℕ) → List EntryTree → Table
-forms_of entities commons = map (λ e. (type_read (scope_at entities commons e.namespace) false e.body).form)
+abbrev pub forms_of : Language → List (List ℕ) → List (List ℕ) → List EntryTree → Table
+forms_of language entities commons = map (λ e. (type_read (scope_at language entities commons e.namespace) false e.body).form)
 
 -- The faults of a common type as it is written: of its key, and of its type (Cedar documentation, JSON schema format:
 -- commonTypes).
-abbrev pub common_faults : List (List ℕ) → List (List ℕ) → EntryTree → List SchemaFault
-common_faults entities commons e = common_key_faults e.key ++ (type_read (scope_at entities commons e.namespace) false e.body).faults
+abbrev pub common_faults : Language → List (List ℕ) → List (List ℕ) → EntryTree → List SchemaFault
+common_faults language entities commons e = common_key_faults e.key ++ (type_read (scope_at language entities commons e.namespace) false e.body).faults
 
 -- The faults of a common type as it is expanded: it has to be within the limits, 309, and may not lead back to itself, 304
 -- (Cedar documentation, JSON schema format: commonTypes; own).
@@ -84,12 +86,13 @@ pub record Sections : Type 0 where
 abbrev pub sections_of : Members → Sections
 sections_of root = record { commons = entries (codes "commonTypes") root; entities = entries (codes "entityTypes") root; actions = entries (codes "actions") root }
 
--- The names that the entries declare (Cedar documentation, JSON schema format: namespaces).
-abbrev pub setting_of : Sections → Setting
-setting_of x = record {
+-- What the entries declare in a language (Cedar documentation, JSON schema format: namespaces; own).
+abbrev pub setting_of : Language → Sections → Setting
+setting_of language x = record {
+  language = language;
   entities = whole_names x.entities;
   commons = whole_names x.commons;
-  table = forms_of (whole_names x.entities) (whole_names x.commons) x.commons;
+  table = forms_of language (whole_names x.entities) (whole_names x.commons) x.commons;
   uids = uids_onto [] x.actions;
 }
 
@@ -102,14 +105,14 @@ schema_in s entities actions = record { entities = each_onto (add_entity s) [] e
 unfoldable pub setting_faults : Setting → List EntryTree → List EntryTree → List SchemaFault
 setting_faults s entities actions = each_faults (expansion_faults s.table) s.table ++ (each_faults (entity_faults s) entities ++ each_faults (one_action_faults s) actions)
 
--- The faults of all entries (Cedar documentation, JSON schema format).
-unfoldable pub sections_faults : Sections → List SchemaFault
-sections_faults x = each_faults (common_faults (whole_names x.entities) (whole_names x.commons)) x.commons ++ setting_faults (setting_of x) x.entities x.actions
+-- The faults of all entries in a language (Cedar documentation, JSON schema format; own).
+unfoldable pub sections_faults : Language → Sections → List SchemaFault
+sections_faults language x = each_faults (common_faults language (whole_names x.entities) (whole_names x.commons)) x.commons ++ setting_faults (setting_of language x) x.entities x.actions
 
--- The schema that an object of namespaces denotes (Cedar documentation, JSON schema format).
-abbrev pub schema_of : Members → SchemaTree
-schema_of root = schema_in (setting_of (sections_of root)) (sections_of root).entities (sections_of root).actions
+-- The schema that an object of namespaces denotes in a language (Cedar documentation, JSON schema format; own).
+abbrev pub schema_of : Language → Members → SchemaTree
+schema_of language root = schema_in (setting_of language (sections_of root)) (sections_of root).entities (sections_of root).actions
 
--- The faults of the object, without cycles of actions (Cedar documentation, JSON schema format).
-unfoldable pub written_faults : Members → List SchemaFault
-written_faults root = root_faults root ++ sections_faults (sections_of root)
+-- The faults of the object in a language, without cycles of actions (Cedar documentation, JSON schema format; own).
+unfoldable pub written_faults : Language → Members → List SchemaFault
+written_faults language root = root_faults root ++ sections_faults language (sections_of root)

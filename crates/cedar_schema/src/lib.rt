@@ -22,5 +22,5 @@ pub use cedar_schema_types::{
     Attribute, RecordType, Truth, Type, TypeKind, join, join_is_the_relation,
     members_of_joined_types,
 };
-pub use laws::{cycles_are_found, schemas_are_written};
+pub use laws::{cycles_are_found, profile_schemas, schemas_are_written};
 pub use schema::{Action, Schema};

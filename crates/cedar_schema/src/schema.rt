@@ -1,5 +1,6 @@
 //! Schemas.
 ghost use Rattle.std.specs.Prelude.{◌≡◌, ◌≢◌, ◌↔◌, IfOk, IfErr, IfSome, IsTrue, MatchOption, is_some, option_copied, []};
+ghost use Rattle.cedar_ext.specs.declared.language.Language.TheVariants.{Profile};
 ghost use Rattle.cedar_schema_json.specs.declared.schema_fault.SchemaFault.TheVariants.{OutOfMemory};
 ghost use Rattle.cedar_schema_spec.specs.Declarations.{IsAction, IsActionType};
 ghost use Rattle.cedar_schema.specs.Denotes.{BytesAreRefusedWith, BytesDenote};
@@ -32,6 +33,7 @@ use crate::schema::rows::{action_rows, action_types, some_descends, type_rows};
 pub use action::Action;
 use base_json::read_json;
 use base_search::Row;
+use cedar_ext::Language;
 use cedar_schema_json::SchemaFault;
 use cedar_schema_spec::Environment;
 use cedar_schema_types::Type;
@@ -70,17 +72,30 @@ impl Model for Schema {
 }
 
 impl Schema {
-    /// The schema that the bytes write (Cedar documentation, JSON schema format).
+    /// The schema that the bytes write in the profile (Cedar documentation, JSON schema format).
     ///
     /// # Errors
     ///
     /// 1 when out of memory, and otherwise 301 to 309 only where that fault is in the bytes.
     pub fn read(alloc: Global, bytes: &[u8]) -> Result<Self, SchemaFault>
-        ensures denotes { IfOk result (BytesDenote bytes.now) }
-        ensures refused { IfErr result (λ e. e ≢ OutOfMemory → BytesAreRefusedWith bytes.now e) }
+        ensures denotes { IfOk result (BytesDenote Profile bytes.now) }
+        ensures refused { IfErr result (λ e. e ≢ OutOfMemory → BytesAreRefusedWith Profile bytes.now e) }
+    {
+        Schema::read_in(alloc, Language::Profile, bytes)
+    }
+
+    /// The schema that the bytes write in a language (Cedar documentation, JSON schema format). The languages differ in their
+    /// extension types.
+    ///
+    /// # Errors
+    ///
+    /// 1 when out of memory, and otherwise 301 to 309 only where that fault is in the bytes.
+    pub fn read_in(alloc: Global, language: Language, bytes: &[u8]) -> Result<Self, SchemaFault>
+        ensures denotes { IfOk result (BytesDenote language bytes.now) }
+        ensures refused { IfErr result (λ e. e ≢ OutOfMemory → BytesAreRefusedWith language bytes.now e) }
     {
         match read_json(alloc, bytes)? {
-            Some(json) => read_schema(alloc, &json),
+            Some(json) => read_schema(alloc, language, &json),
             None => Err(SchemaFault::Json),
         }
     }

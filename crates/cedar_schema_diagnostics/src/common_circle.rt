@@ -5,6 +5,7 @@ use crate::forms::Forms;
 use crate::part::{Refusal, at, part_with};
 use crate::step::Step;
 use base_places::Draft;
+use cedar_ext::Language;
 use cedar_schema_json::{Entry, entries_of, qualified};
 use serde_json::{Map, Value};
 use std::alloc::{AllocError, Global};
@@ -12,9 +13,10 @@ use std::alloc::{AllocError, Global};
 /// The first common type of a circle of common types (304), or none.
 pub(crate) fn refused_common_circle(
     alloc: Global,
+    language: Language,
     root: &Map<String, Value>,
 ) -> Result<Option<Refusal>, AllocError> {
-    let Some(links) = links_of(alloc, root)? else {
+    let Some(links) = links_of(alloc, language, root)? else {
         return Ok(None);
     };
     let Some(circle) = circle_in(alloc, &links)? else {
@@ -26,9 +28,10 @@ pub(crate) fn refused_common_circle(
 
 fn links_of(
     alloc: Global,
+    language: Language,
     root: &Map<String, Value>,
 ) -> Result<Option<Vec<Vec<usize>>>, AllocError> {
-    let Some(forms) = Forms::read(alloc, root)? else {
+    let Some(forms) = Forms::read(alloc, language, root)? else {
         return Ok(None);
     };
     let links = forms.links(alloc);

@@ -13,17 +13,19 @@ use crate::spaces::refused_spaces;
 use crate::text::joined;
 use base_json::read_json;
 use base_places::Draft;
+use cedar_ext::Language;
 use serde_json::{Map, Value};
 use std::alloc::{AllocError, Global};
 
-/// The first part of a schema that explains a refusal with this number, 302 to 309, in the order in which a schema is read; or none
-/// where no part does. Takes time and memory in proportion to the schema, and for 309 to its types with their common types expanded.
+/// The first part of a schema of a language that explains a refusal with this number, 302 to 309, in the order in which a schema is
+/// read; or none where no part does. Takes time and memory in proportion to the schema, and for 309 to its types with their common types expanded.
 ///
 /// # Errors
 ///
 /// Fails only when out of memory.
 pub fn refused_part(
     alloc: Global,
+    language: Language,
     bytes: &[u8],
     number: u16,
 ) -> Result<Option<RefusedPart>, AllocError>
@@ -32,7 +34,7 @@ pub fn refused_part(
     let Some(json) = read_json(alloc, bytes)? else {
         return Ok(None);
     };
-    let found = refused_in(alloc, &json, number);
+    let found = refused_in(alloc, language, &json, number);
     drop(json);
     match found? {
         Some(refusal) => Ok(Some(refusal.done()?)),
@@ -40,9 +42,14 @@ pub fn refused_part(
     }
 }
 
-fn refused_in(alloc: Global, json: &Value, number: u16) -> Result<Option<Refusal>, AllocError> {
+fn refused_in(
+    alloc: Global,
+    language: Language,
+    json: &Value,
+    number: u16,
+) -> Result<Option<Refusal>, AllocError> {
     match json.as_object() {
-        Some(root) => refused_in_root(alloc, root, number),
+        Some(root) => refused_in_root(alloc, language, root, number),
         None if number == 302 => Ok(Some(refused_root(alloc, json))),
         None => Ok(None),
     }
@@ -63,19 +70,21 @@ fn refused_root(alloc: Global, json: &Value) -> Refusal {
 
 fn refused_in_root(
     alloc: Global,
+    language: Language,
     root: &Map<String, Value>,
     number: u16,
 ) -> Result<Option<Refusal>, AllocError> {
     match number {
-        304 => refused_common_circle(alloc, root),
+        304 => refused_common_circle(alloc, language, root),
         305 => refused_action_circle(alloc, root),
-        302 | 303 | 306 | 307 | 308 | 309 => refused_written(alloc, root, number),
+        302 | 303 | 306 | 307 | 308 | 309 => refused_written(alloc, language, root, number),
         _ => Ok(None),
     }
 }
 
 fn refused_written(
     alloc: Global,
+    language: Language,
     root: &Map<String, Value>,
     number: u16,
 ) -> Result<Option<Refusal>, AllocError> {
@@ -84,7 +93,7 @@ fn refused_written(
         return Ok(found);
     }
     let declared = Declared::read(alloc, root)?;
-    let found = refused_declared(alloc, root, number, &declared);
+    let found = refused_declared(alloc, language, root, number, &declared);
     drop(declared);
     found
 }
@@ -92,15 +101,16 @@ fn refused_written(
 // Only 302 and 309 need common types expanded.
 fn refused_declared(
     alloc: Global,
+    language: Language,
     root: &Map<String, Value>,
     number: u16,
     declared: &Declared,
 ) -> Result<Option<Refusal>, AllocError> {
     if number != 302 && number != 309 {
-        return Ok(refused_entries(alloc, number, root, declared, None));
+        return Ok(refused_entries(alloc, language, number, root, declared, None));
     }
-    let forms = Forms::read(alloc, root)?;
-    let found = refused_entries(alloc, number, root, declared, forms.as_ref());
+    let forms = Forms::read(alloc, language, root)?;
+    let found = refused_entries(alloc, language, number, root, declared, forms.as_ref());
     drop(forms);
     Ok(found)
 }

@@ -1,4 +1,5 @@
 //! The common types of a schema, as they are written.
+use cedar_ext::Language;
 use cedar_schema_json::{
     Entry, Form, NameTable, SchemaFault, Scope, ends_of, entries_of, names_of, read_type, text_at,
 };
@@ -10,10 +11,11 @@ const MOST_NODES: u32 = 10_000;
 
 const MOST_LEVELS: u32 = 100;
 
-/// The common types of a schema as they are written, by their places in the order of the JSON, and for each of them the place that
+/// The language of a schema, and its common types as they are written, by their places in the order of the JSON, and for each of them the place that
 /// names alone lead to.
 #[derive(Drop)]
 pub(crate) struct Forms {
+    language: Language,
     entities: NameTable,
     commons: NameTable,
     forms: Vec<Form>,
@@ -32,19 +34,21 @@ fn left_of(form: &Form, level: u32) -> Pending<'_> {
 }
 
 impl Forms {
-    /// The common types, or none if one of them cannot be read.
+    /// The common types of a schema of a language, or none if one of them cannot be read.
     pub(crate) fn read(
         alloc: Global,
+        language: Language,
         root: &Map<String, Value>,
     ) -> Result<Option<Forms>, AllocError> {
         let entities = table_of(alloc, root, "entityTypes")?;
         let commons = table_of(alloc, root, "commonTypes")?;
         let entries = entries_of(alloc, root, "commonTypes")?;
-        let Some(forms) = read_all(alloc, &entities, &commons, &entries)? else {
+        let Some(forms) = read_all(alloc, language, &entities, &commons, &entries)? else {
             return Ok(None);
         };
         let ends = ends_of(alloc, &forms)?;
         Ok(Some(Forms {
+            language,
             entities,
             commons,
             forms,
@@ -59,7 +63,13 @@ impl Forms {
         namespace: &str,
         json: &Value,
     ) -> Result<Option<Form>, AllocError> {
-        read_form(alloc, &self.entities, &self.commons, namespace, json)
+        let scope = Scope {
+            language: self.language,
+            namespace,
+            entities: &self.entities,
+            commons: &self.commons,
+        };
+        read_form(alloc, &scope, json)
     }
 
     // The form that names alone lead to; in a circle it is a name.
@@ -195,13 +205,20 @@ fn table_of(
 
 fn read_all(
     alloc: Global,
+    language: Language,
     entities: &NameTable,
     commons: &NameTable,
     entries: &[Entry<'_>],
 ) -> Result<Option<Vec<Form>>, AllocError> {
     let mut forms = Vec::new(alloc);
     for entry in entries {
-        match read_form(alloc, entities, commons, entry.namespace, entry.body)? {
+        let scope = Scope {
+            language,
+            namespace: entry.namespace,
+            entities,
+            commons,
+        };
+        match read_form(alloc, &scope, entry.body)? {
             Some(form) => forms.push(form)?,
             None => return Ok(None),
         }
@@ -209,19 +226,8 @@ fn read_all(
     Ok(Some(forms))
 }
 
-fn read_form(
-    alloc: Global,
-    entities: &NameTable,
-    commons: &NameTable,
-    namespace: &str,
-    json: &Value,
-) -> Result<Option<Form>, AllocError> {
-    let scope = Scope {
-        namespace,
-        entities,
-        commons,
-    };
-    match read_type(alloc, &scope, json, false) {
+fn read_form(alloc: Global, scope: &Scope<'_>, json: &Value) -> Result<Option<Form>, AllocError> {
+    match read_type(alloc, scope, json, false) {
         Ok(form) => Ok(Some(form)),
         Err(SchemaFault::OutOfMemory) => Err(AllocError),
         Err(_) => Ok(None),

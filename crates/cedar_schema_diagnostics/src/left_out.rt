@@ -35,20 +35,6 @@ pub(crate) fn left_out_key(part: Part, key: &str) -> Option<(&'static str, &'sta
     }
 }
 
-/// What to write in place of an extension type of Cedar that is not in this engine; none of another name.
-pub(crate) fn left_out_extension(name: &str) -> Option<&'static str> {
-    match name {
-        "ipaddr" | "ip" | "IP" | "IpAddr" => Some(
-            "write {\"type\":\"String\"}, and compare it with `==`",
-        ),
-        "datetime" | "DateTime" | "date" | "Date" | "timestamp" | "Timestamp" => Some(
-            "write {\"type\":\"Long\"}, for example milliseconds since 1970",
-        ),
-        "duration" | "Duration" => Some("write {\"type\":\"Long\"}, for example milliseconds"),
-        _ => None,
-    }
-}
-
 /// What is said of the type that Cedar's own translator writes for every name.
 pub(crate) fn entity_or_common(alloc: Global) -> Option<Refusal> {
     part_of(

@@ -1,10 +1,11 @@
 //! Explains why a schema is refused: the path of the part, the name that is not declared, and what to write instead.
 //!
 //! ```rust
+//! use cedar_ext::Language;
 //! use cedar_schema_diagnostics::refused_part;
 //!
 //! let bytes = b"{\"Shop\":{\"entityTypes\":{\"User\":{\"memberOfTypes\":[\"Tema\"]},\"Team\":{}}}}";
-//! if let Some(part) = refused_part(alloc, bytes, 303)? {
+//! if let Some(part) = refused_part(alloc, Language::Profile, bytes, 303)? {
 //!     assert_eq!(rt; part.path.as_str(), "Shop.entityTypes.User.memberOfTypes[0]");
 //! }
 //! ```
@@ -20,6 +21,7 @@ mod common_types;
 mod declared;
 mod entity_types;
 mod explain;
+mod extensions;
 mod forms;
 mod keys;
 mod kinds;

@@ -7,6 +7,7 @@ use crate::forms::Forms;
 use crate::part::{Refusal, at};
 use crate::setting::Setting;
 use crate::step::Step;
+use cedar_ext::Language;
 use serde_json::{Map, Value};
 use std::alloc::Global;
 
@@ -28,15 +29,17 @@ impl Section {
     }
 }
 
-/// The first entry that is refused with a number, or none.
+/// The first entry that is refused with a number in a language, or none.
 pub(crate) fn refused_entries(
     alloc: Global,
+    language: Language,
     number: u16,
     root: &Map<String, Value>,
     declared: &Declared,
     forms: Option<&Forms>,
 ) -> Option<Refusal> {
     let setting = Setting {
+        language,
         number,
         namespace: "",
         declared,
@@ -78,6 +81,7 @@ fn refused_in_space(
         return None;
     };
     let own = Setting {
+        language: setting.language,
         number: setting.number,
         namespace,
         declared: setting.declared,

@@ -1,7 +1,8 @@
 //! The names of types.
 use crate::built_in::{is_built_in, meant_built_in};
 use crate::declared::is_declared;
-use crate::left_out::{entity_or_common, left_out_extension};
+use crate::extensions::{left_out_extension, meant_extension, undeclared_extension};
+use crate::left_out::entity_or_common;
 use crate::naming::refused_name;
 use crate::part::{Refusal, at, part_of, part_with, remembered};
 use crate::setting::Setting;
@@ -9,9 +10,7 @@ use crate::step::Step;
 use crate::text::shown;
 use crate::type_shape::SET;
 use crate::undeclared::{as_written, last_word, meant_name, say_nowhere};
-use base_names::apart;
 use base_places::Draft;
-use cedar_ext::{ExtensionType, Language};
 use std::alloc::{AllocError, Global};
 
 /// Why the name of an entity type is refused (302, 303, 306), or none. `is_type` says whether it is in a type, and not in a list.
@@ -107,8 +106,9 @@ fn undeclared_type(
         return Ok(entity_or_common(alloc));
     }
     let is_entity = is_declared(alloc, &setting.declared.entities, setting.namespace, text)?;
-    if !is_entity && left_out_extension(text).is_some() {
-        return Ok(at(alloc, Step::Key("type"), undeclared_extension(alloc, text)));
+    if !is_entity && left_out_extension(setting.language, text).is_some() {
+        let found = undeclared_extension(alloc, setting.language, text);
+        return Ok(at(alloc, Step::Key("type"), found));
     }
     let mut says = Draft::new(alloc);
     says.add_all(&["`", shown(text), "` is not a built-in type, and "]);
@@ -121,12 +121,7 @@ fn undeclared_type(
 
 // Hints what is meant by the name of a type that is not declared.
 fn hint_type(hint: &mut Draft, setting: Setting<'_>, text: &str, is_entity: bool) {
-    let number = match text {
-        "Decimal" | "Float" | "float" | "Double" | "double" => "decimal",
-        _ => text,
-    };
-    if let Some(extension) = ExtensionType::named_in(Language::Profile, number) {
-        let name = extension.name();
+    if let Some(name) = meant_extension(setting.language, text, is_entity) {
         hint.add_all(&["write {\"type\":\"Extension\",\"name\":\"", name, "\"}"]);
     } else if is_entity {
         let name = shown(text);
@@ -160,33 +155,5 @@ fn hint_meant(hint: &mut Draft, setting: Setting<'_>, text: &str) {
         hint.add(
             "the built-in types are `Long`, `String`, `Boolean`, `Set`, `Record`, `Entity` and `Extension`",
         );
-    }
-}
-
-/// Why the name of an extension type is refused (302, 303, 306), or none.
-pub(crate) fn refused_extension_name(alloc: Global, number: u16, text: &str) -> Option<Refusal> {
-    if ExtensionType::named_in(Language::Profile, text).is_some() {
-        return None;
-    }
-    let found = refused_name(alloc, number, text);
-    if found.is_some() || number != 303 {
-        return found;
-    }
-    undeclared_extension(alloc, text)
-}
-
-fn undeclared_extension(alloc: Global, text: &str) -> Option<Refusal> {
-    let says = ["the extension type `", shown(text), "` is not supported"];
-    if let Some(hint) = left_out_extension(text) {
-        return part_of(alloc, &says, &[hint]);
-    }
-    let says = [
-        "there is no extension type `",
-        shown(text),
-        "`: `decimal` is the only one",
-    ];
-    match apart(text, "decimal") {
-        Some(_) => part_of(alloc, &says, &["did you mean `decimal`?"]),
-        None => part_of(alloc, &says, &[]),
     }
 }

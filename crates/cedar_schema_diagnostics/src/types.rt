@@ -1,8 +1,9 @@
 //! Types, with all the types in them.
+use crate::extensions::refused_extension_name;
 use crate::part::{Refusal, at, part_of, remembered};
 use crate::setting::Setting;
 use crate::step::Step;
-use crate::type_names::{refused_entity_name, refused_extension_name, refused_type_name};
+use crate::type_names::{refused_entity_name, refused_type_name};
 use crate::type_shape::refused_shape;
 use cedar_schema_json::text_at;
 use serde_json::Value;
@@ -171,7 +172,7 @@ fn refused_type(
             let Some(name) = text_at(json, "name") else {
                 return None;
             };
-            let found = refused_extension_name(alloc, setting.number, name);
+            let found = refused_extension_name(alloc, setting, name);
             at(alloc, Step::Key("name"), found)
         }
         _ => refused_type_name(alloc, setting, text),

@@ -6,7 +6,7 @@ use Rattle.std.specs.Cmp.Lexicographic.{slice_cmp}
 use Rattle.serde_json.specs.Data.{Data, boolean, object, Members, no_members, member}
 use Rattle.serde_json.specs.Find.{get, as_str, as_object}
 use Rattle.cedar_ext.specs.Extensions.{type_in}
-use Rattle.cedar_ext.specs.declared.language.Language.TheVariants.{Profile}
+use Rattle.cedar_ext.specs.declared.language.Language.{Language}
 use Rattle.cedar_schema_json.specs.declared.schema_fault.SchemaFault.{SchemaFault}
 use Rattle.cedar_schema_json.specs.declared.schema_fault.SchemaFault.TheVariants.{Shape, UnknownType, OpenRecord}
 use Rattle.cedar_schema_json.specs.declared.form.kind.Kind.{Kind}
@@ -26,9 +26,10 @@ pub record RowsRead : Type 0 where
   pub rows : FormRows
   pub faults : List SchemaFault
 
--- Where a type is written: its namespace, and the names that are declared in the schema (Cedar documentation, JSON schema
--- format: namespaces).
+-- Where a type is written: the language of the schema, its namespace, and the names that are declared in the schema (Cedar
+-- documentation, JSON schema format: namespaces; own).
 pub record Scope : Type 0 where
+  pub language : Language
   pub namespace : List ℕ
   pub entities : List (List ℕ)
   pub commons : List (List ℕ)
@@ -90,9 +91,9 @@ needed f o = unwrap_or (option_map f o) (bad Shape)
 abbrev pub entity_read : Scope → Option (List ℕ) → Read
 entity_read sc o = needed (form_named (λ n. entity_form n.0) sc.entities sc.namespace) o
 
--- The extension type of this name in the profile; 303 where there is none (Cedar documentation, JSON schema format: Extension).
-abbrev pub extension_named : List ℕ → Read
-extension_named s = unwrap_or (option_map (λ t. fine (extension_form t)) (type_in Profile s)) (record { form = no_form; faults = text_faults s ++ UnknownType ∷ [] })
+-- The extension type of this name in the language; 303 where there is none (Cedar documentation, JSON schema format: Extension).
+abbrev pub extension_named : Language → List ℕ → Read
+extension_named language s = unwrap_or (option_map (λ t. fine (extension_form t)) (type_in language s)) (record { form = no_form; faults = text_faults s ++ UnknownType ∷ [] })
 
 -- A declared common type (Cedar documentation, JSON schema format: commonTypes).
 abbrev pub common_read : Scope → List ℕ → Read
@@ -126,7 +127,7 @@ of_kind sc d s Text el rs = fine string_form
 of_kind sc d s Set el rs = needed set_of el
 of_kind sc d s Record el rs = with_faults (closed_faults (get (codes "additionalAttributes") d)) (record_of (unwrap_or rs no_rows_read))
 of_kind sc d s Entity el rs = entity_read sc (text_at (codes "name") d)
-of_kind sc d s Extension el rs = needed extension_named (text_at (codes "name") d)
+of_kind sc d s Extension el rs = needed (extension_named sc.language) (text_at (codes "name") d)
 of_kind sc d s Common el rs = common_read sc s
 
 -- The faults of the keys of an object (Cedar documentation, JSON schema format).

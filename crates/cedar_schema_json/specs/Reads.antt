@@ -7,9 +7,9 @@ use Rattle.cedar_schema_json.specs.Faults.{Told}
 use Rattle.cedar_schema_json.specs.FormView.{form_of}
 use Rattle.cedar_schema_json.specs.Reading.{Read, Scope}
 
--- The scope that a value of the code is: its namespace, and the names of its two tables (own).
+-- The scope that a value of the code is: its language, its namespace, and the names of its two tables (own).
 abbrev pub scope_of : CodeScope → Scope
-scope_of s = record { namespace = s.namespace.now; entities = s.entities.now; commons = s.commons.now }
+scope_of s = record { language = s.language; namespace = s.namespace.now; entities = s.entities.now; commons = s.commons.now }
 
 -- A call that reads a type gives its form where there is no fault, and else one of the faults, or out of memory (own).
 abbrev pub Reads : Result Form SchemaFault → Read → Type 0

@@ -1,6 +1,7 @@
 //! Reads the parts of a schema's JSON: namespaces, names, entries, and types with their common types expanded.
 //!
 //! ```rust
+//! use cedar_ext::Language;
 //! use cedar_schema_json::{NameTable, Scope, check_spaces, entries_of, names_of, read_type};
 //!
 //! check_spaces(alloc, root)?;
@@ -10,6 +11,7 @@
 //! let entity_names = NameTable::new(alloc, names_of(alloc, &entities)?)?;
 //! for entry in &commons {
 //!     let scope = Scope {
+//!         language: Language::Profile,
 //!         namespace: entry.namespace,
 //!         entities: &entity_names,
 //!         commons: &common_names,

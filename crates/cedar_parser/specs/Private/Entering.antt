@@ -1,5 +1,6 @@
 -- What entering a statement ensures.
 use Rattle.std.specs.Prelude.{ℕ, ◌==◌, if◌then◌else◌, Contains}
+use Rattle.cedar_ext.specs.declared.language.Language.{Language}
 use Rattle.cedar_ast.specs.PolicySetTree.{PolicySetTree, id_of, ids_in}
 use Rattle.cedar_ast.specs.declared.statement.Statement.{Statement}
 use Rattle.cedar_parser_tokens.specs.declared.parse_fault.ParseFault.{ParseFault}
@@ -9,10 +10,10 @@ use Rattle.cedar_parser_limits.specs.StatementMeaning.{id_at}
 use Rattle.cedar_parser_limits.specs.StatementLimits.{IsWithinLimits, Breaks}
 
 -- why the policy or template of a statement is not added to a set
-abbrev pub RefusesEntry : PolicySetTree → ℕ → StatementTree → ParseFault → Type 0
-RefusesEntry set position statement f.OutOfMemory = Unit {0}
-RefusesEntry set position statement (f.DuplicateId at) = IsWithinLimits statement × Contains (ids_in set) (id_at position statement)
-RefusesEntry set position statement fault = Breaks statement fault
+abbrev pub RefusesEntry : Language → PolicySetTree → ℕ → StatementTree → ParseFault → Type 0
+RefusesEntry l set position statement f.OutOfMemory = Unit {0}
+RefusesEntry l set position statement (f.DuplicateId at) = IsWithinLimits l statement × Contains (ids_in set) (id_at position statement)
+RefusesEntry l set position statement fault = Breaks l statement fault
 
 -- a refusal when out of memory, or of an id for which P holds
 abbrev pub RefusesWhere : Type 0 → ParseFault → Type 0

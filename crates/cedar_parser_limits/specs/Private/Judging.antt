@@ -1,5 +1,5 @@
 -- What judging a statement ensures.
-use Rattle.std.specs.Prelude.{◌≡◌, ◌<◌, Result, OnOk, IfErr}
+use Rattle.std.specs.Prelude.{◌≡◌, ◌<◌, Option, Some, None, Result, OnOk, IfErr}
 use Rattle.cedar_parser_tokens.specs.declared.parse_fault.ParseFault.{ParseFault}
 use Rattle.cedar_parser_tokens.specs.declared.parse_fault.ParseFault.TheVariants as f
 use Rattle.cedar_parser_limits.specs.declared.breach.Breach.{Breach}
@@ -7,7 +7,6 @@ use Rattle.cedar_parser_limits.specs.declared.breach.Breach.TheVariants.{OutOfMe
 use Rattle.cedar_parser_limits.specs.declared.side_condition.SideCondition.{SideCondition}
 use Rattle.cedar_parser_limits.specs.declared.side_condition.SideCondition.TheVariants.{Strings}
 use Rattle.cedar_parser_limits.specs.declared.sought.Sought.{Sought}
-use Rattle.cedar_parser_limits.specs.declared.sought.Sought.TheVariants.{All, Only}
 use Rattle.cedar_parser_limits.specs.declared.size.Size.{Size}
 use Rattle.cedar_parser_limits.specs.Limits.{max_height, max_nodes}
 
@@ -17,10 +16,14 @@ BreaksSize size (f.TooHigh at) = max_height < size.height
 BreaksSize size (f.TooLarge at) = max_nodes < size.nodes
 BreaksSize size fault = ⊥
 
+-- a side condition is the only one, where there is only one
+abbrev pub IsAmong : Option SideCondition → SideCondition → Type 0
+IsAmong None c = Unit {0}
+IsAmong (Some one) c = one ≡ c
+
 -- a walk looks for a side condition
 abbrev pub Seeks : Sought → SideCondition → Type 0
-Seeks All c = Unit {0}
-Seeks (Only one) c = one ≡ c
+Seeks s c = IsAmong s.only c
 
 -- a breach is of a side condition, and not out of memory
 abbrev pub IsOfCondition : Breach → Type 0

@@ -3,6 +3,7 @@ use Rattle.std.specs.Prelude.{ℕ, List, map}
 use Rattle.cedar_ast_expressions.specs.declared.operator.UnaryOperator.TheVariants.{Get}
 use Rattle.cedar_ast_expressions.specs.Expression as e
 use Rattle.cedar_ast_expressions.specs.Expression.{Expression}
+use Rattle.cedar_ext.specs.declared.language.Language.{Language}
 use Rattle.cedar_parser_limits.specs.declared.side_condition.SideCondition.{SideCondition}
 use Rattle.cedar_parser_tree.specs.declared.written.Field.{Field}
 use Rattle.cedar_parser_tree.specs.declared.written.Link.{Link}
@@ -10,15 +11,15 @@ use Rattle.cedar_parser_tree.specs.declared.written.Link.TheVariants.{Operand, A
 use Rattle.cedar_parser_tree.specs.Written.{members_of}
 use Rattle.cedar_parser_tokens.specs.Content.{text_of}
 use Rattle.cedar_parser_limits.specs.Meaning.{linked, applied, method_of, to_expression, to_expressions}
-use Rattle.cedar_parser_limits.specs.Limits.{Stands, IsKnown, HasArity, method_arity, Keeps, KeepMembers}
+use Rattle.cedar_parser_limits.specs.Limits.{Stands, IsKnown, HasArity, method_arity, method_in, Keeps, KeepMembers}
 
-abbrev pub KeepLink : SideCondition → Link → Type 0
-KeepLink c (Operand sign a) = Keeps c a
-KeepLink c (Attribute s) = Stands c s
-KeepLink c (Method name ms) = IsKnown c (method_of name) × HasArity c (method_arity name) (members_of ms) × KeepMembers c (members_of ms)
+abbrev pub KeepLink : Language → SideCondition → Link → Type 0
+KeepLink l c (Operand sign a) = Keeps l c a
+KeepLink l c (Attribute s) = Stands c s
+KeepLink l c (Method name ms) = IsKnown c (method_in l name) × HasArity c (method_arity name) (members_of ms) × KeepMembers l c (members_of ms)
 
-abbrev pub KeepField : SideCondition → Field → Type 0
-KeepField c f = Stands c f.key × Keeps c f.value
+abbrev pub KeepField : Language → SideCondition → Field → Type 0
+KeepField l c f = Stands c f.key × Keeps l c f.value
 
 -- an expression, and a link after it
 abbrev pub behind : Expression → Link → Expression

@@ -10,7 +10,7 @@ use Rattle.cedar_schema_json.specs.TableView.{table_of}
 use Rattle.cedar_schema.specs.Private.NamedForms.{FormNames}
 
 abbrev pub setting_view : CodeSetting → Setting
-setting_view s = record { entities = s.entities.now; commons = s.commons.now; table = table_of s.table.forms.now; uids = s.uids.now.keys }
+setting_view s = record { language = s.language; entities = s.entities.now; commons = s.commons.now; table = table_of s.table.forms.now; uids = s.uids.now.keys }
 
 abbrev pub sections_view : List Entry → List Entry → List Entry → Sections
 sections_view commons entities actions = record { commons = entries_view commons; entities = entries_view entities; actions = entries_view actions }

@@ -14,6 +14,7 @@ ghost use Rattle.cedar_schema.specs.Private.SettingView.{setting_view};
 use crate::schema::action::{Action, read_action};
 use crate::schema::entity_type::{EntityType, read_entity_type};
 use crate::schema::members::uid_of;
+use cedar_ext::Language;
 use cedar_schema_json::{
     Entry, Form, NameTable, SchemaFault, Scope, Table, check_common_key, judge, qualified,
     read_type,
@@ -22,10 +23,11 @@ use cedar_value::{Name, Uid};
 use std::alloc::Global;
 use std::collections::{BTreeMap, BTreeSet};
 
-/// The declared names and uids: the names of the entity types, the common types as they are written, and the uids of the
-/// actions.
+/// The language and the declared names and uids: the names of the entity types, the common types as they are written, and the
+/// uids of the actions.
 #[derive(Clone, Copy)]
 pub(crate) struct Setting<'a> {
+    pub language: Language,
     pub entities: &'a NameTable,
     pub commons: &'a NameTable,
     pub table: Table<'a>,
@@ -35,18 +37,19 @@ pub(crate) struct Setting<'a> {
 /// The common types, as they are written.
 pub(crate) fn read_forms(
     alloc: Global,
+    language: Language,
     entities: &NameTable,
     commons: &NameTable,
     entries: &[Entry<'_>],
 ) -> Result<Vec<Form>, SchemaFault>
     ensures { MatchResult result
-        (λ v. (each_faults (common_faults entities.now commons.now) (entries_view entries.now) ≡ [])
-        × (table_of v.items ≡ forms_of entities.now commons.now (entries_view entries.now)))
-        (λ e. Told (each_faults (common_faults entities.now commons.now) (entries_view entries.now)) e) }
+        (λ v. (each_faults (common_faults language entities.now commons.now) (entries_view entries.now) ≡ [])
+        × (table_of v.items ≡ forms_of language entities.now commons.now (entries_view entries.now)))
+        (λ e. Told (each_faults (common_faults language entities.now commons.now) (entries_view entries.now)) e) }
 {
     let mut forms = Vec::new(alloc);
     for i in 0..entries.len() {
-        let form = read_form(alloc, entities, commons, entries[i])?;
+        let form = read_form(alloc, language, entities, commons, entries[i])?;
         forms.push(form)?;
     }
     Ok(forms)
@@ -54,17 +57,19 @@ pub(crate) fn read_forms(
 
 fn read_form(
     alloc: Global,
+    language: Language,
     entities: &NameTable,
     commons: &NameTable,
     entry: Entry<'_>,
 ) -> Result<Form, SchemaFault>
     ensures { MatchResult result
-        (λ f. (common_faults entities.now commons.now (entry_of entry.entry) ≡ [])
-        × (form_of f ≡ (type_read (scope_at entities.now commons.now (entry_of entry.entry).namespace) false (entry_of entry.entry).body).form))
-        (λ e. Told (common_faults entities.now commons.now (entry_of entry.entry)) e) }
+        (λ f. (common_faults language entities.now commons.now (entry_of entry.entry) ≡ [])
+        × (form_of f ≡ (type_read (scope_at language entities.now commons.now (entry_of entry.entry).namespace) false (entry_of entry.entry).body).form))
+        (λ e. Told (common_faults language entities.now commons.now (entry_of entry.entry)) e) }
 {
     check_common_key(alloc, entry.key)?;
     let scope = Scope {
+        language,
         namespace: entry.namespace,
         entities,
         commons,
@@ -118,6 +123,7 @@ fn read_entity(
         (λ e. Told (entity_faults (setting_view setting.entry) (entry_of entry.entry)) e) }
 {
     let scope = Scope {
+        language: setting.language,
         namespace: entry.namespace,
         entities: setting.entities,
         commons: setting.commons,
@@ -158,6 +164,7 @@ fn read_one_action(
         (λ e. Told (one_action_faults (setting_view setting.entry) (entry_of entry.entry)) e) }
 {
     let scope = Scope {
+        language: setting.language,
         namespace: entry.namespace,
         entities: setting.entities,
         commons: setting.commons,

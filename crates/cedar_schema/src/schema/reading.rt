@@ -14,48 +14,59 @@ ghost use Rattle.cedar_schema.specs.Schemas.{schema_in, schema_of, sections_faul
 use crate::schema::Schema;
 use crate::schema::declarations::{Setting, judge_forms, read_actions, read_entities, read_forms};
 use crate::schema::members::uids_of;
+use cedar_ext::Language;
 use cedar_schema_json::{
     Entry, NameTable, SchemaFault, Table, check_spaces, ends_of, entries_of, names_of,
 };
 use serde_json::{Map, Value};
 use std::alloc::{AllocError, Global};
 
-/// The schema that a JSON denotes.
-pub(crate) fn read_schema(alloc: Global, json: &Value) -> Result<Schema, SchemaFault>
-    ensures { MatchResult result (Denotes (view json.now)) (λ e. e ≢ OutOfMemory → IsRefusedWith (view json.now) e) }
+/// The schema that a JSON denotes in a language.
+pub(crate) fn read_schema(
+    alloc: Global,
+    language: Language,
+    json: &Value,
+) -> Result<Schema, SchemaFault>
+    ensures { MatchResult result (Denotes language (view json.now)) (λ e. e ≢ OutOfMemory → IsRefusedWith language (view json.now) e) }
 {
     match json.as_object() {
-        Some(root) => read_root(alloc, root),
+        Some(root) => read_root(alloc, language, root),
         None => Err(SchemaFault::Shape),
     }
 }
 
-fn read_root(alloc: Global, root: &Map<String, Value>) -> Result<Schema, SchemaFault>
-    ensures { Answers result (written_faults (members_view root.now.entries)) (schema_of (members_view root.now.entries)) }
+fn read_root(
+    alloc: Global,
+    language: Language,
+    root: &Map<String, Value>,
+) -> Result<Schema, SchemaFault>
+    ensures { Answers result (written_faults language (members_view root.now.entries)) (schema_of language (members_view root.now.entries)) }
 {
     check_spaces(alloc, root)?;
     let commons = entries_of(alloc, root, "commonTypes")?;
     let entities = entries_of(alloc, root, "entityTypes")?;
     let actions = entries_of(alloc, root, "actions")?;
-    read_sections(alloc, &commons, &entities, &actions)
+    read_sections(alloc, language, &commons, &entities, &actions)
 }
 
 // The schema of the entries of common types, entity types and actions.
 fn read_sections(
     alloc: Global,
+    language: Language,
     commons: &[Entry<'_>],
     entities: &[Entry<'_>],
     actions: &[Entry<'_>],
 ) -> Result<Schema, SchemaFault>
     ensures { let x = sections_view commons.now entities.now actions.now in
-        Answers result (sections_faults x) (schema_in (setting_of x) x.entities x.actions) }
+        Answers result (sections_faults language x) (schema_in (setting_of language x) x.entities x.actions) }
 {
     let common_names = name_table(alloc, commons)?;
     let entity_names = name_table(alloc, entities)?;
-    let forms = read_forms(alloc, &entity_names, &common_names, commons)?;
+    let forms = read_forms(alloc, language, &entity_names, &common_names, commons)?;
     let ends = ends_of(alloc, &forms)?;
     let uids = uids_of(alloc, actions)?;
     let setting = Setting {
+        language,
         entities: &entity_names,
         commons: &common_names,
         table: Table {

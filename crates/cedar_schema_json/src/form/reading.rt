@@ -14,7 +14,7 @@ use crate::form::{Form, FormField};
 use crate::json::naming::{read_declared, read_name};
 use crate::json::scope::Scope;
 use crate::schema_fault::SchemaFault;
-use cedar_ext::{ExtensionType, Language};
+use cedar_ext::ExtensionType;
 use serde_json::{Map, Value};
 use std::alloc::Global;
 
@@ -62,11 +62,11 @@ fn read_common(alloc: Global, scope: &Scope<'_>, text: &str) -> Result<Form, Sch
     Ok(Form::Common(found.1))
 }
 
-fn read_extension(alloc: Global, json: &Value) -> Result<Form, SchemaFault>
-    ensures { Reads result (needed extension_named (text_at (codes "name") (view json.now))) }
+fn read_extension(alloc: Global, scope: &Scope<'_>, json: &Value) -> Result<Form, SchemaFault>
+    ensures { Reads result (needed (extension_named scope.now.language) (text_at (codes "name") (view json.now))) }
 {
     match text_at(json, "name") {
-        Some(text) => match ExtensionType::named_in(Language::Profile, text) {
+        Some(text) => match ExtensionType::named_in(scope.language, text) {
             Some(extension) => Ok(Form::Extension(extension)),
             None => {
                 read_name(alloc, text)?;
@@ -149,7 +149,7 @@ fn read_kind(
         Kind::Set => read_set(alloc, scope, json),
         Kind::Record => read_record(alloc, scope, json),
         Kind::Entity => read_entity(alloc, scope, json),
-        Kind::Extension => read_extension(alloc, json),
+        Kind::Extension => read_extension(alloc, scope, json),
         Kind::Common => read_common(alloc, scope, text),
     }
 }

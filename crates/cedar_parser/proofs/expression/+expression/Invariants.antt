@@ -2,6 +2,7 @@ use Rattle.std.proofs.Common.{◌≡◌, suc, ◌+◌, ◌*◌, take, drop, fold
 use Rattle.cedar_ast_expressions.specs.Expression.{expressions_of}
 use Rattle.cedar_parser_tree.specs.WrittenKind.{links_of, fields_of}
 use Rattle.cedar_parser_tree.specs.Written.{parts, link_parts, member_parts, field_parts, members_of}
+use Rattle.cedar_ext.specs.declared.language.Language.TheVariants.{Cedar4}
 use Rattle.cedar_parser_limits.specs.Meaning.{to_expression, to_expressions}
 use Rattle.cedar_parser_limits.specs.Limits.{KeepLinks, KeepMembers, KeepFields}
 use Rattle.cedar_parser_limits.specs.Private.Parts.{behind, pairs_of}
@@ -39,17 +40,17 @@ decreases-to_pairs l = 2 * field_parts (fields_of l.fields.now)
 abbrev pub invariant-to_chain-loop-link : goal.invariant-to_chain-loop-link
 invariant-to_chain-loop-link l = record {
   done : l.left.value ≡ fold behind (to_expression l.first) (take l.link-index l.links);
-  kept : Every (λ s. KeepLinks s (links_of (drop l.link-index l.links)));
+  kept : Every (λ s. KeepLinks Cedar4 s (links_of (drop l.link-index l.links)));
 }
 
 abbrev pub invariant-to_expressions-loop-member : goal.invariant-to_expressions-loop-member
 invariant-to_expressions-loop-member l = record {
   done : expressions_of l.found.items ≡ to_expressions (members_of (take l.member-index l.members));
-  kept : Every (λ s. KeepMembers s (members_of (drop l.member-index l.members)));
+  kept : Every (λ s. KeepMembers Cedar4 s (members_of (drop l.member-index l.members)));
 }
 
 abbrev pub invariant-to_pairs-loop-field : goal.invariant-to_pairs-loop-field
 invariant-to_pairs-loop-field l = record {
   done : l.found.items ≡ pairs_of (take l.field-index l.fields);
-  kept : Every (λ s. KeepFields s (fields_of (drop l.field-index l.fields)));
+  kept : Every (λ s. KeepFields Cedar4 s (fields_of (drop l.field-index l.fields)));
 }

@@ -12,9 +12,12 @@ returns-clause-distinct c =
 
 pub returns-clause-refused : goal.returns-clause-refused
 returns-clause-refused c =
-    not_entered c.args.set.now c.args.position c.args.statement c.in_ok-entry.entry c.add_entry.result c.in_ok-judge.ensures.kept (ap id_of c.in_ok-entry.ensures ∙ id_of_statement c.args.position c.args.statement) c.add_entry.ensures.refused
+    not_entered c.args.language c.args.set.now c.args.position c.args.statement c.in_ok-entry.entry c.add_entry.result c.in_ok-judge.ensures.kept (ap id_of c.in_ok-entry.ensures ∙ id_of_statement c.args.position c.args.statement) c.add_entry.ensures.refused
 
 pub returns-in_err-judge-clause-refused : goal.returns-in_err-judge-clause-refused
 returns-in_err-judge-clause-refused c =
     let p = err_from_is_err_and c.from_residual.result c.from_residual.ensures.1 in
-    rw (p.1, p.2) (judged c.args.set.now c.args.position c.args.statement c.in_err-judge.field-0.0 c.in_err-judge.ensures.broken)
+    rw (p.1, p.2) (judged c.args.language c.args.set.now c.args.position c.args.statement c.in_err-judge.field-0.0 c.in_err-judge.ensures.broken)
+
+pub statement_of-requires : goal.statement_of-requires
+statement_of-requires c = c.cedar4_is_widest.ensures c.args.language c.args.statement c.in_ok-judge.ensures.kept

@@ -28,10 +28,10 @@ abbrev pub decreases-judge_field : goal.decreases-judge_field
 decreases-judge_field l = suc (2 * parts l.field.now.value)
 
 abbrev pub invariant-judge_links-loop-link : goal.invariant-judge_links-loop-link
-invariant-judge_links-loop-link l = IsLeft l.sought (λ c. KeepLinks c (links_of (drop l.link-index l.links))) (λ c. KeepLinks c (links_of l.links))
+invariant-judge_links-loop-link l = IsLeft l.sought (λ c. KeepLinks l.sought.language c (links_of (drop l.link-index l.links))) (λ c. KeepLinks l.sought.language c (links_of l.links))
 
 abbrev pub invariant-judge_members-loop-member : goal.invariant-judge_members-loop-member
-invariant-judge_members-loop-member l = IsLeft l.sought (λ c. KeepMembers c (members_of (drop l.member-index l.members))) (λ c. KeepMembers c (members_of l.members))
+invariant-judge_members-loop-member l = IsLeft l.sought (λ c. KeepMembers l.sought.language c (members_of (drop l.member-index l.members))) (λ c. KeepMembers l.sought.language c (members_of l.members))
 
 abbrev pub invariant-judge_fields-loop-field : goal.invariant-judge_fields-loop-field
-invariant-judge_fields-loop-field l = IsLeft l.sought (λ c. KeepFields c (fields_of (drop l.field-index l.fields))) (λ c. KeepFields c (fields_of l.fields))
+invariant-judge_fields-loop-field l = IsLeft l.sought (λ c. KeepFields l.sought.language c (fields_of (drop l.field-index l.fields))) (λ c. KeepFields l.sought.language c (fields_of l.fields))

@@ -2,8 +2,7 @@ use Rattle.std.proofs.Common.{◌≡◌, sym, ap, ◌∙◌, ◌<◌, length, ar
 use Rattle.cedar_parser_limits.specs.Meaning.{to_expression}
 use Rattle.cedar_parser_limits.specs.Limits.{size_of}
 use Rattle.cedar_parser_limits.specs.Private.Capped.{capped}
-use Rattle.cedar_ext.specs.Extensions.{constructor_in}
-use Rattle.cedar_ext.specs.declared.language.Language.TheVariants.{Profile}
+use Rattle.cedar_ext.specs.Extensions.{constructor_named}
 use Rattle.cedar_parser_limits.proofs.PartLemmas.{link_lighter, member_lighter, field_lighter, behind_all, applied_other, called_other, members_step, fields_step}
 use Rattle.cedar_parser_limits.proofs.expression_size.+expression_size.Goals as goal
 
@@ -44,4 +43,4 @@ binary_method_size-returns-in_default-2 t c = λ op a e.
 pub call_size-returns-in_default-2 : goal.call_size-returns-in_default-2
 call_size-returns-in_default-2 t c =
     let other : length c.args.arguments.now ≡ 1 → ⊥ = λ (n : length c.args.arguments.now ≡ 1). omega arith in
-    c.leaf-refused.ensures ∙ ap (λ x. capped (size_of x)) (sym (called_other (constructor_in Profile c.args.name.now) c.args.arguments.now other))
+    c.leaf-refused.ensures ∙ ap (λ x. capped (size_of x)) (sym (called_other (constructor_named c.args.name.now) c.args.arguments.now other))

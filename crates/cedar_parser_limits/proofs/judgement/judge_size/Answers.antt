@@ -9,4 +9,4 @@ pub returns-clause-small : goal.returns-clause-small
 returns-clause-small c = small_of c.judge_limits.result c.condition_size-size.result (condition_size c.args.statement.now) c.condition_size-size.ensures c.judge_limits.ensures.small
 
 pub returns-clause-broken : goal.returns-clause-broken
-returns-clause-broken c = broken_of c.judge_limits.result c.condition_size-size.result c.args.statement.now c.condition_size-size.ensures c.judge_limits.ensures.broken
+returns-clause-broken c = λ l. broken_of l c.judge_limits.result c.condition_size-size.result c.args.statement.now c.condition_size-size.ensures c.judge_limits.ensures.broken

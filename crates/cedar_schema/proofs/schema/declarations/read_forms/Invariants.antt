@@ -7,6 +7,6 @@ use Rattle.cedar_schema.proofs.schema.declarations.read_forms.Given as goal
 
 abbrev pub invariant-loop-i : goal.invariant-loop-i
 invariant-loop-i l = record {
-  list : table_of l.forms.items ++ forms_of l.entities l.commons (entries_view (drop l.i l.entries)) ≡ forms_of l.entities l.commons (entries_view l.entries);
-  faults : each_faults (common_faults l.entities l.commons) (entries_view l.entries) ≡ each_faults (common_faults l.entities l.commons) (entries_view (drop l.i l.entries));
+  list : table_of l.forms.items ++ forms_of l.language l.entities l.commons (entries_view (drop l.i l.entries)) ≡ forms_of l.language l.entities l.commons (entries_view l.entries);
+  faults : each_faults (common_faults l.language l.entities l.commons) (entries_view l.entries) ≡ each_faults (common_faults l.language l.entities l.commons) (entries_view (drop l.i l.entries));
 }

@@ -9,11 +9,11 @@ use Rattle.cedar_schema.proofs.schema.reading.read_root.Goals as goal
 pub returns-in_err-check_spaces : goal.returns-in_err-check_spaces
 returns-in_err-check_spaces c =
     let p = err_from_is_err_and c.from_residual.result c.from_residual.ensures.1 in
-    rw (p.1, p.2) (root_spaces (members_view c.args.root.now.entries) _ c.in_err-check_spaces.ensures)
+    rw (p.1, p.2) (root_spaces c.args.language (members_view c.args.root.now.entries) _ c.in_err-check_spaces.ensures)
 
 pub returns : goal.returns
 returns c =
-    root_all (members_view c.args.root.now.entries) (sections_view c.deref.result.now c.deref-2.result.now c.deref-3.result.now) _ c.in_ok-check_spaces.ensures
+    root_all c.args.language (members_view c.args.root.now.entries) (sections_view c.deref.result.now c.deref-2.result.now c.deref-3.result.now) _ c.in_ok-check_spaces.ensures
     (λ i. record {
       commons = (ap entries_view c.deref.ensures.value ∙ c.in_ok-commons.ensures) i;
       entities = (ap entries_view c.deref-2.ensures.value ∙ c.in_ok-entities.ensures) i;

@@ -2,7 +2,7 @@ use Rattle.std.proofs.Common.{◌≡◌}
 use Rattle.std.proofs.lemmas.Result.{err_from_is_err_and}
 use Rattle.cedar_parser_tokens.proofs.UidLemmas.{IsText}
 use Rattle.cedar_parser.proofs.ParseLemmas.{parsed, parsed_only, parsed_fault, unread_answers, unread_text}
-use Rattle.cedar_parser.proofs.parser.parse.Goals as goal
+use Rattle.cedar_parser.proofs.parser.parse_in.Goals as goal
 
 pub returns : goal.returns
 returns c =
@@ -10,9 +10,9 @@ returns c =
     let text : IsText c.args.source.now ms = record { are = c.in_ok-spelled.ensures.found; only = c.in_ok-spelled.ensures.only } in
     let begins : c.cursor-cursor.result ≡ ms = c.cursor-cursor.ensures in
     record {
-      found = parsed c.args.source.now ms c.parse_policies.result text (rw (← begins) c.parse_policies.ensures.found);
-      only = parsed_only c.args.source.now ms c.parse_policies.result text (rw (← begins) c.parse_policies.ensures.only);
-      fault = parsed_fault c.args.source.now ms c.parse_policies.result text (rw (← begins) c.parse_policies.ensures.fault);
+      found = parsed c.args.language c.args.source.now ms c.parse_policies.result text (rw (← begins) c.parse_policies.ensures.found);
+      only = parsed_only c.args.language c.args.source.now ms c.parse_policies.result text (rw (← begins) c.parse_policies.ensures.only);
+      fault = parsed_fault c.args.language c.args.source.now ms c.parse_policies.result text (rw (← begins) c.parse_policies.ensures.fault);
     }
 
 pub returns-in_err-spelled-clause-only : goal.returns-in_err-spelled-clause-only
@@ -25,4 +25,4 @@ pub returns-in_err-spelled-clause-fault : goal.returns-in_err-spelled-clause-fau
 returns-in_err-spelled-clause-fault c =
     let p = err_from_is_err_and c.from_residual.result c.from_residual.ensures.1 in
     rw (p.1, p.2)
-    (unread_text c.args.source.now c.in_err-spelled.field-0.0 c.in_err-spelled.ensures.fault)
+    (unread_text c.args.language c.args.source.now c.in_err-spelled.field-0.0 c.in_err-spelled.ensures.fault)

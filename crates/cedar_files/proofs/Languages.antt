@@ -1,0 +1,78 @@
+-- What files hold in the profile, they hold in Cedar 4.
+use Rattle.std.proofs.Common.{◌≡◌, refl, ap, subst, ℕ, List, Option, None, Some}
+use Rattle.std.specs.Prelude.{IfSome}
+use Rattle.cedar_ext.specs.declared.language.Language.{Language}
+use Rattle.cedar_ext.specs.declared.language.Language.TheVariants.{Profile, Cedar4}
+use Rattle.cedar_value.specs.World.{World}
+use Rattle.cedar_value.specs.declared.request.Request.{Request}
+use Rattle.cedar_ast.specs.PolicyTree.{PolicyTree}
+use Rattle.cedar_ast.specs.PolicySetTree.{PolicySetTree}
+use Rattle.cedar_ast_expressions.specs.declared.error.EvaluationError.{EvaluationError}
+use Rattle.cedar_ast_expressions.specs.declared.error.EvaluationError.TheVariants as error
+use Rattle.cedar_schema_spec.specs.SchemaTree.{SchemaTree}
+use Rattle.cedar_schema.specs.Languages.{ProfileSchemasAreKept}
+use Rattle.cedar_parser.specs.PolicyText.{IsPolicyText}
+use Rattle.cedar_code.specs.declared.outcome.Outcome.{Outcome}
+use Rattle.cedar_code.specs.declared.outcome.Outcome.TheVariants.{Value, Error, StackFault}
+use Rattle.cedar_check_spec.specs.Languages.{AcceptanceIsKept}
+use Rattle.cedar_check_spec.specs.Soundness.{IsAllowedWith}
+use Rattle.cedar_check_spec.specs.declared.settings.Settings.{Settings}
+use Rattle.cedar_auth_spec.specs.Headline.{IsSafeWith, RunsSafelyWith, IsAnsweredSoundlyWith}
+use Rattle.cedar_auth_spec.specs.Ready.{ReadyTree}
+use Rattle.cedar_files.specs.Authorization.{HoldAll}
+use Rattle.cedar_files.specs.Languages.{in_cedar4, ready_in_cedar4}
+use Rattle.cedar_files.specs.PolicyFile.{HoldsPolicies}
+use Rattle.cedar_files.specs.Roles.{Holdings}
+use Rattle.cedar_files.specs.SchemaFile.{HoldsSchema}
+use Rattle.cedar_files.specs.Validation.{Hold, HoldText}
+use Rattle.cedar_files.specs.declared.files.Role.TheVariants.{Schema, Policies}
+
+-- ---- the answers
+
+allowed : (settings : Settings) (e : EvaluationError) → IsAllowedWith settings e → IsAllowedWith (in_cedar4 settings) e
+allowed settings error.Overflow h = h
+allowed settings error.MissingEntity h = h
+allowed settings error.Decimal h = h
+allowed settings _ h = absurd h
+
+safe : (settings : Settings) (o : Outcome) → IsSafeWith settings o → IsSafeWith (in_cedar4 settings) o
+safe settings (Value v) h = h
+safe settings (Error e) h = allowed settings e h
+safe settings StackFault h = h
+
+runs : (settings : Settings) (p : PolicyTree) (q : Request) (w : World) → RunsSafelyWith settings p q w → RunsSafelyWith (in_cedar4 settings) p q w
+runs settings p q w h = record { steps = h.steps; runs = h.runs; few = h.few; safe = safe settings _ h.safe }
+
+sound : (settings : Settings) (ps : List PolicyTree) (q : Request) (w : World) → IsAnsweredSoundlyWith settings ps q w → IsAnsweredSoundlyWith (in_cedar4 settings) ps q w
+sound settings ps q w h = record { runs = λ p c. runs settings p q w (h.runs p c); errors = λ x c. allowed settings x.error (h.errors x c); cedars = h.cedars }
+
+-- ---- the files
+
+module _ (texts : (l : Language) (source : List ℕ) (set : PolicySetTree) → IsPolicyText l source set → IsPolicyText Cedar4 source set)
+    (schemas : ProfileSchemasAreKept) (acceptance : AcceptanceIsKept) where
+  schema_kept : (held : Option (Option (List ℕ))) (s : SchemaTree) → IfSome held (λ file. HoldsSchema Profile file s) → IfSome held (λ file. HoldsSchema Cedar4 file s)
+  schema_kept None s h = tt
+  schema_kept (Some None) s h = h
+  schema_kept (Some (Some bytes)) s h = schemas bytes s h
+
+  policies_kept : (held : Option (Option (List ℕ))) (set : PolicySetTree) → IfSome held (λ file. HoldsPolicies Profile file set) → IfSome held (λ file. HoldsPolicies Cedar4 file set)
+  policies_kept None set h = tt
+  policies_kept (Some None) set h = h
+  policies_kept (Some (Some bytes)) set h = (h.0, texts Profile bytes set h.1)
+
+  text_kept : (holds : Holdings) (s : SchemaTree) (text : PolicySetTree) → HoldText Profile holds s text → HoldText Cedar4 holds s text
+  text_kept holds s text h = record { is_schema = schema_kept (holds Schema) s h.is_schema; are_policies = policies_kept (holds Policies) text h.are_policies }
+
+  hold_kept : (holds : Holdings) (s : SchemaTree) (set : PolicySetTree) → Hold Profile holds s set → Hold Cedar4 holds s set
+  hold_kept holds s set h = record { text = h.text; hold_text = text_kept holds s h.text h.hold_text; are_linked = h.are_linked }
+
+  pub files_kept : (settings : Settings) (holds : Holdings) (r : ReadyTree) → settings.language ≡ Profile → HoldAll settings holds r → HoldAll (in_cedar4 settings) holds (ready_in_cedar4 r)
+  files_kept settings holds r is h = record {
+    hold = hold_kept holds r.schema r.policies (subst (λ (l : Language). Hold l holds r.schema r.policies) is h.hold);
+    settings_are = ap in_cedar4 h.settings_are;
+    validated = record { each = λ p c. acceptance settings (in_cedar4 settings) refl r.schema p (h.validated.each p c) };
+    is_world = h.is_world;
+    apart = h.apart;
+    conforms = h.conforms;
+    sound = λ line q d. sound settings r.policies.policies q r.world (h.sound line q d);
+  }

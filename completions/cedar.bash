@@ -7,11 +7,11 @@ _cedar_subcommands='validate authorize why ask check-parse explain help'
 _cedar_options() {
   case $1 in
     '') printf ' %s' -h,--help -V,--version ;;
-    validate) printf ' %s' -s,--schema -p,--policies -l,--links --any-decimal --deny-warnings --report --quiet --diagnostics -h,--help ;;
-    authorize) printf ' %s' -s,--schema -p,--policies -l,--links -e,--entities --any-decimal --entities-in-lines --explain-lines --quiet --diagnostics -h,--help ;;
-    why) printf ' %s' -s,--schema -p,--policies -l,--links -e,--entities --any-decimal --all --json --quiet --diagnostics -h,--help ;;
-    ask) printf ' %s' -s,--schema -p,--policies -l,--links -e,--entities --any-decimal --principal --action --resource -c,--context --quiet --diagnostics -h,--help ;;
-    check-parse) printf ' %s' -p,--policies --quiet --diagnostics -h,--help ;;
+    validate) printf ' %s' -s,--schema -p,--policies -l,--links --language --any-decimal --deny-warnings --report --quiet --diagnostics -h,--help ;;
+    authorize) printf ' %s' -s,--schema -p,--policies -l,--links --language -e,--entities --any-decimal --entities-in-lines --explain-lines --quiet --diagnostics -h,--help ;;
+    why) printf ' %s' -s,--schema -p,--policies -l,--links --language -e,--entities --any-decimal --all --json --quiet --diagnostics -h,--help ;;
+    ask) printf ' %s' -s,--schema -p,--policies -l,--links --language -e,--entities --any-decimal --principal --action --resource -c,--context --quiet --diagnostics -h,--help ;;
+    check-parse) printf ' %s' -p,--policies --language --quiet --diagnostics -h,--help ;;
     explain) printf ' %s' -h,--help ;;
   esac
 }
@@ -22,21 +22,25 @@ _cedar_value() {
     'validate -s' | 'validate --schema') echo / ;;
     'validate -p' | 'validate --policies') echo / ;;
     'validate -l' | 'validate --links') echo / ;;
+    'validate --language') echo '3 4' ;;
     'validate --report') echo 'human json' ;;
     'validate --diagnostics') echo 'human json none' ;;
     'authorize -s' | 'authorize --schema') echo / ;;
     'authorize -p' | 'authorize --policies') echo / ;;
     'authorize -l' | 'authorize --links') echo / ;;
+    'authorize --language') echo '3 4' ;;
     'authorize -e' | 'authorize --entities') echo / ;;
     'authorize --diagnostics') echo 'human json none' ;;
     'why -s' | 'why --schema') echo / ;;
     'why -p' | 'why --policies') echo / ;;
     'why -l' | 'why --links') echo / ;;
+    'why --language') echo '3 4' ;;
     'why -e' | 'why --entities') echo / ;;
     'why --diagnostics') echo 'human json none' ;;
     'ask -s' | 'ask --schema') echo / ;;
     'ask -p' | 'ask --policies') echo / ;;
     'ask -l' | 'ask --links') echo / ;;
+    'ask --language') echo '3 4' ;;
     'ask -e' | 'ask --entities') echo / ;;
     'ask --principal') ;;
     'ask --action') ;;
@@ -44,6 +48,7 @@ _cedar_value() {
     'ask -c' | 'ask --context') echo / ;;
     'ask --diagnostics') echo 'human json none' ;;
     'check-parse -p' | 'check-parse --policies') echo / ;;
+    'check-parse --language') echo '3 4' ;;
     'check-parse --diagnostics') echo 'human json none' ;;
     *) return 1 ;;
   esac

@@ -10,7 +10,8 @@ import re
 # The names that Cedar itself declares, beside those of the schema.
 BUILT_IN = {'Bool': {'type': 'Boolean'}, 'Long': {'type': 'Long'}, 'String': {'type': 'String'},
             'decimal': {'type': 'Extension', 'name': 'decimal'}}
-EXTENSIONS_LEFT_OUT = ('ipaddr', 'datetime', 'duration')
+# The extension types that each language has, with the functions that make their values.
+EXTENSIONS = {3: {'decimal': 'decimal'}, 4: {'decimal': 'decimal', 'ipaddr': 'ip', 'datetime': 'datetime', 'duration': 'duration'}}
 UID_TEXT = re.compile(r'\s*([A-Za-z_]\w*(?:\s*::\s*[A-Za-z_]\w*)*)\s*::\s*"((?:[^"\\]|\\.)*)"\s*$', re.A | re.S)
 ESCAPE = re.compile(r'\\(?:([nrt0\\\'"])|x([0-7][0-9A-Fa-f])|u\{([0-9A-Fa-f]{1,6})\}|.)', re.S)
 ESCAPED = {'n': '\n', 'r': '\r', 't': '\t', '0': '\0', '\\': '\\', "'": "'", '"': '"'}
@@ -28,11 +29,12 @@ class Number(str):
 
 
 class Notes:
-    """What was dropped, and what has no form here: pairs of a path and words."""
+    """What was dropped, and what has no form here: pairs of a path and words. What has a form depends on the language."""
 
-    def __init__(self):
+    def __init__(self, language=3):
         self.dropped = []
         self.refused = []
+        self.extensions = EXTENSIONS[language]
 
     def drop(self, path, words):
         self.dropped.append((shown(path), words))
@@ -225,10 +227,10 @@ def value_form(node, path, notes):
 
 
 def extension_form(node, path, notes):
-    """A value that an extension function makes: `decimal` alone has a form here."""
+    """A value that an extension function makes: one of the language has a form here."""
     call = node['__extn']
     function = call.get('fn') if isinstance(call, dict) else None
-    if function != 'decimal':
+    if function not in notes.extensions.values():
         notes.refuse(path, 'the extension function %s is left out here' % (function if is_text(function) else written(function)))
     return node
 
@@ -464,9 +466,9 @@ class SchemaForm:
         return self.built_in(name, path)
 
     def extension(self, name, path):
-        """The extension type of a name: `decimal` alone has a form here."""
-        if name == 'decimal':
-            return BUILT_IN['decimal']
+        """The extension type of a name: one of the language has a form here."""
+        if is_text(name) and name in self.notes.extensions:
+            return {'type': 'Extension', 'name': name}
         self.notes.refuse(path, 'the extension type %s is left out here' % (name if is_text(name) else written(name)))
         return {}
 
@@ -475,7 +477,7 @@ class SchemaForm:
         bare = name.removeprefix('__cedar::') if is_text(name) else None
         if bare in BUILT_IN:
             return BUILT_IN[bare]
-        if bare in EXTENSIONS_LEFT_OUT:
+        if bare in EXTENSIONS[4]:
             return self.extension(bare, path)
         if bare is not None and bare.split('::')[-1] == 'Action':
             self.notes.refuse(path, 'a type of actions (%s) is left out here' % bare)

@@ -12,7 +12,8 @@ WORKED = ('tests/program/*.jsonl', 'tests/unproved/cases/data/answers.jsonl')
 FILES = ('schema.json', 'policies.cedar', 'links.json', 'entities.json')
 # The text of a case of the kind `answer`: the decision, the determining policies, and after `!` each error with its policy.
 ANSWER = re.compile(r'(allow|deny)((?: \w+)*)((?:!\w+ \w+)*)')
-ANY_DECIMAL, IN_LINES = '--any-decimal', '--entities-in-lines'
+ANY_DECIMAL, IN_LINES, LANGUAGE = '--any-decimal', '--entities-in-lines', '--language'
+LANGUAGES = {'3': 0, '4': 2}
 UID = re.compile(r'(\w+(?:::\w+)*)::"([^"\\]*)"')
 # Broken files: the example, the file, and in its place a file of the example or a text.
 BROKEN = [('notes', 'policies.cedar', 'broken_policies.cedar'), ('tenants', 'policies.cedar', 'broken_policies.cedar'),
@@ -32,8 +33,19 @@ def content(*names):
 
 
 def example_names():
-    """The folders of examples/ that have answers."""
+    """The folders of examples/ that have answers. One that needs an option of the program (its file `options`) is left out, since the hosts
+    publish the files of an example without settings."""
+    return sorted(it for it in os.listdir(EXAMPLES) if content(it, 'answers.jsonl') and not content(it, 'options'))
+
+
+def shown_examples():
+    """The folders of examples/ that have answers, in whichever language."""
     return sorted(it for it in os.listdir(EXAMPLES) if content(it, 'answers.jsonl'))
+
+
+def language_of(example):
+    """The language of an example: that of its option, or else the default one."""
+    return 4 if content(example, 'options').decode().split() == [LANGUAGE, '4'] else 3
 
 
 def parts_of(line):
@@ -92,6 +104,22 @@ def text_of(case, key):
     return ''.join(it if isinstance(it, str) else it['repeat'] * it['times'] for it in parts).encode()
 
 
+def options_of(case):
+    """The settings of a case as the library takes them, and whether its lines bring entities; None where it has another option."""
+    words, settings, brings = list(case.get('args', ())), LANGUAGES[str(case.get('language', 3))], False
+    while words:
+        word = words.pop(0)
+        if word == ANY_DECIMAL:
+            settings |= 1
+        elif word == IN_LINES:
+            brings = True
+        elif word == LANGUAGE and words and words[0] in LANGUAGES:
+            settings |= LANGUAGES[words.pop(0)]
+        else:
+            return None
+    return settings, brings
+
+
 def why_left_out(case):
     """Why a case is not one for a binding; None where it is one."""
     is_answer = case['kind'] == 'answer'
@@ -100,7 +128,7 @@ def why_left_out(case):
         return 'a file is missing, and only the program looks for one'
     if text_of(case, 'links') == b'':
         return 'a binding takes links of no bytes for no file'
-    if set(case.get('args', ())) - {ANY_DECIMAL, IN_LINES}:
+    if options_of(case) is None:
         return 'an option is only of the program'
     if 'stdout' not in case:
         return 'only a part of the wanted text is known'
@@ -138,13 +166,12 @@ def write_case(folder, case):
         if text is not None:
             with open(os.path.join(folder, file), 'wb') as to:
                 to.write(text)
-    settings = (it in case.get('args', ()) for it in (ANY_DECIMAL, IN_LINES))
-    return '%s %d %d %d\n' % (case['name'], 0 if is_answer else case['status'], *settings)
+    return '%s %d %d %d\n' % (case['name'], 0 if is_answer else case['status'], *options_of(case))
 
 
 def write_cases(root):
-    """Writes a folder for each case of answers, and the file `list`, which has a line for each: the folder, the wanted status, and 1 or 0
-    for whether any-decimal is on and for whether lines bring entities. Gives the count of the cases, and of those left out, by reason."""
+    """Writes a folder for each case of answers, and the file `list`, which has a line for each: the folder, the wanted status, the settings as
+    the library takes them, and 1 or 0 for whether lines bring entities. Gives the count of the cases, and of those left out, by reason."""
     lines, left_out = [], collections.Counter()
     for case in cases_of_answers():
         why = why_left_out(case)

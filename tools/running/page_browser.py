@@ -9,7 +9,7 @@ import time
 
 TOP = os.path.dirname(os.path.dirname(os.path.dirname(os.path.abspath(__file__))))
 sys.path.insert(0, os.path.join(TOP, 'tools'))
-from binding_cases import BROKEN, content, example_names, write_broken  # noqa: E402
+from binding_cases import BROKEN, content, example_names, language_of, shown_examples, write_broken  # noqa: E402
 
 READER = os.path.join(TOP, 'tests', 'page', 'reader.js')
 FILES = {'schema': 'schema.json', 'policies': 'policies.cedar', 'links': 'links.json', 'entities': 'entities.json'}
@@ -161,9 +161,11 @@ class Pages:
         self.browser.size(*WIDE)
         self.open(where)
         self.judge('the page begins at ' + where, self.browser.value('document.documentElement.dataset.failed === undefined'))
-        self.judge_shown('the choice of examples', '#example option:not([hidden])', example_names())
-        for name in example_names():
+        self.judge_shown('the choice of examples', '#example option:not([hidden])', shown_examples())
+        for name in shown_examples():
             self.choose(name)
+            is_checked = self.browser.value('document.getElementById("language-4").checked')
+            self.judge('the language of ' + name, is_checked is (language_of(name) == 4), is_checked)
             report, answers = [content(name, file).decode() for file in ('report.jsonl', 'answers.jsonl')]
             lines = [json.loads(line) for line in answers.splitlines()]
             self.judge_done('the report of ' + name, 'report', 0, report)
@@ -450,6 +452,42 @@ class Pages:
         self.choose('notes')
         self.judge('the choice of an example', self.browser.value('document.getElementById("any-decimal").checked') is False)
 
+    def language(self):
+        """Files of the language of Cedar 4 are refused without it, and it stays in links and over a reload."""
+        self.choose('notes')
+        here = os.path.join(TOP, 'tests', 'bindings', 'language_4')
+        files = {file.split('.')[0]: file for file in ('schema.json', 'policies.cedar', 'entities.json', 'requests.jsonl')}
+        for name, file in files.items():
+            with open(os.path.join(here, file), encoding='utf-8') as text:
+                self.write(name, text.read())
+        words = [it for name, file in files.items() if name != 'requests' for it in ('--' + name, file)]
+        with open(os.path.join(here, 'requests.jsonl'), 'rb') as text:
+            lines = text.read()
+        checked = 'document.getElementById("language-4").checked'
+        for flags, call in (([], 'publish'), (['--language', '4'], 'answers')):
+            ended = self.ended('authorize', here, *words, *flags, lines=lines)
+            self.judge_done('the %s with %s' % (call, flags), call, ended.returncode, ended.stdout.decode())
+            if not flags:
+                self.browser.value('document.getElementById("language-4").click()')
+                self.settle()
+        self.reload()
+        self.judge('the language after a reload', self.browser.value(checked) is True)
+        self.browser.value('page.copyLink()')
+        link, base = self.browser.value('location.href'), self.where.split('#')[0]
+        self.choose('notes')
+        self.judge('the language of an example', self.browser.value(checked) is False)
+        self.open(link)
+        self.judge('the language of a link', self.browser.value(checked) is True)
+        self.judge_done('the answers of a link', 'answers', ended.returncode, ended.stdout.decode())
+        for language, wanted in (('undefined', False), ('3', False), ('4', True), ('5', None)):
+            fragment = self.browser.value('fragmentOf({ texts: page.texts(), anyDecimal: true, language: %s })' % language)
+            self.open(base + fragment)
+            found = [self.browser.value('document.getElementById("%s").checked' % it) for it in ('language-4', 'any-decimal')]
+            self.judge('a link of the language %s' % language, found == ([wanted, True] if wanted is not None else [False, False]), found)
+            self.judge('whether it is opened', ('no texts' in self.status()) is (wanted is None), self.status())
+        self.open(base)
+        self.choose('notes')
+
     def high(self):
         """The highest condition that the program accepts, and one that is higher, in several shapes. Where the stack of the browser does
         not suffice, the page says so."""
@@ -547,8 +585,8 @@ class Pages:
         for _ in range(14):
             self.key('Tab', 9)
             reached.append(self.browser.value('document.activeElement.id || document.activeElement.tagName'))
-        wanted = ['example', 'any-decimal', 'copy-link', 'policies', 'SUMMARY', 'schema', 'entities', 'requests']
-        self.judge('the order of the keyboard', [it for it in reached if it in wanted][:8] == wanted, reached)
+        wanted = ['example', 'any-decimal', 'language-4', 'copy-link', 'policies', 'SUMMARY', 'schema', 'entities', 'requests']
+        self.judge('the order of the keyboard', [it for it in reached if it in wanted][:9] == wanted, reached)
         nodes = [it for it in self.browser.call('Accessibility.getFullAXTree')['nodes'] if not it.get('ignored')]
         controls = [it for it in nodes if it['role'].get('value') in CONTROLS]
         nameless = [it for it in controls if not it.get('name', {}).get('value')]
@@ -598,6 +636,6 @@ class Pages:
             for test, *words in ((self.examples, where), (self.links,), (self.kept,)):
                 self.attempt(test, *words)
         for test in (self.broken, self.faults, self.warnings, self.guards, self.refused, self.whys, self.kept_links, self.kept_nowhere,
-                     self.numbers, self.any_decimal, self.high, self.typing, self.slow, self.stopped, self.keyboard, self.looks,
+                     self.numbers, self.any_decimal, self.language, self.high, self.typing, self.slow, self.stopped, self.keyboard, self.looks,
                      self.network):
             self.attempt(test)

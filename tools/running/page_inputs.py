@@ -7,7 +7,7 @@ import sys
 
 TOP = os.path.dirname(os.path.dirname(os.path.dirname(os.path.abspath(__file__))))
 sys.path.insert(0, os.path.join(TOP, 'tools'))
-from binding_cases import content, example_names  # noqa: E402
+from binding_cases import content, shown_examples  # noqa: E402
 from scripts import script  # noqa: E402
 
 FILES = ('schema', 'policies', 'links', 'entities')
@@ -38,7 +38,9 @@ def row_of(name, words, files, lines):
     texts, settings, at = {'requests': lines, 'entities': b'[]'}, 0, 1
     while at < len(words):
         if words[at] == '--any-decimal':
-            settings, at = 1, at + 1
+            settings, at = settings | 1, at + 1
+        elif words[at] == '--language' and words[at + 1:at + 2] in (['3'], ['4']):
+            settings, at = settings | (2 if words[at + 1] == '4' else 0), at + 2
         elif words[at] in OPTIONS and at + 1 < len(words) and words[at + 1] in files:
             texts[OPTIONS[words[at]]] = files[words[at + 1]]
             at += 2
@@ -95,10 +97,10 @@ def bent(chance, text):
 def bent_rows(count, seed=46):
     """So many rows of the examples, with one or two texts bent."""
     chance = random.Random(seed)
-    sets = [[content(name, file) for file in NAMES] for name in example_names()]
+    sets = [[content(name, file) for file in NAMES] for name in shown_examples()]
     for number in range(count):
         texts = list(chance.choice(sets))
         for _ in range(1 + (chance.random() < 0.2)):
             place = chance.choice([0, 1, 1, 1, 2, 3, 3, 4, 4, 4])
             texts[place] = bent(chance, texts[place])
-        yield Row('bent-%d' % number, dict(zip((*FILES, 'requests'), texts)), chance.randrange(2))
+        yield Row('bent-%d' % number, dict(zip((*FILES, 'requests'), texts)), chance.randrange(4))

@@ -7,10 +7,18 @@ import random
 import re
 import subprocess
 
-LONG, STRING, BOOLEAN, DECIMAL = ('Long',), ('String',), ('Boolean',), ('decimal',)
+LONG, STRING, BOOLEAN = ('Long',), ('String',), ('Boolean',)
+DECIMAL, IP, DATETIME, DURATION = ('decimal',), ('ipaddr',), ('datetime',), ('duration',)
 NUMBERS = [0, 1, 2, 7, -1, 9223372036854775807, -9223372036854775808, 4611686018427387904]
 TEXTS = ['', 'a', 'b c', 'a*b', 'ü', '\n', '"', '\\', '\0', '\U0001f600', 'x' * 40]
-DECIMALS = ['0.0', '1.5', '1.50', '-2.25', '922337203685477.5807', '-922337203685477.5808']
+# Of each extension type, the function that makes its values, and texts of some.
+EXTENSIONS = {
+    DECIMAL: ('decimal', ['0.0', '1.5', '1.50', '-2.25', '922337203685477.5807', '-922337203685477.5808']),
+    IP: ('ip', ['127.0.0.1', '127.1.0.0/16', '10.0.0.0/8', '10.1.2.3', '0.0.0.0/0', '::', '::1', '::/0', 'FF02::1', 'fe80::/10', '1:2:3:4:5:6:7:8']),
+    DATETIME: ('datetime', ['1970-01-01', '1969-12-31T23:59:59.999Z', '2026-12-01T10:00:00Z', '2024-02-29T00:00:00.001+0130', '0000-01-01',
+                            '9999-12-31T23:59:59.999-2359']),
+    DURATION: ('duration', ['0ms', '1h', '-1d', '1d2h3m4s5ms', '9223372036854775807ms', '-9223372036854775808ms']),
+}
 KEYS = ['age', 'name', 'owner', 'tags', 'home', 'level', 'a b', 'if']
 IDS = ['ann', 'bob', 'x y', '']
 
@@ -39,7 +47,7 @@ def type_json(type, inner=None, is_implied=lambda: False):
             key: {**inner(of), **({} if required and is_implied() else {'required': required})} for key, of, required in type[1]}}
     if type[0] == 'Entity':
         return {'type': 'Entity', 'name': type[1]}
-    return {'type': 'Extension', 'name': 'decimal'} if type == DECIMAL else {'type': type[0]}
+    return {'type': 'Extension', 'name': type[0]} if type in EXTENSIONS else {'type': type[0]}
 
 
 def schema_json(spaces, shapes, above, groups, actions, inner=type_json):
@@ -68,10 +76,12 @@ def run(program, folder, words, lines=b'', seconds=60):
 
 
 class World:
-    """A schema that is made from a seed, and the files that follow it."""
+    """A schema that is made from a seed in a language, 3 or 4, and the files that follow it."""
 
-    def __init__(self, seed):
+    def __init__(self, seed, language=3):
         self.random = random.Random(seed)
+        self.language = language
+        self.plain = [LONG, STRING, BOOLEAN, DECIMAL] + [IP, DATETIME, DURATION] * (language == 4)
         self.types = ['User', 'Doc', 'N::Team', 'N::Group'][:self.random.randint(2, 4)]
         # Each type may be a member of those after it, and the last also of itself.
         self.above = {name: [it for it in self.types[at + 1:] if self.chance(0.5)] for at, name in enumerate(self.types)}
@@ -103,7 +113,7 @@ class World:
             return 'Set', self.type(height - 1)
         if kind == 'record':
             return self.record(height)
-        return ('Entity', self.pick(self.types)) if kind == 'entity' else self.pick([LONG, STRING, BOOLEAN, DECIMAL])
+        return ('Entity', self.pick(self.types)) if kind == 'entity' else self.pick(self.plain)
 
     def record(self, height):
         keys = self.random.sample(KEYS, self.random.randint(0, 3))
@@ -146,8 +156,9 @@ class World:
             return {key: self.value(of) for key, of, required in type[1] if required or self.chance(0.5)}
         if type[0] == 'Entity':
             return self.uid_json(self.uid(type[1]))
-        if type == DECIMAL:
-            call = {'fn': 'decimal', 'arg': self.pick(DECIMALS)}
+        if type in EXTENSIONS:
+            function, texts = EXTENSIONS[type]
+            call = {'fn': function, 'arg': self.pick(texts)}
             return self.pick([call['arg'], call, {'__extn': call}])
         return self.pick({LONG: NUMBERS, STRING: TEXTS, BOOLEAN: [True, False]}[type])
 
@@ -194,6 +205,8 @@ class World:
             return '(if %s then %s else %s)' % (self.boolean(height - 1), *(self.expression(type, height - 1) for _ in 'ab'))
         if type == BOOLEAN:
             return self.boolean(height)
+        if self.language == 4 and height > 0 and type in (LONG, DATETIME, DURATION) and self.chance(0.5):
+            return self.called(type, height - 1)
         if type == LONG and height > 0 and self.chance(0.5):
             left, right = (self.expression(LONG, height - 1) for _ in 'ab')
             return self.pick(['(%s + %s)', '(%s - %s)', '(%s * %s)']) % (left, right)
@@ -203,8 +216,22 @@ class World:
             return '{%s}' % ', '.join('%s: %s' % (text_of(key), self.expression(of, height - 1)) for key, of, _ in type[1])
         if type[0] == 'Entity':
             return uid_text(self.uid(type[1]))
-        return 'decimal("%s")' % self.pick(DECIMALS) if type == DECIMAL else (
-            str(self.pick(NUMBERS)) if type == LONG else text_of(self.pick(TEXTS)))
+        if type in EXTENSIONS:
+            function, texts = EXTENSIONS[type]
+            return '%s("%s")' % (function, self.pick(texts))
+        return str(self.pick(NUMBERS)) if type == LONG else text_of(self.pick(TEXTS))
+
+    def called(self, type, below):
+        """A method that gives a Long, a datetime or a duration."""
+        def of(type):
+            return self.expression(type, below)
+
+        if type == LONG:
+            return '%s.%s()' % (of(DURATION), self.pick(['toMilliseconds', 'toSeconds', 'toMinutes', 'toHours', 'toDays']))
+        if self.chance(0.5):
+            return '%s.%s()' % (of(DATETIME), 'toDate' if type == DATETIME else 'toTime')
+        method, argument = ('offset', DURATION) if type == DATETIME else ('durationSince', DATETIME)
+        return '%s.%s(%s)' % (of(DATETIME), method, of(argument))
 
     def boolean(self, height):
         """An expression of Booleans."""
@@ -221,7 +248,12 @@ class World:
             return '(%s)' % text if text.startswith('-') else text
 
         type, entity = self.type(1), ('Entity', self.pick(self.types))
+        ordered = self.pick([DATETIME, DURATION]) if self.language == 4 else LONG
         return '(%s)' % self.pick([
+            lambda: '%s.%s()' % (of(IP), self.pick(['isIpv4', 'isIpv6', 'isLoopback', 'isMulticast'])),
+            lambda: '%s.isInRange(%s)' % (of(IP), of(IP)),
+            lambda: '%s %s %s' % (of(ordered), self.pick(['<', '<=', '>', '>=']), of(ordered)),
+        ] * (self.language == 4) + [
             lambda: ' && '.join([of(BOOLEAN), of(BOOLEAN), *self.some(2, lambda: of(BOOLEAN))]),
             lambda: ' || '.join([of(BOOLEAN), of(BOOLEAN), *self.some(2, lambda: of(BOOLEAN))]),
             lambda: '!' + operand(BOOLEAN),

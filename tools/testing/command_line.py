@@ -6,7 +6,8 @@ from testing.printable import Stop, printable
 
 USAGE = 'Usage: cedar-test [OPTIONS] --schema <FILE> --policies <FILE> <CASES>...'
 LETTERS = {'s': 'schema', 'p': 'policies', 'l': 'links', 'e': 'entities'}
-VALUES = ('schema', 'policies', 'links', 'entities', 'junit', 'program')
+VALUES = ('schema', 'policies', 'links', 'entities', 'language', 'junit', 'program')
+LANGUAGES = ('3', '4')
 FLAGS = ('any-decimal', 'json', 'all', 'coverage', 'mutate', 'strict', 'help', 'test')
 # What to write in place of an option of another tool.
 OF_CASES, OF_LINKS = 'files of cases have no option: write their names alone', "write '--links <FILE>'"
@@ -24,6 +25,7 @@ class Options:
     policies: str = None
     links: str = None
     entities: str = None
+    language: str = None
     junit: str = None
     program: str = None
     any_decimal: bool = False
@@ -50,6 +52,11 @@ def name_of(word):
         return name, (word[2:].removeprefix('=') or None)
     name, equals, value = word[2:].partition('=')
     return (name if name in VALUES + FLAGS else None), (value if equals else None)
+
+
+def shown(name):
+    """An option with its value, as the help writes it."""
+    return '--%s <%s>' % (name, 'N' if name == 'language' else 'FILE')
 
 
 def unknown(word):
@@ -86,10 +93,10 @@ def read_words(words):
             raise refused("unexpected value for '--%s' found; it takes none" % name)
         if name in VALUES and value is None:
             if not words or words[0].startswith('-') and words[0] != '-':
-                raise refused("a value is required for '--%s <FILE>' but none was supplied" % name)
+                raise refused("a value is required for '%s' but none was supplied" % shown(name))
             value = words.pop(0)
         if name not in FLAGS and name != 'program' and getattr(options, name) is not None:
-            raise refused("the argument '--%s <FILE>' cannot be used multiple times" % name)
+            raise refused("the argument '%s' cannot be used multiple times" % shown(name))
         setattr(options, name.replace('-', '_'), True if name in FLAGS else value)
     return checked(options)
 
@@ -98,7 +105,10 @@ def checked(options):
     """The options, if they fit together."""
     if options.help or options.test:
         return options
-    missing = ['--%s <FILE>' % it for it in ('schema', 'policies') if not getattr(options, it)]
+    if options.language not in (None, *LANGUAGES):
+        raise refused("invalid value '%s' for '%s'\n  [possible values: %s]"
+                      % (printable(options.language), shown('language'), ', '.join(LANGUAGES)))
+    missing = [shown(it) for it in ('schema', 'policies') if not getattr(options, it)]
     missing += [] if options.cases else ['<CASES>...']
     if missing:
         raise refused('the following required arguments were not provided:\n  ' + '\n  '.join(missing))

@@ -40,7 +40,8 @@ class Engine:
     """The program, its files, and a folder for temporary files."""
 
     def __init__(self, program, options, room):
-        self.program, self.room, self.any_decimal, self.shows_all = program, room, options.any_decimal, options.all
+        self.program, self.room, self.shows_all = program, room, options.all
+        self.flags = ['--any-decimal'] * options.any_decimal + (['--language', options.language] if options.language else [])
         self.files = {it: self.held(getattr(options, it)) for it in FILES}
 
     def held(self, path):
@@ -69,7 +70,7 @@ class Engine:
         words = [self.program, subcommand]
         for name, path in {**self.files, 'policies': policies or self.files['policies'], 'entities': entities}.items():
             words += ['--' + name, path] if path is not None else []
-        return words + ['--any-decimal'] * self.any_decimal
+        return words + self.flags
 
     def run(self, words, lines=()):
         """Runs the program over request lines: its status, standard output and standard error."""

@@ -126,9 +126,15 @@ fn text_of_request(
 }
 
 // Explains why the request is refused.
-fn explain_refused(rt: &HostRuntime, files: &HostFiles<'_>, format: Format, line: &[u8]) {
+fn explain_refused(
+    rt: &HostRuntime,
+    files: &HostFiles<'_>,
+    words: &Words<'_>,
+    format: Format,
+    line: &[u8],
+) {
     let alloc = rt.alloc();
-    if let Ok(schema) = read_schema(alloc, files) {
+    if let Ok(schema) = read_schema(alloc, files, words.settings.language) {
         explain(rt, text_of_request(alloc, &schema, format, line));
         drop(schema);
     }
@@ -163,7 +169,7 @@ pub fn run_ask(
         Ok(Decision::Deny) => DENIED,
         Err(end) if counts.refused > 0 => {
             if let Some(format) = format {
-                explain_refused(rt, files, format, line.as_bytes());
+                explain_refused(rt, files, words, format, line.as_bytes());
             }
             end.status()
         }

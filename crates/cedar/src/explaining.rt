@@ -65,7 +65,13 @@ impl<'a> Explainer<'a> {
     // Why a file is refused.
     fn refusal(self, alloc: Global, refused: RefusedFile) -> Result<String, AllocError> {
         let name = self.files.name(refused.role).unwrap_or("");
-        let explained = explain_file(alloc, self.files, name, refused)?;
+        let explained = explain_file(
+            alloc,
+            self.files,
+            name,
+            refused,
+            self.words.settings.language,
+        )?;
         self.text_of(alloc, explained)
     }
 

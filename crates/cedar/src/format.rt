@@ -54,8 +54,21 @@ fn report_of<'a>(words: &Words<'a>) -> Result<Format, WrongValue<'a>> {
     }
 }
 
-/// The forms that the words want. The error is a word that names no form.
+// The error where the words ask for a language that there is not.
+fn check_language<'a>(words: &Words<'a>) -> Result<(), WrongValue<'a>> {
+    match words.language {
+        Some("3" | "4") | None => Ok(()),
+        Some(value) => Err(WrongValue {
+            value,
+            option: "--language <N>",
+            values: "3, 4",
+        }),
+    }
+}
+
+/// The forms that the words want. The error is a word that names no form, or a language that there is not.
 pub fn forms_of<'a>(words: &Words<'a>) -> Result<Forms, WrongValue<'a>> {
+    check_language(words)?;
     Ok(Forms {
         explanations: explanations_of(words)?,
         report: report_of(words)?,

@@ -95,7 +95,11 @@ pub fn explain_lines(explainer: Explainer<'_>, input: &[u8]) {
             explainer.say(text_of(explainer, alloc, Against::Ready(&ready), input));
             drop(ready);
         }
-    } else if let Ok(schema) = read_schema(alloc, explainer.files) {
+    } else if let Ok(schema) = read_schema(
+        alloc,
+        explainer.files,
+        explainer.words.settings.language,
+    ) {
         explainer.say(text_of(explainer, alloc, Against::Schema(&schema), input));
         drop(schema);
     }

@@ -138,7 +138,7 @@ fn run_check_parse(
 ) -> u8 {
     let mut fault = None;
     let mut sink = CountingSink::new(Output::new(io::writer(rt), &mut fault));
-    let end = check_parse(rt.alloc(), files, &mut sink);
+    let end = check_parse(rt.alloc(), files, words.settings.language, &mut sink);
     let refused = sink.counts().refused_file;
     drop(sink);
     match &fault {

@@ -35,7 +35,7 @@ const FLAGS: [&str; 7] = [
 ];
 
 /// The options that take a value.
-const VALUES: [&str; 10] = [
+const VALUES: [&str; 11] = [
     "--schema",
     "--policies",
     "--links",
@@ -46,6 +46,7 @@ const VALUES: [&str; 10] = [
     "--context",
     "--diagnostics",
     "--report",
+    "--language",
 ];
 
 /// What is read from files with such a part in their names, and the option that names them, as a word and as a letter.

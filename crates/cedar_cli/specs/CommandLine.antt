@@ -25,11 +25,18 @@ word_rule name = record (new_rule name) { value_names = 1; required = true }
 abbrev pub explained : App → App
 explained a = with_rule (with_rule a (flag_rule (codes "quiet"))) (option_rule (codes "diagnostics") false)
 
--- A subcommand `NAME -s|--schema FILE -p|--policies FILE [-l|--links FILE]` (own).
+-- The option `--language N`, which a subcommand that reads policies has (own).
+abbrev pub language_rule : Rule
+language_rule = option_rule (codes "language") false
+
+-- A subcommand `NAME -s|--schema FILE -p|--policies FILE [-l|--links FILE] [--language N]` (own).
 abbrev pub over_policies : Text → App
 over_policies name =
-    with_rule (with_rule (with_rule (new_app name) (file_rule (codes "s") (codes "schema") true)) (file_rule (codes "p") (codes "policies") true))
-    (file_rule (codes "l") (codes "links") false)
+    with_rule
+    (with_rule
+    (with_rule (with_rule (new_app name) (file_rule (codes "s") (codes "schema") true)) (file_rule (codes "p") (codes "policies") true))
+    (file_rule (codes "l") (codes "links") false))
+    language_rule
 
 -- A subcommand over policies, with `-e|--entities FILE`, which has to be there where it is required, and `[--any-decimal]` (own).
 abbrev pub over_entities : Text → Bool → App
@@ -60,9 +67,10 @@ over_request a =
 abbrev pub ask_app : App
 ask_app = explained (over_request (over_entities (codes "ask") true))
 
--- The subcommand `check-parse -p|--policies FILE` (own).
+-- The subcommand `check-parse -p|--policies FILE [--language N]` (own).
 abbrev pub check_parse_app : App
-check_parse_app = explained (with_rule (new_app (codes "check-parse")) (file_rule (codes "p") (codes "policies") true))
+check_parse_app =
+    explained (with_rule (with_rule (new_app (codes "check-parse")) (file_rule (codes "p") (codes "policies") true)) language_rule)
 
 -- The subcommand `explain NUMBER` (own).
 abbrev pub explain_app : App

@@ -89,7 +89,7 @@ fn over_request<'a>(alloc: Global, command: Command<'a>) -> Result<Command<'a>, 
     Ok(command)
 }
 
-// A subcommand over a schema, policies and links.
+// A subcommand over a schema, policies and links, with the language of the first two.
 fn over_policies<'a>(alloc: Global, name: &'a str) -> Result<Command<'a>, AllocError>
     ensures app { IfOk result (λ c. app_of c ≡ over_policies name.entry.now) }
     ensures local { IfOk result (λ c. (fields_of c).has_globals ≡ false) }
@@ -97,7 +97,8 @@ fn over_policies<'a>(alloc: Global, name: &'a str) -> Result<Command<'a>, AllocE
     let command = Command::new(alloc, name)
         .arg(file(alloc, 's', "schema", help::SCHEMA, true))?
         .arg(file(alloc, 'p', "policies", help::POLICIES, true))?
-        .arg(file(alloc, 'l', "links", help::LINKS, false))?;
+        .arg(file(alloc, 'l', "links", help::LINKS, false))?
+        .arg(option(alloc, "language", "N", help::LANGUAGE, false))?;
     Ok(command)
 }
 
@@ -171,7 +172,8 @@ fn check_parse<'a>(alloc: Global) -> Result<Command<'a>, AllocError>
     let command = Command::new(alloc, "check-parse")
         .about(help::CHECK_PARSE)
         .after_help(help::CHECK_PARSE_EXAMPLE)
-        .arg(file(alloc, 'p', "policies", help::POLICIES, true))?;
+        .arg(file(alloc, 'p', "policies", help::POLICIES, true))?
+        .arg(option(alloc, "language", "N", help::LANGUAGE, false))?;
     explained(alloc, command)
 }
 

@@ -1,12 +1,13 @@
 //! Reads the command line.
-ghost use Rattle.std.specs.Prelude.{◌≡◌, IfOk, IfErr, IfSome, true, map};
+ghost use Rattle.std.specs.Prelude.{◌≡◌, IfOk, IfErr, IfSome, true, map, option_map};
 ghost use Rattle.clap.specs.Words.{takes, kind_of};
 ghost use Rattle.cedar_cli.specs.CommandLine.{program};
-ghost use Rattle.cedar_cli.specs.GivenWords.{AreGiven, subcommand_name};
+ghost use Rattle.cedar_cli.specs.GivenWords.{AreGiven, language_of, subcommand_name};
 
 use crate::command::command;
 use crate::options::{AskedRequest, Subcommand, Words};
 use cedar_check_spec::Settings;
+use cedar_ext::Language;
 use cedar_files::FileNames;
 use clap::error::ErrorKind;
 use std::alloc::{AllocError, Global};
@@ -35,6 +36,16 @@ fn subcommand_of(name: &str) -> Option<Subcommand>
     None
 }
 
+// The language that a value of `--language` asks for. Which values there are is the caller's to say.
+fn language_of(value: Option<&str>) -> Language
+    ensures { result ≡ language_of (option_map (λ s. s.now) value.entry) }
+{
+    match value {
+        Some("4") => Language::Cedar4,
+        Some(_) | None => Language::Profile,
+    }
+}
+
 /// Why the words of a command line are refused: `clap`'s error, which prints itself.
 pub type WordsFault = clap::Error;
 
@@ -56,6 +67,7 @@ pub fn words<'a>(alloc: Global, words: &'a [&'a str]) -> Result<Words<'a>, Words
         // The subcommand `help`, which the parse refuses.
         return Err(WordsFault::from(AllocError));
     };
+    let language = found.get_str("language");
     Ok(Words {
         subcommand,
         files: FileNames {
@@ -73,8 +85,10 @@ pub fn words<'a>(alloc: Global, words: &'a [&'a str]) -> Result<Words<'a>, Words
         number: found.get_str("number"),
         diagnostics: found.get_str("diagnostics"),
         report: found.get_str("report"),
+        language,
         settings: Settings {
             any_decimal: found.get_flag("any-decimal"),
+            language: language_of(language),
         },
         quiet: found.get_flag("quiet"),
         deny_warnings: found.get_flag("deny-warnings"),

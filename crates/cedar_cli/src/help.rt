@@ -154,6 +154,10 @@ pub(crate) const LINKS: &str =
 pub(crate) const ENTITIES: &str =
     "The entities: JSON of the format that the Cedar language defines";
 
+/// Of `--language`.
+pub(crate) const LANGUAGE: &str =
+    "Read the language of Cedar 3 (the default) or 4: 4 adds IP addresses, datetimes and durations";
+
 /// Of `--any-decimal`.
 pub(crate) const ANY_DECIMAL: &str =
     "Accept decimal(..) of any text, which may then err when a request is answered";

@@ -48,7 +48,10 @@ pub struct Words<'a> {
     pub diagnostics: Option<&'a str>,
     /// The form of the report of `validate`, after `--report`.
     pub report: Option<&'a str>,
-    /// The choices beyond strict validation: `--any-decimal` turns `any_decimal` on.
+    /// The language that is read, as it is written after `--language`.
+    pub language: Option<&'a str>,
+    /// The language that is read, which is that of Cedar 4 after `--language 4`; and the choices beyond strict validation:
+    /// `--any-decimal` turns `any_decimal` on.
     pub settings: Settings,
     /// `--quiet`: nothing is explained on standard error.
     pub quiet: bool,

@@ -10,6 +10,7 @@ ghost use Rattle.cedar_files.specs.Private.Tokens.{data_tokens};
 
 use base_lines::{Sink, flush};
 use cedar_ast::PolicySet;
+use cedar_ext::Language;
 use cedar_files::{End, FileRefusal, Files, Role, Unread, read_policies, refuse};
 use json::Writer;
 use std::alloc::{AllocError, Global};
@@ -79,7 +80,7 @@ fn report_counts<K: Sink>(alloc: Global, policies: &PolicySet, sink: &mut K) -> 
     }
 }
 
-/// Reads the policies of the policy file, without a schema, and writes how many policies and templates they are:
+/// Reads the policies of the policy file in a language, without a schema, and writes how many policies and templates they are:
 /// `{"policies":6,"templates":1}`. It ends with:
 ///
 /// - `Done`: the file holds policies, and the line was written.
@@ -87,12 +88,17 @@ fn report_counts<K: Sink>(alloc: Global, policies: &PolicySet, sink: &mut K) -> 
 /// - `CommandLine`: the command line names no policy file. Nothing is written.
 /// - `Device`: the file can't be read, or the sink failed, which may leave a part of a line.
 /// - `Memory`: memory ran out, which leaves nothing.
-pub fn check_parse<F: Files, K: Sink>(alloc: Global, files: &F, sink: &mut K) -> End
+pub fn check_parse<F: Files, K: Sink>(
+    alloc: Global,
+    files: &F,
+    language: Language,
+    sink: &mut K,
+) -> End
     requires { K.failed sink.old < 2 ^ 64 - 1 }
-    ensures ends { ChecksParse (F.holds files.now Role.Policies) (K.failed sink.old < K.failed sink.new) (K.written sink.old) (K.written sink.new) result }
+    ensures ends { ChecksParse language (F.holds files.now Role.Policies) (K.failed sink.old < K.failed sink.new) (K.written sink.old) (K.written sink.new) result }
     ensures untouched { result ≡ End.CommandLine → sink.new ≡ sink.old }
 {
-    let policies = match read_policies(alloc, files) {
+    let policies = match read_policies(alloc, files, language) {
         Ok(policies) => policies,
         Err(unread) => return stop(alloc, Role::Policies, unread, sink),
     };

@@ -48,9 +48,9 @@ pub(crate) const ROWS: [Row; 8] = [
     Row {
         number: 607,
         refused: "a policy",
-        when: "the argument of `decimal` is not a string literal, or the literal is not a valid decimal (with `--any-decimal`: only the latter)",
+        when: "the argument of `decimal`, `ip`, `datetime` or `duration` is not a string literal, or the literal does not write a value of the type (with `--any-decimal`, `decimal` takes any string that is not a literal)",
         example: "`permit(principal, action, resource) when { decimal(\"1.\") == decimal(\"1.00\") };`",
-        remedy: "write a literal with one to four digits after the point; if your data stores decimals as strings, see `--any-decimal` in `docs/TYPING.md`",
+        remedy: "write a literal as `docs/GRAMMAR.md` shows it, a decimal with one to four digits after the point; if your data stores decimals as strings, see `--any-decimal` in `docs/TYPING.md`",
     },
     Row {
         number: 650,

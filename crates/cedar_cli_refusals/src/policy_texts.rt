@@ -97,14 +97,14 @@ pub(crate) const ROWS: [Row; 20] = [
     Row {
         number: 205,
         refused: "the policy file",
-        when: "the function or method does not exist",
+        when: "the function or method does not exist, or is read only with `--language 4`",
         example: "`permit(principal, action, resource) when { ip(\"::1\") };` at 43, the name",
-        remedy: "use a function or method from `docs/GRAMMAR.md`",
+        remedy: "use a function or method from `docs/GRAMMAR.md`; for IP addresses, datetimes and durations add `--language 4`",
     },
     Row {
         number: 206,
         refused: "the policy file",
-        when: "a function or method has the wrong number of arguments (`isEmpty` takes none, everything else takes one)",
+        when: "a function or method has the wrong number of arguments (`isEmpty` takes none, and so do methods of Cedar 4 such as `isIpv4` and `toDate`; everything else takes one)",
         example: "`permit(principal, action, resource) when { decimal() == 1 };` at 43, the name",
         remedy: "pass the right number of arguments",
     },

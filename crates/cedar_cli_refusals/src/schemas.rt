@@ -27,7 +27,7 @@ pub(crate) const ROWS: [Row; 10] = [
     Row {
         number: 303,
         refused: "the schema file",
-        when: "a type, or an action in `memberOf`, is not declared",
+        when: "a type, or an action in `memberOf`, is not declared; or an extension type is read only with `--language 4`",
         example: "`{\"\":{\"entityTypes\":{\"A\":{\"memberOfTypes\":[\"B\"]}}}}`",
         remedy: "declare it, or correct the name",
     },

@@ -3,6 +3,7 @@ use Rattle.std.proofs.lemmas.Result.{err_from_is_err_and}
 use Rattle.clap.specs.Words.{App, Text, Row, takes, is_simple, subcommand_of, rows_of, found_of}
 use Rattle.clap.proofs.WalkLemmas.{first_value-rows, one_text-rows}
 use Rattle.cedar_cli.proofs.Pairs.{pair_of}
+use Rattle.cedar_cli.specs.GivenWords.{language_of}
 use Rattle.cedar_cli.proofs.command_line.words.Goals as goal
 
 pub returns-in_err-matches-clause-err : goal.returns-in_err-matches-clause-err
@@ -34,6 +35,8 @@ returns-clause-ok c =
       number = sym (c.get_str-9.ensures ∙ first_value-rows (found_of found) _);
       diagnostics = sym (c.get_str-10.ensures ∙ first_value-rows (found_of found) _);
       report = sym (c.get_str-11.ensures ∙ first_value-rows (found_of found) _);
+      language = sym (c.get_str-language.ensures ∙ first_value-rows (found_of found) _);
+      settings_language = c.language_of.ensures ∙ ap language_of (c.get_str-language.ensures ∙ first_value-rows (found_of found) _);
       any_decimal = record {
         none = λ e. c.get_flag.ensures.none (one_text-rows (found_of found) _ ∙ e);
         used = λ e. c.get_flag.ensures.value (one_text-rows (found_of found) _ ∙ e);

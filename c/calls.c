@@ -139,14 +139,19 @@ uint32_t cedar_explain(const cedar_files *files, uint32_t format, cedar_buffer *
     return given(status, text, room.written);
 }
 
-uint32_t cedar_explain_changes(cedar_bytes schema, cedar_bytes changes, uint32_t number, uint32_t format, cedar_buffer *text) {
+uint32_t cedar_explain_changes_in(cedar_bytes schema, cedar_bytes changes, uint32_t settings, uint32_t number, uint32_t format,
+                                  cedar_buffer *text) {
     if (!cedar_are_bytes(schema) || !cedar_are_bytes(changes) || !cedar_is_room(text)) {
         return given(CEDAR_ARGUMENT, text, 0);
     }
     cedar_buffer room = room_of(text);
-    uint32_t status = cedar_raw_explain_changes(at_of(schema), schema.length, at_of(changes), changes.length, number, format, room.at,
-                                                room.room, &room.written);
+    uint32_t status = cedar_raw_explain_changes_in(at_of(schema), schema.length, at_of(changes), changes.length, settings, number, format,
+                                                   room.at, room.room, &room.written);
     return given(status, text, room.written);
+}
+
+uint32_t cedar_explain_changes(cedar_bytes schema, cedar_bytes changes, uint32_t number, uint32_t format, cedar_buffer *text) {
+    return cedar_explain_changes_in(schema, changes, 0, number, format, text);
 }
 
 uint32_t cedar_explain_line(cedar_engine *engine, cedar_bytes line, uint32_t kind, uint32_t number, uint32_t format, cedar_buffer *text) {

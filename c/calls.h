@@ -29,7 +29,7 @@ uint32_t cedar_handle_new(cedar_engine *engine);
 void cedar_handle_free(cedar_engine *engine);
 
 /* What is published to a handle: files, entities, or changes of entities. `files` has the schema, by which a refusal is put in words, and
- * what is published but changes. */
+ * what is published but changes; and the settings with which the schema was read. */
 typedef struct cedar_publication {
     enum { CEDAR_ALL_FILES, CEDAR_NEW_ENTITIES, CEDAR_SOME_CHANGES } kind;
     cedar_files files;

@@ -55,8 +55,10 @@ enum {
 /* The files of a refusal. Changes of entities are refused as the entities. */
 enum { CEDAR_SCHEMA = 1, CEDAR_POLICIES = 2, CEDAR_LINKS = 3, CEDAR_ENTITIES = 4 };
 
-/* The settings of cedar_files: decimal(..) accepts any string, and may fail when a request is answered. */
-enum { CEDAR_ANY_DECIMAL = 1 };
+/* The settings of cedar_files, as a sum. CEDAR_ANY_DECIMAL: decimal(..) accepts any string, and may fail when a request is answered.
+ * CEDAR_LANGUAGE_4: the schema and the policies are in the language of Cedar 4, as `cedar --language 4` reads them; without it they are in
+ * the default language. Entities and requests are read according to the schema. */
+enum { CEDAR_ANY_DECIMAL = 1, CEDAR_LANGUAGE_4 = 2 };
 
 /* The formats of an explanation: words for people, or a JSON object on each line. */
 enum { CEDAR_WORDS = 0, CEDAR_JSON = 1 };
@@ -215,8 +217,8 @@ uint32_t cedar_publish(cedar_engine *engine, const cedar_files *files, cedar_ref
 /* Reads entities, and has the handle lead to an engine of the same schema, policies, links and settings over them. The policies are not
  * read again, and other handles that shared the old engine keep it. With another status than CEDAR_OK the handle leads where it led, and
  * with CEDAR_NO_ENGINE nothing was published to it. With CEDAR_REFUSED the text is what the program prints; where it does not fit,
- * `written` is the room that it needs. A handle keeps no schema, so `refusal` gets no words: cedar_explain has them, for which the schema
- * and these entities are enough. `refusal` and `text` may be null. */
+ * `written` is the room that it needs. A handle keeps no schema, so `refusal` gets no words: cedar_explain has them, for which the schema,
+ * the settings and these entities are enough. `refusal` and `text` may be null. */
 uint32_t cedar_publish_entities(cedar_engine *engine, cedar_bytes entities, cedar_refusal *refusal, cedar_buffer *text);
 
 /* Reads changes of entities, {"upsert":[entry, ..],"remove":[uid, ..]} as docs/DATA.md has them, and has the handle lead to an engine of the
@@ -253,6 +255,10 @@ uint32_t cedar_explain(const cedar_files *files, uint32_t format, cedar_buffer *
 /* Says in words why changes of entities are refused: `number` is that of the refusal, and the schema that of the engine. The text is empty
  * where the number is none with which changes are refused, and where memory runs out, with CEDAR_MEMORY. */
 uint32_t cedar_explain_changes(cedar_bytes schema, cedar_bytes changes, uint32_t number, uint32_t format, cedar_buffer *text);
+
+/* The same for a schema that is read with these settings, those of the engine. cedar_explain_changes is for the settings 0. */
+uint32_t cedar_explain_changes_in(cedar_bytes schema, cedar_bytes changes, uint32_t settings, uint32_t number, uint32_t format,
+                                  cedar_buffer *text);
 
 /* Says in words why a request line of this kind is refused, as `cedar authorize --explain-lines` does. The text is empty where the line is
  * not refused, or with another number than this; 0 is each number. */
@@ -320,6 +326,8 @@ uint32_t cedar_raw_explain(const void *schema, size_t schema_length, const void 
                            void *text, size_t room, size_t *written);
 uint32_t cedar_raw_explain_changes(const void *schema, size_t schema_length, const void *changes, size_t changes_length, uint32_t number,
                                    uint32_t format, void *text, size_t room, size_t *written);
+uint32_t cedar_raw_explain_changes_in(const void *schema, size_t schema_length, const void *changes, size_t changes_length,
+                                      uint32_t settings, uint32_t number, uint32_t format, void *text, size_t room, size_t *written);
 uint32_t cedar_raw_explain_line(cedar_engine *engine, const void *line, size_t length, uint32_t kind, uint32_t number, uint32_t format,
                                 void *text, size_t room, size_t *written);
 uint32_t cedar_raw_kept_changes(cedar_engine *engine, uint64_t *count);

@@ -104,8 +104,9 @@ static uint32_t explain(const cedar_publication *it, uint32_t number, uint32_t f
     uint32_t status = CEDAR_OK;
     while (grows(text, &status)) {
         cedar_buffer room = {text->at, text->room, 0};
-        status = it->kind == CEDAR_SOME_CHANGES ? cedar_explain_changes(it->files.schema, it->changes, number, format, &room)
-                                                : cedar_explain(&it->files, format, &room);
+        status = it->kind == CEDAR_SOME_CHANGES
+            ? cedar_explain_changes_in(it->files.schema, it->changes, it->files.settings, number, format, &room)
+            : cedar_explain(&it->files, format, &room);
         text->written = room.written;
     }
     return status;

@@ -1,9 +1,9 @@
 /* shared.c: an engine for any number of threads.
  *
- * A version is what one publication made: a handle that leads to it, and the schema, by which refusals are put in words. A request takes a
- * handle of the current version out of a place, asks it, and puts it back. The places are of two sides, for even and odd versions: who
- * publishes fills those of the next version, then makes it current, and then frees what is in those of the old one. A handle counts on its
- * version, and the last that counts frees it. So no request follows the address of a version that may be freed.
+ * A version is what one publication made: a handle that leads to it, and the schema with its settings, by which refusals are put in words. A
+ * request takes a handle of the current version out of a place, asks it, and puts it back. The places are of two sides, for even and odd
+ * versions: who publishes fills those of the next version, then makes it current, and then frees what is in those of the old one. A handle
+ * counts on its version, and the last that counts frees it. So no request follows the address of a version that may be freed.
  *
  * The engine's own counts of references say when trees are freed, but no tool for threads sees them. The counts and the lock here give
  * the same order, and tools see it: each version is freed after the last use of its handles, and versions are freed one after another. */
@@ -31,10 +31,11 @@
 #define NOTHING 0
 #define CLOSED UINT64_MAX
 
-/* The bytes of a schema. Versions over other entities share it. */
+/* The bytes of a schema, and the settings with which it was read. Versions over other entities share it. */
 typedef struct schema {
     atomic_size_t count;
     size_t length;
+    uint32_t settings;
     char text[];
 } schema;
 
@@ -108,12 +109,13 @@ static void shared_release(cedar_shared *shared) {
     }
 }
 
-static schema *schema_of(cedar_bytes text) {
+static schema *schema_of(cedar_bytes text, uint32_t settings) {
     schema *made = block(sizeof *made + text.length);
     if (made) {
         atomic_init(&made->count, 1);
         UNCHECKED(&made->count);
         made->length = text.length;
+        made->settings = settings;
         if (text.length) {
             memcpy(made->text, text.at, text.length);
         }
@@ -361,6 +363,7 @@ static uint32_t followed(cedar_shared *from, cedar_shared *to, cedar_publication
     if (status == CEDAR_OK) {
         publication->files.size = sizeof publication->files;
         publication->files.schema = (cedar_bytes){next->schema->text, next->schema->length};
+        publication->files.settings = next->schema->settings;
         status = cedar_publish_this(&next->main, publication, refusal, text);
     }
     if (status != CEDAR_OK) {
@@ -444,7 +447,7 @@ uint32_t cedar_shared_publish(cedar_shared *shared, const cedar_files *files, ce
         return CEDAR_MEMORY;
     }
     uint32_t status = cedar_publish(&next->main, files, refusal, text);
-    if (status == CEDAR_OK && !(next->schema = schema_of(files->schema))) {
+    if (status == CEDAR_OK && !(next->schema = schema_of(files->schema, files->settings))) {
         status = CEDAR_MEMORY;
     }
     if (status != CEDAR_OK) {

@@ -27,5 +27,5 @@ function keep(fragment, state) {
 function keptState(fragment) {
   const held = stored(storage => JSON.parse(storage.getItem(keyOf(fragment))));
   if (held?.fragment !== fragment || !TEXT_NAMES.every(name => typeof held.texts?.[name] === 'string')) return null;
-  return { texts: held.texts, anyDecimal: held.anyDecimal === true };
+  return { texts: held.texts, anyDecimal: held.anyDecimal === true, language: held.language === LANGUAGE_4 ? LANGUAGE_4 : DEFAULT_LANGUAGE };
 }

@@ -7,6 +7,9 @@ const NEEDS = 'It needs WebAssembly with a 64-bit memory, which Chromium 133, Fi
 // The milliseconds after a change after which the texts are kept.
 const KEPT_AFTER = 300;
 
+// The bits of the settings that the engine takes.
+const ANY_DECIMAL_BIT = 1, LANGUAGE_4_BIT = 2;
+
 class Page {
   constructor() {
     this.examples = JSON.parse(inside('examples'));
@@ -15,6 +18,7 @@ class Page {
     this.view = new View(this.numbers, () => this.texts(), place => this.show(place), question => this.ask(question));
     this.status = new Status();
     this.anyDecimal = document.getElementById('any-decimal');
+    this.language4 = document.getElementById('language-4');
     this.example = document.getElementById('example');
     this.dialog = document.getElementById('replacing');
     // The fragment of the address that the texts belong to; the texts that are in the link or the example there; and the wait before
@@ -43,7 +47,7 @@ class Page {
     this.example.addEventListener('change', () => this.chosen(this.example.value));
     this.dialog.addEventListener('click', ({ target }) => target.value && this.dialog.close(target.value));
     window.addEventListener('pagehide', () => this.keep());
-    this.anyDecimal.addEventListener('change', () => this.changed());
+    [this.anyDecimal, this.language4].forEach(it => it.addEventListener('change', () => this.changed()));
     Object.values(this.editors).forEach(({ area }) => area.addEventListener('input', () => this.changed()));
     document.getElementById('copy-link').addEventListener('click', () => this.copyLink());
     document.querySelectorAll('details.raw').forEach(it => it.addEventListener('toggle', () => this.showPrinted()));
@@ -68,15 +72,21 @@ class Page {
     return Object.fromEntries(TEXT_NAMES.map(name => [name, this.editors[name].text]));
   }
 
-  // The texts and the setting, as they are kept and put into a link.
+  // The texts and the settings, as they are kept and put into a link.
   state() {
-    return { texts: this.texts(), anyDecimal: this.anyDecimal.checked };
+    return { texts: this.texts(), anyDecimal: this.anyDecimal.checked, language: this.language4.checked ? LANGUAGE_4 : DEFAULT_LANGUAGE };
+  }
+
+  // The settings as the engine takes them.
+  settings() {
+    return (this.anyDecimal.checked ? ANY_DECIMAL_BIT : 0) | (this.language4.checked ? LANGUAGE_4_BIT : 0);
   }
 
   // Puts texts into the page.
-  fill({ texts, anyDecimal }) {
+  fill({ texts, anyDecimal, language }) {
     for (const name of TEXT_NAMES) this.editors[name].text = texts[name];
     this.anyDecimal.checked = anyDecimal;
+    this.language4.checked = language === LANGUAGE_4;
     document.getElementById('links-part').open = texts.links.trim() !== '';
     this.work();
   }
@@ -89,7 +99,8 @@ class Page {
 
   choose(name) {
     this.example.value = name;
-    this.fillOriginal({ texts: this.examples[name], anyDecimal: false });
+    const { language, ...texts } = this.examples[name];
+    this.fillOriginal({ texts, anyDecimal: false, language });
   }
 
   // Shows an example that the reader has chosen. Where that loses texts, it asks before.
@@ -168,7 +179,7 @@ class Page {
     this.number += 1;
     this.sent = this.texts();
     this.late = setTimeout(() => this.status.say('Working', ''), 400);
-    this.worker.postMessage({ number: this.number, texts: this.sent, settings: this.anyDecimal.checked ? 1 : 0, first: ANSWERS_AT_ONCE });
+    this.worker.postMessage({ number: this.number, texts: this.sent, settings: this.settings(), first: ANSWERS_AT_ONCE });
   }
 
   // Asks the worker about the texts that are shown. The promise gives null if there are others by then.

@@ -104,10 +104,12 @@ private:
     std::function<std::string()> explain_;
 };
 
-/* The files of an engine, as texts. Without a file of links `links` is empty. */
+/* The files of an engine, as texts. Without a file of links `links` is empty. The schema and the policies are in the language 4, that of
+ * Cedar 4, or in the default one, 3. Another number is an Error with the status CEDAR_ARGUMENT. */
 struct Files {
     std::string_view schema, policies, links, entities;
     bool any_decimal = false;
+    unsigned language = 3;
 };
 
 /* The name of an entity: a type such as Shop::User, and an id without quotes. */
@@ -144,7 +146,13 @@ namespace detail {
 inline cedar_bytes bytes(std::string_view text) { return {text.data(), text.size()}; }
 
 inline cedar_files raw(const Files &files) {
+    if (files.language != 3 && files.language != 4) {
+        throw Error(CEDAR_ARGUMENT, "cedar: the language is 3 or 4");
+    }
     std::uint32_t settings = files.any_decimal ? CEDAR_ANY_DECIMAL : 0;
+    if (files.language == 4) {
+        settings |= CEDAR_LANGUAGE_4;
+    }
     return {sizeof(cedar_files), bytes(files.schema), bytes(files.policies), bytes(files.links), bytes(files.entities), settings, 0};
 }
 

@@ -18,8 +18,9 @@ func refusalLine(why *Refusal) string {
 	return fmt.Sprintf("{\"file\":\"%s\",%s\"refused\":%d}\n", why.File, offset, why.Number)
 }
 
-// answered gives the status and the text of a case: its answers, or what the program prints of files that are refused.
-func answered(t *testing.T, folder string, anyDecimal, bringsEntities bool) (int, string) {
+// answered gives the status and the text of a case with the settings of cedar.h: its answers, or what the program prints of files that are
+// refused.
+func answered(t *testing.T, folder string, settings uint32, bringsEntities bool) (int, string) {
 	bytes := func(file string) []byte {
 		text, err := os.ReadFile(filepath.Join(folder, file))
 		if err != nil && !errors.Is(err, os.ErrNotExist) {
@@ -27,8 +28,12 @@ func answered(t *testing.T, folder string, anyDecimal, bringsEntities bool) (int
 		}
 		return text
 	}
+	language := Language3
+	if settings&2 != 0 {
+		language = Language4
+	}
 	engine, err := New(Files{Schema: bytes("schema.json"), Policies: bytes("policies.cedar"), Links: bytes("links.json"),
-		Entities: bytes("entities.json"), AnyDecimal: anyDecimal})
+		Entities: bytes("entities.json"), AnyDecimal: settings&1 != 0, Language: language})
 	var text []byte
 	if err == nil && bringsEntities {
 		text, err = engine.AnswerWithEntities(bytes("requests.jsonl"))
@@ -62,15 +67,16 @@ func TestCases(t *testing.T) {
 	for _, line := range strings.Split(strings.TrimSpace(string(list)), "\n") {
 		var name string
 		var wantedStatus int
-		var anyDecimal, bringsEntities bool
-		if _, err := fmt.Sscan(line, &name, &wantedStatus, &anyDecimal, &bringsEntities); err != nil {
+		var settings uint32
+		var bringsEntities bool
+		if _, err := fmt.Sscan(line, &name, &wantedStatus, &settings, &bringsEntities); err != nil {
 			t.Fatal(line, err)
 		}
 		wanted, err := os.ReadFile(filepath.Join(root, name, "wanted.jsonl"))
 		if err != nil {
 			t.Fatal(err)
 		}
-		status, text := answered(t, filepath.Join(root, name), anyDecimal, bringsEntities)
+		status, text := answered(t, filepath.Join(root, name), settings, bringsEntities)
 		if status == wantedStatus && text == string(wanted) {
 			passed++
 			continue

@@ -18,11 +18,21 @@ import (
 	"sync"
 )
 
+// Language is a language of schemas and policies, by its number. The zero Language is Language3.
+type Language uint32
+
+// The languages: the default one, and that of Cedar 4.
+const (
+	Language3 Language = 3
+	Language4 Language = 4
+)
+
 // Files are the contents of the files of an engine. Links is empty where there is no such file. With AnyDecimal, decimal(..) accepts any
-// string, and may fail when a request is answered.
+// string, and may fail when a request is answered. Language is that of the schema and the policies.
 type Files struct {
 	Schema, Policies, Links, Entities []byte
 	AnyDecimal                        bool
+	Language                          Language
 }
 
 // UID is the name of an entity: a type such as Shop::User, and an id without quotes.
@@ -74,7 +84,7 @@ type Engine struct {
 	shared sharedEngine
 }
 
-// New reads and validates files, and makes an engine of them. The error is *Refusal, *Faults or ErrMemory.
+// New reads and validates files, and makes an engine of them. The error is *Refusal, *Faults, ErrMemory or ErrLanguage.
 func New(files Files) (*Engine, error) {
 	e, err := newShared()
 	if err != nil {
@@ -87,7 +97,7 @@ func New(files Files) (*Engine, error) {
 }
 
 // Publish reads and validates files, and has all later calls answer according to them. Requests do not wait for it. The error is *Refusal,
-// *Faults, ErrMemory or ErrClosed; then nothing has changed.
+// *Faults, ErrMemory, ErrLanguage or ErrClosed; then nothing has changed.
 func (e *Engine) Publish(files Files) error {
 	return e.publishFiles(&files)
 }
@@ -218,7 +228,8 @@ func (e *Engine) AppendAnswerLineWith(text, line, changes []byte) ([]byte, error
 	return other.ask(text, line, oneLine)
 }
 
-// Validate validates the policies of files, of which Entities is not read. The error is *Refusal where a file is refused, or ErrMemory.
+// Validate validates the policies of files, of which Entities is not read. The error is *Refusal where a file is refused, ErrMemory or
+// ErrLanguage.
 func Validate(files Files) (Report, error) {
 	isAccepted, text, err := validated(&files)
 	if err != nil {
@@ -227,7 +238,8 @@ func Validate(files Files) (Report, error) {
 	return Report{Accepted: isAccepted, Text: text}, nil
 }
 
-// Explain says in words why files are refused or have faults. It gives an empty string where they are accepted.
+// Explain says in words why files are refused or have faults. It gives an empty string where they are accepted. The error is ErrMemory or
+// ErrLanguage.
 func Explain(files Files) (string, error) {
 	return explained(&files)
 }

@@ -52,6 +52,10 @@ func examples(t *testing.T) []example {
 	}
 	var all []example
 	for _, path := range found {
+		// An example with options is of the program alone.
+		if _, err := os.Stat(filepath.Join(filepath.Dir(path), "options")); err == nil {
+			continue
+		}
 		all = append(all, exampleOf(filepath.Base(filepath.Dir(path))))
 	}
 	return all
@@ -265,6 +269,68 @@ func TestRefusals(t *testing.T) {
 	}
 	if text, err := engine.Answer([]byte(it.requests)); err != nil || string(text) != it.answers {
 		t.Error(err, string(text))
+	}
+}
+
+// The example in the language of Cedar 4 has its answers.
+func TestTheExampleInLanguage4(t *testing.T) {
+	it := exampleOf("shares")
+	it.files.Language = Language4
+	if text, err := engineOf(t, it.files).Answer([]byte(it.requests)); err != nil || string(text) != it.answers {
+		t.Error(err, string(text))
+	}
+}
+
+// Files of the language of Cedar 4 are refused in the default language, and an unknown language is refused.
+func TestLanguages(t *testing.T) {
+	here := filepath.Join("..", "..", "tests", "bindings", "language_4")
+	read := func(file string) []byte {
+		text, err := os.ReadFile(filepath.Join(here, file))
+		if err != nil {
+			t.Fatal(err)
+		}
+		return text
+	}
+	files := Files{Schema: read("schema.json"), Policies: read("policies.cedar"), Entities: read("entities.json")}
+	var refusal *Refusal
+	for _, language := range []Language{0, Language3} {
+		files.Language = language
+		if _, err := New(files); !errors.As(err, &refusal) || refusal.File != Schema || refusal.Number != 303 {
+			t.Error(err)
+		}
+	}
+	files.Language = Language4
+	engine := engineOf(t, files)
+	if text, err := engine.Answer(read("requests.jsonl")); err != nil || string(text) != string(read("answers.jsonl")) {
+		t.Error(err, string(text))
+	}
+	if report, err := Validate(files); err != nil || !report.Accepted {
+		t.Error(err, report)
+	}
+	if words, err := Explain(files); err != nil || words != "" {
+		t.Error(err, words)
+	}
+	err := engine.PublishChanges(read("refused_changes.json"))
+	if !errors.As(err, &refusal) || !strings.Contains(refusal.Words, `upsert entry 0 (from 0), User::"bob"`) {
+		t.Error(err)
+	}
+	if err := engine.PublishChanges(read("changes.json")); err != nil {
+		t.Error(err)
+	}
+	asked := Request{Principal: UID{"User", "bob"}, Action: UID{"Action", "read"}, Resource: UID{"Doc", "d"}}
+	if isAllowed, err := engine.Decide(context.Background(), asked); err != nil || !isAllowed {
+		t.Error(err, isAllowed)
+	}
+	for _, language := range []Language{1, 2, 5, 4 + 1<<31} {
+		files.Language = language
+		_, made := New(files)
+		_, judged := Validate(files)
+		_, explained := Explain(files)
+		parts := ValidateParts(files, AllLines)
+		if made != ErrLanguage || judged != ErrLanguage || explained != ErrLanguage || engine.Publish(files) != ErrLanguage ||
+			parts.Next() || parts.Err() != ErrLanguage {
+			t.Error(language, made, judged, explained, parts.Err())
+		}
 	}
 }
 

@@ -12,6 +12,9 @@ var ErrMemory = errors.New("bobbinjade: out of memory")
 // ErrClosed says that the engine was closed.
 var ErrClosed = errors.New("bobbinjade: the engine is closed")
 
+// ErrLanguage says that there is no such language. Nothing was read, and nothing has changed.
+var ErrLanguage = errors.New("bobbinjade: the language is 3 or 4")
+
 // File is one of the files of an engine.
 type File uint32
 

@@ -160,12 +160,19 @@ func failed(status C.uint32_t) error {
 	return &LibraryError{Status: uint32(status)}
 }
 
-// settings gives the settings of files as the library takes them.
-func (f *Files) settings() C.uint32_t {
+// settings gives the settings of files as the library takes them. The error is ErrLanguage where there is no such language.
+func (f *Files) settings() (C.uint32_t, error) {
+	var settings C.uint32_t
 	if f.AnyDecimal {
-		return C.CEDAR_ANY_DECIMAL
+		settings |= C.CEDAR_ANY_DECIMAL
 	}
-	return 0
+	switch f.Language {
+	case 0, Language3:
+		return settings, nil
+	case Language4:
+		return settings | C.CEDAR_LANGUAGE_4, nil
+	}
+	return 0, ErrLanguage
 }
 
 // refused makes a call that may refuse what it is given, and gives its error.
@@ -191,12 +198,12 @@ func copied(text C.cedar_bytes) string {
 	return string(unsafe.Slice((*byte)(text.at), int(text.length)))
 }
 
-// checked validates files, where there is room for why they are refused, or explains them. It gives the status and the text.
-func checked(files *Files, why *C.cedar_refusal) (C.uint32_t, string) {
+// checked validates files under settings, where there is room for why they are refused, or explains them. It gives the status and the text.
+func checked(files *Files, settings C.uint32_t, why *C.cedar_refusal) (C.uint32_t, string) {
 	made := make([]byte, 0, 4096)
 	for {
 		at, size := room(made)
-		gives := C.check(text(files.Schema), text(files.Policies), text(files.Links), text(files.Entities), files.settings(), why, at, size)
+		gives := C.check(text(files.Schema), text(files.Policies), text(files.Links), text(files.Entities), settings, why, at, size)
 		if gives.written <= size {
 			return gives.status, string(made[:gives.written])
 		}
@@ -206,8 +213,12 @@ func checked(files *Files, why *C.cedar_refusal) (C.uint32_t, string) {
 
 // validated says whether the policies of files have no faults, and gives the report.
 func validated(files *Files) (isAccepted bool, report string, err error) {
+	settings, err := files.settings()
+	if err != nil {
+		return false, "", err
+	}
 	err = refused(func(why *C.cedar_refusal) (status C.uint32_t) {
-		status, report = checked(files, why)
+		status, report = checked(files, settings, why)
 		isAccepted = status == C.CEDAR_OK
 		if status == C.CEDAR_FAULTS {
 			return C.CEDAR_OK
@@ -228,10 +239,14 @@ func firstPlace(lines uint64) reportPlace {
 // validatedPart makes the part of a report that begins at a place, in a text which grows, and moves the place on. It says whether there is
 // more. With an error the place is as before, and there is no part.
 func validatedPart(files *Files, place *reportPlace, made []byte) (part []byte, hasMore bool, err error) {
+	settings, err := files.settings()
+	if err != nil {
+		return nil, false, err
+	}
 	err = refused(func(why *C.cedar_refusal) C.uint32_t {
 		for {
 			at, size := room(made)
-			it := C.validate_part(text(files.Schema), text(files.Policies), text(files.Links), files.settings(), *place, why, at, size)
+			it := C.validate_part(text(files.Schema), text(files.Policies), text(files.Links), settings, *place, why, at, size)
 			if it.gives.written > size {
 				made = make([]byte, 0, it.gives.written)
 				continue
@@ -249,7 +264,11 @@ func validatedPart(files *Files, place *reportPlace, made []byte) (part []byte, 
 
 // explained says why files are refused or have faults.
 func explained(files *Files) (string, error) {
-	status, words := checked(files, nil)
+	settings, err := files.settings()
+	if err != nil {
+		return "", err
+	}
+	status, words := checked(files, settings, nil)
 	return words, failed(status)
 }
 
@@ -285,8 +304,12 @@ func (e *Engine) publish(call func(why *C.cedar_refusal) C.uint32_t) error {
 }
 
 func (e *Engine) publishFiles(files *Files) error {
+	settings, err := files.settings()
+	if err != nil {
+		return err
+	}
 	return e.publish(func(why *C.cedar_refusal) C.uint32_t {
-		return C.publish(e.shared, text(files.Schema), text(files.Policies), text(files.Links), text(files.Entities), files.settings(), why)
+		return C.publish(e.shared, text(files.Schema), text(files.Policies), text(files.Links), text(files.Entities), settings, why)
 	})
 }
 

@@ -56,7 +56,7 @@ func (p *ReportParts) Text() []byte {
 	return p.text
 }
 
-// Err gives why there are no more parts: *Refusal where a file is refused, or ErrMemory. It is nil where the report has ended.
+// Err gives why there are no more parts: *Refusal where a file is refused, ErrMemory or ErrLanguage. It is nil where the report has ended.
 func (p *ReportParts) Err() error {
 	return p.err
 }

@@ -19,6 +19,7 @@ type config struct {
 	file                      string // which has further settings
 	paths                     paths
 	anyDecimal                bool
+	language                  uint // of the schema and the policies: 3 or 4
 	listen                    string
 	admin                     string
 	isInsecure                bool // whether whoever reaches a port may publish
@@ -112,6 +113,7 @@ func flagsOf(settings *config) *flag.FlagSet {
 	flags.StringVar(&settings.paths.links, "links", "", "the links `FILE`, if templates are used")
 	flags.StringVar(&settings.paths.entities, "entities", "", "the entities `FILE`: JSON")
 	flags.BoolVar(&settings.anyDecimal, "any-decimal", false, "accept decimal(..) of any string, which may then fail at a request")
+	flags.UintVar(&settings.language, "language", uint(bobbinjade.Language3), "read schema and policies in this language: 4 is that of Cedar 4")
 	settings.declareAccess(flags)
 	flags.StringVar(&settings.extAuthz, "ext-authz", "", "the mapping `FILE` for Envoy's ext_authz; without it the path is off")
 	flags.BoolVar(&settings.namesIDs, "ext-authz-policies", false, "say in a header of ext_authz which policies determine the answer")
@@ -141,6 +143,9 @@ func (c *config) check() error {
 	}
 	if len(missing) > 0 {
 		return errors.New("missing " + strings.Join(missing, ", "))
+	}
+	if c.language != uint(bobbinjade.Language3) && c.language != uint(bobbinjade.Language4) {
+		return errors.New("--language is 3 or 4")
 	}
 	for name, address := range map[string]string{"--listen": c.listen, "--admin": c.admin} {
 		if name == "--admin" && address == "" {

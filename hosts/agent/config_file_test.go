@@ -20,14 +20,14 @@ func configFile(t *testing.T, text string) string {
 func TestTheConfigurationFile(t *testing.T) {
 	path := configFile(t, `{"schema": "s.json", "policies": "p.cedar", "entities": "e.json", "listen": "unix:l", "admin": "unix:a",
 		"admin-users": ["root", "7"], "admin-mode": "0660", "reload": "3s", "max-line": 1000, "any-decimal": true, "public-validate": false,
-		"drain": "1m"}`)
+		"drain": "1m", "language": 4}`)
 	got, err := parseConfig([]string{"--config", path, "--entities", "other.json", "--drain=2s", "--max-time", "7s"})
 	if err != nil {
 		t.Fatal(err)
 	}
 	isRight := got.paths == paths{schema: "s.json", policies: "p.cedar", entities: "other.json"} && got.listen == "unix:l" && got.users[0] &&
 		got.users[7] && got.adminAccess.mode == 0o660 && got.reloadEvery == 3*time.Second && got.limits.line == 1000 && got.anyDecimal &&
-		!got.isPublic && got.drain == 2*time.Second && got.limits.time == 7*time.Second
+		!got.isPublic && got.drain == 2*time.Second && got.limits.time == 7*time.Second && got.language == 4
 	if !isRight {
 		t.Error(got)
 	}
@@ -63,6 +63,8 @@ func TestConfigurationFilesThatAreRefused(t *testing.T) {
 		`{"max-connections": ""}`:            `max-connections: the value is a whole number`,
 		`{"any-decimal": "yes"}`:             `any-decimal: the value is true or false`,
 		`{"any-decimal": 1}`:                 `any-decimal: the value is true or false`,
+		`{"language": "four"}`:               `language: the value is a whole number`,
+		`{"language": -4}`:                   `language: `,
 		`{"reload": 5}`:                      `reload: the value is a time, for example "5s"`,
 		`{"reload": "5"}`:                    `reload: the value is a time, for example "5s"`,
 		`{"schema": "s", "policies": "p"}`:   `missing --entities`,

@@ -35,7 +35,7 @@ func content(t testing.TB, name, file string) string {
 	return string(text)
 }
 
-// exampleNames gives the examples that have answers.
+// exampleNames gives the examples that have answers and need no options.
 func exampleNames(t testing.TB) []string {
 	found, err := filepath.Glob(filepath.Join(examplesFolder, "*", "answers.jsonl"))
 	if err != nil || len(found) < 5 {
@@ -43,7 +43,10 @@ func exampleNames(t testing.TB) []string {
 	}
 	var names []string
 	for _, path := range found {
-		names = append(names, filepath.Base(filepath.Dir(path)))
+		name := filepath.Base(filepath.Dir(path))
+		if content(t, name, "options") == "" {
+			names = append(names, name)
+		}
 	}
 	return names
 }

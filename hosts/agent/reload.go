@@ -20,6 +20,7 @@ type reloader struct {
 	agent      *agent
 	paths      []namedPath
 	anyDecimal bool
+	language   bobbinjade.Language
 	every      time.Duration
 	replaces   bool // whether a file that has changed replaces what calls have published
 	lock       sync.Mutex
@@ -47,8 +48,8 @@ type failedReload struct {
 }
 
 func newReloader(it *agent, settings *config) *reloader {
-	return &reloader{agent: it, paths: settings.paths.list(), anyDecimal: settings.anyDecimal, every: settings.reloadEvery,
-		replaces: settings.doesReplace}
+	return &reloader{agent: it, paths: settings.paths.list(), anyDecimal: settings.anyDecimal,
+		language: bobbinjade.Language(settings.language), every: settings.reloadEvery, replaces: settings.doesReplace}
 }
 
 // run reloads files until it is stopped.
@@ -222,7 +223,7 @@ func (r *reloader) publish(source string, began time.Time, contents map[bobbinja
 		if held := r.heldOf(contents); len(held) > 0 && !isForced && !r.replaces {
 			return &heldError{held}
 		}
-		files.AnyDecimal = r.anyDecimal
+		files.AnyDecimal, files.Language = r.anyDecimal, r.language
 		for file, content := range contents {
 			*contentOf(files, file) = content
 		}

@@ -60,6 +60,7 @@ type currentVersion struct {
 	Digest     string            `json:"digest"`
 	Digests    map[string]string `json:"digests"`
 	AnyDecimal bool              `json:"any_decimal"`
+	Language   uint32            `json:"language"`
 	Source     string            `json:"source"`
 	Published  time.Time         `json:"published"`
 	Engine     string            `json:"engine"`
@@ -73,8 +74,8 @@ func (a *agent) describe(v *version) currentVersion {
 	for file, digest := range v.digests {
 		digests[file.String()] = digest
 	}
-	return currentVersion{Version: v.number, Digest: v.digest, Digests: digests, AnyDecimal: v.files.AnyDecimal, Source: v.source,
-		Published: v.published, Engine: engine, Held: a.reloader.held(v)}
+	return currentVersion{Version: v.number, Digest: v.digest, Digests: digests, AnyDecimal: v.files.AnyDecimal,
+		Language: uint32(v.files.Language), Source: v.source, Published: v.published, Engine: engine, Held: a.reloader.held(v)}
 }
 
 // writeVersion says which version is current.

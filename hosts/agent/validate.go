@@ -82,7 +82,7 @@ func (a *agent) report(w http.ResponseWriter, r *http.Request, v *version, files
 
 // filesToValidate gives the files that a body says, with those of a version for the others, and whether the schema is that of the version.
 func filesToValidate(r *http.Request, v *version, body []byte) (bobbinjade.Files, bool, error) {
-	files := bobbinjade.Files{AnyDecimal: v.files.AnyDecimal}
+	files := bobbinjade.Files{AnyDecimal: v.files.AnyDecimal, Language: v.files.Language}
 	if mediaType(r) == "application/json" {
 		files.Policies, files.Links = v.files.Policies, v.files.Links
 		if err := replaceSeveral(&files, body); err != nil {

@@ -75,6 +75,10 @@ func newVersion(number uint64, source string, engine *bobbinjade.Engine, files *
 		_, _ = io.WriteString(all, file.String()+" "+digests[file]+"\n")
 	}
 	fmt.Fprintf(all, "any-decimal %t\n", files.AnyDecimal)
+	if files.Language == bobbinjade.Language4 {
+		// A version of the default language has the digest that it had before there was another.
+		fmt.Fprintf(all, "language %d\n", files.Language)
+	}
 	v.digest = "sha256:" + hex.EncodeToString(all.Sum(nil))
 	return v
 }

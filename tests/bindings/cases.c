@@ -8,7 +8,7 @@
 
 typedef struct test_case {
     char name[256];
-    unsigned status, any_decimal, brings_entities;
+    unsigned status, settings, brings_entities;
 } test_case;
 
 static cedar_buffer text;
@@ -35,7 +35,7 @@ static uint32_t answered(const test_case *it) {
     cedar_bytes lines = content(it->name, "requests.jsonl");
     cedar_engine engine;
     uint32_t status = cedar_new(&engine);
-    files.settings = it->any_decimal ? CEDAR_ANY_DECIMAL : 0;
+    files.settings = it->settings;
     status = status == CEDAR_OK ? publish(&engine, &files) : status;
     status = status == CEDAR_OK ? answer(&engine, lines, it->brings_entities) : status;
     cedar_free(&engine);
@@ -65,7 +65,7 @@ int main(void) {
         return 9;
     }
     test_case it;
-    while (fscanf(list, "%255s %u %u %u", it.name, &it.status, &it.any_decimal, &it.brings_entities) == 4) {
+    while (fscanf(list, "%255s %u %u %u", it.name, &it.status, &it.settings, &it.brings_entities) == 4) {
         judge(&it);
     }
     fclose(list);

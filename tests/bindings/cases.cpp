@@ -8,8 +8,8 @@
 
 struct Case {
     std::string name;
-    std::uint32_t status = 0;
-    bool any_decimal = false, brings_entities = false;
+    std::uint32_t status = 0, settings = 0;
+    bool brings_entities = false;
 };
 
 static std::string content(const std::string &path) {
@@ -22,8 +22,10 @@ static std::pair<std::uint32_t, std::string> answered(const std::string &folder,
     const std::string schema = content(folder + "/schema.json"), policies = content(folder + "/policies.cedar");
     const std::string links = content(folder + "/links.json"), entities = content(folder + "/entities.json");
     const std::string lines = content(folder + "/requests.jsonl");
+    const bool any_decimal = it.settings & CEDAR_ANY_DECIMAL;
+    const unsigned language = it.settings & CEDAR_LANGUAGE_4 ? 4 : 3;
     try {
-        const cedar::Engine engine({schema, policies, links, entities, it.any_decimal});
+        const cedar::Engine engine({schema, policies, links, entities, any_decimal, language});
         return {CEDAR_OK, it.brings_entities ? engine.answer_with_entities(lines) : engine.answer(lines)};
     } catch (const cedar::Refusal &refusal) {
         return {refusal.status(), refusal.text};
@@ -40,7 +42,7 @@ int main() {
         return 9;
     }
     int passed = 0, failed = 0;
-    for (Case it; list >> it.name >> it.status >> it.any_decimal >> it.brings_entities;) {
+    for (Case it; list >> it.name >> it.status >> it.settings >> it.brings_entities;) {
         const auto [status, text] = answered(root + "/" + it.name, it);
         const bool is_right = status == it.status && text == content(root + "/" + it.name + "/wanted.jsonl");
         (is_right ? passed : failed)++;

@@ -249,6 +249,39 @@ static void check_closing() {
     CHECK(engine.answer(requests) == answers);
 }
 
+// The example in the language of Cedar 4 has its answers.
+static void check_shares(const std::string &folder) {
+    const std::string schema = content(folder + "schema.json"), policies = content(folder + "policies.cedar");
+    const std::string entities = content(folder + "entities.json");
+    const cedar::Engine engine({schema, policies, {}, entities, false, 4});
+    CHECK(engine.answer(content(folder + "requests.jsonl")) == content(folder + "answers.jsonl"));
+}
+
+// Files of the language of Cedar 4 are refused in the default language, and an unknown language is refused.
+static void check_languages(const std::string &folder) {
+    const std::string schema = content(folder + "schema.json"), policies = content(folder + "policies.cedar");
+    const std::string entities = content(folder + "entities.json"), changes = content(folder + "changes.json");
+    cedar::Files files = {schema, policies, {}, entities};
+    auto refusal = thrown<cedar::Refusal>([&] { cedar::Engine engine(files); });
+    CHECK(refusal && refusal->file == CEDAR_SCHEMA && refusal->number == 303 && !cedar::explain(files).empty());
+    files.language = 4;
+    cedar::Engine engine(files);
+    CHECK(engine.answer(content(folder + "requests.jsonl")) == content(folder + "answers.jsonl"));
+    CHECK(cedar::validate(files).accepted && cedar::explain(files).empty());
+    refusal = thrown<cedar::Refusal>([&] { engine.publish_changes(content(folder + "refused_changes.json")); });
+    CHECK(refusal && refusal->number == 506 && refusal->words.find("upsert entry 0 (from 0), User::\"bob\"") != std::string::npos);
+    engine.publish_changes(changes);
+    CHECK(engine.decide({{"User", "bob"}, {"Action", "read"}, {"Doc", "d"}}));
+    for (unsigned language : {0u, 2u, 5u, 4u + (1u << 31)}) {
+        files.language = language;
+        for (auto &call : {std::function<void()>([&] { engine.publish(files); }), {[&] { cedar::Engine other(files); }},
+                           {[&] { cedar::validate(files); }}, {[&] { cedar::explain(files); }}}) {
+            auto fault = thrown<cedar::Error>(call);
+            CHECK(fault && fault->status() == CEDAR_ARGUMENT && fault->what() == std::string("cedar: the language is 3 or 4"));
+        }
+    }
+}
+
 // More threads than places for handles, and closing while they ask.
 static void check_many_threads() {
     cedar::Engine engine(files(policies));
@@ -287,6 +320,8 @@ int main(int count, char **words) {
     check_escapes();
     check_requests();
     check_closing();
+    check_languages(examples + "/../tests/bindings/language_4/");
+    check_shares(examples + "/shares/");
     check_many_threads();
     std::printf("%d passed, %d failed\n", passed, failed);
     return failed != 0;

@@ -1,4 +1,4 @@
-/* The edges of the calls of cedar.h over one handle: edges FOLDER, where FOLDER is examples/notes, with examples/photos beside it. */
+/* The edges of the calls of cedar.h over one handle: edges FOLDER, where FOLDER is examples/notes of the repository. */
 #include "files.h"
 
 #include <sys/wait.h>
@@ -129,7 +129,7 @@ static void check_arguments(void) {
     CHECK(cedar_new(&engine) == CEDAR_OK);
     CHECK(cedar_publish(&engine, &files, &refusal, NULL) == CEDAR_ARGUMENT && refusal.file == 7);
     CHECK(cedar_publish_entities(&engine, files.entities, &refusal, NULL) == CEDAR_ARGUMENT && refusal.file == 7);
-    other.settings = 2;
+    other.settings = 4;
     CHECK(cedar_publish(&engine, &other, NULL, NULL) == CEDAR_ARGUMENT && cedar_validate(&other, NULL) == CEDAR_ARGUMENT);
     CHECK(cedar_explain(&other, CEDAR_WORDS, NULL) == CEDAR_ARGUMENT && cedar_explain(&files, 2, NULL) == CEDAR_ARGUMENT);
     other = files;
@@ -559,6 +559,57 @@ static void check_fork(void) {
     cedar_free(&engine);
 }
 
+/* Files of the language of Cedar 4 are refused in the default language, and so are their changes explained without their place. */
+static void check_languages(const char *folder) {
+    static const char WHERE[] = "error[506]: an attribute is not declared\n --> changes.json: upsert entry 0 (from 0), User::\"bob\"\n";
+    char path[4096], room[4096] = "";
+    snprintf(path, sizeof path, "%s/../../tests/bindings/language_4", folder);
+    cedar_files four = files_of(path), three = four;
+    cedar_bytes asked_lines = content(path, "requests.jsonl"), wanted = content(path, "answers.jsonl");
+    cedar_bytes changes = content(path, "changes.json"), broken = content(path, "refused_changes.json");
+    cedar_buffer text = {room, sizeof room, 0};
+    cedar_refusal refusal = {.size = sizeof refusal};
+    cedar_engine engine;
+    four.settings = CEDAR_LANGUAGE_4;
+    CHECK(cedar_new(&engine) == CEDAR_OK && cedar_publish(&engine, &three, &refusal, &text) == CEDAR_REFUSED);
+    CHECK(refusal.file == CEDAR_SCHEMA && refusal.number == 303 && has(&text, bytes_of("{\"file\":\"schema\",\"refused\":303}\n")));
+    CHECK(cedar_validate(&three, &text) == CEDAR_REFUSED && cedar_validate(&four, &text) == CEDAR_OK);
+    CHECK(cedar_explain(&three, CEDAR_WORDS, &text) == CEDAR_OK && text.written > 20);
+    CHECK(cedar_explain(&four, CEDAR_WORDS, &text) == CEDAR_OK && text.written == 0);
+    CHECK(cedar_publish(&engine, &four, &refusal, NULL) == CEDAR_OK);
+    CHECK(cedar_answer(&engine, asked_lines, &text) == CEDAR_OK && has(&text, wanted));
+    four.settings |= CEDAR_ANY_DECIMAL;
+    CHECK(cedar_publish(&engine, &four, &refusal, NULL) == CEDAR_OK);
+    CHECK(cedar_answer(&engine, asked_lines, &text) == CEDAR_OK && has(&text, wanted));
+    CHECK(cedar_publish_changes(&engine, broken, &refusal, NULL) == CEDAR_REFUSED && refusal.number == 506);
+    CHECK(cedar_explain_changes_in(four.schema, broken, four.settings, 506, CEDAR_WORDS, &text) == CEDAR_OK);
+    CHECK(text.written > strlen(WHERE) && memcmp(room, WHERE, strlen(WHERE)) == 0);
+    CHECK(cedar_explain_changes(four.schema, broken, 506, CEDAR_WORDS, &text) == CEDAR_OK && text.written > 20);
+    CHECK(memcmp(room, WHERE, strlen(WHERE)) != 0);
+    CHECK(cedar_explain_changes_in(four.schema, broken, 4, 506, CEDAR_WORDS, &text) == CEDAR_ARGUMENT && text.written == 0);
+    CHECK(cedar_explain_changes_in(four.schema, broken, 2, 506, 2, &text) == CEDAR_ARGUMENT && text.written == 0);
+    CHECK(cedar_publish_changes(&engine, changes, &refusal, NULL) == CEDAR_OK);
+    cedar_decision decision = {sizeof decision, 7, 7};
+    cedar_request request = {sizeof request,   bytes_of("User"), bytes_of("bob"), bytes_of("Action"),
+                             bytes_of("read"), bytes_of("Doc"),  bytes_of("d"),   {NULL, 0}};
+    CHECK(cedar_decide(&engine, &request, &decision, NULL) == CEDAR_OK && decision.allow == 1);
+    snprintf(path, sizeof path, "%s/../shares", folder);
+    cedar_files shares = files_of(path);
+    cedar_bytes asked_shares = content(path, "requests.jsonl"), wanted_shares = content(path, "answers.jsonl");
+    shares.settings = CEDAR_LANGUAGE_4;
+    CHECK(cedar_publish(&engine, &shares, &refusal, NULL) == CEDAR_OK);
+    CHECK(cedar_answer(&engine, asked_shares, &text) == CEDAR_OK && has(&text, wanted_shares));
+    free_files(&shares);
+    free((void *)asked_shares.at);
+    free((void *)wanted_shares.at);
+    cedar_free(&engine);
+    free_files(&four);
+    free((void *)asked_lines.at);
+    free((void *)wanted.at);
+    free((void *)changes.at);
+    free((void *)broken.at);
+}
+
 int main(int count, char **words) {
     if (count != 2) {
         return 9;
@@ -580,6 +631,7 @@ int main(int count, char **words) {
     check_entities(words[1]);
     check_brought(words[1]);
     check_refused_requests();
+    check_languages(words[1]);
     check_fork();
     free_files(&files);
     free((void *)lines.at);

@@ -244,7 +244,7 @@ static void check_arguments(void) {
     other.size--;
     CHECK(is_argument(&other, place, NULL));
     other = files;
-    other.settings = 2;
+    other.settings = 4;
     CHECK(is_argument(&other, place, NULL));
     other = files;
     other.policies.at = NULL;

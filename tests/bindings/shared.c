@@ -129,6 +129,33 @@ static void check_words(cedar_shared *shared) {
     CHECK(answers_are_right(shared));
 }
 
+/* Whether what is published to an engine of the language of Cedar 4 is explained by its schema: the words of the entities name the entry. */
+static void check_language(const char *folder) {
+    static const char WHERE[] = "error[506]: an attribute is not declared\n --> ";
+    char path[4096];
+    snprintf(path, sizeof path, "%s/../../tests/bindings/language_4", folder);
+    cedar_files four = files_of(path);
+    cedar_bytes broken = content(path, "refused_changes.json");
+    cedar_bytes entries = {(const char *)broken.at + strlen("{\"upsert\":"), broken.length - strlen("{\"upsert\":}\n")};
+    cedar_refusal refusal = {.size = sizeof refusal, .wants = CEDAR_WANTS_WORDS};
+    cedar_shared *shared;
+    CHECK(cedar_shared_new(&shared) == CEDAR_OK && cedar_shared_publish(shared, &four, &refusal, NULL) == CEDAR_REFUSED);
+    CHECK(refusal.file == CEDAR_SCHEMA && refusal.number == 303 && refusal.words.length > 20);
+    cedar_refusal_free(&refusal);
+    four.settings = CEDAR_LANGUAGE_4;
+    CHECK(cedar_shared_publish(shared, &four, &refusal, NULL) == CEDAR_OK);
+    for (int i = 0; i < 2; i++) {
+        uint32_t status = i ? cedar_shared_publish_changes(shared, broken, &refusal, NULL)
+                            : cedar_shared_publish_entities(shared, entries, &refusal, NULL);
+        CHECK(status == CEDAR_REFUSED && refusal.number == 506 && refusal.file == CEDAR_ENTITIES && refusal.words.length > strlen(WHERE));
+        CHECK(refusal.words.at && memcmp(refusal.words.at, WHERE, strlen(WHERE)) == 0 && strstr(refusal.words.at, "User::\"bob\""));
+        cedar_refusal_free(&refusal);
+    }
+    cedar_shared_free(shared);
+    free_files(&four);
+    free((void *)broken.at);
+}
+
 /* Whether a request of ann is allowed; -1 where nothing was decided. */
 static int is_allowed(cedar_shared *shared, const char *action) {
     cedar_request request = asked(action);
@@ -311,6 +338,7 @@ int main(int count, char **words) {
     check_arguments(shared);
     check_words(shared);
     cedar_shared_free(shared);
+    check_language(words[1]);
     check_owners();
     check_threads();
     check_closing();

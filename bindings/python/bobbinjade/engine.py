@@ -106,13 +106,15 @@ class Engine:
 
     _shared: Optional[ctypes.c_void_p] = None
 
-    def __init__(self, schema: Text, policies: Text, entities: Text, links: Optional[Text] = None, any_decimal: bool = False) -> None:
-        """Reads and validates the contents of files. Raises Refused, Faults or OutOfMemory."""
+    def __init__(self, schema: Text, policies: Text, entities: Text, links: Optional[Text] = None, any_decimal: bool = False, *,
+                 language: int = 3) -> None:
+        """Reads and validates the contents of files. The schema and the policies are in the language 4, that of Cedar 4, or in the default
+        one, 3. Raises Refused, Faults or OutOfMemory, and ValueError where there is no such language."""
         self._shared = ctypes.c_void_p()
         status = LIBRARY.cedar_shared_new(ctypes.byref(self._shared))
         if status != OK:
             raise failed(status)
-        self.publish(schema, policies, entities, links, any_decimal)
+        self.publish(schema, policies, entities, links, any_decimal, language=language)
 
     def __del__(self, free: Any = LIBRARY.cedar_shared_free) -> None:
         free(self._shared)
@@ -127,10 +129,11 @@ class Engine:
     def __exit__(self, *_: object) -> None:
         self.close()
 
-    def publish(self, schema: Text, policies: Text, entities: Text, links: Optional[Text] = None, any_decimal: bool = False) -> None:
+    def publish(self, schema: Text, policies: Text, entities: Text, links: Optional[Text] = None, any_decimal: bool = False, *,
+                language: int = 3) -> None:
         """Reads and validates files, and has all later calls answer according to them. Requests do not wait for it. Raises Refused, Faults,
-        OutOfMemory or Closed; then nothing has changed."""
-        files = files_of(schema, policies, links, entities, any_decimal)
+        OutOfMemory, Closed, or ValueError where there is no such language; then nothing has changed."""
+        files = files_of(schema, policies, links, entities, any_decimal, language)
         check(lambda why: LIBRARY.cedar_shared_publish(self._shared, ctypes.byref(files), why, None))
 
     def publish_entities(self, entities: Text) -> None:
@@ -281,9 +284,9 @@ def _give(scratch: Scratch, context: Context) -> None:
     _POOL.append(scratch)
 
 
-def validate(schema: Text, policies: Text, links: Optional[Text] = None, any_decimal: bool = False) -> Report:
-    """Validates policies. Raises Refused where a file is refused, or OutOfMemory."""
-    files, text = files_of(schema, policies, links, b'[]', any_decimal), ''
+def validate(schema: Text, policies: Text, links: Optional[Text] = None, any_decimal: bool = False, *, language: int = 3) -> Report:
+    """Validates policies. Raises Refused where a file is refused, OutOfMemory, or ValueError where there is no such language."""
+    files, text = files_of(schema, policies, links, b'[]', any_decimal, language), ''
 
     def validated(why: Any) -> int:
         nonlocal text
@@ -296,9 +299,11 @@ def validate(schema: Text, policies: Text, links: Optional[Text] = None, any_dec
     return Report(check(validated, (OK, FAULTS)) == OK, text)
 
 
-def explain(schema: Text, policies: Text, entities: Text = b'[]', links: Optional[Text] = None, any_decimal: bool = False) -> str:
-    """Explains in words why files are refused or have faults. Empty where they are accepted."""
-    files = files_of(schema, policies, links, entities, any_decimal)
+def explain(schema: Text, policies: Text, entities: Text = b'[]', links: Optional[Text] = None, any_decimal: bool = False, *,
+            language: int = 3) -> str:
+    """Explains in words why files are refused or have faults. Empty where they are accepted. Raises OutOfMemory, or ValueError where there is
+    no such language."""
+    files = files_of(schema, policies, links, entities, any_decimal, language)
     return written(4096, lambda room: LIBRARY.cedar_explain(ctypes.byref(files), WORDS, room))
 
 

@@ -14,6 +14,9 @@ ABI_VERSION = 1
 NAME = 'libcedar.so'
 SYSTEM_NAME = NAME + '.1'
 NO_OFFSET = ALL_LINES = 2 ** 64 - 1
+ANY_DECIMAL = 1
+# The languages of schemas and policies, and the setting of each.
+LANGUAGES = {3: 0, 4: 2}
 WORDS = ctypes.c_uint32(0)
 LINE, LINE_WITH_ENTITIES = ctypes.c_uint32(0), ctypes.c_uint32(1)
 Text = Union[str, bytes]
@@ -125,10 +128,12 @@ def bytes_of(text: Text) -> Bytes:
     return Bytes(given, len(given))
 
 
-def files_of(schema: Text, policies: Text, links: Optional[Text], entities: Text, any_decimal: bool) -> Files:
-    """The files as the library takes them."""
+def files_of(schema: Text, policies: Text, links: Optional[Text], entities: Text, any_decimal: bool, language: int) -> Files:
+    """The files as the library takes them. Raises ValueError where there is no such language."""
+    if language not in LANGUAGES:
+        raise ValueError('the language is 3 or 4, not %r' % (language,))
     texts = map(bytes_of, (schema, policies, links or b'', entities))
-    return Files(ctypes.sizeof(Files), *texts, int(bool(any_decimal)), 0)
+    return Files(ctypes.sizeof(Files), *texts, (ANY_DECIMAL if any_decimal else 0) | LANGUAGES[language], 0)
 
 
 def failed(status: int) -> Error:

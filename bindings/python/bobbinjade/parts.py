@@ -67,10 +67,10 @@ class ReportParts:
 
 
 def validate_parts(schema: Text, policies: Text, links: Optional[Text] = None, any_decimal: bool = False, *,
-                   lines: Optional[int] = None) -> ReportParts:
+                   lines: Optional[int] = None, language: int = 3) -> ReportParts:
     """Validates policies, and gives the report in parts. It is for policies that one does not trust, whose report may be a thousand times as
     long as they are.
 
     The parts, one after another, are the text of `validate`. With a limit of `lines` they are its first lines, as many as these, and the line
     of totals, which has all counts."""
-    return ReportParts(files_of(schema, policies, links, b'[]', any_decimal), lines)
+    return ReportParts(files_of(schema, policies, links, b'[]', any_decimal, language), lines)

@@ -25,10 +25,11 @@ def refusal_line(refused):
     return '{"file":"%s",%s"refused":%d}\n' % (refused.file, offset, refused.number)
 
 
-def answered(name, any_decimal, brings_entities):
-    """The status and the text of a case: its answers, or what the program prints of files that are refused."""
+def answered(name, settings, brings_entities):
+    """The status and the text of a case with the settings of cedar.h: its answers, or what the program prints of files that are refused."""
+    language = 4 if settings & 2 else 3
     try:
-        with bobbinjade.Engine(*[content(name, it) for it in FILES], any_decimal=any_decimal) as engine:
+        with bobbinjade.Engine(*[content(name, it) for it in FILES], any_decimal=bool(settings & 1), language=language) as engine:
             answer = engine.answer_with_entities if brings_entities else engine.answer
             return 0, answer(content(name, 'requests.jsonl')).encode()
     except bobbinjade.Refused as refused:
@@ -43,9 +44,9 @@ class Cases(unittest.TestCase):
         lines = content('list').decode().splitlines()
         passed = 0
         for line in lines:
-            name, status, any_decimal, brings_entities = line.split(' ')
+            name, status, settings, brings_entities = line.split(' ')
             with self.subTest(name):
-                found = answered(name, any_decimal == '1', brings_entities == '1')
+                found = answered(name, int(settings), brings_entities == '1')
                 self.assertEqual(found, (int(status), content(name, 'wanted.jsonl')))
                 passed += 1
         print('%d passed, %d failed' % (passed, len(lines) - passed))

@@ -33,7 +33,8 @@ def files_of(name):
 
 
 def names():
-    return sorted(it for it in os.listdir(FOLDER) if content(it, 'answers.jsonl'))
+    # An example with options is of the program alone.
+    return sorted(it for it in os.listdir(FOLDER) if content(it, 'answers.jsonl') and not content(it, 'options'))
 
 
 def cut(line):
@@ -140,6 +141,59 @@ class Examples(unittest.TestCase):
             report = bobbinjade.validate(schema, policies, links)
             self.assertEqual(report, (True, content(name, 'report.jsonl').decode()))
             self.assertEqual(bobbinjade.explain(schema, policies, entities, links), '')
+
+
+class Languages(unittest.TestCase):
+    """Files of the language of Cedar 4, which are refused in the default language."""
+
+    def setUp(self):
+        here = os.path.join(HERE, '..', '..', '..', 'tests', 'bindings', 'language_4')
+        self.files = [content(here, file) for file in FILES]
+        self.requests, self.answers, self.changes, self.broken = [
+            content(here, file) for file in ('requests.jsonl', 'answers.jsonl', 'changes.json', 'refused_changes.json')]
+
+    def test_language_4(self):
+        schema, policies, entities, _ = self.files
+        engine = bobbinjade.Engine(schema, policies, entities, language=4)
+        self.assertEqual(engine.answer(self.requests), self.answers.decode())
+        self.assertEqual(bobbinjade.validate(schema, policies, language=4), (True, '{"faults":0,"warnings":0}\n'))
+        self.assertEqual(''.join(bobbinjade.validate_parts(schema, policies, language=4)), '{"faults":0,"warnings":0}\n')
+        self.assertEqual(bobbinjade.explain(schema, policies, entities, language=4), '')
+        engine.publish(schema, policies, '[]', language=4)
+        engine.publish_entities(entities)
+        self.assertEqual(engine.answer(self.requests), self.answers.decode())
+        with self.assertRaises(bobbinjade.Refused) as raised:
+            engine.publish_changes(self.broken)
+        self.assertIn('upsert entry 0 (from 0), User::"bob"', raised.exception.words)
+        engine.publish_changes(self.changes)
+        self.assertTrue(engine.decide('User::"bob"', 'Action::"read"', 'Doc::"d"'))
+
+    def test_the_example_in_language_4(self):
+        with bobbinjade.Engine(*files_of('shares'), language=4) as engine:
+            self.assertEqual(engine.answer(content('shares', 'requests.jsonl')), content('shares', 'answers.jsonl').decode())
+
+    def test_the_default_language(self):
+        schema, policies, entities, _ = self.files
+        with bobbinjade.Engine(schema, policies, entities, language=4) as engine:
+            for call in (lambda: bobbinjade.Engine(schema, policies, entities), lambda: engine.publish(schema, policies, entities, language=3),
+                         lambda: bobbinjade.validate(schema, policies), lambda: next(bobbinjade.validate_parts(schema, policies))):
+                with self.assertRaises(bobbinjade.Refused) as raised:
+                    call()
+                self.assertEqual((raised.exception.file, raised.exception.number), ('schema', 303))
+            self.assertEqual(engine.answer(self.requests), self.answers.decode())
+        self.assertNotEqual(bobbinjade.explain(schema, policies, entities), '')
+
+    def test_other_languages(self):
+        schema, policies, entities, _ = files_of('notes')
+        engine = bobbinjade.Engine(schema, policies, entities, language=3)
+        for language in (0, 2, 5, -4, '4', None):
+            for call in (lambda: bobbinjade.Engine(schema, policies, entities, language=language),
+                         lambda: engine.publish(schema, policies, entities, language=language),
+                         lambda: bobbinjade.validate(schema, policies, language=language),
+                         lambda: bobbinjade.validate_parts(schema, policies, language=language),
+                         lambda: bobbinjade.explain(schema, policies, language=language)):
+                self.assertRaisesRegex(ValueError, 'the language is 3 or 4', call)
+        self.assertEqual(engine.answer(content('notes', 'requests.jsonl')), content('notes', 'answers.jsonl').decode())
 
 
 class Refusals(unittest.TestCase):

@@ -14,7 +14,7 @@ fn main() -> Result<(), Box<dyn Error>> {
         return Err("a file of links has a list".into());
     }
     let links = links.unwrap_or_default();
-    let files = Files { schema: &schema, policies: &policies, links: &links, entities: &entities, any_decimal: false };
+    let files = Files { schema: &schema, policies: &policies, links: &links, entities: &entities, ..Files::default() };
     let engine = Engine::new(&files)?;
 
     // Any number of threads may ask, also while another publishes.

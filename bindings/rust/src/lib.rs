@@ -35,6 +35,28 @@ use stack::on_enough_stack;
 /// The version of the interface that this crate is written for.
 const ABI_VERSION: u32 = 1;
 
+/// A language of schemas and policies.
+#[derive(Clone, Copy, Debug, Default, PartialEq, Eq, Hash)]
+#[non_exhaustive]
+pub enum Language {
+    /// The default language, with the number 3.
+    #[default]
+    Profile,
+    /// The language of Cedar 4, with the number 4.
+    Cedar4,
+}
+
+impl Language {
+    /// The language of a number; `None` where it is neither 3 nor 4.
+    pub fn numbered(number: u32) -> Option<Language> {
+        match number {
+            3 => Some(Language::Profile),
+            4 => Some(Language::Cedar4),
+            _ => None,
+        }
+    }
+}
+
 /// The contents of the files of an engine.
 #[derive(Clone, Copy, Debug, Default)]
 pub struct Files<'f> {
@@ -48,6 +70,8 @@ pub struct Files<'f> {
     pub entities: &'f [u8],
     /// Whether `decimal(..)` accepts any string. It may then fail when a request is answered.
     pub any_decimal: bool,
+    /// The language of the schema and the policies.
+    pub language: Language,
 }
 
 /// The name of an entity: a type such as `Shop::User`, and an id without quotes.

@@ -3,7 +3,7 @@
 use std::ffi::{c_char, c_void, CStr};
 use std::ptr::{self, NonNull};
 
-use crate::{Error, Faults, File, Files, Refusal};
+use crate::{Error, Faults, File, Files, Language, Refusal};
 
 pub(crate) const OK: u32 = 0;
 pub(crate) const MEMORY: u32 = 1;
@@ -12,6 +12,12 @@ pub(crate) const FAULTS: u32 = 3;
 pub(crate) const NO_REQUEST: u32 = 7;
 pub(crate) const CLOSED: u32 = 8;
 pub(crate) const MORE: u32 = 9;
+
+/// `CEDAR_ANY_DECIMAL`.
+const ANY_DECIMAL: u32 = 1;
+
+/// `CEDAR_LANGUAGE_4`.
+const LANGUAGE_4: u32 = 2;
 
 /// `CEDAR_ALL_LINES`.
 const ALL_LINES: u64 = u64::MAX;
@@ -67,7 +73,12 @@ struct RawFiles {
 impl From<&Files<'_>> for RawFiles {
     fn from(files: &Files) -> RawFiles {
         let texts = [files.schema, files.policies, files.links, files.entities].map(Bytes::from);
-        RawFiles { size: std::mem::size_of::<RawFiles>(), texts, settings: u32::from(files.any_decimal), reserved: 0 }
+        let language = match files.language {
+            Language::Profile => 0,
+            Language::Cedar4 => LANGUAGE_4,
+        };
+        let settings = if files.any_decimal { ANY_DECIMAL } else { 0 } | language;
+        RawFiles { size: std::mem::size_of::<RawFiles>(), texts, settings, reserved: 0 }
     }
 }
 

@@ -5,7 +5,7 @@ use std::sync::atomic::{AtomicBool, AtomicU64, Ordering};
 use std::thread;
 use std::time::{Duration, Instant};
 
-use bobbinjade::{explain, validate, Decision, Engine, Error, EvalError, File, Files, Request, Uid};
+use bobbinjade::{explain, validate, Decision, Engine, Error, EvalError, File, Files, Language, Request, Uid};
 
 /// The contents of a folder of examples/.
 struct Example {
@@ -20,7 +20,7 @@ struct Example {
 
 impl Example {
     fn files(&self) -> Files<'_> {
-        Files { schema: &self.schema, policies: &self.policies, links: &self.links, entities: &self.entities, any_decimal: false }
+        Files { schema: &self.schema, policies: &self.policies, links: &self.links, entities: &self.entities, ..Files::default() }
     }
 
     fn engine(&self) -> Engine {
@@ -48,7 +48,9 @@ fn example(name: &str) -> Example {
 
 fn examples() -> Vec<Example> {
     let names = fs::read_dir(folder()).unwrap().map(|it| it.unwrap());
-    names.filter(|it| it.path().join("answers.jsonl").exists()).map(|it| example(it.file_name().to_str().unwrap())).collect()
+    // An example with options is of the program alone.
+    let is_wanted = |it: &PathBuf| it.join("answers.jsonl").exists() && !it.join("options").exists();
+    names.filter(|it| is_wanted(&it.path())).map(|it| example(it.file_name().to_str().unwrap())).collect()
 }
 
 /// A request of examples/notes.
@@ -155,6 +157,40 @@ fn refusals_have_their_words() {
         assert_eq!((why.file, why.number), wanted);
         assert!(why.words.starts_with(&format!("error[{}]: ", wanted.1)), "{}", why.words);
     }
+}
+
+/// The example in the language of Cedar 4 has its answers.
+#[test]
+fn the_example_in_language_4_is_answered() {
+    let it = example("shares");
+    let engine = Engine::new(&Files { language: Language::Cedar4, ..it.files() }).unwrap();
+    assert_eq!(engine.answer(&it.requests).unwrap(), it.answers);
+}
+
+/// Files of the language of Cedar 4 are refused in the default language.
+#[test]
+fn languages_differ() {
+    let bytes = |file: &str| fs::read(folder().join("../tests/bindings/language_4").join(file)).unwrap();
+    let [schema, policies, entities] = ["schema.json", "policies.cedar", "entities.json"].map(bytes);
+    let three = Files { schema: &schema, policies: &policies, entities: &entities, ..Files::default() };
+    let four = Files { language: Language::Cedar4, ..three };
+    let engine = Engine::new(&four).unwrap();
+    for why in [Engine::new(&three).map(drop), engine.publish(&three), validate(&three).map(drop)].map(refusal_of) {
+        assert_eq!((why.file, why.number), (File::Schema, 303));
+    }
+    assert_eq!(engine.answer(bytes("requests.jsonl")).unwrap().into_bytes(), bytes("answers.jsonl"));
+    assert!(validate(&four).unwrap().is_accepted);
+    assert!(explain(&four).unwrap().is_empty() && !explain(&three).unwrap().is_empty());
+
+    let why = refusal_of(engine.publish_changes(&bytes("refused_changes.json")));
+    assert!(why.number == 506 && why.words.contains("upsert entry 0 (from 0), User::\"bob\""), "{}", why.words);
+    engine.publish_changes(&bytes("changes.json")).unwrap();
+    let bob = Request::new(Uid::new("User", "bob"), Uid::new("Action", "read"), Uid::new("Doc", "d"));
+    assert_eq!(engine.decide(&bob), Ok(Decision::Allow));
+
+    let numbered = [0, 2, 3, 4, 5, u32::MAX].map(Language::numbered);
+    assert_eq!(numbered, [None, None, Some(Language::Profile), Some(Language::Cedar4), None, None]);
+    assert_eq!(Language::default(), Language::Profile);
 }
 
 /// Entities of examples/photos in which ann is in no group, and so not a friend of jane.

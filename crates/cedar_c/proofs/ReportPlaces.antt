@@ -39,7 +39,7 @@ placed to h =
     let n = number_with to.lines h in
     (record { policy = to.policy; faults = to.faults; warnings = to.warnings; lines = n.0 }, ap (λ (l : Option ℕ). record to { lines = l }) n.1)
 
-module _ (settings : Settings) (holds : Holdings) (s : SchemaTree) (set : PolicySetTree) (hold : Hold holds s set) (from : ReportPlace) where
+module _ (settings : Settings) (holds : Holdings) (s : SchemaTree) (set : PolicySetTree) (hold : Hold settings.language holds s set) (from : ReportPlace) where
   -- a part that is given, where the place is moved on
   pub has-part : (to : ReportPlace) (place : Place) (text told : List ℕ) → place_of to ≡ place → told ≡ text → GoesOnReport settings s set.policies (place_of from) place text
       → HavePart settings holds from to told

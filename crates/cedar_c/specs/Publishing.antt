@@ -56,7 +56,7 @@ pub record IsRefusedFirst (settings : Settings) (holds : Holdings) (refusal : Re
 pub record HaveFaults (settings : Settings) (holds : Holdings) (report : List ℕ) : Type 0 where
   pub schema : SchemaTree
   pub policies : PolicySetTree
-  pub hold : Hold holds schema policies
+  pub hold : Hold settings.language holds schema policies
   pub some : ¬ AreFaultsWith settings schema policies.policies []
   pub is_report : IsReportText settings schema policies.policies report
 

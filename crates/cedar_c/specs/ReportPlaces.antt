@@ -23,7 +23,7 @@ place_of place = record { policy = place.policy; faults = place.faults; warnings
 pub record HavePart (settings : Settings) (holds : Holdings) (from to : ReportPlace) (text : List ℕ) : Type 0 where
   pub schema : SchemaTree
   pub policies : PolicySetTree
-  pub hold : Hold holds schema policies
+  pub hold : Hold settings.language holds schema policies
   pub goes_on : GoesOnReport settings schema policies.policies (place_of from) (place_of to) text
 
 -- The files hold policies, and the text is the last part of the report on them, which leads from one place to another, with the line of
@@ -31,17 +31,17 @@ pub record HavePart (settings : Settings) (holds : Holdings) (from to : ReportPl
 pub record HaveLastPart (settings : Settings) (holds : Holdings) (from to : ReportPlace) (text : List ℕ) : Type 0 where
   pub schema : SchemaTree
   pub policies : PolicySetTree
-  pub hold : Hold holds schema policies
+  pub hold : Hold settings.language holds schema policies
   pub ends : EndsReport settings schema policies.policies (place_of from) (place_of to) text
 
 -- The files hold policies, and no report on them has this place, or none that can go on from it (own).
 pub record HaveNoPlace (settings : Settings) (holds : Holdings) (place : ReportPlace) : Type 0 where
   pub schema : SchemaTree
   pub policies : PolicySetTree
-  pub hold : Hold holds schema policies
+  pub hold : Hold settings.language holds schema policies
   pub misplaced : IsMisplaced settings schema policies.policies (place_of place)
 
 -- The text is what a call is to give at this place: a part of the report, the last one too, or the line that refuses a file (own).
 abbrev pub IsPartReported : Settings → Holdings → ReportPlace → List ℕ → Type 0
 IsPartReported settings holds from text =
-    ((to : ReportPlace) × HavePart settings holds from to text) ⊎ ((to : ReportPlace) × HaveLastPart settings holds from to text) ⊎ IsRefusedIn holds text
+    ((to : ReportPlace) × HavePart settings holds from to text) ⊎ ((to : ReportPlace) × HaveLastPart settings holds from to text) ⊎ IsRefusedIn settings holds text

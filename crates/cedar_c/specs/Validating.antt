@@ -17,17 +17,17 @@ use Rattle.cedar_c.specs.Publishing.{HaveFaults}
 pub record HaveNoFaults (settings : Settings) (holds : Holdings) (report : List ℕ) : Type 0 where
   pub schema : SchemaTree
   pub policies : PolicySetTree
-  pub hold : Hold holds schema policies
+  pub hold : Hold settings.language holds schema policies
   pub none : AreFaultsWith settings schema policies.policies []
   pub is_report : IsReportText settings schema policies.policies report
 
--- One of the files that are read for a report is refused, and this is the line that says so (own).
-pub record IsRefusedIn (holds : Holdings) (line : List ℕ) : Type 0 where
+-- One of the files that are read for a report is refused in the language of these settings, and this is the line that says so (own).
+pub record IsRefusedIn (settings : Settings) (holds : Holdings) (line : List ℕ) : Type 0 where
   pub role : Role
   pub why : FileRefusal
-  pub refused : IsRefused holds role why
+  pub refused : IsRefused settings.language holds role why
   pub is_line : IsRefusalLine role why line
 
 -- The text is what the program prints for these files under these settings: a report, or the line that refuses a file (own).
 abbrev pub IsReported : Settings → Holdings → List ℕ → Type 0
-IsReported settings holds text = HaveNoFaults settings holds text ⊎ HaveFaults settings holds text ⊎ IsRefusedIn holds text
+IsReported settings holds text = HaveNoFaults settings holds text ⊎ HaveFaults settings holds text ⊎ IsRefusedIn settings holds text

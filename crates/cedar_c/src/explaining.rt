@@ -6,6 +6,7 @@ ghost use Rattle.cedar_c.specs.Explaining.{IsFormat};
 use crate::texts::Texts;
 use cedar_auth::Ready;
 use cedar_check_spec::Settings;
+use cedar_ext::Language;
 use cedar_files::FileNames;
 use cedar_files_diagnostics::{
     Explanation, Format, explain_changes, explain_files, explain_request,
@@ -43,16 +44,18 @@ pub(crate) fn explanation(
     explain_files(alloc, texts, names, settings, format)
 }
 
-/// The explanation of changes that are refused with a number for the schema, of length 0 where changes do not get the number.
+/// The explanation of changes that are refused with a number for the schema, which is read in a language. It has length 0 where changes do
+/// not get the number.
 pub(crate) fn explanation_of_changes(
     alloc: Global,
+    language: Language,
     schema: &[u8],
     changes: &[u8],
     number: u32,
     format: Format,
 ) -> Result<Vec<u8>, AllocError> {
     match u16::try_from(number) {
-        Ok(number) => explain_changes(alloc, schema, changes, number, format),
+        Ok(number) => explain_changes(alloc, language, schema, changes, number, format),
         Err(_) => Ok(Vec::new(alloc)),
     }
 }

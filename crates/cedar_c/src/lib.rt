@@ -43,6 +43,7 @@ mod version;
 
 use base_loose::Loose;
 use buffer::give;
+use cedar_ext::Language;
 pub use crossing::handle_crosses;
 use decided::Decided;
 use explaining::{explanation, explanation_of_changes, explanation_of_line, format_of};
@@ -215,7 +216,8 @@ pub extern "C" fn cedar_raw_validate(
 ) -> u32
     ensures ok { result ≡ 0 → (chosen : SettingsTree) × AreSettings settings chosen
         × HaveNoFaults chosen (held schema.now policies.now links.now []) (take written.new text.new) }
-    ensures refused { result ≡ 2 → IsRefusedIn (held schema.now policies.now links.now []) (take written.new text.new) }
+    ensures refused { result ≡ 2 → (chosen : SettingsTree) × AreSettings settings chosen
+        × IsRefusedIn chosen (held schema.now policies.now links.now []) (take written.new text.new) }
     ensures faults { result ≡ 3 → (chosen : SettingsTree) × AreSettings settings chosen
         × HaveFaults chosen (held schema.now policies.now links.now []) (take written.new text.new) }
     ensures room { result ≡ 6 → (chosen : SettingsTree) × (told : List ℕ) × AreSettings settings chosen
@@ -259,7 +261,8 @@ pub extern "C" fn cedar_raw_validate_part(
         × HavePart chosen (held schema.now policies.now links.now []) place.old place.new (take written.new text.new) }
     ensures ok { result ≡ 0 → (chosen : SettingsTree) × AreSettings settings chosen
         × HaveLastPart chosen (held schema.now policies.now links.now []) place.old place.new (take written.new text.new) × (place.new.faults ≡ 0) }
-    ensures refused { result ≡ 2 → IsRefusedIn (held schema.now policies.now links.now []) (take written.new text.new) }
+    ensures refused { result ≡ 2 → (chosen : SettingsTree) × AreSettings settings chosen
+        × IsRefusedIn chosen (held schema.now policies.now links.now []) (take written.new text.new) }
     ensures faults { result ≡ 3 → (chosen : SettingsTree) × AreSettings settings chosen
         × HaveLastPart chosen (held schema.now policies.now links.now []) place.old place.new (take written.new text.new) × (place.new.faults ≢ 0) }
     ensures room { result ≡ 6 → (chosen : SettingsTree) × (told : List ℕ) × AreSettings settings chosen
@@ -328,8 +331,8 @@ pub extern "C" fn cedar_raw_explain(
     }
 }
 
-/// Explains to a person, or in JSON lines, why changes of entities are refused with a number for a schema. The text has length 0 where
-/// changes do not get the number.
+/// Explains to a person, or in JSON lines, why changes of entities are refused with a number for a schema of the default language. The text
+/// has length 0 where changes do not get the number.
 #[unsafe(no_mangle)]
 pub extern "C" fn cedar_raw_explain_changes(
     alloc: Global,
@@ -353,7 +356,42 @@ pub extern "C" fn cedar_raw_explain_changes(
     let Some(format) = format_of(format) else {
         return ARGUMENT;
     };
-    match explanation_of_changes(alloc, schema, changes, number, format) {
+    match explanation_of_changes(alloc, Language::Profile, schema, changes, number, format) {
+        Ok(told) => give(&told, text, written),
+        Err(_) => MEMORY,
+    }
+}
+
+/// Explains to a person, or in JSON lines, why changes of entities are refused with a number for a schema of the language of these settings.
+/// The text has length 0 where changes do not get the number.
+#[unsafe(no_mangle)]
+pub extern "C" fn cedar_raw_explain_changes_in(
+    alloc: Global,
+    schema: &[u8],
+    changes: &[u8],
+    settings: u32,
+    number: u32,
+    format: u32,
+    text: &mut [u8],
+    written: &mut usize,
+) -> u32
+    ensures rest { result ≡ 0 → drop written.new text.new ≡ drop written.new text.old }
+    ensures fits { result ≡ 0 → written.new ≤ length text.old }
+    ensures room { result ≡ 6 → length text.old < written.new }
+    ensures known_arguments { result ≢ 4 → (chosen : SettingsTree) × AreSettings settings chosen × (format < 2) }
+    ensures argument { result ≡ 4 → ((chosen : SettingsTree) → ¬ AreSettings settings chosen) ⊎ (1 < format) }
+    ensures untouched { result ≢ 0 → text.new ≡ text.old }
+    ensures unwritten { IsOneOf (1 ∷ 4 ∷ []) result → written.new ≡ 0 }
+    ensures known { IsOneOf (0 ∷ 1 ∷ 4 ∷ 6 ∷ []) result }
+{
+    *written = 0;
+    let Some(settings) = settings_of(settings) else {
+        return ARGUMENT;
+    };
+    let Some(format) = format_of(format) else {
+        return ARGUMENT;
+    };
+    match explanation_of_changes(alloc, settings.language, schema, changes, number, format) {
         Ok(told) => give(&told, text, written),
         Err(_) => MEMORY,
     }

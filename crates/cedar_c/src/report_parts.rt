@@ -84,7 +84,7 @@ pub(crate) fn report_next(
     ensures more { result ≡ 9 → HavePart settings (held_by texts.now) place.old place.new (take written.new text.new) }
     ensures ok { result ≡ 0 → HaveLastPart settings (held_by texts.now) place.old place.new (take written.new text.new) × (place.new.faults ≡ 0) }
     ensures faults { result ≡ 3 → HaveLastPart settings (held_by texts.now) place.old place.new (take written.new text.new) × (place.new.faults ≢ 0) }
-    ensures refused { result ≡ 2 → IsRefusedIn (held_by texts.now) (take written.new text.new) }
+    ensures refused { result ≡ 2 → IsRefusedIn settings (held_by texts.now) (take written.new text.new) }
     ensures room { result ≡ 6 → (told : List ℕ) × IsPartReported settings (held_by texts.now) place.old told × IsTooLong told text.old written.new × (text.new ≡ text.old) }
     ensures argument { result ≡ 4 → HaveNoPlace settings (held_by texts.now) place.old }
     ensures same { IsOneOf (1 ∷ 2 ∷ 4 ∷ 6 ∷ []) result → place.new ≡ place.old }

@@ -31,7 +31,7 @@ pub(crate) fn report_on(
     written: &mut usize,
 ) -> u32
     ensures ok { result ≡ 0 → HaveNoFaults settings (held_by texts.now) (take written.new text.new) }
-    ensures refused { result ≡ 2 → IsRefusedIn (held_by texts.now) (take written.new text.new) }
+    ensures refused { result ≡ 2 → IsRefusedIn settings (held_by texts.now) (take written.new text.new) }
     ensures faults { result ≡ 3 → HaveFaults settings (held_by texts.now) (take written.new text.new) }
     ensures room { result ≡ 6 → (told : List ℕ) × IsReported settings (held_by texts.now) told × IsTooLong told text.old written.new }
     ensures rest { result ≢ 1 → result ≢ 6 → drop written.new text.new ≡ drop written.new text.old }

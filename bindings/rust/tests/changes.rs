@@ -2,7 +2,7 @@
 use std::fs;
 use std::path::PathBuf;
 
-use bobbinjade::{Decision, Engine, Error, File, Files, Request, Uid};
+use bobbinjade::{Decision, Engine, Error, File, Files, Language, Request, Uid};
 
 const SCHEMA: &str = r#"{"":{"entityTypes":{"Group":{"memberOfTypes":["Group"]},"User":{"memberOfTypes":["Group"],
     "shape":{"type":"Record","attributes":{"age":{"type":"Long"}}}}},
@@ -191,7 +191,9 @@ fn entities_that_are_upserted_answer_as_published_ones() {
     for name in fs::read_dir(folder).unwrap().map(|it| it.unwrap().path()).filter(|it| it.join("answers.jsonl").exists()) {
         let bytes = |file: &str| fs::read(name.join(file)).unwrap_or_default();
         let (schema, policies, links) = (bytes("schema.json"), bytes("policies.cedar"), bytes("links.json"));
-        let files = Files { schema: &schema, policies: &policies, links: &links, entities: b"[]", ..Files::default() };
+        // An example with options is in the language of Cedar 4.
+        let language = if name.join("options").exists() { Language::Cedar4 } else { Language::default() };
+        let files = Files { schema: &schema, policies: &policies, links: &links, entities: b"[]", language, ..Files::default() };
         let engine = Engine::new(&files).unwrap();
         engine.publish_changes(&[b"{\"upsert\":".as_slice(), &bytes("entities.json"), b"}"].concat()).unwrap();
         assert_eq!(engine.answer(bytes("requests.jsonl")).unwrap().into_bytes(), bytes("answers.jsonl"));

@@ -1,5 +1,5 @@
 //! The operators on values (Cedar language reference, operators).
-ghost use Rattle.std.specs.Prelude.{◌≡◌, ◌+ℤ◌, ◌-ℤ◌, ◌*ℤ◌, IfSome, Ok, int_lt, int_le};
+ghost use Rattle.std.specs.Prelude.{◌≡◌, ◌+ℤ◌, ◌-ℤ◌, ◌*ℤ◌, IfSome, Ok, Err, int_lt, int_le};
 ghost use Rattle.std.specs.List.{list_all, list_any};
 ghost use Rattle.cedar_ext.specs.Matching.{is_match};
 ghost use Rattle.cedar_value.specs.Datum.{boolean, long, uid, set, members_of};
@@ -60,10 +60,7 @@ pub fn truth_of_one<H: Hierarchy>(
 ) -> Result<bool, EvaluationError>
     ensures { result ≡ truth_found (unary_of (H.world hierarchy.now) operator.now (datum_seen operand.entry)) }
 {
-    match operator {
-        UnaryOperator::Get(_) => truth_or_error(unary(hierarchy, operator, Operand::lent(operand))),
-        _ => truth_or_error(unary_but_get(hierarchy, operator, operand)),
-    }
+    truth_or_error(unary(hierarchy, operator, Operand::lent(operand)))
 }
 
 // The truth of an answer, where a Boolean is expected.
@@ -202,7 +199,7 @@ pub fn truth_of_two<H: Hierarchy>(
     truth_in_general(hierarchy, operator, left, right)
 }
 
-// The truth of the answer for two values of any types.
+// The truth of the answer for two values of any types. No operand is made of the answer for two values of extension types.
 fn truth_in_general<H: Hierarchy>(
     hierarchy: &H,
     operator: BinaryOperator,
@@ -211,9 +208,30 @@ fn truth_in_general<H: Hierarchy>(
 ) -> Result<bool, EvaluationError>
     ensures { result ≡ truth_found (binary_of (H.world hierarchy.now) operator (datum_seen left.entry) (datum_seen right.entry)) }
 {
-    match operator {
-        BinaryOperator::Equal => Ok(left.same(right)),
+    match (operator, left, right) {
+        (BinaryOperator::Equal, _, _) => Ok(left.same(right)),
+        (BinaryOperator::Less, Glance::Extension(left), Glance::Extension(right)) => {
+            truth_given(left.less(right))
+        }
+        (BinaryOperator::LessEqual, Glance::Extension(left), Glance::Extension(right)) => {
+            truth_given(left.less_equal(right))
+        }
+        (BinaryOperator::Call(method), Glance::Extension(left), Glance::Extension(right)) => {
+            truth_given(method.call(left, right))
+        }
         _ => truth_or_error(binary(hierarchy, operator, left, right)),
+    }
+}
+
+// The truth of what a method of an extension type gives, where a Boolean is expected.
+#[inline(always)]
+fn truth_given(given: Result<Scalar, MethodError>) -> Result<bool, EvaluationError>
+    ensures { result ≡ truth_found (scalar_or_error given) }
+{
+    match given {
+        Ok(Scalar::Boolean(truth)) => Ok(truth),
+        Ok(_) => Err(EvaluationError::Type),
+        Err(error) => Err(error_of(error)),
     }
 }
 
@@ -323,8 +341,17 @@ fn answer(given: Result<Scalar, MethodError>) -> Result<Operand<'static>, Evalua
         Ok(Scalar::Boolean(truth)) => Ok(Operand::boolean(truth)),
         Ok(Scalar::Long(number)) => Ok(Operand::long(number)),
         Ok(Scalar::Extension(value)) => Ok(Operand::extension(value)),
-        Err(MethodError::Type) => Err(EvaluationError::Type),
-        Err(MethodError::Overflow) => Err(EvaluationError::Overflow),
+        Err(error) => Err(error_of(error)),
+    }
+}
+
+// The error of a method of an extension type.
+fn error_of(error: MethodError) -> EvaluationError
+    ensures { scalar_or_error (Err error) ≡ Err result }
+{
+    match error {
+        MethodError::Type => EvaluationError::Type,
+        MethodError::Overflow => EvaluationError::Overflow,
     }
 }
 

@@ -7,7 +7,7 @@ use Rattle.cedar_parser_tree.specs.StatementTree.{StatementTree}
 use Rattle.cedar_parser_statements.proofs.EarlierReadings.{statements_within}
 use Rattle.cedar_parser_statements.proofs.EarlierPaths.{AskForNoPath, statements_free}
 use Rattle.cedar_parser_limits.specs.StatementLimits.{IsWithinLimits}
-use Rattle.cedar_parser.specs.PolicyText.{IsPolicyText}
+use Rattle.cedar_parser.specs.PolicyText.{IsPolicyText, written}
 use Rattle.cedar_parser.specs.Earlier.{UsesEarlier, WasWithinLimits, IsEarlierPolicyText}
 use Rattle.cedar_parser.proofs.EarlierMeanings.{same_entered}
 use Rattle.cedar_parser.proofs.EarlierLimits.{within_limits}
@@ -24,7 +24,7 @@ earlier_text source set h =
     let free = statements_free 101 h.tokens [] h.statements h.reading in
     record {
       tokens = h.tokens;
-      are_tokens = h.are_tokens;
+      are_tokens = written h.are_tokens;
       are_policies = record {
         statements = h.statements;
         reading = statements_within 101 h.tokens [] h.statements h.reading;

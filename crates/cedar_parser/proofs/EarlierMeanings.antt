@@ -10,7 +10,7 @@ use Rattle.cedar_parser_limits.specs.Limits.{has_operator}
 use Rattle.cedar_ext.specs.declared.extension.ExtensionType.{ExtensionType}
 use Rattle.cedar_ext.specs.declared.extension.ExtensionType.TheVariants as constructor
 use Rattle.cedar_ext.specs.declared.method.BinaryMethod.TheVariants as method_called
-use Rattle.cedar_ast_expressions.specs.declared.operator.UnaryOperator.TheVariants.{Not, Negate, Has, Get, Like, Is, Construct}
+use Rattle.cedar_ast_expressions.specs.declared.operator.UnaryOperator.TheVariants.{Not, Negate, Has, Get, Like, Is}
 use Rattle.cedar_ast_expressions.specs.declared.operator.BinaryOperator.{BinaryOperator}
 use Rattle.cedar_ast_expressions.specs.declared.operator.BinaryOperator.TheVariants as operator
 use Rattle.cedar_ast_expressions.specs.Expression as e
@@ -28,7 +28,7 @@ use Rattle.cedar_parser_tree.specs.Written.{Written, group, not, negated, relati
 use Rattle.cedar_parser_tree.specs.StatementTree.{StatementTree}
 use Rattle.cedar_parser_statements.proofs.EarlierPaths.{HasNoPath, LinksHaveNoPath, MembersHaveNoPath, FieldsHaveNoPath, AskForNoPath}
 use Rattle.cedar_parser_limits.specs.declared.functions.Method.{Method}
-use Rattle.cedar_parser_limits.specs.declared.functions.Method.TheVariants.{IsEmpty, Binary}
+use Rattle.cedar_parser_limits.specs.declared.functions.Method.TheVariants.{Binary}
 use Rattle.cedar_parser_limits.specs.Meaning.{linked, related, method_or_empty, method_of, called, applied, asked_of, to_expression, to_expressions, to_entries, grouped}
 use Rattle.cedar_parser_limits.specs.StatementMeaning.{to_condition, to_policy, to_template, statement_of, id_at, has_slot, entered_from}
 use Rattle.cedar_parser.specs.EarlierMeaning.{earlier_method_of, earlier_linked, earlier_related, earlier_call, earlier_applied, earlier_expression, earlier_expressions, earlier_entries, earlier_grouped, earlier_condition, earlier_policy, earlier_template, earlier_statement, earlier_entered}

@@ -1,3 +1,4 @@
 -- What proofs, models and private contracts use. No contract of a function that another crate calls cites it.
 pub mod Entering
 pub mod Kept
+pub mod ReadAgain

@@ -2,6 +2,7 @@
 ghost use Rattle.std.specs.Prelude.{◌≡◌, [], ℕ, List, Some, IfOk, OnOk, IfErr, MatchResult, Contains};
 ghost use Rattle.cedar_ast.specs.PolicySetTree.{PolicySetTree, entered, id_of, ids_in};
 ghost use Rattle.cedar_parser.specs.PolicyText.{ArePolicies, IsPolicyText, TokensFault, HasFault};
+ghost use Rattle.cedar_parser.specs.Private.ReadAgain.{is_read_again};
 ghost use Rattle.cedar_parser.specs.Private.Entering.{RefusesEntry, RefusesAdd, refusal_for};
 ghost use Rattle.cedar_ast.specs.AddFault.{number_of};
 ghost use Rattle.cedar_parser_limits.specs.StatementMeaning.{statement_of, id_at};
@@ -49,6 +50,10 @@ pub fn parse(alloc: Global, source: &str) -> Result<PolicySet, ParseFault>
 /// The policies and templates of a text in a language, in order (Cedar language reference, grammar). The statement at position N,
 /// from 0, has the value of its annotation `id` as its id, else `policyN`. A statement with a slot is a template.
 ///
+/// Cedar 4 has three spellings beside those of the profile: a comma after the last item of a list, an annotation without a value, and a
+/// reserved word as the name of an attribute or a key. A text that is not one of the profile is read by its normal tokens, which spell the
+/// same there ([`cedar_text::normal_tokens`]).
+///
 /// # Errors
 ///
 /// - 1: out of memory, or a token begins at 4 GiB or later.
@@ -72,9 +77,27 @@ pub fn parse_in(alloc: Global, language: Language, source: &str) -> Result<Polic
     // Each fault is reported only where the text has it.
     ensures fault { IfErr result (HasFault language source.now) }
 {
-    let spelled = spelled_tokens(alloc, source)?;
-    let mut cursor = spelled.cursor(source.len());
-    parse_policies(alloc, language, &mut cursor)
+    // A text has one list of tokens, and a string one list of letters.
+    one_list();
+    one_spelling();
+    let written = spelled_tokens(alloc, source)?;
+    let parsed = parse_policies(alloc, language, &mut written.cursor(source.len()));
+    if !is_read_again(language, &parsed) {
+        return parsed;
+    }
+    drop(parsed);
+    let normal = written.normal(alloc)?;
+    parse_policies(alloc, language, &mut normal.cursor(source.len()))
+}
+
+// Whether the normal tokens of a text are read after those that it has, which gave this.
+fn is_read_again(language: Language, parsed: &Result<PolicySet, ParseFault>) -> bool
+    ensures { result ≡ is_read_again language parsed.now }
+{
+    match (language, parsed) {
+        (Language::Profile, _) | (_, Ok(_) | Err(ParseFault::OutOfMemory)) => false,
+        (Language::Cedar4, Err(_)) => true,
+    }
 }
 
 /// No text has two sets of policies, also not in two languages (Cedar language reference, grammar). A law: it runs no code.

@@ -9,7 +9,7 @@ use crate::stretch::{Marked, Stretch};
 use crate::token_list::TokenList;
 use cedar_ast::ConditionKind;
 use cedar_parser_tree::{Written, WrittenCondition, WrittenScope, WrittenStatement};
-use cedar_text::{TextFault, TokenKind, tokens};
+use cedar_text::{TextFault, TokenKind, normal_tokens, tokens};
 use std::alloc::{AllocError, Global};
 
 /// How many tokens an annotation has: `@`, a word, and a string in brackets.
@@ -55,10 +55,9 @@ fn place_of_statement(
     path: &[usize],
 ) -> Result<Option<PartPlace>, AllocError> {
     match tokens(alloc, text) {
-        Ok(found) => {
-            let place = place_among(&TokenList::new(&found), statement, path);
-            drop(found);
-            Ok(place)
+        Ok(written) => {
+            let normal = normal_tokens(alloc, &written)?;
+            Ok(place_among(&TokenList::new(&normal), statement, path))
         }
         Err(TextFault::OutOfMemory) => Err(AllocError),
         Err(_) => Ok(None),

@@ -1,6 +1,6 @@
 //! One statement of a policy text.
 use cedar_parser_statements::parse_statement;
-use cedar_parser_tokens::{Cursor, ParseFault, spelled_tokens};
+use cedar_parser_tokens::{Cursor, ParseFault, SpelledTokens, spelled_tokens};
 use cedar_parser_tree::WrittenStatement;
 use std::alloc::{AllocError, Global};
 
@@ -35,11 +35,19 @@ pub fn next_statement(
 
 /// The statement with which a text begins; or none if it cannot be read.
 pub fn first_statement(alloc: Global, text: &str) -> Result<Option<WrittenStatement>, AllocError> {
-    match spelled_tokens(alloc, text) {
-        Ok(spelled) => {
+    match normal_spelled(alloc, text)? {
+        Some(spelled) => {
             let mut cursor = spelled.cursor(text.len());
             next_statement(alloc, &mut cursor)
         }
+        None => Ok(None),
+    }
+}
+
+/// The normal tokens of a text, which are its tokens where it is one of the profile; or none if it has no tokens.
+pub fn normal_spelled(alloc: Global, text: &str) -> Result<Option<SpelledTokens<'_>>, AllocError> {
+    match spelled_tokens(alloc, text) {
+        Ok(written) => written.normal(alloc).map(Some),
         Err(ParseFault::OutOfMemory) => Err(AllocError),
         Err(_) => Ok(None),
     }

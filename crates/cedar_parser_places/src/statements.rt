@@ -1,6 +1,6 @@
 //! The statements of a policy text, by their ids.
-use crate::statement::{id_of, next_statement};
-use cedar_parser_tokens::{Cursor, ParseFault, spelled_tokens};
+use crate::statement::{id_of, next_statement, normal_spelled};
+use cedar_parser_tokens::Cursor;
 use cedar_parser_tree::WrittenStatement;
 use std::alloc::{AllocError, Global};
 use std::collections::BTreeMap;
@@ -31,13 +31,9 @@ impl Statements {
             all: Vec::new(alloc),
             positions: BTreeMap::new(alloc),
         };
-        match spelled_tokens(alloc, text) {
-            Ok(spelled) => {
-                let mut cursor = spelled.cursor(text.len());
-                statements.read(alloc, &mut cursor, text.len())?;
-            }
-            Err(ParseFault::OutOfMemory) => return Err(AllocError),
-            Err(_) => {}
+        if let Some(spelled) = normal_spelled(alloc, text)? {
+            let mut cursor = spelled.cursor(text.len());
+            statements.read(alloc, &mut cursor, text.len())?;
         }
         Ok(statements)
     }

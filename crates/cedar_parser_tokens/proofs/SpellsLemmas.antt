@@ -9,7 +9,7 @@ use Rattle.cedar_text.specs.declared.token_kind.TokenKind.{TokenKind}
 use Rattle.cedar_text.specs.declared.token_kind.TokenKind.TheVariants as k
 use Rattle.cedar_text.specs.Letters.{IsSpelled}
 use Rattle.cedar_text.specs.Lexeme.{Lexeme, Lexemes, lexeme, lexemes}
-use Rattle.cedar_parser_tokens.specs.Marks.{HasLetters, AreMarks}
+use Rattle.cedar_parser_tokens.specs.Marks.{Mark, HasLetters, AreMarks}
 use Rattle.cedar_parser_tokens.specs.Private.Spells.{is_string, first_letters, other_letters, marks_with, Spells, none, string, other}
 use Rattle.cedar_text.specs.contracts.token_kind.TokenKind.{the_type}
 use Rattle.cedar_parser_tokens.specs.Reading.{sees, next}
@@ -48,6 +48,15 @@ are_marks ts ls (other {t = t} {ts = us} a r) = (
   (refl, subst (HasLetters t.kind t.text) (sym (cond-false (is_string t.kind) (first_letters ls) [] a)) (no_letters t.kind t.text a)),
   subst (λ (xs : List (List Letter)). AreMarks us (marks_with us xs)) (sym (cond-false (is_string t.kind) (other_letters ls) ls a)) (are_marks us ls r),
 )
+
+-- they are those of these tokens alone
+pub marked_tokens : (ts us : Lexemes) (ls : List (List Letter)) → AreMarks ts (marks_with us ls) → ts ≡ us
+marked_tokens [] [] ls h = refl
+marked_tokens [] (u ∷ us) ls h = absurd h
+marked_tokens (t ∷ ts) [] ls h = absurd h
+marked_tokens (t ∷ ts) (u ∷ us) ls h =
+    let e : t ≡ u = sym (ap (λ (m : Mark). record { kind = m.kind; start = m.start; text = m.text; number = m.number }) h.0.0) in
+    ap (λ (x : Lexeme). x ∷ ts) e ∙ ap (λ (xs : Lexemes). u ∷ xs) (marked_tokens ts us _ h.1)
 
 -- there are as many as tokens
 pub length_marks : (ts : List Token) (ls : List (List Letter)) → length ts ≡ length (marks_with (lexemes ts) ls)

@@ -10,6 +10,7 @@ use Rattle.cedar_text.specs.declared.token_kind.TokenKind.TheVariants as k
 use Rattle.cedar_text.specs.Letters.{IsSpelled, plain_text_of}
 use Rattle.cedar_text.specs.Lexeme.{Lexeme, Lexemes, lexeme}
 use Rattle.cedar_text.specs.Tokens.{AreTokens}
+use Rattle.cedar_text.specs.Normal.{normal}
 use Rattle.cedar_parser_tokens.specs.Content.{Content}
 use Rattle.cedar_parser_tokens.specs.declared.spelled.Spelled.{Spelled}
 
@@ -57,6 +58,14 @@ AreMarks (t ∷ ts) (m ∷ ms) = IsMark t m × AreMarks ts ms
 -- The text has these tokens with their letters (Cedar language reference, grammar).
 abbrev pub IsMarked : List ℕ → Marks → Type 0
 IsMarked source ms = (ts : Lexemes) × AreTokens source ts × AreMarks ts ms
+
+-- The text has these normal tokens with their letters (Cedar language reference, grammar).
+abbrev pub IsNormallyMarked : List ℕ → Marks → Type 0
+IsNormallyMarked source ms = (ts : Lexemes) × AreTokens source ts × AreMarks (normal ts) ms
+
+-- The tokens with their letters are the normal ones of others, whose tokens are those of the lexer (own).
+abbrev pub AreNormal : Marks → Marks → Type 0
+AreNormal ms ns = (ts : Lexemes) → AreMarks ts ms → AreMarks (normal ts) ns
 
 -- The byte at which the first of these tokens begins, or 0 where there is none (own).
 abbrev pub start_of : Marks → ℕ

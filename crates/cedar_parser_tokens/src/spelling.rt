@@ -1,14 +1,14 @@
 //! The tokens of a text with the letters of its strings.
 ghost use Rattle.std.specs.Prelude.{◌≡◌, IfOk, IfErr};
 ghost use Rattle.cedar_text.specs.Lexeme.{lexemes};
-ghost use Rattle.cedar_parser_tokens.specs.Marks.{Marks, IsMarked};
+ghost use Rattle.cedar_parser_tokens.specs.Marks.{Marks, IsMarked, AreNormal};
 ghost use Rattle.cedar_parser_tokens.specs.Spelling.{HasMarks, HasMarksFault};
 ghost use Rattle.cedar_parser_tokens.specs.Private.Spells.{Spells};
 
 use crate::cursor::Cursor;
 use crate::letters::Letters;
 use crate::parse_fault::ParseFault;
-use cedar_text::{Token, TokenKind, one_spelling, tokens};
+use cedar_text::{Token, TokenKind, normal_tokens, one_spelling, tokens};
 use std::alloc::{AllocError, Global};
 use std::marker::Model;
 
@@ -37,6 +37,20 @@ impl<'t> SpelledTokens<'t> {
         ensures { result ≡ self.now }
     {
         Cursor::new(*self.tokens.allocator(), &self.tokens, &self.strings, end)
+    }
+
+    /// The normal tokens of these: those that spell the same in the profile, where Cedar 4 has spellings beside it (Cedar language reference,
+    /// grammar).
+    ///
+    /// # Errors
+    ///
+    /// Fails only when out of memory.
+    pub fn normal(&self, alloc: Global) -> Result<SpelledTokens<'t>, AllocError>
+        ensures { IfOk result (AreNormal self.now) }
+    {
+        let tokens = normal_tokens(alloc, &self.tokens)?;
+        let strings = letters_of_strings(alloc, &tokens)?;
+        Ok(SpelledTokens { tokens, strings })
     }
 }
 

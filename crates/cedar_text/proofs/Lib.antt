@@ -17,3 +17,4 @@ pub mod Unescaping
 pub mod EveryString
 pub mod LettersOrNone
 pub mod Turns
+pub mod NormalSteps

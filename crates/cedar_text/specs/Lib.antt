@@ -7,6 +7,7 @@ pub mod Strings
 pub mod Signs
 pub mod Tokens
 pub mod Spans
+pub mod Normal
 pub mod Faults
 pub mod Letters
 pub mod Private

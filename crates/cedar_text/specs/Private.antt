@@ -2,3 +2,4 @@
 pub mod FirstLetter
 pub mod Lexing
 pub mod Outcomes
+pub mod NormalWalk

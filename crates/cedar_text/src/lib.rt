@@ -15,6 +15,7 @@ mod bytes;
 mod escape;
 mod letter;
 mod lexer;
+mod normal;
 mod number;
 mod piece;
 mod sign;
@@ -26,6 +27,7 @@ mod word;
 
 pub use letter::Letter;
 pub use lexer::{one_list, tokens, tokens_or_none};
+pub use normal::normal_tokens;
 pub use spelling::{
     escaped_star, every_string_is_spelled, letters, letters_or_none, one_spelling, plain_text,
 };

@@ -48,7 +48,7 @@ pub(crate) const ROWS: [Row; 10] = [
     Row {
         number: 306,
         refused: "the schema file",
-        when: "a reserved name: the word `__cedar`, an entity type `Action`, a common type with the name of a built-in type",
+        when: "a reserved name: the word `__cedar`, an entity type `Action`, a common type with the name of a built-in type; with `--language 4` a type of a namespace with the name of one in the empty namespace",
         example: "`{\"\":{\"entityTypes\":{\"Action\":{}}}}`",
         remedy: "choose another name",
     },

@@ -20,7 +20,7 @@ use Rattle.cedar_check_spec.specs.declared.settings.Settings.{Settings}
 use Rattle.cedar_auth_spec.specs.Headline.{IsSafeWith, RunsSafelyWith, IsAnsweredSoundlyWith}
 use Rattle.cedar_auth_spec.specs.Ready.{ReadyTree}
 use Rattle.cedar_files.specs.Authorization.{HoldAll}
-use Rattle.cedar_files.specs.Languages.{in_cedar4, ready_in_cedar4}
+use Rattle.cedar_files.specs.Languages.{in_cedar4, ready_in_cedar4, SchemaMeansTheSame}
 use Rattle.cedar_files.specs.PolicyFile.{HoldsPolicies}
 use Rattle.cedar_files.specs.Roles.{Holdings}
 use Rattle.cedar_files.specs.SchemaFile.{HoldsSchema}
@@ -50,25 +50,25 @@ sound settings ps q w h = record { runs = λ p c. runs settings p q w (h.runs p 
 
 module _ (texts : (l : Language) (source : List ℕ) (set : PolicySetTree) → IsPolicyText l source set → IsPolicyText Cedar4 source set)
     (schemas : ProfileSchemasAreKept) (acceptance : AcceptanceIsKept) where
-  schema_kept : (held : Option (Option (List ℕ))) (s : SchemaTree) → IfSome held (λ file. HoldsSchema Profile file s) → IfSome held (λ file. HoldsSchema Cedar4 file s)
-  schema_kept None s h = tt
-  schema_kept (Some None) s h = h
-  schema_kept (Some (Some bytes)) s h = schemas bytes s h
+  schema_kept : (held : Option (Option (List ℕ))) (s : SchemaTree) → SchemaMeansTheSame held → IfSome held (λ file. HoldsSchema Profile file s) → IfSome held (λ file. HoldsSchema Cedar4 file s)
+  schema_kept None s names h = tt
+  schema_kept (Some None) s names h = h
+  schema_kept (Some (Some bytes)) s names h = schemas bytes s names h
 
   policies_kept : (held : Option (Option (List ℕ))) (set : PolicySetTree) → IfSome held (λ file. HoldsPolicies Profile file set) → IfSome held (λ file. HoldsPolicies Cedar4 file set)
   policies_kept None set h = tt
   policies_kept (Some None) set h = h
   policies_kept (Some (Some bytes)) set h = (h.0, texts Profile bytes set h.1)
 
-  text_kept : (holds : Holdings) (s : SchemaTree) (text : PolicySetTree) → HoldText Profile holds s text → HoldText Cedar4 holds s text
-  text_kept holds s text h = record { is_schema = schema_kept (holds Schema) s h.is_schema; are_policies = policies_kept (holds Policies) text h.are_policies }
+  text_kept : (holds : Holdings) (s : SchemaTree) (text : PolicySetTree) → SchemaMeansTheSame (holds Schema) → HoldText Profile holds s text → HoldText Cedar4 holds s text
+  text_kept holds s text names h = record { is_schema = schema_kept (holds Schema) s names h.is_schema; are_policies = policies_kept (holds Policies) text h.are_policies }
 
-  hold_kept : (holds : Holdings) (s : SchemaTree) (set : PolicySetTree) → Hold Profile holds s set → Hold Cedar4 holds s set
-  hold_kept holds s set h = record { text = h.text; hold_text = text_kept holds s h.text h.hold_text; are_linked = h.are_linked }
+  hold_kept : (holds : Holdings) (s : SchemaTree) (set : PolicySetTree) → SchemaMeansTheSame (holds Schema) → Hold Profile holds s set → Hold Cedar4 holds s set
+  hold_kept holds s set names h = record { text = h.text; hold_text = text_kept holds s h.text names h.hold_text; are_linked = h.are_linked }
 
-  pub files_kept : (settings : Settings) (holds : Holdings) (r : ReadyTree) → settings.language ≡ Profile → HoldAll settings holds r → HoldAll (in_cedar4 settings) holds (ready_in_cedar4 r)
-  files_kept settings holds r is h = record {
-    hold = hold_kept holds r.schema r.policies (subst (λ (l : Language). Hold l holds r.schema r.policies) is h.hold);
+  pub files_kept : (settings : Settings) (holds : Holdings) (r : ReadyTree) → settings.language ≡ Profile → SchemaMeansTheSame (holds Schema) → HoldAll settings holds r → HoldAll (in_cedar4 settings) holds (ready_in_cedar4 r)
+  files_kept settings holds r is names h = record {
+    hold = hold_kept holds r.schema r.policies names (subst (λ (l : Language). Hold l holds r.schema r.policies) is h.hold);
     settings_are = ap in_cedar4 h.settings_are;
     validated = record { each = λ p c. acceptance settings (in_cedar4 settings) refl r.schema p (h.validated.each p c) };
     is_world = h.is_world;

@@ -22,8 +22,9 @@ pub fn parts_are_the_report()
         → IsReportPart settings s ps (beginning None) to text → to.policy ≡ length ps → IsReportText settings s ps (text ++ totals_text to) }
 {}
 
-/// Files that are read in the profile hold the same in Cedar 4, under the same choices, and each request has the same answer. So the
-/// option `--language 4` changes nothing for them. A law: it runs no code.
+/// Files that are read in the profile hold the same in Cedar 4, under the same choices, and each request has the same answer, if the
+/// names of the schema mean the same there: no definition shadows another, and no common type is called `Bool` or `EntityOrCommon`.
+/// So the option `--language 4` changes nothing for them. A law: it runs no code.
 pub fn files_of_the_profile()
     ensures { FilesAreKept }
 {

@@ -65,12 +65,12 @@ sections_all x s r p q forms u a =
     let none : each_faults (common_faults s.language (whole_names x.entities) (whole_names x.commons)) x.commons ≡ [] = sym (λ i. each_faults (common_faults s.language (p i) (q i)) x.commons) ∙ forms.0 in
     answers_then r _ _ _ none (subst (λ (t : Setting). Answers r (setting_faults t x.entities x.actions) (schema_in t x.entities x.actions)) same a)
 
-pub root_spaces : (language : Language) (root : Members) (e : SchemaFault) → Told (root_faults root) e → Refuses (written_faults language root) (schema_of language root) e
+pub root_spaces : (language : Language) (root : Members) (e : SchemaFault) → Told (root_faults language root) e → Refuses (written_faults language root) (schema_of language root) e
 unfolding written_faults
-root_spaces language root e h = refuses (written_faults language root) (schema_of language root) e (told_first (root_faults root) _ e h)
+root_spaces language root e h = refuses (written_faults language root) (schema_of language root) e (told_first (root_faults language root) _ e h)
 
-pub root_all : (language : Language) (root : Members) (x : Sections) (r : Result SchemaTree SchemaFault) → root_faults root ≡ [] → x ≡ sections_of root → Answers r (sections_faults language x) (schema_in (setting_of language x) x.entities x.actions)
+pub root_all : (language : Language) (root : Members) (x : Sections) (r : Result SchemaTree SchemaFault) → root_faults language root ≡ [] → x ≡ sections_of root → Answers r (sections_faults language x) (schema_in (setting_of language x) x.entities x.actions)
     → Answers r (written_faults language root) (schema_of language root)
 unfolding written_faults
 root_all language root x r none same a =
-    answers_then r (root_faults root) (sections_faults language (sections_of root)) (schema_of language root) none (subst (λ (y : Sections). Answers r (sections_faults language y) (schema_in (setting_of language y) y.entities y.actions)) same a)
+    answers_then r (root_faults language root) (sections_faults language (sections_of root)) (schema_of language root) none (subst (λ (y : Sections). Answers r (sections_faults language y) (schema_in (setting_of language y) y.entities y.actions)) same a)

@@ -15,6 +15,7 @@ use Rattle.serde_json.specs.Find.{get, as_str, as_array}
 use Rattle.cedar_value.specs.Private.Laws.{uid_total}
 use Rattle.cedar_value.specs.Order.{text_cmp, uid_cmp}
 use Rattle.cedar_value.specs.Private.Same.{text_same, uid_same}
+use Rattle.cedar_ext.specs.declared.language.Language.{Language}
 use Rattle.cedar_value.specs.declared.uid.Uid.{Uid}
 use Rattle.cedar_schema_json.specs.declared.schema_fault.SchemaFault.{SchemaFault}
 use Rattle.cedar_schema_json.specs.declared.schema_fault.SchemaFault.TheVariants.{Shape}
@@ -131,27 +132,27 @@ module _ (uids : List Uid) where
   at_id namespace d None = All-nil (Contains uids)
   at_id namespace d (Some id) = id_in namespace id (get (codes "type") d)
 
-  member_in : (namespace : List ℕ) (d : Data) → AreIn (member_read uids namespace d)
+  member_in : (language : Language) (namespace : List ℕ) (d : Data) → AreIn (member_read language uids namespace d)
   unfolding member_read
-  member_in namespace d = at_id namespace d (text_at (codes "id") d)
+  member_in language namespace d = at_id namespace d (text_at (codes "id") d)
 
-  each_in : (namespace : List ℕ) (ds : Items) → AreIn (each_read (member_read uids namespace) ds)
+  each_in : (language : Language) (namespace : List ℕ) (ds : Items) → AreIn (each_read (member_read language uids namespace) ds)
   unfolding each_read
-  each_in namespace no_items = All-nil (Contains uids)
-  each_in namespace (item d ds) = All-append (Contains uids) (member_read uids namespace d).items (each_read (member_read uids namespace) ds).items (member_in namespace d) (each_in namespace ds)
+  each_in language namespace no_items = All-nil (Contains uids)
+  each_in language namespace (item d ds) = All-append (Contains uids) (member_read language uids namespace d).items (each_read (member_read language uids namespace) ds).items (member_in language namespace d) (each_in language namespace ds)
 
-  list_in : (namespace : List ℕ) (o : Option Data) → AreIn (list_at (member_read uids namespace) [] o)
-  list_in namespace None = All-nil (Contains uids)
-  list_in namespace (Some d) = at (as_array d)
+  list_in : (language : Language) (namespace : List ℕ) (o : Option Data) → AreIn (list_at (member_read language uids namespace) [] o)
+  list_in language namespace None = All-nil (Contains uids)
+  list_in language namespace (Some d) = at (as_array d)
     where
-      at : (o : Option Items) → AreIn (unwrap_or (option_map (each_read (member_read uids namespace)) o) (record { items = []; faults = Shape ∷ [] }))
+      at : (o : Option Items) → AreIn (unwrap_or (option_map (each_read (member_read language uids namespace)) o) (record { items = []; faults = Shape ∷ [] }))
       at None = All-nil (Contains uids)
-      at (Some ds) = each_in namespace ds
+      at (Some ds) = each_in language namespace ds
 
 -- each direct parent of an action that is read is among the uids
 pub parents_in : (s : Setting) (e : EntryTree) → All (Contains s.uids) (action_of (scope_in s e) s.table s.uids e).parents
 unfolding action_of
-parents_in s e = list_in s.uids e.namespace (unless_null (get (codes "memberOf") e.body))
+parents_in s e = list_in s.uids s.language e.namespace (unless_null (get (codes "memberOf") e.body))
 
 -- ---- the lists of an action
 
@@ -271,9 +272,9 @@ IsTypeName n = (namespace : List ℕ) → qualified namespace (codes "Action") �
 HasActionType : Uid → Type 0
 HasActionType u = (namespace : List ℕ) × (u.ty ≡ qualified namespace (codes "Action"))
 
-key_fine : (s : Setting) (e : EntryTree) → entity_faults s e ≡ [] → entity_key_faults e.key ≡ []
+key_fine : (s : Setting) (e : EntryTree) → entity_faults s e ≡ [] → entity_key_faults (scope_in s e) e.key ≡ []
 unfolding entity_type_faults
-key_fine s e h = no_first (entity_key_faults e.key) _ h
+key_fine s e h = no_first (entity_key_faults (scope_in s e) e.key) _ h
 
 each_fine : {A : Type 0} (f : A → List SchemaFault) (xs : List A) → each_faults f xs ≡ [] → All (λ x. f x ≡ []) xs
 unfolding each_faults
@@ -308,7 +309,7 @@ contexts_ordered s h = environments_ascend s.actions h
 
 named : (s : Setting) (e : EntryTree) → entity_faults s e ≡ [] → IsTypeName (qualified e.namespace e.key)
 unfolding IsTypeName
-named s e h namespace is = is_no_action e.namespace namespace e.key (key_fine s e h) is
+named s e h namespace is = is_no_action (scope_in s e) e.namespace namespace e.key (key_fine s e h) is
 
 called : (xs : List EntryTree) → All (λ e. HasActionType (uid_of e)) xs
 unfolding HasActionType

@@ -11,6 +11,7 @@ use Rattle.cedar_schema_json.specs.declared.json.part.Part.TheVariants.{EntityTy
 use Rattle.cedar_schema_json.specs.declared.schema_fault.SchemaFault.TheVariants.{Shape}
 use Rattle.cedar_schema_json.specs.Naming.{fault_if}
 use Rattle.cedar_schema_json.specs.Forms.{FormTree, no_form, boolean_form, long_form, string_form, extension_form, entity_form, set_form, record_form, common_form, FormRows, no_form_rows, form_row}
+use Rattle.cedar_schema_json.specs.declared.form.position.Position.TheVariants.{Inner}
 use Rattle.cedar_schema_json.specs.Reading.{Scope, type_read}
 use Rattle.cedar_schema_json.specs.Expansion.{Table, form_type, rows_type, with_row, common_type, typed}
 use Rattle.cedar_schema_json.specs.Entries.{unless_null, EntryTree, part_faults, entity_key_faults}
@@ -82,28 +83,28 @@ module _ (sc : Scope) (t : Table) where
   unfolding record_type
   record_is None h = refl
   record_is (Some d) h =
-      all_true (is_record (record_or_empty (typed t (type_read sc false d).form).ty)) (no_second (typed t (type_read sc false d).form).faults _ (no_second (type_read sc false d).faults _ h))
+      all_true (is_record (record_or_empty (typed t (type_read sc Inner d).form).ty)) (no_second (typed t (type_read sc Inner d).form).faults _ (no_second (type_read sc Inner d).faults _ h))
 
   shape_is : (e : EntryTree) → entity_type_faults sc t e ≡ [] → is_record (entity_type_of sc t e).shape ≡ true
   unfolding entity_type_faults entity_type_of
-  shape_is e h = record_is (get (codes "shape") e.body) (no_second (names_at sc [] (get (codes "memberOfTypes") e.body)).faults _ (no_second (part_faults EntityType e.body) _ (no_second (entity_key_faults e.key) _ h)))
+  shape_is e h = record_is (get (codes "shape") e.body) (no_second (names_at sc [] (get (codes "memberOfTypes") e.body)).faults _ (no_second (part_faults sc.language EntityType e.body) _ (no_second (entity_key_faults sc e.key) _ h)))
 
   applied_is : (o : Option Data) → (applies_read sc t o).faults ≡ [] → is_record (applies_read sc t o).context ≡ true
   unfolding applies_read
   applied_is None h = refl
   applied_is (Some d) h =
-      record_is (get (codes "context") d) (no_second (names_at sc (unspecified d) (get (codes "resourceTypes") d)).faults _ (no_second (names_at sc (unspecified d) (get (codes "principalTypes") d)).faults _ (no_second (part_faults AppliesTo d) _ h)))
+      record_is (get (codes "context") d) (no_second (names_at sc (unspecified d) (get (codes "resourceTypes") d)).faults _ (no_second (names_at sc (unspecified d) (get (codes "principalTypes") d)).faults _ (no_second (part_faults sc.language AppliesTo d) _ h)))
 
   context_is : (uids : List Uid) (e : EntryTree) → action_faults sc t uids e ≡ [] → is_record (action_of sc t uids e).context ≡ true
   unfolding action_faults action_of
   context_is uids e h =
-      applied_is (unless_null (get (codes "appliesTo") e.body)) (no_first _ _ (no_second (list_at (member_read uids sc.namespace) [] (unless_null (get (codes "memberOf") e.body))).faults _ (no_second (part_faults Action e.body) _ h)))
+      applied_is (unless_null (get (codes "appliesTo") e.body)) (no_first _ _ (no_second (list_at (member_read sc.language uids sc.namespace) [] (unless_null (get (codes "memberOf") e.body))).faults _ (no_second (part_faults sc.language Action e.body) _ h)))
 
 module _ (sc : Scope) (t : Table) where
   record_ascends : (o : Option Data) → Ascends (record_or_empty (record_type sc t o).ty)
   unfolding record_type typed
   record_ascends None = none_yet
-  record_ascends (Some d) = filled (form_type (common_type t (length t)) (type_read sc false d).form) (form_ascends (common_type t (length t)) (common_ascends t (length t)) (type_read sc false d).form)
+  record_ascends (Some d) = filled (form_type (common_type t (length t)) (type_read sc Inner d).form) (form_ascends (common_type t (length t)) (common_ascends t (length t)) (type_read sc Inner d).form)
 
   shape_ascends : (e : EntryTree) → Ascends (entity_type_of sc t e).shape
   unfolding entity_type_of

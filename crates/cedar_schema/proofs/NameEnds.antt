@@ -5,9 +5,10 @@ use Rattle.std.proofs.lemmas.Slice.Eq.{bytes_eq-Decides}
 use Rattle.cedar_schema_json.specs.declared.schema_fault.SchemaFault.{SchemaFault}
 use Rattle.cedar_schema_json.specs.declared.schema_fault.SchemaFault.TheVariants.{Shape, ReservedName}
 use Rattle.cedar_schema_json.specs.Naming.{qualified, fault_if, text_faults}
+use Rattle.cedar_schema_json.specs.Reading.{Scope}
 use Rattle.cedar_schema_json.specs.Entries.{key_text_faults, entity_key_faults}
 
-abbrev has_colon : List ℕ → Bool
+abbrev pub has_colon : List ℕ → Bool
 has_colon = list_any (nat_eq 58)
 
 pub no_first : {A : Type 0} (xs ys : List A) → xs ++ ys ≡ [] → xs ≡ []
@@ -18,7 +19,7 @@ pub no_second : {A : Type 0} (xs ys : List A) → xs ++ ys ≡ [] → ys ≡ []
 no_second [] ys h = h
 no_second (x ∷ xs) ys h = cc
 
-no_fault : (b : Bool) (e : SchemaFault) → fault_if b e ≡ [] → b ≡ false
+pub no_fault : (b : Bool) (e : SchemaFault) → fault_if b e ≡ [] → b ≡ false
 no_fault true e h = cc
 no_fault false e h = refl
 
@@ -30,7 +31,7 @@ or_later : (a b : Bool) → b ≡ true → (a || b) ≡ true
 or_later true b h = refl
 or_later false b h = h
 
-colon_in : (xs ys : List ℕ) → has_colon (xs ++ 58 ∷ ys) ≡ true
+pub colon_in : (xs ys : List ℕ) → has_colon (xs ++ 58 ∷ ys) ≡ true
 colon_in [] ys = refl
 colon_in (x ∷ xs) ys = or_later (nat_eq 58 x) _ (colon_in xs ys)
 
@@ -66,21 +67,21 @@ pub qualified_ends : (ns ms k l : List ℕ) → has_colon k ≡ false → has_co
 unfolding qualified
 qualified_ends ns ms k l p q h = at_ends ns ms k l (length ns == 0) (length ms == 0) p q h
 
-key_parts : (k : List ℕ) → entity_key_faults k ≡ [] → key_text_faults k ≡ []
+key_parts : (sc : Scope) (k : List ℕ) → entity_key_faults sc k ≡ [] → key_text_faults k ≡ []
 unfolding entity_key_faults
-key_parts k h = no_first (key_text_faults k) _ h
+key_parts sc k h = no_first (key_text_faults k) _ h
 
-no_action : (k : List ℕ) → entity_key_faults k ≡ [] → bytes_eq k (codes "Action") ≡ false
+no_action : (sc : Scope) (k : List ℕ) → entity_key_faults sc k ≡ [] → bytes_eq k (codes "Action") ≡ false
 unfolding entity_key_faults
-no_action k h = no_fault (bytes_eq k (codes "Action")) ReservedName (no_second (key_text_faults k) _ h)
+no_action sc k h = no_fault (bytes_eq k (codes "Action")) ReservedName (no_first _ _ (no_second (key_text_faults k) _ h))
 
-no_colon : (k : List ℕ) → key_text_faults k ≡ [] → has_colon k ≡ false
+pub no_colon : (k : List ℕ) → key_text_faults k ≡ [] → has_colon k ≡ false
 unfolding key_text_faults
 no_colon k h = no_fault (has_colon k) Shape (no_second (text_faults k) _ h)
 
 -- an entity type is not called as an action's type, in whatever namespaces
-pub is_no_action : (ns ms k : List ℕ) → entity_key_faults k ≡ [] → qualified ms (codes "Action") ≡ qualified ns k → ⊥
-is_no_action ns ms k fine h =
-    let is : codes "Action" ≡ k = qualified_ends ms ns (codes "Action") k refl (no_colon k (key_parts k fine)) h in
+pub is_no_action : (sc : Scope) (ns ms k : List ℕ) → entity_key_faults sc k ≡ [] → qualified ms (codes "Action") ≡ qualified ns k → ⊥
+is_no_action sc ns ms k fine h =
+    let is : codes "Action" ≡ k = qualified_ends ms ns (codes "Action") k refl (no_colon k (key_parts sc k fine)) h in
     let same : bytes_eq k (codes "Action") ≡ true = (bytes_eq-Decides k (codes "Action")).1 (sym is) in
-    let no : true ≡ false = sym same ∙ no_action k fine in cc
+    let no : true ≡ false = sym same ∙ no_action sc k fine in cc

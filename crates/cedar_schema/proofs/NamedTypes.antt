@@ -8,15 +8,18 @@ use Rattle.serde_json.specs.Find.{get}
 use Rattle.cedar_ext.specs.declared.extension.ExtensionType.{ExtensionType}
 use Rattle.cedar_ext.specs.Extensions as extension
 use Rattle.cedar_ext.specs.declared.language.Language.{Language}
+use Rattle.cedar_ext.specs.declared.language.Language.TheVariants.{Profile, Cedar4}
 use Rattle.cedar_value.specs.Order.{text_cmp}
 use Rattle.cedar_value.specs.declared.uid.Uid.{Uid}
 use Rattle.cedar_schema_types.specs.Types.{TypeTree, Attributes, no_attributes, attribute}
 use Rattle.cedar_schema_types.specs.Types as kind
 use Rattle.cedar_schema_types.specs.Ordered.{with_attribute}
 use Rattle.cedar_schema_json.specs.declared.schema_fault.SchemaFault.TheVariants.{UnknownType}
-use Rattle.cedar_schema_json.specs.Naming.{Declared, resolved, text_faults}
+use Rattle.cedar_schema_json.specs.declared.form.position.Position.{Position}
+use Rattle.cedar_schema_json.specs.declared.form.position.Position.TheVariants.{Inner, CommonType, Attribute}
+use Rattle.cedar_schema_json.specs.Naming.{Declared, or_else, place_of, resolved, text_faults, whole_name}
 use Rattle.cedar_schema_json.specs.Forms.{FormTree, no_form, boolean_form, long_form, string_form, extension_form, entity_form, set_form, record_form, common_form, FormRows, no_form_rows, form_row}
-use Rattle.cedar_schema_json.specs.Reading.{Read, RowsRead, Scope, fine, no_rows_read, of_kind, of_type, kind_named, text_at, needed, set_of, record_of, entity_read, extension_named, type_read, read_at, rows_at, rows_read, all_rows}
+use Rattle.cedar_schema_json.specs.Reading.{Read, RowsRead, Scope, fine, no_rows_read, of_kind, of_type, kind_in, kind_named, named_read, either_read, declared_type, type_called, built_in, is_called, text_at, needed, set_of, record_of, entity_read, extension_named, type_read, read_at, rows_at, rows_read, all_rows}
 use Rattle.cedar_schema_json.specs.Expansion.{Table, form_type, rows_type, with_row, common_type, typed}
 use Rattle.cedar_schema_json.specs.Entries.{EntryTree, unless_null}
 use Rattle.cedar_schema_json.specs.Shapes.{record_type, record_or_empty}
@@ -24,7 +27,7 @@ use Rattle.cedar_schema.specs.Declaring.{applies_read, entity_type_of, action_of
 use Rattle.cedar_schema.specs.Schemas.{scope_at, forms_of}
 use Rattle.cedar_schema_spec.specs.WellFormed.{NamesOnly, AttributesNameOnly}
 use Rattle.cedar_schema.specs.Private.NamedForms.{FormNames, RowsName}
-use Rattle.cedar_schema.proofs.ResolvedNames.{IsOf, resolved_in}
+use Rattle.cedar_schema.proofs.ResolvedNames.{IsOf, placed, resolved_in}
 
 -- ---- more names
 
@@ -150,6 +153,52 @@ module _ (sc : Scope) where
   record_read None h = tt
   record_read (Some r) h = h
 
+  -- ---- names of any type
+
+  entity_placed : (n : List ℕ) (o : Option ℕ) → IfSome (option_map (λ place. (n, place)) o) (IsOf sc.entities) → IfSome (option_map (λ (p : ℕ). entity_form n) o) (FormNames sc.entities)
+  entity_placed n None h = tt
+  entity_placed n (Some p) h = h
+
+  common_placed : (o : Option ℕ) → IfSome (option_map common_form o) (FormNames sc.entities)
+  common_placed None = tt
+  common_placed (Some p) = tt
+
+  first_or : (o p : Option FormTree) → IfSome o (FormNames sc.entities) → IfSome p (FormNames sc.entities) → IfSome (or_else o p) (FormNames sc.entities)
+  first_or None p h g = g
+  first_or (Some f) p h g = h
+
+  declared_named : (n : List ℕ) → IfSome (declared_type sc n) (FormNames sc.entities)
+  declared_named n =
+      first_or (option_map common_form (place_of sc.commons n)) (option_map (λ (p : ℕ). entity_form n) (place_of sc.entities n)) (common_placed (place_of sc.commons n)) (entity_placed n (place_of sc.entities n) (placed sc.entities 0 n))
+
+  built_in_named : (s : List ℕ) → IfSome (built_in s) (FormNames sc.entities)
+  unfolding built_in
+  built_in_named s =
+      of_either (λ o. IfSome o (FormNames sc.entities)) (is_called s (codes "Long")) _ _ tt
+      (of_either (λ o. IfSome o (FormNames sc.entities)) (is_called s (codes "String")) _ _ tt
+      (of_either (λ o. IfSome o (FormNames sc.entities)) (is_called s (codes "Bool")) _ _ tt
+      (of_either (λ o. IfSome o (FormNames sc.entities)) (is_called s (codes "Boolean")) _ _ tt
+      (of_either (λ o. IfSome o (FormNames sc.entities)) (is_called s (codes "decimal")) _ _ tt
+      (of_either (λ o. IfSome o (FormNames sc.entities)) (is_called s (codes "ipaddr")) _ _ tt
+      (of_either (λ o. IfSome o (FormNames sc.entities)) (is_called s (codes "datetime")) _ _ tt
+      (of_either (λ o. IfSome o (FormNames sc.entities)) (is_called s (codes "duration")) _ _ tt tt)))))))
+
+  called_named : (s : List ℕ) → IfSome (type_called sc s) (FormNames sc.entities)
+  unfolding type_called
+  called_named s = first_or (declared_type sc (whole_name sc.namespace s)) _ (declared_named (whole_name sc.namespace s)) (first_or (declared_type sc s) (built_in s) (declared_named s) (built_in_named s))
+
+  either_named : (s : List ℕ) (o : Option FormTree) → IfSome o (FormNames sc.entities) → ReadNames (unwrap_or (option_map fine o) (record { form = no_form; faults = text_faults s ++ UnknownType ∷ [] }))
+  either_named s None h = tt
+  either_named s (Some f) h = h
+
+  either_or_none : (o : Option (List ℕ)) → ReadNames (needed (either_read sc) o)
+  either_or_none None = tt
+  either_or_none (Some s) = either_named s (type_called sc s) (called_named s)
+
+  name_read : (language : Language) (s : List ℕ) → ReadNames (named_read language sc s)
+  name_read Profile s = common_made (resolved sc.commons sc.namespace s)
+  name_read Cedar4 s = either_named s (type_called sc s) (called_named s)
+
   kind_read : (d : Data) (s : List ℕ) (el : Option Read) (rs : Option RowsRead) → IfSome el ReadNames → IfSome rs RowsReadName → ReadNames (of_kind sc d s (kind_named s) el rs)
   unfolding kind_named
   kind_read d s el rs h g =
@@ -160,16 +209,21 @@ module _ (sc : Scope) where
       (of_either (λ k. ReadNames (of_kind sc d s k el rs)) (bytes_eq s (codes "Record")) _ _ (record_read rs g)
       (of_either (λ k. ReadNames (of_kind sc d s k el rs)) (bytes_eq s (codes "Entity")) _ _ (entity_named (text_at (codes "name") d))
       (of_either (λ k. ReadNames (of_kind sc d s k el rs)) (bytes_eq s (codes "Extension")) _ _ (extension_read_named (text_at (codes "name") d))
-      (common_made (resolved sc.commons sc.namespace s))))))))
+      (name_read sc.language s)))))))
 
-  type_named : (a : Bool) (d : Data) (el : Option Read) (rs : Option RowsRead) (o : Option (List ℕ)) → IfSome el ReadNames → IfSome rs RowsReadName → ReadNames (of_type sc a d el rs o)
+  kind_read_in : (language : Language) (d : Data) (s : List ℕ) (el : Option Read) (rs : Option RowsRead) → IfSome el ReadNames → IfSome rs RowsReadName → ReadNames (of_kind sc d s (kind_in language s) el rs)
+  unfolding kind_in
+  kind_read_in Profile d s el rs h g = kind_read d s el rs h g
+  kind_read_in Cedar4 d s el rs h g = of_either (λ k. ReadNames (of_kind sc d s k el rs)) (bytes_eq s (codes "EntityOrCommon")) _ _ (either_or_none (text_at (codes "name") d)) (kind_read d s el rs h g)
+
+  type_named : (a : Position) (d : Data) (el : Option Read) (rs : Option RowsRead) (o : Option (List ℕ)) → IfSome el ReadNames → IfSome rs RowsReadName → ReadNames (of_type sc a d el rs o)
   type_named a d el rs None h g = tt
-  type_named a d el rs (Some s) h g = kind_read d s el rs h g
+  type_named a d el rs (Some s) h g = kind_read_in sc.language d s el rs h g
 
   mutual
     unfolding type_read read_at rows_at rows_read all_rows
 
-    pub read_named : (a : Bool) (d : Data) → ReadNames (type_read sc a d)
+    pub read_named : (a : Position) (d : Data) → ReadNames (type_read sc a d)
     read_named a null = tt
     read_named a (boolean b) = tt
     read_named a (number n) = tt
@@ -180,7 +234,7 @@ module _ (sc : Scope) where
 
     element_named : (k : List ℕ) (ms : Members) → IfSome (read_at sc k ms) ReadNames
     element_named k no_members = tt
-    element_named k (member l d ms) = picked ReadNames (slice_cmp nat_cmp k l) (read_at sc k ms) (type_read sc false d) (element_named k ms) (read_named false d)
+    element_named k (member l d ms) = picked ReadNames (slice_cmp nat_cmp k l) (read_at sc k ms) (type_read sc Inner d) (element_named k ms) (read_named Inner d)
 
     attributes_named : (k : List ℕ) (ms : Members) → IfSome (rows_at sc k ms) RowsReadName
     attributes_named k no_members = tt
@@ -196,11 +250,11 @@ module _ (sc : Scope) where
 
     all_named : (ms : Members) → RowsReadName (all_rows sc ms)
     all_named no_members = tt
-    all_named (member k d ms) = (read_named true d, all_named ms)
+    all_named (member k d ms) = (read_named Attribute d, all_named ms)
 
 pub forms_named : (language : Language) (entities commons : List (List ℕ)) (xs : List EntryTree) → AllByRecursion (FormNames entities) (forms_of language entities commons xs)
 forms_named language entities commons [] = tt
-forms_named language entities commons (x ∷ xs) = (read_named (scope_at language entities commons x.namespace) false x.body, forms_named language entities commons xs)
+forms_named language entities commons (x ∷ xs) = (read_named (scope_at language entities commons x.namespace) CommonType x.body, forms_named language entities commons xs)
 
 -- ---- shapes and contexts
 
@@ -209,8 +263,8 @@ module _ (sc : Scope) (t : Table) (forms : AllByRecursion (FormNames sc.entities
   unfolding record_type typed
   record_named None = tt
   record_named (Some d) =
-      filled sc.entities (form_type (common_type t (length t)) (type_read sc false d).form)
-      (form_typed sc.entities (common_type t (length t)) (common_named sc.entities t forms (length t)) (type_read sc false d).form (read_named sc false d))
+      filled sc.entities (form_type (common_type t (length t)) (type_read sc Inner d).form)
+      (form_typed sc.entities (common_type t (length t)) (common_named sc.entities t forms (length t)) (type_read sc Inner d).form (read_named sc Inner d))
 
   pub shape_named : (e : EntryTree) → NamesOnly sc.entities (entity_type_of sc t e).shape
   unfolding entity_type_of

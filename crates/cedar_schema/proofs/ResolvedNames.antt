@@ -5,7 +5,7 @@ use Rattle.std.specs.List.{list_any}
 use Rattle.cedar_schema_json.specs.Naming.{qualified, or_else, listed, place_from, resolved}
 use Rattle.cedar_schema.proofs.InsertedKeys.{here, there}
 
-placed : (names : List (List ℕ)) (i : ℕ) (name : List ℕ) → IfSome (option_map (λ place. (name, place)) (place_from i name names)) (λ (n : List ℕ × ℕ). Contains names n.0)
+pub placed : (names : List (List ℕ)) (i : ℕ) (name : List ℕ) → IfSome (option_map (λ place. (name, place)) (place_from i name names)) (λ (n : List ℕ × ℕ). Contains names n.0)
 placed [] i name = tt
 placed (n ∷ names) i name = at (bytes_eq n name) refl (placed names (suc i) name)
   where

@@ -4,6 +4,7 @@ use Rattle.std.specs.List.{list_any}
 use Rattle.serde_json.specs.Data.{Data}
 use Rattle.serde_json.specs.Find.{get, as_object, as_str}
 use Rattle.std.specs.BTreeMap.{is_at}
+use Rattle.cedar_ext.specs.declared.language.Language.{Language}
 use Rattle.cedar_value.specs.Order.{uid_cmp}
 use Rattle.cedar_value.specs.declared.uid.Uid.{Uid}
 use Rattle.cedar_schema_json.specs.declared.schema_fault.SchemaFault.{SchemaFault}
@@ -28,7 +29,7 @@ entity_type_of sc t e = record { parents = (names_at sc [] (get (codes "memberOf
 -- schema format: entityTypes).
 unfoldable pub entity_type_faults : Scope → Table → EntryTree → List SchemaFault
 entity_type_faults sc t e =
-    entity_key_faults e.key ++ (part_faults EntityType e.body ++ ((names_at sc [] (get (codes "memberOfTypes") e.body)).faults
+    entity_key_faults sc e.key ++ (part_faults sc.language EntityType e.body ++ ((names_at sc [] (get (codes "memberOfTypes") e.body)).faults
     ++ (record_type sc t (get (codes "shape") e.body)).faults))
 
 -- ---- actions
@@ -75,11 +76,11 @@ abbrev pub by_member : List Uid → List ℕ → Data → Option (List ℕ) → 
 by_member uids namespace d None = record { items = []; faults = Shape ∷ [] }
 by_member uids namespace d (Some id) = by_id uids namespace id (get (codes "type") d)
 
--- The uid that a member of `memberOf` writes (Cedar documentation, JSON schema format: memberOf).
-unfoldable pub member_read : List Uid → List ℕ → Data → ListRead Uid
-member_read uids namespace d = record {
+-- The uid that a member of `memberOf` writes in a language (Cedar documentation, JSON schema format: memberOf).
+unfoldable pub member_read : Language → List Uid → List ℕ → Data → ListRead Uid
+member_read language uids namespace d = record {
   items = (by_member uids namespace d (text_at (codes "id") d)).items;
-  faults = part_faults Member d ++ (by_member uids namespace d (text_at (codes "id") d)).faults;
+  faults = part_faults language Member d ++ (by_member uids namespace d (text_at (codes "id") d)).faults;
 }
 
 -- What an `appliesTo` writes: the types of principals and of resources, the type of the context, and the faults that are there
@@ -102,14 +103,14 @@ applies_read sc t (Some d) = record {
   principals = set_onto [] (names_at sc (unspecified d) (get (codes "principalTypes") d)).items;
   resources = set_onto [] (names_at sc (unspecified d) (get (codes "resourceTypes") d)).items;
   context = record_or_empty (record_type sc t (get (codes "context") d)).ty;
-  faults = part_faults AppliesTo d ++ ((names_at sc (unspecified d) (get (codes "principalTypes") d)).faults
+  faults = part_faults sc.language AppliesTo d ++ ((names_at sc (unspecified d) (get (codes "principalTypes") d)).faults
       ++ ((names_at sc (unspecified d) (get (codes "resourceTypes") d)).faults ++ (record_type sc t (get (codes "context") d)).faults));
 }
 
 -- The action that an entry declares (Cedar documentation, JSON schema format: actions).
 unfoldable pub action_of : Scope → Table → List Uid → EntryTree → ActionTree
 action_of sc t uids e = record {
-  parents = (list_at (member_read uids sc.namespace) [] (unless_null (get (codes "memberOf") e.body))).items;
+  parents = (list_at (member_read sc.language uids sc.namespace) [] (unless_null (get (codes "memberOf") e.body))).items;
   principals = (applies_read sc t (unless_null (get (codes "appliesTo") e.body))).principals;
   resources = (applies_read sc t (unless_null (get (codes "appliesTo") e.body))).resources;
   context = (applies_read sc t (unless_null (get (codes "appliesTo") e.body))).context;
@@ -119,5 +120,5 @@ action_of sc t uids e = record {
 -- JSON schema format: actions).
 unfoldable pub action_faults : Scope → Table → List Uid → EntryTree → List SchemaFault
 action_faults sc t uids e =
-    part_faults Action e.body ++ ((list_at (member_read uids sc.namespace) [] (unless_null (get (codes "memberOf") e.body))).faults
+    part_faults sc.language Action e.body ++ ((list_at (member_read sc.language uids sc.namespace) [] (unless_null (get (codes "memberOf") e.body))).faults
     ++ ((applies_read sc t (unless_null (get (codes "appliesTo") e.body))).faults ++ empty_faults (unless_null (get (codes "attributes") e.body))))

@@ -1,5 +1,5 @@
 -- What a schema's JSON denotes, and the faults that are there (Cedar documentation, JSON schema format).
-use Rattle.std.specs.Prelude.{ℕ, List, [], ◌∷◌, ◌++◌, map, false, codes}
+use Rattle.std.specs.Prelude.{ℕ, List, [], ◌∷◌, ◌++◌, map, codes}
 use Rattle.std.specs.BTreeMap.{insert_entry}
 use Rattle.std.specs.BTreeSet.{insert_key}
 use Rattle.serde_json.specs.Data.{Members}
@@ -7,6 +7,7 @@ use Rattle.cedar_ext.specs.declared.language.Language.{Language}
 use Rattle.cedar_value.specs.Order.{text_cmp, uid_cmp}
 use Rattle.cedar_value.specs.declared.uid.Uid.{Uid}
 use Rattle.cedar_schema_json.specs.declared.schema_fault.SchemaFault.{SchemaFault}
+use Rattle.cedar_schema_json.specs.declared.form.position.Position.TheVariants.{CommonType}
 use Rattle.cedar_schema_json.specs.Reading.{Scope, type_read}
 use Rattle.cedar_schema_json.specs.Expansion.{Table, typed}
 use Rattle.cedar_schema_json.specs.Forms.{FormTree}
@@ -37,12 +38,12 @@ scope_in s e = scope_at s.language s.entities s.commons e.namespace
 
 -- The common types as they are written (Cedar documentation, JSON schema format: commonTypes).
 abbrev pub forms_of : Language → List (List ℕ) → List (List ℕ) → List EntryTree → Table
-forms_of language entities commons = map (λ e. (type_read (scope_at language entities commons e.namespace) false e.body).form)
+forms_of language entities commons = map (λ e. (type_read (scope_at language entities commons e.namespace) CommonType e.body).form)
 
 -- The faults of a common type as it is written: of its key, and of its type (Cedar documentation, JSON schema format:
 -- commonTypes).
 abbrev pub common_faults : Language → List (List ℕ) → List (List ℕ) → EntryTree → List SchemaFault
-common_faults language entities commons e = common_key_faults e.key ++ (type_read (scope_at language entities commons e.namespace) false e.body).faults
+common_faults language entities commons e = common_key_faults (scope_at language entities commons e.namespace) e.key ++ (type_read (scope_at language entities commons e.namespace) CommonType e.body).faults
 
 -- The faults of a common type as it is expanded: it has to be within the limits, 309, and may not lead back to itself, 304
 -- (Cedar documentation, JSON schema format: commonTypes; own).
@@ -115,4 +116,4 @@ schema_of language root = schema_in (setting_of language (sections_of root)) (se
 
 -- The faults of the object in a language, without cycles of actions (Cedar documentation, JSON schema format; own).
 unfoldable pub written_faults : Language → Members → List SchemaFault
-written_faults language root = root_faults root ++ sections_faults language (sections_of root)
+written_faults language root = root_faults language root ++ sections_faults language (sections_of root)

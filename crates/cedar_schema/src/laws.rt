@@ -17,8 +17,9 @@ pub fn cycles_are_found()
     ensures { CyclesAreFound }
 {}
 
-/// Each schema of the profile is the same schema in Cedar 4: bytes that denote a schema in the profile denote it in Cedar 4 too.
-/// A law: it runs no code.
+/// Each schema of the profile whose names mean the same in Cedar 4 is the same schema there: bytes that denote a schema in the profile
+/// denote it in Cedar 4 too, if no definition of a namespace has the name of one in the empty namespace, and no common type is called
+/// `Bool` or `EntityOrCommon`. A law: it runs no code.
 pub fn profile_schemas()
     ensures { ProfileSchemasAreKept }
 {}

@@ -14,7 +14,7 @@ use std::alloc::Global;
 /// Why an entry of `actions` is refused, or none.
 pub(crate) fn refused_action(alloc: Global, setting: Setting<'_>, body: &Value) -> Option<Refusal> {
     if setting.number == 302 {
-        let found = refused_keys(alloc, Part::Action, body);
+        let found = refused_keys(alloc, setting.language, Part::Action, body);
         if found.is_some() {
             return found;
         }
@@ -36,7 +36,7 @@ pub(crate) fn refused_action(alloc: Global, setting: Setting<'_>, body: &Value) 
 
 fn refused_applies_to(alloc: Global, setting: Setting<'_>, applies: &Value) -> Option<Refusal> {
     if setting.number == 302 {
-        let found = refused_keys(alloc, Part::AppliesTo, applies);
+        let found = refused_keys(alloc, setting.language, Part::AppliesTo, applies);
         if found.is_some() {
             return found;
         }

@@ -4,8 +4,11 @@ use crate::naming::refused_identifier;
 use crate::part::{Refusal, part_of};
 use crate::records::refused_size;
 use crate::setting::Setting;
+use crate::shadows::refused_shadow;
 use crate::text::shown;
 use crate::types::refused_in_type;
+use cedar_ext::Language;
+use cedar_schema_json::Position;
 use serde_json::Value;
 use std::alloc::Global;
 
@@ -16,11 +19,11 @@ pub(crate) fn refused_common_type(
     key: &str,
     body: &Value,
 ) -> Option<Refusal> {
-    let found = refused_common_key(alloc, setting.number, key);
+    let found = refused_common_key(alloc, setting, key);
     if found.is_some() {
         return found;
     }
-    let found = refused_in_type(alloc, setting, body);
+    let found = refused_in_type(alloc, setting, body, Position::CommonType);
     if found.is_some() {
         return found;
     }
@@ -32,8 +35,9 @@ pub(crate) fn refused_common_type(
     }
 }
 
-fn refused_common_key(alloc: Global, number: u16, key: &str) -> Option<Refusal> {
-    if number == 306 && is_built_in(key) {
+fn refused_common_key(alloc: Global, setting: Setting<'_>, key: &str) -> Option<Refusal> {
+    let is_bool = key == "Bool" && setting.language == Language::Cedar4;
+    if setting.number == 306 && (is_bool || is_built_in(key)) {
         return part_of(
             alloc,
             &[
@@ -44,5 +48,9 @@ fn refused_common_key(alloc: Global, number: u16, key: &str) -> Option<Refusal> 
             &["choose another name"],
         );
     }
-    refused_identifier(alloc, number, key)
+    let found = refused_identifier(alloc, setting.number, key);
+    if found.is_some() {
+        return found;
+    }
+    refused_shadow(alloc, setting, "common type", key)
 }

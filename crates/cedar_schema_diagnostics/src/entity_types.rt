@@ -5,6 +5,7 @@ use crate::naming::refused_identifier;
 use crate::part::{Refusal, at, part_of};
 use crate::records::refused_record;
 use crate::setting::Setting;
+use crate::shadows::refused_shadow;
 use crate::step::Step;
 use crate::text::{is_plain, shown};
 use crate::type_names::refused_entity_name;
@@ -19,12 +20,12 @@ pub(crate) fn refused_entity_type(
     key: &str,
     body: &Value,
 ) -> Option<Refusal> {
-    let found = refused_entity_key(alloc, setting.number, key);
+    let found = refused_entity_key(alloc, setting, key);
     if found.is_some() {
         return found;
     }
     if setting.number == 302 {
-        let found = refused_keys(alloc, Part::EntityType, body);
+        let found = refused_keys(alloc, setting.language, Part::EntityType, body);
         if found.is_some() {
             return found;
         }
@@ -38,15 +39,19 @@ pub(crate) fn refused_entity_type(
     refused_record(alloc, setting, body, "shape", "a shape")
 }
 
-fn refused_entity_key(alloc: Global, number: u16, key: &str) -> Option<Refusal> {
-    if key == "Action" && number == 306 {
+fn refused_entity_key(alloc: Global, setting: Setting<'_>, key: &str) -> Option<Refusal> {
+    if key == "Action" && setting.number == 306 {
         return part_of(
             alloc,
             &["`Action` is the type of actions, so an entity type cannot have this name"],
             &["choose another name"],
         );
     }
-    refused_identifier(alloc, number, key)
+    let found = refused_identifier(alloc, setting.number, key);
+    if found.is_some() {
+        return found;
+    }
+    refused_shadow(alloc, setting, "entity type", key)
 }
 
 /// Why a list of entity types is refused, or none.

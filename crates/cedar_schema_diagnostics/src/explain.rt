@@ -88,7 +88,7 @@ fn refused_written(
     root: &Map<String, Value>,
     number: u16,
 ) -> Result<Option<Refusal>, AllocError> {
-    let found = refused_spaces(alloc, number, root);
+    let found = refused_spaces(alloc, language, number, root);
     if found.is_some() {
         return Ok(found);
     }

@@ -1,7 +1,8 @@
 //! The common types of a schema, as they are written.
 use cedar_ext::Language;
 use cedar_schema_json::{
-    Entry, Form, NameTable, SchemaFault, Scope, ends_of, entries_of, names_of, read_type, text_at,
+    Entry, Form, NameTable, Position, SchemaFault, Scope, ends_of, entries_of, names_of, read_type,
+    text_at,
 };
 use serde_json::{Map, Value};
 use std::alloc::{AllocError, Global};
@@ -226,8 +227,9 @@ fn read_all(
     Ok(Some(forms))
 }
 
+// The form of a type, or none if it cannot be read. Annotations are read wherever they are.
 fn read_form(alloc: Global, scope: &Scope<'_>, json: &Value) -> Result<Option<Form>, AllocError> {
-    match read_type(alloc, scope, json, false) {
+    match read_type(alloc, scope, json, Position::CommonType) {
         Ok(form) => Ok(Some(form)),
         Err(SchemaFault::OutOfMemory) => Err(AllocError),
         Err(_) => Ok(None),

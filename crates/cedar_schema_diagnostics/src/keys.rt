@@ -1,4 +1,5 @@
 //! The keys that parts may have.
+use crate::annotations::refused_annotations;
 use crate::kinds::kind_of;
 use crate::left_out::left_out_key;
 use crate::part::{Refusal, at, part_of, part_with};
@@ -6,6 +7,7 @@ use crate::step::Step;
 use crate::text::{is_plain, joined, shown};
 use base_names::Nearest;
 use base_places::Draft;
+use cedar_ext::Language;
 use cedar_schema_json::Part;
 use serde_json::Value;
 use std::alloc::Global;
@@ -45,16 +47,34 @@ fn name_of(part: Part) -> &'static str {
 }
 
 /// Why a JSON is not an object of the keys of a part (302), or none.
-pub(crate) fn refused_keys(alloc: Global, part: Part, json: &Value) -> Option<Refusal> {
+pub(crate) fn refused_keys(
+    alloc: Global,
+    language: Language,
+    part: Part,
+    json: &Value,
+) -> Option<Refusal> {
     let Some(members) = json.as_object() else {
         return refused_kind(alloc, part, json);
     };
-    for (key, _) in members.iter() {
-        if !has_key(keys_of(part), key.as_str()) {
-            return refused_key(alloc, part, key.as_str());
+    for (key, value) in members.iter() {
+        if key.as_str() == "annotations" && has_annotations(language, part) {
+            let found = refused_annotations(alloc, value);
+            if found.is_some() {
+                return at(alloc, Step::Key("annotations"), found);
+            }
+        } else if !has_key(keys_of(part), key.as_str()) {
+            return refused_key(alloc, language, part, key.as_str());
         }
     }
     None
+}
+
+// Whether a part may have annotations.
+fn has_annotations(language: Language, part: Part) -> bool {
+    match part {
+        Part::Namespace | Part::EntityType | Part::Action => language == Language::Cedar4,
+        Part::AppliesTo | Part::Member => false,
+    }
 }
 
 /// Whether a key is among these.
@@ -84,8 +104,8 @@ fn refused_kind(alloc: Global, part: Part, json: &Value) -> Option<Refusal> {
 }
 
 // A key that a part may not have.
-fn refused_key(alloc: Global, part: Part, key: &str) -> Option<Refusal> {
-    let found = match left_out_key(part, key) {
+fn refused_key(alloc: Global, language: Language, part: Part, key: &str) -> Option<Refusal> {
+    let found = match left_out_key(language, part, key) {
         Some((says, hint)) => part_of(alloc, &[says], &[hint]),
         None => Some(misplaced_key(alloc, part, key)),
     };

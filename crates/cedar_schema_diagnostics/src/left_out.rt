@@ -1,5 +1,6 @@
 //! What Cedar has and this engine does not, in words.
 use crate::part::{Refusal, part_of};
+use cedar_ext::Language;
 use cedar_schema_json::Part;
 use std::alloc::Global;
 
@@ -11,8 +12,12 @@ pub(crate) const WITHOUT_ANNOTATIONS: &str =
     "remove `annotations`; tools/from_cedar does it for a whole file";
 
 /// What is said of a key of Cedar that a part may not have here, and what to do; or none of another key.
-pub(crate) fn left_out_key(part: Part, key: &str) -> Option<(&'static str, &'static str)> {
-    if key == "annotations" {
+pub(crate) fn left_out_key(
+    language: Language,
+    part: Part,
+    key: &str,
+) -> Option<(&'static str, &'static str)> {
+    if key == "annotations" && language == Language::Profile {
         return Some((ANNOTATIONS, WITHOUT_ANNOTATIONS));
     }
     if part != Part::EntityType {

@@ -13,6 +13,8 @@
 
 mod action_circle;
 mod actions;
+mod annotations;
+mod any_type;
 mod built_in;
 mod circle_words;
 mod circles;
@@ -32,6 +34,7 @@ mod part;
 mod records;
 mod sections;
 mod setting;
+mod shadows;
 mod spaces;
 mod step;
 mod text;

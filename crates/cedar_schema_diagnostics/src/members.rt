@@ -9,6 +9,7 @@ use crate::text::{is_plain, shown};
 use crate::undeclared::{say_namespace, say_namespaces};
 use base_names::Nearest;
 use base_places::Draft;
+use cedar_ext::Language;
 use cedar_schema_json::{Part, has_colon, qualified, text_at};
 use cedar_value::Uid;
 use serde_json::Value;
@@ -50,7 +51,7 @@ fn refused_list(alloc: Global, number: u16, list: &Value) -> Option<Refusal> {
 
 fn refused_member(alloc: Global, setting: Setting<'_>, member: &Value) -> Option<Refusal> {
     if setting.number == 302 {
-        let found = refused_shape(alloc, member);
+        let found = refused_shape(alloc, setting.language, member);
         if found.is_some() {
             return found;
         }
@@ -70,8 +71,8 @@ fn refused_member(alloc: Global, setting: Setting<'_>, member: &Value) -> Option
     }
 }
 
-fn refused_shape(alloc: Global, member: &Value) -> Option<Refusal> {
-    let found = refused_keys(alloc, Part::Member, member);
+fn refused_shape(alloc: Global, language: Language, member: &Value) -> Option<Refusal> {
+    let found = refused_keys(alloc, language, Part::Member, member);
     if found.is_some() {
         return found;
     }

@@ -5,7 +5,7 @@ use crate::setting::Setting;
 use crate::step::Step;
 use crate::text::shown;
 use crate::types::refused_in_type;
-use cedar_schema_json::text_at;
+use cedar_schema_json::{Position, text_at};
 use serde_json::Value;
 use std::alloc::{AllocError, Global};
 
@@ -31,7 +31,7 @@ fn refused_whole(
     record: &Value,
     what: &str,
 ) -> Option<Refusal> {
-    let found = refused_in_type(alloc, setting, record);
+    let found = refused_in_type(alloc, setting, record, Position::Inner);
     if found.is_some() {
         return found;
     }
@@ -39,6 +39,15 @@ fn refused_whole(
         (Some(forms), 302) => refused_other(alloc, forms, setting.namespace, record, what),
         (Some(forms), 309) => refused_size(alloc, forms, setting.namespace, record),
         _ => None,
+    }
+}
+
+// The name that a type has, or that of its kind.
+fn name_in(json: &Value) -> &str {
+    match text_at(json, "type") {
+        Some("EntityOrCommon") => text_at(json, "name").unwrap_or("EntityOrCommon"),
+        Some(text) => text,
+        None => "",
     }
 }
 
@@ -53,7 +62,7 @@ fn refused_other(
     match forms.is_other(alloc, namespace, json) {
         Ok(false) => None,
         Ok(true) => {
-            let name = text_at(json, "type").unwrap_or("");
+            let name = name_in(json);
             part_of(
                 alloc,
                 &[

@@ -4,6 +4,7 @@ use crate::naming::refused_name;
 use crate::part::{Refusal, at, part_of};
 use crate::step::Step;
 use crate::text::shown;
+use cedar_ext::Language;
 use cedar_schema_json::Part;
 use serde_json::{Map, Value};
 use std::alloc::Global;
@@ -13,11 +14,12 @@ const SECTIONS: [&str; 3] = ["entityTypes", "actions", "commonTypes"];
 /// The first namespace with a wrong name, a wrong key, or a section that is not an object (302, 306); or none.
 pub(crate) fn refused_spaces(
     alloc: Global,
+    language: Language,
     number: u16,
     root: &Map<String, Value>,
 ) -> Option<Refusal> {
     for (namespace, space) in root.iter() {
-        let found = refused_space(alloc, number, namespace.as_str(), space);
+        let found = refused_space(alloc, language, number, namespace.as_str(), space);
         if found.is_some() {
             return at(alloc, Step::Namespace(namespace.as_str()), found);
         }
@@ -25,9 +27,15 @@ pub(crate) fn refused_spaces(
     None
 }
 
-fn refused_space(alloc: Global, number: u16, namespace: &str, space: &Value) -> Option<Refusal> {
+fn refused_space(
+    alloc: Global,
+    language: Language,
+    number: u16,
+    namespace: &str,
+    space: &Value,
+) -> Option<Refusal> {
     if number == 302 && !space.is_object() {
-        return refused_keys(alloc, Part::Namespace, space);
+        return refused_keys(alloc, language, Part::Namespace, space);
     }
     if !namespace.is_empty() {
         let found = refused_name(alloc, number, namespace);
@@ -38,7 +46,7 @@ fn refused_space(alloc: Global, number: u16, namespace: &str, space: &Value) -> 
     if number != 302 {
         return None;
     }
-    let found = refused_keys(alloc, Part::Namespace, space);
+    let found = refused_keys(alloc, language, Part::Namespace, space);
     if found.is_none() {
         return refused_sections(alloc, space);
     }

@@ -1,4 +1,5 @@
 //! The names of types.
+use crate::any_type::refused_any_name;
 use crate::built_in::{is_built_in, meant_built_in};
 use crate::declared::is_declared;
 use crate::extensions::{left_out_extension, meant_extension, undeclared_extension};
@@ -11,6 +12,7 @@ use crate::text::shown;
 use crate::type_shape::SET;
 use crate::undeclared::{as_written, last_word, meant_name, say_nowhere};
 use base_places::Draft;
+use cedar_ext::Language;
 use std::alloc::{AllocError, Global};
 
 /// Why the name of an entity type is refused (302, 303, 306), or none. `is_type` says whether it is in a type, and not in a list.
@@ -80,6 +82,10 @@ pub(crate) fn refused_type_name(
     setting: Setting<'_>,
     text: &str,
 ) -> Option<Refusal> {
+    if setting.language == Language::Cedar4 {
+        let found = refused_any_name(alloc, setting, text);
+        return at(alloc, Step::Key("type"), found);
+    }
     let found = refused_name(alloc, setting.number, text);
     if found.is_some() && text.contains(['<', '[']) {
         let found = part_of(alloc, &["`", shown(text), "` is not a name"], &[SET]);

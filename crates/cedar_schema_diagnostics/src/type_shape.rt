@@ -7,6 +7,8 @@ use crate::step::Step;
 use crate::text::{is_plain, shown};
 use crate::type_keys::refused_type_keys;
 use base_names::apart;
+use cedar_ext::Language;
+use cedar_schema_json::Position;
 use serde_json::{Map, Value};
 use std::alloc::Global;
 
@@ -23,11 +25,16 @@ const ANY_TYPE: &str = "write {\"type\":\"String\"}, or another type";
 
 /// Why the JSON of a type, or of an attribute, has another shape than the format allows (302), or none. The types in it are not looked
 /// at.
-pub(crate) fn refused_shape(alloc: Global, json: &Value, is_attribute: bool) -> Option<Refusal> {
+pub(crate) fn refused_shape(
+    alloc: Global,
+    language: Language,
+    json: &Value,
+    position: Position,
+) -> Option<Refusal> {
     let Some(members) = json.as_object() else {
         return refused_kind(alloc, json);
     };
-    if is_attribute {
+    if position == Position::Attribute {
         let found = refused_truth(alloc, json, "required", "true or false");
         if found.is_some() {
             return found;
@@ -35,7 +42,7 @@ pub(crate) fn refused_shape(alloc: Global, json: &Value, is_attribute: bool) -> 
     }
     match json.get("type") {
         Some(Value::String(text)) => {
-            refused_members(alloc, json, members, text.as_str(), is_attribute)
+            refused_members(alloc, language, json, members, text.as_str(), position)
         }
         Some(other) => {
             let found = part_of(alloc, &["expected a string, found ", kind_of(other)], &[]);
@@ -85,12 +92,13 @@ fn without_type(alloc: Global, json: &Value, members: &Map<String, Value>) -> Op
 
 fn refused_members(
     alloc: Global,
+    language: Language,
     json: &Value,
     members: &Map<String, Value>,
     text: &str,
-    is_attribute: bool,
+    position: Position,
 ) -> Option<Refusal> {
-    let found = refused_type_keys(alloc, members, text, is_attribute);
+    let found = refused_type_keys(alloc, language, members, text, position);
     if found.is_some() {
         return found;
     }
@@ -103,6 +111,9 @@ fn refused_members(
         "Record" => refused_record(alloc, json),
         "Entity" => refused_text(alloc, json, "name", "the type `Entity`"),
         "Extension" => refused_text(alloc, json, "name", "the type `Extension`"),
+        "EntityOrCommon" if language == Language::Cedar4 => {
+            refused_text(alloc, json, "name", "the type `EntityOrCommon`")
+        }
         _ => None,
     }
 }

@@ -1,11 +1,13 @@
 //! Types, with all the types in them.
+use crate::any_type::refused_any_name;
 use crate::extensions::refused_extension_name;
 use crate::part::{Refusal, at, part_of, remembered};
 use crate::setting::Setting;
 use crate::step::Step;
 use crate::type_names::{refused_entity_name, refused_type_name};
 use crate::type_shape::refused_shape;
-use cedar_schema_json::text_at;
+use cedar_ext::Language;
+use cedar_schema_json::{Position, text_at};
 use serde_json::Value;
 use std::alloc::{AllocError, Global};
 
@@ -14,7 +16,7 @@ use std::alloc::{AllocError, Global};
 struct Pending<'j> {
     json: &'j Value,
     above: usize,
-    is_attribute: bool,
+    position: Position,
 }
 
 // A step that was taken, and the place of the step before it.
@@ -39,22 +41,24 @@ pub(crate) fn refused_in_type(
     alloc: Global,
     setting: Setting<'_>,
     json: &Value,
+    position: Position,
 ) -> Option<Refusal> {
-    remembered(alloc, first_refused(alloc, setting, json))
+    remembered(alloc, first_refused(alloc, setting, json, position))
 }
 
 fn first_refused(
     alloc: Global,
     setting: Setting<'_>,
     json: &Value,
+    position: Position,
 ) -> Result<Option<Refusal>, AllocError> {
     let mut walk = Walk::new(alloc);
-    walk.add(json, START, false)?;
+    walk.add(json, START, position)?;
     for _ in 0..u64::MAX {
         let Some(next) = walk.pending.pop() else {
             return Ok(None);
         };
-        let found = refused_type(alloc, setting, next.json, next.is_attribute);
+        let found = refused_type(alloc, setting, next.json, next.position);
         if found.is_some() {
             return Ok(walk.seen_from_start(alloc, next.above, found));
         }
@@ -71,11 +75,11 @@ impl<'j> Walk<'j> {
         }
     }
 
-    fn add(&mut self, json: &'j Value, above: usize, is_attribute: bool) -> Result<(), AllocError> {
+    fn add(&mut self, json: &'j Value, above: usize, position: Position) -> Result<(), AllocError> {
         self.pending.push(Pending {
             json,
             above,
-            is_attribute,
+            position,
         })?;
         Ok(())
     }
@@ -103,7 +107,7 @@ impl<'j> Walk<'j> {
         match json.get("element") {
             Some(element) => {
                 let place = self.tread(above, Step::Key("element"))?;
-                self.add(element, place, false)
+                self.add(element, place, Position::Inner)
             }
             None => Ok(()),
         }
@@ -117,7 +121,7 @@ impl<'j> Walk<'j> {
         let list = self.tread(above, Step::Key("attributes"))?;
         for (key, attribute) in attributes.iter().rev() {
             let place = self.tread(list, Step::Key(key.as_str()))?;
-            self.add(attribute, place, true)?;
+            self.add(attribute, place, Position::Attribute)?;
         }
         Ok(())
     }
@@ -147,10 +151,10 @@ fn refused_type(
     alloc: Global,
     setting: Setting<'_>,
     json: &Value,
-    is_attribute: bool,
+    position: Position,
 ) -> Option<Refusal> {
     if setting.number == 302 {
-        let found = refused_shape(alloc, json, is_attribute);
+        let found = refused_shape(alloc, setting.language, json, position);
         if found.is_some() {
             return found;
         }
@@ -173,6 +177,13 @@ fn refused_type(
                 return None;
             };
             let found = refused_extension_name(alloc, setting, name);
+            at(alloc, Step::Key("name"), found)
+        }
+        "EntityOrCommon" if setting.language == Language::Cedar4 => {
+            let Some(name) = text_at(json, "name") else {
+                return None;
+            };
+            let found = refused_any_name(alloc, setting, name);
             at(alloc, Step::Key("name"), found)
         }
         _ => refused_type_name(alloc, setting, text),

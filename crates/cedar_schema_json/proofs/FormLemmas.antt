@@ -12,22 +12,24 @@ use Rattle.cedar_schema_json.specs.declared.schema_fault.SchemaFault.TheVariants
 use Rattle.cedar_schema_json.specs.declared.form.Form.{Form, the_lemmas}
 use Rattle.cedar_schema_json.specs.declared.form.Form.TheVariants.{Record}
 use Rattle.cedar_schema_json.specs.declared.form.FormField.{FormField}
+use Rattle.cedar_schema_json.specs.declared.form.position.Position.{Position}
+use Rattle.cedar_schema_json.specs.declared.form.position.Position.TheVariants.{Inner, Attribute}
 use Rattle.cedar_schema_json.specs.Faults.{Told}
 use Rattle.cedar_schema_json.specs.Forms.{record_form, no_form_rows, form_row}
 use Rattle.cedar_schema_json.specs.FormView.{FieldTree, form_of}
 use Rattle.cedar_schema_json.specs.Private.FieldView.{field_of, fields_view}
 use Rattle.cedar_schema_json.specs.Reads.{Reads}
-use Rattle.cedar_schema_json.specs.Reading.{Scope, Read, RowsRead, bad, type_read, read_at, rows_at, rows_read, all_rows, of_type, text_at, key_faults, unknown_keys, may_have, kind_named, of_kind, with_faults, no_rows_read, required_faults, is_required}
+use Rattle.cedar_schema_json.specs.Reading.{Scope, Read, RowsRead, bad, type_read, read_at, rows_at, rows_read, all_rows, of_type, text_at, key_faults, unknown_keys, may_have, kind_in, of_kind, with_faults, no_rows_read, required_faults, is_required}
 
 picked : {A B : Type 0} (f : A → B) (o : Ordering) (a b : Option A) (c d : Option B) → c ≡ option_map f a → d ≡ option_map f b → match_ordering o c d c ≡ option_map f (match_ordering o a b a)
 picked f Less a b c d p q = p
 picked f Equal a b c d p q = q
 picked f Greater a b c d p q = p
 
-pub read_at-get : (sc : Scope) (k : List ℕ) (ms : Members) → read_at sc k ms ≡ option_map (type_read sc false) (get_member k ms)
+pub read_at-get : (sc : Scope) (k : List ℕ) (ms : Members) → read_at sc k ms ≡ option_map (type_read sc Inner) (get_member k ms)
 unfolding read_at
 read_at-get sc k no_members = refl
-read_at-get sc k (member l d ms) = picked (type_read sc false) (slice_cmp nat_cmp k l) (get_member k ms) (Some d) _ _ (read_at-get sc k ms) refl
+read_at-get sc k (member l d ms) = picked (type_read sc Inner) (slice_cmp nat_cmp k l) (get_member k ms) (Some d) _ _ (read_at-get sc k ms) refl
 
 pub rows_at-get : (sc : Scope) (k : List ℕ) (ms : Members) → rows_at sc k ms ≡ option_map (rows_read sc) (get_member k ms)
 unfolding rows_at
@@ -43,23 +45,23 @@ object_of (array ds) ms e = cc
 object_of (object ns) ms e = cc
 
 -- an object is read by its parts
-pub type_read-object : (sc : Scope) (a : Bool) (ms : Members) → type_read sc a (object ms)
-    ≡ of_type sc a (object ms) (option_map (type_read sc false) (get_member (codes "element") ms)) (option_map (rows_read sc) (get_member (codes "attributes") ms)) (text_at (codes "type") (object ms))
+pub type_read-object : (sc : Scope) (a : Position) (ms : Members) → type_read sc a (object ms)
+    ≡ of_type sc a (object ms) (option_map (type_read sc Inner) (get_member (codes "element") ms)) (option_map (rows_read sc) (get_member (codes "attributes") ms)) (text_at (codes "type") (object ms))
 unfolding type_read
 type_read-object sc a ms = λ i. of_type sc a (object ms) (read_at-get sc (codes "element") ms i) (rows_at-get sc (codes "attributes") ms i) (text_at (codes "type") (object ms))
 
 -- what the parts of d say, where d is an object
-abbrev pub parts : Scope → Bool → Data → Option (List ℕ) → Read
-parts sc a d o = of_type sc a d (option_map (type_read sc false) (get (codes "element") d)) (option_map (rows_read sc) (get (codes "attributes") d)) o
+abbrev pub parts : Scope → Position → Data → Option (List ℕ) → Read
+parts sc a d o = of_type sc a d (option_map (type_read sc Inner) (get (codes "element") d)) (option_map (rows_read sc) (get (codes "attributes") d)) o
 
-pub type_read-parts : (sc : Scope) (a : Bool) (d : Data) (ms : Members) (o : Option (List ℕ)) → Some ms ≡ as_object d → o ≡ text_at (codes "type") d → type_read sc a d ≡ parts sc a d o
+pub type_read-parts : (sc : Scope) (a : Position) (d : Data) (ms : Members) (o : Option (List ℕ)) → Some ms ≡ as_object d → o ≡ text_at (codes "type") d → type_read sc a d ≡ parts sc a d o
 type_read-parts sc a d ms o e h =
     let here : d ≡ object ms = object_of d ms (sym e) in
     let all : type_read sc a d ≡ parts sc a d (text_at (codes "type") d) =
     subst (λ x. type_read sc a x ≡ parts sc a x (text_at (codes "type") x)) (sym here) (type_read-object sc a ms) in
     all ∙ ap (parts sc a d) (sym h)
 
-pub unknown_keys-object : (may : List ℕ → Bool) (d : Data) (ms : Members) → Some ms ≡ as_object d → unknown_keys may d ≡ key_faults may ms
+pub unknown_keys-object : (may : List ℕ → Data → Bool) (d : Data) (ms : Members) → Some ms ≡ as_object d → unknown_keys may d ≡ key_faults may ms
 unknown_keys-object may d ms e = ap (λ o. unwrap_or (option_map (key_faults may) o) []) (sym e)
 
 pub reads_after : (kf : List SchemaFault) (r : Read) (result : Result Form SchemaFault) → kf ≡ [] → Reads result r → Reads result (with_faults kf r)
@@ -71,7 +73,7 @@ told_first kf fs e h n = Contains-append_left kf fs e (h n)
 pub told_then : (kf fs : List SchemaFault) (e : SchemaFault) → Told fs e → Told (kf ++ fs) e
 told_then kf fs e h n = Contains-append_right kf fs e (h n)
 
-pub type_read-other : (sc : Scope) (a : Bool) (d : Data) → as_object d ≡ None → type_read sc a d ≡ bad Shape
+pub type_read-other : (sc : Scope) (a : Position) (d : Data) → as_object d ≡ None → type_read sc a d ≡ bad Shape
 unfolding type_read
 type_read-other sc a null e = refl
 type_read-other sc a (boolean b) e = refl
@@ -136,22 +138,22 @@ pub after-more : (fs : List FormField) (f : FormField) (r : RowsRead) → after 
 after-more [] f r = refl
 after-more (g ∷ fs) f r = ap (λ (x : RowsRead). record { rows = form_row (field_of g).name (field_of g).required (field_of g).form x.rows; faults = x.faults }) (after-more fs f r)
 
-one_more : (sc : Scope) (k : List ℕ) (d : Data) (ms : Members) (f : FormField) → (required_faults (get (codes "required") d) ++ (type_read sc true d).faults ≡ [])
-    → field_of f ≡ record { name = k; required = is_required (get (codes "required") d); form = (type_read sc true d).form }
+one_more : (sc : Scope) (k : List ℕ) (d : Data) (ms : Members) (f : FormField) → (required_faults (get (codes "required") d) ++ (type_read sc Attribute d).faults ≡ [])
+    → field_of f ≡ record { name = k; required = is_required (get (codes "required") d); form = (type_read sc Attribute d).form }
     → after (f ∷ []) (all_rows sc ms) ≡ all_rows sc (member k d ms)
 unfolding all_rows
 one_more sc k d ms f none is =
     let rest = all_rows sc ms in
     ap (λ (x : FieldTree). record { rows = form_row x.name x.required x.form rest.rows; faults = rest.faults }) is
-    ∙ ap (λ (fs : List SchemaFault). record { rows = form_row k (is_required (get (codes "required") d)) (type_read sc true d).form rest.rows; faults = fs ++ rest.faults }) (sym none)
+    ∙ ap (λ (fs : List SchemaFault). record { rows = form_row k (is_required (get (codes "required") d)) (type_read sc Attribute d).form rest.rows; faults = fs ++ rest.faults }) (sym none)
 
-pub field_read : (sc : Scope) (k : List ℕ) (d : Data) (ms : Members) (fs : List FormField) (f : FormField) (W : RowsRead) → (required_faults (get (codes "required") d) ++ (type_read sc true d).faults ≡ [])
-    → field_of f ≡ record { name = k; required = is_required (get (codes "required") d); form = (type_read sc true d).form }
+pub field_read : (sc : Scope) (k : List ℕ) (d : Data) (ms : Members) (fs : List FormField) (f : FormField) (W : RowsRead) → (required_faults (get (codes "required") d) ++ (type_read sc Attribute d).faults ≡ [])
+    → field_of f ≡ record { name = k; required = is_required (get (codes "required") d); form = (type_read sc Attribute d).form }
     → after fs (all_rows sc (member k d ms)) ≡ W → after (fs ++ f ∷ []) (all_rows sc ms) ≡ W
 field_read sc k d ms fs f W none is all = after-more fs f (all_rows sc ms) ∙ ap (after fs) (one_more sc k d ms f none is) ∙ all
 
 pub field_refused : (sc : Scope) (k : List ℕ) (d : Data) (ms : Members) (fs : List FormField) (W : RowsRead) (e : SchemaFault) → after fs (all_rows sc (member k d ms)) ≡ W
-    → Told (required_faults (get (codes "required") d) ++ (type_read sc true d).faults) e → Told W.faults e
+    → Told (required_faults (get (codes "required") d) ++ (type_read sc Attribute d).faults) e → Told W.faults e
 unfolding all_rows
 field_refused sc k d ms fs W e all h =
     let same : (all_rows sc (member k d ms)).faults ≡ W.faults = sym (after-faults fs (all_rows sc (member k d ms))) ∙ ap (λ (r : RowsRead). r.faults) all in
@@ -163,27 +165,27 @@ fields_end sc fs W all =
     (sym (ap (λ (r : RowsRead). r.faults) all) ∙ after-faults fs no_rows_read, sym (after-end fs) ∙ ap (λ (r : RowsRead). r.rows) all)
 
 -- a type's own faults, beside those of its parts
-pub type_refused : (sc : Scope) (a : Bool) (d : Data) (ms : Members) (s : List ℕ) (e : SchemaFault) → Some ms ≡ as_object d → Some s ≡ text_at (codes "type") d
-    → Told (key_faults (may_have (kind_named s) a) ms) e → Told (type_read sc a d).faults e
+pub type_refused : (sc : Scope) (a : Position) (d : Data) (ms : Members) (s : List ℕ) (e : SchemaFault) → Some ms ≡ as_object d → Some s ≡ text_at (codes "type") d
+    → Told (key_faults (may_have sc.language (kind_in sc.language s) a) ms) e → Told (type_read sc a d).faults e
 type_refused sc a d ms s e is text h =
-    let k : Told (unknown_keys (may_have (kind_named s) a) d) e = subst (λ fs. Told fs e) (sym (unknown_keys-object (may_have (kind_named s) a) d ms is)) h in
+    let k : Told (unknown_keys (may_have sc.language (kind_in sc.language s) a) d) e = subst (λ fs. Told fs e) (sym (unknown_keys-object (may_have sc.language (kind_in sc.language s) a) d ms is)) h in
     subst (λ (r : Read). Told r.faults e) (sym (type_read-parts sc a d ms (Some s) is text)) (told_first _ _ e k)
 
-pub type_reads : (sc : Scope) (a : Bool) (d : Data) (ms : Members) (s : List ℕ) (result : Result Form SchemaFault) → Some ms ≡ as_object d → Some s ≡ text_at (codes "type") d
-    → key_faults (may_have (kind_named s) a) ms ≡ []
-    → Reads result (of_kind sc d s (kind_named s) (option_map (type_read sc false) (get (codes "element") d)) (option_map (rows_read sc) (get (codes "attributes") d)))
+pub type_reads : (sc : Scope) (a : Position) (d : Data) (ms : Members) (s : List ℕ) (result : Result Form SchemaFault) → Some ms ≡ as_object d → Some s ≡ text_at (codes "type") d
+    → key_faults (may_have sc.language (kind_in sc.language s) a) ms ≡ []
+    → Reads result (of_kind sc d s (kind_in sc.language s) (option_map (type_read sc Inner) (get (codes "element") d)) (option_map (rows_read sc) (get (codes "attributes") d)))
     → Reads result (type_read sc a d)
 type_reads sc a d ms s result is text none h =
     subst (λ (r : Read). Reads result r) (sym (type_read-parts sc a d ms (Some s) is text))
-    (reads_after (unknown_keys (may_have (kind_named s) a) d) _ result (unknown_keys-object (may_have (kind_named s) a) d ms is ∙ none) h)
+    (reads_after (unknown_keys (may_have sc.language (kind_in sc.language s) a) d) _ result (unknown_keys-object (may_have sc.language (kind_in sc.language s) a) d ms is ∙ none) h)
 
 shape_there : Told (Shape ∷ []) Shape
 shape_there n = (0, lit< tt, refl)
 
-pub type_no_object : (sc : Scope) (a : Bool) (d : Data) → None ≡ as_object d → Told (type_read sc a d).faults Shape
+pub type_no_object : (sc : Scope) (a : Position) (d : Data) → None ≡ as_object d → Told (type_read sc a d).faults Shape
 type_no_object sc a d e = subst (λ (r : Read). Told r.faults Shape) (sym (type_read-other sc a d (sym e))) shape_there
 
-pub type_no_text : (sc : Scope) (a : Bool) (d : Data) (ms : Members) → Some ms ≡ as_object d → None ≡ text_at (codes "type") d → Told (type_read sc a d).faults Shape
+pub type_no_text : (sc : Scope) (a : Position) (d : Data) (ms : Members) → Some ms ≡ as_object d → None ≡ text_at (codes "type") d → Told (type_read sc a d).faults Shape
 type_no_text sc a d ms is text = subst (λ (r : Read). Told r.faults Shape) (sym (type_read-parts sc a d ms None is text)) shape_there
 
 pub rows_no_object : (sc : Scope) (d : Data) → None ≡ as_object d → Told (rows_read sc d).faults Shape

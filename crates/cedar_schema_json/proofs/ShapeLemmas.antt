@@ -6,6 +6,7 @@ use Rattle.serde_json.specs.View.{members_view}
 use Rattle.serde_json.proofs.Views.{Entry}
 use Rattle.cedar_schema_json.specs.declared.schema_fault.SchemaFault.{SchemaFault}
 use Rattle.cedar_schema_json.specs.declared.schema_fault.SchemaFault.TheVariants.{Shape}
+use Rattle.cedar_schema_json.specs.declared.form.position.Position.TheVariants.{Inner}
 use Rattle.cedar_schema_json.specs.Faults.{Told}
 use Rattle.cedar_schema_json.specs.Forms.{FormTree}
 use Rattle.cedar_schema_types.specs.Types.{TypeTree, is_record}
@@ -20,26 +21,26 @@ abbrev is_no_record : Option TypeTree → Bool
 is_no_record o = not (is_record (record_or_empty o))
 
 module _ (sc : Scope) (t : Table) (d : Data) where
-  pub shape_form : (e : SchemaFault) → Told (type_read sc false d).faults e → Told (record_type sc t (Some d)).faults e
+  pub shape_form : (e : SchemaFault) → Told (type_read sc Inner d).faults e → Told (record_type sc t (Some d)).faults e
   unfolding record_type
   shape_form e h = told_first _ _ e h
 
-  pub shape_type : (f : FormTree) (e : SchemaFault) → f ≡ (type_read sc false d).form → Told (typed t f).faults e → Told (record_type sc t (Some d)).faults e
+  pub shape_type : (f : FormTree) (e : SchemaFault) → f ≡ (type_read sc Inner d).form → Told (typed t f).faults e → Told (record_type sc t (Some d)).faults e
   unfolding record_type
-  shape_type f e is h = told_then (type_read sc false d).faults _ e (told_first _ _ e (subst (λ (g : FormTree). Told (typed t g).faults e) is h))
+  shape_type f e is h = told_then (type_read sc Inner d).faults _ e (told_first _ _ e (subst (λ (g : FormTree). Told (typed t g).faults e) is h))
 
-  pub shape_kind : (f : FormTree) (ty : TypeTree) (b : Bool) → f ≡ (type_read sc false d).form → Some ty ≡ (typed t f).ty → b ≡ is_record ty → b ≡ false → Told (record_type sc t (Some d)).faults Shape
+  pub shape_kind : (f : FormTree) (ty : TypeTree) (b : Bool) → f ≡ (type_read sc Inner d).form → Some ty ≡ (typed t f).ty → b ≡ is_record ty → b ≡ false → Told (record_type sc t (Some d)).faults Shape
   unfolding record_type
   shape_kind f ty b is made tested no' =
-      let none : is_no_record (typed t (type_read sc false d).form).ty ≡ true = ap (λ (g : FormTree). is_no_record (typed t g).ty) (sym is) ∙ ap is_no_record (sym made) ∙ ap not (sym tested ∙ no') in
-      told_then (type_read sc false d).faults _ Shape (told_then (typed t (type_read sc false d).form).faults _ Shape (subst (λ (x : Bool). Told (fault_if x Shape) Shape) (sym none) (told_here Shape)))
+      let none : is_no_record (typed t (type_read sc Inner d).form).ty ≡ true = ap (λ (g : FormTree). is_no_record (typed t g).ty) (sym is) ∙ ap is_no_record (sym made) ∙ ap not (sym tested ∙ no') in
+      told_then (type_read sc Inner d).faults _ Shape (told_then (typed t (type_read sc Inner d).form).faults _ Shape (subst (λ (x : Bool). Told (fault_if x Shape) Shape) (sym none) (told_here Shape)))
 
-  pub shape_fine : (f : FormTree) (ty : TypeTree) (b : Bool) → (type_read sc false d).faults ≡ [] → f ≡ (type_read sc false d).form → (typed t f).faults ≡ [] → Some ty ≡ (typed t f).ty → b ≡ is_record ty → b ≡ true
+  pub shape_fine : (f : FormTree) (ty : TypeTree) (b : Bool) → (type_read sc Inner d).faults ≡ [] → f ≡ (type_read sc Inner d).form → (typed t f).faults ≡ [] → Some ty ≡ (typed t f).ty → b ≡ is_record ty → b ≡ true
       → ((record_type sc t (Some d)).faults ≡ []) × (Some ty ≡ (record_type sc t (Some d)).ty)
   unfolding record_type
   shape_fine f ty b none is fine made tested yes' =
-      let all : is_no_record (typed t (type_read sc false d).form).ty ≡ false = ap (λ (g : FormTree). is_no_record (typed t g).ty) (sym is) ∙ ap is_no_record (sym made) ∙ ap not (sym tested ∙ yes') in
-      let typed_fine : (typed t (type_read sc false d).form).faults ≡ [] = ap (λ (g : FormTree). (typed t g).faults) (sym is) ∙ fine in
+      let all : is_no_record (typed t (type_read sc Inner d).form).ty ≡ false = ap (λ (g : FormTree). is_no_record (typed t g).ty) (sym is) ∙ ap is_no_record (sym made) ∙ ap not (sym tested ∙ yes') in
+      let typed_fine : (typed t (type_read sc Inner d).form).faults ≡ [] = ap (λ (g : FormTree). (typed t g).faults) (sym is) ∙ fine in
       ((λ i. none i ++ (typed_fine i ++ fault_if (all i) Shape)), made ∙ ap (λ (g : FormTree). (typed t g).ty) is)
 
 -- ---- where there has to be an object without members

@@ -1,3 +1,4 @@
+pub mod Annotations
 pub mod Ends
 pub mod Entries
 pub mod EntryView

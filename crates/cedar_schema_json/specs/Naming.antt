@@ -41,6 +41,11 @@ unfoldable pub resolved : List (List ℕ) → List ℕ → List ℕ → Option D
 resolved names namespace name =
     if list_any (nat_eq 58) name then listed names name else or_else (listed names (qualified namespace name)) (listed names name)
 
+-- The full name that a name in a namespace is first looked for: one with `::` is that itself (Cedar documentation, JSON schema
+-- format: namespaces).
+unfoldable pub whole_name : List ℕ → List ℕ → List ℕ
+whole_name namespace name = if list_any (nat_eq 58) name then name else qualified namespace name
+
 -- One fault, where the test is true, and else none (own).
 abbrev pub fault_if : Bool → SchemaFault → List SchemaFault
 fault_if true e = e ∷ []

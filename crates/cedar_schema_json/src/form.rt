@@ -3,6 +3,7 @@ pub(crate) mod chains;
 pub(crate) mod expansion;
 pub(crate) mod kind;
 pub(crate) mod measure;
+pub(crate) mod position;
 pub(crate) mod reading;
 pub(crate) mod shape;
 pub(crate) mod table;

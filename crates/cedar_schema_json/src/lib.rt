@@ -2,9 +2,9 @@
 //!
 //! ```rust
 //! use cedar_ext::Language;
-//! use cedar_schema_json::{NameTable, Scope, check_spaces, entries_of, names_of, read_type};
+//! use cedar_schema_json::{NameTable, Position, Scope, check_spaces, entries_of, names_of, read_type};
 //!
-//! check_spaces(alloc, root)?;
+//! check_spaces(alloc, Language::Profile, root)?;
 //! let commons = entries_of(alloc, root, "commonTypes")?;
 //! let common_names = NameTable::new(alloc, names_of(alloc, &commons)?)?;
 //! let entities = entries_of(alloc, root, "entityTypes")?;
@@ -16,7 +16,7 @@
 //!         entities: &entity_names,
 //!         commons: &common_names,
 //!     };
-//!     let form = read_type(alloc, &scope, entry.body, false)?;
+//!     let form = read_type(alloc, &scope, entry.body, Position::CommonType)?;
 //! }
 //! ```
 //!
@@ -30,6 +30,7 @@ mod schema_fault;
 
 pub use form::chains::ends_of;
 pub use form::expansion::judge;
+pub use form::position::Position;
 pub use form::reading::{read_type, text_at};
 pub use form::shape::{check_empty, read_record_type};
 pub use form::table::Table;

@@ -25,7 +25,7 @@ pub enum SchemaFault {
     #[error("an action that is below itself")]
     ActionCycle,
     /// 306: a name with the word `__cedar`, an entity type `Action`, or a common type with the name
-    /// of a built-in type.
+    /// of a built-in type; in Cedar 4 also a type of a namespace with the name of one in the empty namespace.
     #[error("a reserved name")]
     ReservedName,
     /// 307: a record with `additionalAttributes`.

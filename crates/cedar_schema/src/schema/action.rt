@@ -101,9 +101,10 @@ pub(crate) fn read_action(
         × (a ≡ action_of (scope_of scope.now) (table_of table.entry.forms.now) uids.now.keys (entry_of entry.entry)))
         (λ e. Told (action_faults (scope_of scope.now) (table_of table.entry.forms.now) uids.now.keys (entry_of entry.entry)) e) }
 {
-    check_part(Part::Action, entry.body)?;
+    check_part(scope.language, Part::Action, entry.body)?;
     let parents = read_members_at(
         alloc,
+        scope.language,
         uids,
         scope.namespace,
         present(entry.body, "memberOf"),
@@ -152,7 +153,7 @@ fn read_given(
     requires { AreEnds (table_of table.forms.now) table.ends.now }
     ensures { ReadsApplies result (applies_read (scope_of scope.now) (table_of table.entry.forms.now) (Some (view json.now))) }
 {
-    check_part(Part::AppliesTo, json)?;
+    check_part(scope.language, Part::AppliesTo, json)?;
     let missing = Some(SchemaFault::Unspecified);
     let principals = read_names_at(alloc, scope, json.get("principalTypes"), missing)?;
     let resources = read_names_at(alloc, scope, json.get("resourceTypes"), missing)?;

@@ -1,6 +1,7 @@
 //! The declarations of a schema, entry by entry.
-ghost use Rattle.std.specs.Prelude.{◌≡◌, [], false, MatchResult};
+ghost use Rattle.std.specs.Prelude.{◌≡◌, [], MatchResult};
 ghost use Rattle.cedar_schema_json.specs.Faults.{Told};
+ghost use Rattle.cedar_schema_json.specs.declared.form.position.Position.TheVariants.{CommonType};
 ghost use Rattle.cedar_schema_json.specs.Reading.{type_read};
 ghost use Rattle.cedar_schema_json.specs.FormView.{form_of};
 ghost use Rattle.cedar_schema_json.specs.Ends.{AreEnds};
@@ -16,8 +17,8 @@ use crate::schema::entity_type::{EntityType, read_entity_type};
 use crate::schema::members::uid_of;
 use cedar_ext::Language;
 use cedar_schema_json::{
-    Entry, Form, NameTable, SchemaFault, Scope, Table, check_common_key, judge, qualified,
-    read_type,
+    Entry, Form, NameTable, Position, SchemaFault, Scope, Table, check_common_key, judge,
+    qualified, read_type,
 };
 use cedar_value::{Name, Uid};
 use std::alloc::Global;
@@ -64,17 +65,17 @@ fn read_form(
 ) -> Result<Form, SchemaFault>
     ensures { MatchResult result
         (λ f. (common_faults language entities.now commons.now (entry_of entry.entry) ≡ [])
-        × (form_of f ≡ (type_read (scope_at language entities.now commons.now (entry_of entry.entry).namespace) false (entry_of entry.entry).body).form))
+        × (form_of f ≡ (type_read (scope_at language entities.now commons.now (entry_of entry.entry).namespace) CommonType (entry_of entry.entry).body).form))
         (λ e. Told (common_faults language entities.now commons.now (entry_of entry.entry)) e) }
 {
-    check_common_key(alloc, entry.key)?;
     let scope = Scope {
         language,
         namespace: entry.namespace,
         entities,
         commons,
     };
-    read_type(alloc, &scope, entry.body, false)
+    check_common_key(alloc, &scope, entry.key)?;
+    read_type(alloc, &scope, entry.body, Position::CommonType)
 }
 
 /// Refuses a common type that is too large or leads back to itself.

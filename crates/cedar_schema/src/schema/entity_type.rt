@@ -48,8 +48,8 @@ pub(crate) fn read_entity_type(
         × (e ≡ entity_type_of (scope_of scope.now) (table_of table.entry.forms.now) (entry_of entry.entry)))
         (λ e. Told (entity_type_faults (scope_of scope.now) (table_of table.entry.forms.now) (entry_of entry.entry)) e) }
 {
-    check_entity_key(alloc, entry.key)?;
-    check_part(Part::EntityType, entry.body)?;
+    check_entity_key(alloc, scope, entry.key)?;
+    check_part(scope.language, Part::EntityType, entry.body)?;
     let parents = read_names_at(alloc, scope, entry.body.get("memberOfTypes"), None)?;
     let shape = read_record_type(alloc, scope, table, entry.body.get("shape"))?;
     Ok(EntityType { parents, shape })

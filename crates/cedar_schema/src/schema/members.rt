@@ -7,6 +7,7 @@ ghost use Rattle.cedar_schema.specs.Schemas.{uids_onto};
 ghost use Rattle.cedar_schema_json.specs.EntryView.{entries_view, entry_of};
 ghost use Rattle.cedar_schema_json.specs.ReadsLists.{ReadsList, ReadsItem};
 
+use cedar_ext::Language;
 use cedar_schema_json::{
     Entry, Part, SchemaFault, check_part, has_colon, qualified, read_name, text_at,
 };
@@ -39,32 +40,34 @@ pub(crate) fn uid_of(alloc: Global, entry: Entry<'_>) -> Result<Uid, AllocError>
 /// The uids of a list of members.
 pub(crate) fn read_members_at(
     alloc: Global,
+    language: Language,
     uids: &BTreeSet<Uid>,
     namespace: &str,
     list: Option<&Value>,
 ) -> Result<Vec<Uid>, SchemaFault>
-    ensures { ReadsList result (list_at (member_read uids.now.keys namespace.now) [] (option_map (λ v. view v.now) list.entry)) }
+    ensures { ReadsList result (list_at (member_read language uids.now.keys namespace.now) [] (option_map (λ v. view v.now) list.entry)) }
 {
     match list {
         None => Ok(Vec::new(alloc)),
         Some(list) => match list.as_array() {
             None => Err(SchemaFault::Shape),
-            Some(items) => read_members(alloc, uids, namespace, items),
+            Some(items) => read_members(alloc, language, uids, namespace, items),
         },
     }
 }
 
 fn read_members(
     alloc: Global,
+    language: Language,
     uids: &BTreeSet<Uid>,
     namespace: &str,
     items: &Vec<Value>,
 ) -> Result<Vec<Uid>, SchemaFault>
-    ensures { ReadsList result (each_read (member_read uids.now.keys namespace.now) (items_view items.now.items)) }
+    ensures { ReadsList result (each_read (member_read language uids.now.keys namespace.now) (items_view items.now.items)) }
 {
     let mut members = Vec::new(alloc);
     for i in 0..items.len() {
-        let member = read_member(alloc, uids, namespace, &items[i])?;
+        let member = read_member(alloc, language, uids, namespace, &items[i])?;
         members.push(member)?;
     }
     Ok(members)
@@ -73,13 +76,14 @@ fn read_members(
 #[tactic(auto, unfolding(crate::specs::Declaring::member_read))]
 fn read_member(
     alloc: Global,
+    language: Language,
     uids: &BTreeSet<Uid>,
     namespace: &str,
     json: &Value,
 ) -> Result<Uid, SchemaFault>
-    ensures { ReadsItem result (member_read uids.now.keys namespace.now (view json.now)) }
+    ensures { ReadsItem result (member_read language uids.now.keys namespace.now (view json.now)) }
 {
-    check_part(Part::Member, json)?;
+    check_part(language, Part::Member, json)?;
     match text_at(json, "id") {
         None => Err(SchemaFault::Shape),
         Some(id) => read_by_id(alloc, uids, namespace, id, json.get("type")),

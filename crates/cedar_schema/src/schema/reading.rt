@@ -42,7 +42,7 @@ fn read_root(
 ) -> Result<Schema, SchemaFault>
     ensures { Answers result (written_faults language (members_view root.now.entries)) (schema_of language (members_view root.now.entries)) }
 {
-    check_spaces(alloc, root)?;
+    check_spaces(alloc, language, root)?;
     let commons = entries_of(alloc, root, "commonTypes")?;
     let entities = entries_of(alloc, root, "entityTypes")?;
     let actions = entries_of(alloc, root, "actions")?;

@@ -9,6 +9,7 @@ ghost use Rattle.cedar_schema_types.specs.Types.{is_record};
 ghost use Rattle.cedar_schema_json.specs.Shapes.{record_type, empty_faults};
 
 use crate::form::expansion::build;
+use crate::form::position::Position;
 use crate::form::reading::read_type;
 use crate::form::table::Table;
 use crate::json::scope::Scope;
@@ -47,7 +48,7 @@ fn read_given(
     requires { AreEnds (table_of table.forms.now) table.ends.now }
     ensures { Expands result (record_type (scope_of scope.now) (table_of table.entry.forms.now) (Some (view json.now))) }
 {
-    let form = read_type(alloc, scope, json, false)?;
+    let form = read_type(alloc, scope, json, Position::Inner)?;
     let ty = build(alloc, table, &form)?;
     if is_record(&ty) {
         Ok(ty)

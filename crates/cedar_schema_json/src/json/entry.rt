@@ -3,13 +3,16 @@ ghost use Rattle.std.specs.Prelude.{◌≡◌, ◌++◌, [], map, IfOk, OnOk, Ma
 ghost use Rattle.serde_json.specs.View.{view, members_view};
 ghost use Rattle.serde_json.specs.Find.{get, as_object};
 ghost use Rattle.cedar_schema_json.specs.Faults.{Told};
-ghost use Rattle.cedar_schema_json.specs.Entries.{entries, entries_in, section, whole_names, namespace_faults, space_faults, root_faults, object_faults, key_text_faults, entity_key_faults, common_key_faults};
+ghost use Rattle.cedar_schema_json.specs.Entries.{entries, entries_in, section, whole_names, namespace_faults, space_faults, root_faults, object_faults, key_text_faults, entity_key_faults, common_key_faults, is_declared, is_kept, shadow_faults, shadows};
+ghost use Rattle.cedar_schema_json.specs.Reads.{scope_of};
 ghost use Rattle.cedar_schema_json.specs.EntryView.{entries_view, entry_of};
 
 use crate::form::kind::{Kind, kind_named};
 use crate::json::naming::{has_colon, qualified, read_name};
 use crate::json::part::{Part, check_part};
+use crate::json::scope::Scope;
 use crate::schema_fault::SchemaFault;
+use cedar_ext::Language;
 use cedar_value::Name;
 use serde_json::{Map, Value};
 use std::alloc::{AllocError, Global};
@@ -89,25 +92,34 @@ pub fn names_of(alloc: Global, entries: &[Entry<'_>]) -> Result<Vec<Name>, Alloc
 /// # Errors
 ///
 /// 1 when out of memory, and otherwise 302 or 306 only where that fault is in a namespace.
-pub fn check_spaces(alloc: Global, root: &Map<String, Value>) -> Result<(), SchemaFault>
+pub fn check_spaces(
+    alloc: Global,
+    language: Language,
+    root: &Map<String, Value>,
+) -> Result<(), SchemaFault>
     ensures { MatchResult result
-        (λ _. root_faults (members_view root.now.entries) ≡ [])
-        (λ e. Told (root_faults (members_view root.now.entries)) e) }
+        (λ _. root_faults language (members_view root.now.entries) ≡ [])
+        (λ e. Told (root_faults language (members_view root.now.entries)) e) }
 {
     for (namespace, space) in root.iter() {
-        check_space(alloc, namespace.as_str(), space)?;
+        check_space(alloc, language, namespace.as_str(), space)?;
     }
     Ok(())
 }
 
 #[tactic(auto, unfolding(crate::specs::Entries::space_faults))]
-fn check_space(alloc: Global, namespace: &str, space: &Value) -> Result<(), SchemaFault>
+fn check_space(
+    alloc: Global,
+    language: Language,
+    namespace: &str,
+    space: &Value,
+) -> Result<(), SchemaFault>
     ensures { MatchResult result
-        (λ _. space_faults namespace.now (view space.now) ≡ [])
-        (λ e. Told (space_faults namespace.now (view space.now)) e) }
+        (λ _. space_faults language namespace.now (view space.now) ≡ [])
+        (λ e. Told (space_faults language namespace.now (view space.now)) e) }
 {
     check_namespace(alloc, namespace)?;
-    check_part(Part::Namespace, space)?;
+    check_part(language, Part::Namespace, space)?;
     check_section(space, "entityTypes")?;
     check_section(space, "actions")?;
     check_section(space, "commonTypes")
@@ -152,22 +164,65 @@ fn check_key(alloc: Global, key: &str) -> Result<(), SchemaFault>
     }
 }
 
+// Whether a definition of a namespace would have the name of one of the empty namespace.
+#[tactic(auto, unfolding(crate::specs::Entries::shadows, crate::specs::Naming::qualified))]
+fn shadows(alloc: Global, scope: &Scope<'_>, key: &str) -> Result<bool, AllocError>
+    ensures { IfOk result (λ b. b ≡ shadows (scope_of scope.now) key.now) }
+{
+    if scope.namespace.is_empty() {
+        return Ok(false);
+    }
+    let name = qualified(alloc, "", key)?;
+    Ok(is_declared(scope, &name))
+}
+
+// Whether a full name is that of an entity type or of a common type.
+fn is_declared(scope: &Scope<'_>, name: &Name) -> bool
+    ensures { result ≡ is_declared (scope_of scope.now) name.now }
+{
+    scope.entities.place(name).is_some() || scope.commons.place(name).is_some()
+}
+
+// Refuses, in Cedar 4, a definition of a namespace that has the name of one of the empty namespace.
+fn check_shadowing(alloc: Global, scope: &Scope<'_>, key: &str) -> Result<(), SchemaFault>
+    ensures { MatchResult result
+        (λ _. shadow_faults scope.now.language (scope_of scope.now) key.now ≡ [])
+        (λ e. Told (shadow_faults scope.now.language (scope_of scope.now) key.now) e) }
+{
+    match scope.language {
+        Language::Cedar4 if shadows(alloc, scope, key)? => Err(SchemaFault::ReservedName),
+        _ => Ok(()),
+    }
+}
+
 /// Refuses a key that is not a name of an entity type.
 ///
 /// # Errors
 ///
-/// 1 when out of memory, 302 where the key is not an identifier, 306 where it is reserved or `Action`.
+/// 1 when out of memory, 302 where the key is not an identifier, 306 where it is reserved or `Action`, and in Cedar 4 where the
+/// namespace is not the empty one and this has a definition of the name.
 #[tactic(auto, unfolding(crate::specs::Entries::entity_key_faults))]
-pub fn check_entity_key(alloc: Global, key: &str) -> Result<(), SchemaFault>
+pub fn check_entity_key(alloc: Global, scope: &Scope<'_>, key: &str) -> Result<(), SchemaFault>
     ensures { MatchResult result
-        (λ _. entity_key_faults key.now ≡ [])
-        (λ e. Told (entity_key_faults key.now) e) }
+        (λ _. entity_key_faults (scope_of scope.now) key.now ≡ [])
+        (λ e. Told (entity_key_faults (scope_of scope.now) key.now) e) }
 {
     check_key(alloc, key)?;
     if key == "Action" {
-        Err(SchemaFault::ReservedName)
-    } else {
-        Ok(())
+        return Err(SchemaFault::ReservedName);
+    }
+    check_shadowing(alloc, scope, key)
+}
+
+// Whether no common type may have the name.
+#[tactic(auto, unfolding(crate::specs::Entries::is_kept))]
+fn is_kept(language: Language, key: &str) -> bool
+    ensures { result ≡ is_kept language key.now }
+{
+    match (language, kind_named(key)) {
+        (Language::Cedar4, Kind::Named) => key == "Bool",
+        (Language::Profile, Kind::Named) => false,
+        _ => true,
     }
 }
 
@@ -175,16 +230,17 @@ pub fn check_entity_key(alloc: Global, key: &str) -> Result<(), SchemaFault>
 ///
 /// # Errors
 ///
-/// 1 when out of memory, 302 where the key is not an identifier, 306 where it is reserved or the name of a built-in type.
+/// 1 when out of memory, 302 where the key is not an identifier, 306 where it is reserved or the name of a built-in type, and in
+/// Cedar 4 where the namespace is not the empty one and this has a definition of the name.
 #[tactic(auto, unfolding(crate::specs::Entries::common_key_faults))]
-pub fn check_common_key(alloc: Global, key: &str) -> Result<(), SchemaFault>
+pub fn check_common_key(alloc: Global, scope: &Scope<'_>, key: &str) -> Result<(), SchemaFault>
     ensures { MatchResult result
-        (λ _. common_key_faults key.now ≡ [])
-        (λ e. Told (common_key_faults key.now) e) }
+        (λ _. common_key_faults (scope_of scope.now) key.now ≡ [])
+        (λ e. Told (common_key_faults (scope_of scope.now) key.now) e) }
 {
     check_key(alloc, key)?;
-    match kind_named(key) {
-        Kind::Common => Ok(()),
-        _ => Err(SchemaFault::ReservedName),
+    if is_kept(scope.language, key) {
+        return Err(SchemaFault::ReservedName);
     }
+    check_shadowing(alloc, scope, key)
 }

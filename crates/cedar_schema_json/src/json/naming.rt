@@ -2,7 +2,7 @@
 ghost use Rattle.std.specs.Prelude.{◌≡◌, ◌++◌, [], nat_eq, codes, Some, IfOk, MatchResult, string_bytes};
 ghost use Rattle.std.specs.List.{list_any};
 ghost use Rattle.cedar_schema_json.specs.Faults.{Told};
-ghost use Rattle.cedar_schema_json.specs.Naming.{is_reserved, listed, qualified, resolved, text_faults, name_faults};
+ghost use Rattle.cedar_schema_json.specs.Naming.{is_reserved, listed, qualified, resolved, text_faults, name_faults, whole_name};
 
 use crate::json::name_table::NameTable;
 use crate::schema_fault::SchemaFault;
@@ -88,6 +88,18 @@ pub fn qualified(alloc: Global, namespace: &str, name: &str) -> Result<Name, All
 {
     let path = Text::new(qualified_text(alloc, namespace, name)?);
     Name::new(alloc, path)
+}
+
+/// The full name that a name in a namespace is first looked for.
+#[tactic(auto, unfolding(crate::specs::Naming::qualified, crate::specs::Naming::whole_name))]
+pub(crate) fn whole_name(alloc: Global, namespace: &str, text: &str) -> Result<Name, AllocError>
+    ensures { IfOk result (λ n. n ≡ whole_name namespace.now text.now) }
+{
+    if has_colon(text) {
+        qualified(alloc, "", text)
+    } else {
+        qualified(alloc, namespace, text)
+    }
 }
 
 #[tactic(auto, unfolding(crate::specs::Naming::qualified))]

@@ -6,7 +6,9 @@ ghost use Rattle.cedar_schema_json.specs.Faults.{Told};
 ghost use Rattle.cedar_schema_json.specs.Reading.{key_faults};
 ghost use Rattle.cedar_schema_json.specs.Entries.{belongs, part_faults, unless_null};
 
+use crate::json::annotations::is_annotation;
 use crate::schema_fault::SchemaFault;
+use cedar_ext::Language;
 use serde_json::{Map, Value};
 
 /// An object of a schema.
@@ -25,37 +27,53 @@ pub enum Part {
 }
 
 #[tactic(auto, unfolding(crate::specs::Entries::belongs))]
-fn belongs(part: Part, key: &str) -> bool
-    ensures { result ≡ belongs part key.now }
+fn belongs(language: Language, part: Part, key: &str, json: &Value) -> bool
+    ensures { result ≡ belongs language part key.now (view json.now) }
 {
     match part {
-        Part::Namespace => key == "entityTypes" || key == "actions" || key == "commonTypes",
-        Part::EntityType => key == "memberOfTypes" || key == "shape",
-        Part::Action => key == "memberOf" || key == "appliesTo" || key == "attributes",
+        Part::Namespace => {
+            key == "entityTypes"
+                || key == "actions"
+                || key == "commonTypes"
+                || is_annotation(language, key, json)
+        }
+        Part::EntityType => {
+            key == "memberOfTypes" || key == "shape" || is_annotation(language, key, json)
+        }
+        Part::Action => {
+            key == "memberOf"
+                || key == "appliesTo"
+                || key == "attributes"
+                || is_annotation(language, key, json)
+        }
         Part::AppliesTo => key == "principalTypes" || key == "resourceTypes" || key == "context",
         Part::Member => key == "id" || key == "type",
     }
 }
 
-/// Refuses, with 302, a JSON that is not an object of these keys alone.
-pub fn check_part(part: Part, json: &Value) -> Result<(), SchemaFault>
+/// Refuses, with 302, a JSON that is not an object of the keys that the part has in a language.
+pub fn check_part(language: Language, part: Part, json: &Value) -> Result<(), SchemaFault>
     ensures { MatchResult result
-        (λ _. part_faults part (view json.now) ≡ [])
-        (λ e. Told (part_faults part (view json.now)) e) }
+        (λ _. part_faults language part (view json.now) ≡ [])
+        (λ e. Told (part_faults language part (view json.now)) e) }
 {
     match json.as_object() {
-        Some(members) => check_part_keys(part, members),
+        Some(members) => check_part_keys(language, part, members),
         None => Err(SchemaFault::Shape),
     }
 }
 
-fn check_part_keys(part: Part, members: &Map<String, Value>) -> Result<(), SchemaFault>
+fn check_part_keys(
+    language: Language,
+    part: Part,
+    members: &Map<String, Value>,
+) -> Result<(), SchemaFault>
     ensures { MatchResult result
-        (λ _. key_faults (belongs part) (members_view members.now.entries) ≡ [])
-        (λ e. Told (key_faults (belongs part) (members_view members.now.entries)) e) }
+        (λ _. key_faults (belongs language part) (members_view members.now.entries) ≡ [])
+        (λ e. Told (key_faults (belongs language part) (members_view members.now.entries)) e) }
 {
-    for (key, _) in members.iter() {
-        if !belongs(part, key.as_str()) {
+    for (key, json) in members.iter() {
+        if !belongs(language, part, key.as_str(), json) {
             return Err(SchemaFault::Shape);
         }
     }

@@ -6,14 +6,14 @@ use Rattle.cedar_schema_json.proofs.ListLemmas.{reading_start, items_here, readi
 use Rattle.cedar_schema.proofs.schema.members.read_members.Goals as goal
 
 pub loop-i-init : goal.loop-i-init
-loop-i-init c = reading_start (member_read c.args.uids.now.keys c.args.namespace.now) (items_view c.args.items.now.items) c.new-members.result.items c.new-members.ensures.items
+loop-i-init c = reading_start (member_read c.args.language c.args.uids.now.keys c.args.namespace.now) (items_view c.args.items.now.items) c.new-members.result.items c.new-members.ensures.items
 
 pub loop-i-preserved : goal.loop-i-preserved
 loop-i-preserved c =
     let n = c.len-i-end.ensures in
     let v = c.args.items.now.ok.0 in
     let here : c.loop-i.i < length c.args.items.now.items = omega arith in
-    reading_more (member_read c.args.uids.now.keys c.args.namespace.now) c.loop-i.members.items _ (items_view (drop (c.loop-i.i + 1) c.args.items.now.items)) _ (view c.index.result.now) c.in_ok-member.member _
+    reading_more (member_read c.args.language c.args.uids.now.keys c.args.namespace.now) c.loop-i.members.items _ (items_view (drop (c.loop-i.i + 1) c.args.items.now.items)) _ (view c.index.result.now) c.in_ok-member.member _
     (items_here c.args.items.now.items c.loop-i.i c.index.result.now here c.index.ensures) c.in_ok-push.ensures.items c.in_ok-member.ensures.0 c.in_ok-member.ensures.1 c.loop-i.invariant
 
 pub returns-in_err-member : goal.returns-in_err-member
@@ -22,11 +22,11 @@ returns-in_err-member c =
     let v = c.args.items.now.ok.0 in
     let here : c.loop-i.i < length c.args.items.now.items = omega arith in
     let p = err_from_is_err_and c.from_residual.result c.from_residual.ensures.1 in
-    rw (p.1, p.2) (reading_refused (member_read c.args.uids.now.keys c.args.namespace.now) c.loop-i.members.items _ (items_view (drop (c.loop-i.i + 1) c.args.items.now.items)) (items_view c.args.items.now.items) (view c.index.result.now) _
+    rw (p.1, p.2) (reading_refused (member_read c.args.language c.args.uids.now.keys c.args.namespace.now) c.loop-i.members.items _ (items_view (drop (c.loop-i.i + 1) c.args.items.now.items)) (items_view c.args.items.now.items) (view c.index.result.now) _
     (items_here c.args.items.now.items c.loop-i.i c.index.result.now here c.index.ensures) c.in_err-member.ensures c.loop-i.invariant)
 
 pub returns : goal.returns
 returns c =
     let n = c.len-i-end.ensures in
     let v = c.args.items.now.ok.0 in
-    reading_end (member_read c.args.uids.now.keys c.args.namespace.now) c.loop-i.members.items _ (items_view c.args.items.now.items) (ap items_view (drop_of_length-le c.args.items.now.items {i = c.loop-i.i} (omega arith))) c.loop-i.invariant
+    reading_end (member_read c.args.language c.args.uids.now.keys c.args.namespace.now) c.loop-i.members.items _ (items_view c.args.items.now.items) (ap items_view (drop_of_length-le c.args.items.now.items {i = c.loop-i.i} (omega arith))) c.loop-i.invariant

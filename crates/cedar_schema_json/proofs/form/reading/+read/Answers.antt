@@ -1,4 +1,4 @@
-use Rattle.std.proofs.Common.{◌≡◌, ◌≤◌, rules, ◌++◌, ◌∷◌, [], List, string_bytes, arith, codes, sym, ap, ◌∙◌, subst, append_assoc, option_map, false}
+use Rattle.std.proofs.Common.{◌≡◌, ◌≤◌, rules, ◌++◌, ◌∷◌, [], List, string_bytes, arith, codes, sym, ap, ◌∙◌, subst, append_assoc, option_map}
 use Rattle.std.proofs.lemmas.Result.{err_from_is_err_and}
 use Rattle.serde_json.specs.Data.{depth, members_depth}
 use Rattle.serde_json.specs.View.{view, members_view}
@@ -6,6 +6,7 @@ use Rattle.serde_json.proofs.Views.{Entry}
 use Rattle.cedar_schema_json.specs.declared.form.FormField.{FormField}
 use Rattle.cedar_schema_json.specs.Reading.{all_rows, key_faults, may_have, of_kind, type_read, rows_read}
 use Rattle.cedar_schema_json.specs.declared.form.kind.Kind.{Kind}
+use Rattle.cedar_schema_json.specs.declared.form.position.Position.TheVariants.{Inner}
 use Rattle.serde_json.specs.Find.{get}
 use Rattle.cedar_schema_json.specs.Reads.{Reads, scope_of}
 use Rattle.cedar_schema_json.specs.Faults.{Told}
@@ -21,11 +22,11 @@ read_record-read_attributes-requires t c =
     let p = depth_get (codes "attributes") (view c.args.json.now) (view c.in-Some.attributes.now) (sym c.in-Some.ensures) in search (rules, p)
 
 pub read_type-returns-in-None : goal.read_type-returns-in-None
-read_type-returns-in-None t c = type_no_object (scope_of c.args.scope.now) c.args.is_attribute (view c.args.json.now) c.in-None.ensures
+read_type-returns-in-None t c = type_no_object (scope_of c.args.scope.now) c.args.position (view c.args.json.now) c.in-None.ensures
 
 pub read_type-returns-in-None-text_at : goal.read_type-returns-in-None-text_at
 read_type-returns-in-None-text_at t c =
-    type_no_text (scope_of c.args.scope.now) c.args.is_attribute (view c.args.json.now) (members_view c.in-Some.members.now.entries) c.in-Some.ensures c.in-None-text_at.ensures
+    type_no_text (scope_of c.args.scope.now) c.args.position (view c.args.json.now) (members_view c.in-Some.members.now.entries) c.in-Some.ensures c.in-None-text_at.ensures
 
 pub read_type-returns-in_ok-check_keys-in-Some-text_at : goal.read_type-returns-in_ok-check_keys-in-Some-text_at
 read_type-returns-in_ok-check_keys-in-Some-text_at t c =
@@ -33,16 +34,16 @@ read_type-returns-in_ok-check_keys-in-Some-text_at t c =
     let d = view c.args.json.now in
     let s = c.in-Some-text_at.text.now in
     let ms = members_view c.in-Some.members.now.entries in
-    type_reads sc c.args.is_attribute d ms s c.read_kind.result c.in-Some.ensures c.in-Some-text_at.ensures
-    (subst (λ (k : Kind). key_faults (may_have k c.args.is_attribute) ms ≡ []) c.kind_named-kind.ensures c.in_ok-check_keys-in-Some-text_at.ensures)
-    (subst (λ (k : Kind). Reads c.read_kind.result (of_kind sc d s k (option_map (type_read sc false) (get (codes "element") d)) (option_map (rows_read sc) (get (codes "attributes") d)))) c.kind_named-kind.ensures c.read_kind.ensures)
+    type_reads sc c.args.position d ms s c.read_kind.result c.in-Some.ensures c.in-Some-text_at.ensures
+    (subst (λ (k : Kind). key_faults (may_have c.args.scope.now.language k c.args.position) ms ≡ []) c.kind_in-kind.ensures c.in_ok-check_keys-in-Some-text_at.ensures)
+    (subst (λ (k : Kind). Reads c.read_kind.result (of_kind sc d s k (option_map (type_read sc Inner) (get (codes "element") d)) (option_map (rows_read sc) (get (codes "attributes") d)))) c.kind_in-kind.ensures c.read_kind.ensures)
 
 pub read_type-returns-in_err-check_keys-in-Some-text_at : goal.read_type-returns-in_err-check_keys-in-Some-text_at
 read_type-returns-in_err-check_keys-in-Some-text_at t c =
     let p = err_from_is_err_and c.from_residual.result c.from_residual.ensures.1 in
-    rw (p.1, p.2) (type_refused (scope_of c.args.scope.now) c.args.is_attribute (view c.args.json.now) (members_view c.in-Some.members.now.entries) c.in-Some-text_at.text.now _
+    rw (p.1, p.2) (type_refused (scope_of c.args.scope.now) c.args.position (view c.args.json.now) (members_view c.in-Some.members.now.entries) c.in-Some-text_at.text.now _
     c.in-Some.ensures c.in-Some-text_at.ensures
-    (subst (λ (k : Kind). Told (key_faults (may_have k c.args.is_attribute) (members_view c.in-Some.members.now.entries)) c.in_err-check_keys-in-Some-text_at.field-0.0) c.kind_named-kind.ensures c.in_err-check_keys-in-Some-text_at.ensures))
+    (subst (λ (k : Kind). Told (key_faults (may_have c.args.scope.now.language k c.args.position) (members_view c.in-Some.members.now.entries)) c.in_err-check_keys-in-Some-text_at.field-0.0) c.kind_in-kind.ensures c.in_err-check_keys-in-Some-text_at.ensures))
 
 pub read_fields-read_field-requires : goal.read_fields-read_field-requires
 read_fields-read_field-requires t c =

@@ -4,4 +4,4 @@ use Rattle.cedar_schema_json.specs.Entries.{root_faults}
 use Rattle.cedar_schema_json.proofs.json.entry.check_spaces.Given as goal
 
 abbrev pub invariant-loop-namespace : goal.invariant-loop-namespace
-invariant-loop-namespace l = root_faults (members_view l.root.entries) ≡ root_faults (members_view l.namespace-iterator)
+invariant-loop-namespace l = root_faults l.language (members_view l.root.entries) ≡ root_faults l.language (members_view l.namespace-iterator)

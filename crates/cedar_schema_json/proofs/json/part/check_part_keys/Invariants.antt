@@ -6,4 +6,4 @@ use Rattle.cedar_schema_json.proofs.json.part.check_part_keys.Given as goal
 
 -- the faults of all keys are those of the keys that are left
 abbrev pub invariant-loop-key : goal.invariant-loop-key
-invariant-loop-key l = key_faults (belongs l.part) (members_view l.members.entries) ≡ key_faults (belongs l.part) (members_view l.key-iterator)
+invariant-loop-key l = key_faults (belongs l.language l.part) (members_view l.members.entries) ≡ key_faults (belongs l.language l.part) (members_view l.key-iterator)

@@ -156,7 +156,7 @@ pub(crate) const ENTITIES: &str =
 
 /// Of `--language`.
 pub(crate) const LANGUAGE: &str =
-    "Read the language of Cedar 3 (the default) or 4: 4 adds IP addresses, datetimes and durations";
+    "Read the language of Cedar 3 (the default) or 4: 4 adds IP addresses, datetimes, durations and other spellings";
 
 /// Of `--any-decimal`.
 pub(crate) const ANY_DECIMAL: &str =

@@ -5,7 +5,7 @@ use cedar_conform_values::ConformFault;
 use cedar_ext::Language;
 use cedar_files::{FileFault, Files, Role, Unread, read_policies, read_schema};
 use cedar_schema::Schema;
-use cedar_text::{TextFault, Token, tokens};
+use cedar_text::{TextFault, Token, normal_tokens, tokens};
 use std::alloc::{AllocError, Global};
 
 /// The bytes of a file; none if it is not named or cannot be read.
@@ -69,6 +69,18 @@ pub(crate) fn links_again<F: Files>(
         Ok(None) => Ok(Some(Vec::new(alloc))),
         Err(FileFault::Memory) => Err(AllocError),
         Err(FileFault::Device) => Ok(None),
+    }
+}
+
+/// The tokens that a language reads last for a text which has these.
+pub(crate) fn tokens_read(
+    alloc: Global,
+    language: Language,
+    written: Vec<Token<'_>>,
+) -> Result<Vec<Token<'_>>, AllocError> {
+    match language {
+        Language::Profile => Ok(written),
+        Language::Cedar4 => normal_tokens(alloc, &written),
     }
 }
 

@@ -5,7 +5,7 @@ ghost use Rattle.cedar_ast.specs.PolicySetTree.{PolicySetTree};
 ghost use Rattle.cedar_parser.specs.PolicyText.{HasFault, IsPolicyText};
 ghost use Rattle.cedar_parser_tokens.specs.Faults.{offset_of};
 
-use crate::again::tokens_again;
+use crate::again::{tokens_again, tokens_read};
 use crate::around::Around;
 use crate::diagnostic::Explanation;
 use crate::diagnostic_draft::DiagnosticDraft;
@@ -19,6 +19,9 @@ use cedar_parser::parse_in;
 use cedar_parser_tokens::ParseFault;
 use cedar_text::TextFault;
 use std::alloc::{AllocError, Global};
+
+/// The hint at a text of Cedar 4, where the language of Cedar 3 is read.
+const OF_CEDAR4: &str = "`--language 4` reads the text as it is";
 
 /// A fault of a policy text, with its place.
 #[derive(Clone, Copy, Debug, PartialEq, Eq)]
@@ -127,13 +130,37 @@ fn add_unexpected(
     text: &str,
     at: usize,
 ) -> Result<(), AllocError> {
-    let found = tokens_again(alloc, text)?;
-    let second = before_unexpected(alloc, &found, at)?;
+    let written = tokens_again(alloc, text)?;
+    let second = before_unexpected(alloc, &written, at)?;
+    let found = tokens_read(alloc, language, written)?;
     let around = Around::of(&found, at);
     drop(found);
     let hint = mark_unexpected(alloc, language, diagnostic, text, around, at)?;
     add_rest(diagnostic, second, hint);
+    if language == Language::Profile && is_read_in_cedar4(alloc, text)? {
+        advise_cedar4(diagnostic, hint);
+    }
     Ok(())
+}
+
+// Whether the text has policies in Cedar 4.
+fn is_read_in_cedar4(alloc: Global, text: &str) -> Result<bool, AllocError> {
+    match parse_in(alloc, Language::Cedar4, text) {
+        Ok(policies) => {
+            drop(policies);
+            Ok(true)
+        }
+        Err(ParseFault::OutOfMemory) => Err(AllocError),
+        Err(_) => Ok(false),
+    }
+}
+
+// Says after the hint, if there is one, that the text is read with another option.
+fn advise_cedar4(diagnostic: &mut DiagnosticDraft, hint: Option<&'static str>) {
+    match hint {
+        Some(hint) => diagnostic.advise_all(&[hint, "; ", OF_CEDAR4]),
+        None => diagnostic.advise(OF_CEDAR4),
+    }
 }
 
 // What is explained of a fault of a text.

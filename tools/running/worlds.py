@@ -21,6 +21,9 @@ EXTENSIONS = {
 }
 KEYS = ['age', 'name', 'owner', 'tags', 'home', 'level', 'a b', 'if']
 IDS = ['ann', 'bob', 'x y', '']
+# What a policy text writes in one way in both languages, and in another way in Cedar 4, between characters that no text has.
+TWO_WAYS = '\ue000%s\ue001%s\ue002'
+EITHER = re.compile('\ue000([^\ue000-\ue002]*)\ue001([^\ue000-\ue002]*)\ue002')
 
 
 def text_of(value):
@@ -35,6 +38,11 @@ def uid_text(uid):
 
 def is_word(key):
     return re.fullmatch(r'[A-Za-z_]\w*', key) and key not in ('if', 'in', 'is', 'has', 'like', 'then', 'else', 'true', 'false')
+
+
+def is_plain_name(key):
+    """Whether Cedar 4 reads the key without quotes."""
+    return re.fullmatch(r'[A-Za-z_]\w*', key)
 
 
 def type_json(type, inner=None, is_implied=lambda: False):
@@ -179,6 +187,18 @@ class World:
 
     # Policies
 
+    def either(self, text, other):
+        """A text that is read in both languages; in Cedar 4, the other one in its place, perhaps."""
+        return TWO_WAYS % (text, other) if self.language == 4 else text
+
+    def listed(self, items):
+        """The items of a list, perhaps with a comma after the last one."""
+        return ', '.join(items) + (self.either('', ',') if items else '')
+
+    def key(self, key):
+        """The key of a record, or an attribute after `has`, that is a string or a name."""
+        return self.either(text_of(key), key) if is_plain_name(key) else text_of(key)
+
     def paths(self, height=3):
         """The expressions of an environment, each with its type and its guard."""
         _, principal, resource, context = self.environment
@@ -187,10 +207,15 @@ class World:
             shape = self.shapes[type[1]] if type[0] == 'Entity' else type
             if shape[0] == 'Record' and text.count('.') + text.count('[') < height:
                 for key, of, required in shape[1]:
-                    word = key if is_word(key) else text_of(key)
-                    further = text + ('.' + key if is_word(key) and self.chance(0.8) else '[%s]' % text_of(key))
+                    word = key if is_word(key) else self.key(key)
+                    further = text + ('.' + key if is_word(key) and self.chance(0.8) else self.index(key))
                     found.append((further, of, guards if required else (*guards, '%s has %s' % (text, word))))
         return found
+
+    def index(self, key):
+        """An access in brackets, or with a point where Cedar 4 reads one."""
+        index = '[%s]' % text_of(key)
+        return self.either(index, '.' + key) if is_plain_name(key) else index
 
     def expression(self, type, height):
         """An expression of the type, seldom of another one; what guards it is kept."""
@@ -211,14 +236,14 @@ class World:
             left, right = (self.expression(LONG, height - 1) for _ in 'ab')
             return self.pick(['(%s + %s)', '(%s - %s)', '(%s * %s)']) % (left, right)
         if type[0] == 'Set':
-            return '[%s]' % ', '.join(self.expression(type[1], height - 1) for _ in range(self.random.randint(1, 3)))
+            return '[%s]' % self.listed([self.expression(type[1], height - 1) for _ in range(self.random.randint(1, 3))])
         if type[0] == 'Record':
-            return '{%s}' % ', '.join('%s: %s' % (text_of(key), self.expression(of, height - 1)) for key, of, _ in type[1])
+            return '{%s}' % self.listed(['%s: %s' % (self.key(key), self.expression(of, height - 1)) for key, of, _ in type[1]])
         if type[0] == 'Entity':
             return uid_text(self.uid(type[1]))
         if type in EXTENSIONS:
             function, texts = EXTENSIONS[type]
-            return '%s("%s")' % (function, self.pick(texts))
+            return '%s(%s)' % (function, self.listed(['"%s"' % self.pick(texts)]))
         return str(self.pick(NUMBERS)) if type == LONG else text_of(self.pick(TEXTS))
 
     def called(self, type, below):
@@ -231,7 +256,7 @@ class World:
         if self.chance(0.5):
             return '%s.%s()' % (of(DATETIME), 'toDate' if type == DATETIME else 'toTime')
         method, argument = ('offset', DURATION) if type == DATETIME else ('durationSince', DATETIME)
-        return '%s.%s(%s)' % (of(DATETIME), method, of(argument))
+        return '%s.%s(%s)' % (of(DATETIME), method, self.listed([of(argument)]))
 
     def boolean(self, height):
         """An expression of Booleans."""
@@ -251,7 +276,7 @@ class World:
         ordered = self.pick([DATETIME, DURATION]) if self.language == 4 else LONG
         return '(%s)' % self.pick([
             lambda: '%s.%s()' % (of(IP), self.pick(['isIpv4', 'isIpv6', 'isLoopback', 'isMulticast'])),
-            lambda: '%s.isInRange(%s)' % (of(IP), of(IP)),
+            lambda: '%s.isInRange(%s)' % (of(IP), self.listed([of(IP)])),
             lambda: '%s %s %s' % (of(ordered), self.pick(['<', '<=', '>', '>=']), of(ordered)),
         ] * (self.language == 4) + [
             lambda: ' && '.join([of(BOOLEAN), of(BOOLEAN), *self.some(2, lambda: of(BOOLEAN))]),
@@ -260,12 +285,12 @@ class World:
             lambda: '%s %s %s' % (of(LONG), self.pick(['<', '<=', '>', '>=']), of(LONG)),
             lambda: '-%s < %s' % (of(LONG), of(LONG)),
             lambda: '%s %s %s' % (of(type), self.pick(['==', '!=']), of(type)),
-            lambda: '%s has %s' % (of(entity), text_of(self.pick(KEYS))),
+            lambda: '%s has %s' % (of(entity), self.key(self.pick(KEYS))),
             lambda: '%s like "%s"' % (of(STRING), self.pick(['*', 'a*', 'a\\*b', '*b*c', ''])),
             lambda: '%s is %s' % (of(entity), self.pick(self.types)),
             lambda: '%s in %s' % (of(entity), of(('Entity', self.pick(self.types)))),
             lambda: '%s in %s' % (of(entity), of(('Set', entity))),
-            lambda: '%s.contains(%s)' % (operand(('Set', type)), of(type)),
+            lambda: '%s.contains(%s)' % (operand(('Set', type)), self.listed([of(type)])),
             lambda: '%s.%s(%s)' % (operand(('Set', type)), self.pick(['containsAll', 'containsAny']), of(('Set', type))),
             lambda: '%s.%s(%s)' % (operand(DECIMAL), self.pick(['lessThan', 'greaterThanOrEqual']), of(DECIMAL)),
             lambda: 'decimal(%s).lessThan(%s)' % (of(STRING) if self.chance(0.1) else '"0.5"', of(DECIMAL)),
@@ -290,17 +315,20 @@ class World:
         self.environment = self.pick(self.environments)
         action, principal, resource, _ = self.environment
         slots = [it for it in ('principal', 'resource') if self.chance(0.1)]
-        actions = ['action == %s' % uid_text(action)] * 6 + ['action in [%s]' % uid_text(action), 'action']
+        actions = ['action == %s' % uid_text(action)] * 6 + ['action in [%s]' % self.listed([uid_text(action)]), 'action']
         text = '@id("p%d")\n' % at if slots or self.chance(0.5) else ''
-        text += '%s(%s, %s, %s)' % (self.pick(['permit', 'permit', 'forbid']), self.scope('principal', principal, 'principal' in slots),
-                                    self.pick(actions), self.scope('resource', resource, 'resource' in slots))
+        if self.language == 4:
+            text += ''.join('@%s%s ' % (key, self.either('("")', '')) for key in ('note', 'if') if self.chance(0.2))
+        text += '%s(%s)' % (self.pick(['permit', 'permit', 'forbid']), self.listed([
+            self.scope('principal', principal, 'principal' in slots), self.pick(actions), self.scope('resource', resource, 'resource' in slots)]))
         return text + ''.join(self.some(2, self.condition)) + ';', ('p%d' % at, slots)
 
     def policies(self):
-        """A policy text, and the links of its templates."""
+        """A policy text, the same with the spellings that both languages read, and the links of its templates."""
         made = [self.policy(at) for at in range(self.random.randint(1, 6))]
         templates = [template for _, template in made if template[1]]
         links = [{'template_id': id, 'link_id': 'l%d' % at, 'args': {'?' + it: self.uid_or_text(self.uid(self.pick(self.types)))
                                                                     for it in slots}}
                  for at, (id, slots) in enumerate(self.random.choices(templates, k=3) if templates else [])]
-        return '\n'.join(text for text, _ in made), links
+        text = '\n'.join(text for text, _ in made)
+        return EITHER.sub(lambda it: it[self.random.randint(1, 2)], text), EITHER.sub(r'\1', text), links

@@ -22,6 +22,8 @@ use std::alloc::{AllocError, Global};
 
 /// The hint at a text of Cedar 4, where the language of Cedar 3 is read.
 const OF_CEDAR4: &str = "`--language 4` reads the text as it is";
+/// Texts of so many bytes at most are tried in Cedar 4 for this hint: reading takes some 50 bytes of memory for a byte of text.
+const MOST_TRIED: usize = 64 << 10;
 
 /// A fault of a policy text, with its place.
 #[derive(Clone, Copy, Debug, PartialEq, Eq)]
@@ -137,13 +139,14 @@ fn add_unexpected(
     drop(found);
     let hint = mark_unexpected(alloc, language, diagnostic, text, around, at)?;
     add_rest(diagnostic, second, hint);
-    if language == Language::Profile && is_read_in_cedar4(alloc, text)? {
+    let is_tried = language == Language::Profile && text.len() <= MOST_TRIED;
+    if is_tried && is_read_in_cedar4(alloc, text)? {
         advise_cedar4(diagnostic, hint);
     }
     Ok(())
 }
 
-// Whether the text has policies in Cedar 4.
+// Whether the text, which the profile does not read, has policies in Cedar 4.
 fn is_read_in_cedar4(alloc: Global, text: &str) -> Result<bool, AllocError> {
     match parse_in(alloc, Language::Cedar4, text) {
         Ok(policies) => {

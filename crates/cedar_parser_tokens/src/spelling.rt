@@ -39,8 +39,8 @@ impl<'t> SpelledTokens<'t> {
         Cursor::new(*self.tokens.allocator(), &self.tokens, &self.strings, end)
     }
 
-    /// The normal tokens of these: those that spell the same in the profile, where Cedar 4 has spellings beside it (Cedar language reference,
-    /// grammar).
+    /// The normal tokens of these: those that spell the same in the profile, where Cedar 4 has spellings beside it (Cedar
+    /// language reference, grammar).
     ///
     /// # Errors
     ///

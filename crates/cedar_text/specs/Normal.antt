@@ -76,6 +76,12 @@ abbrev pub is_access : Before → Bool
 is_access before.Access = true
 is_access _ = false
 
+-- Whether the key of a record may be here: after neither a word, an operand, a `.`, `has` nor an `@` (Cedar language reference, grammar:
+-- RecInits).
+abbrev pub may_be_key : Before → Bool
+may_be_key before.Other = true
+may_be_key _ = false
+
 -- Whether the token comes right after an `@` (Cedar language reference, grammar: Annotation).
 abbrev pub is_sign : Before → Bool
 is_sign before.Sign = true
@@ -91,7 +97,7 @@ is_word _ = false
 -- The kind of a token: a reserved word is an identifier where it is the key of a record, or the name of an attribute. A method may not
 -- be called so (Cedar language reference, grammar: IDENT, Access, RecInits).
 abbrev pub normal_kind : Before → TokenKind → Option TokenKind → TokenKind
-normal_kind b kind next = if is_reserved kind && (is_colon next || (is_access b && not (is_left_paren next))) then k.Identifier else kind
+normal_kind b kind next = if is_reserved kind && ((may_be_key b && is_colon next) || (is_access b && not (is_left_paren next))) then k.Identifier else kind
 
 -- ---- annotations
 

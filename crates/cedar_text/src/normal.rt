@@ -86,7 +86,7 @@ fn is_closing(next: Option<TokenKind>) -> bool
 fn normal_kind(before: Before, kind: TokenKind, next: Option<TokenKind>) -> TokenKind
     ensures { result ≡ spec.normal_kind before kind next }
 {
-    let is_key = next == Some(TokenKind::Colon);
+    let is_key = before == Before::Other && next == Some(TokenKind::Colon);
     let is_attribute = before == Before::Access && next != Some(TokenKind::LeftParen);
     if is_reserved(kind) && (is_key || is_attribute) {
         TokenKind::Identifier
@@ -204,10 +204,10 @@ impl<'a> Walk<'a> {
     }
 }
 
-/// The normal tokens of those of a text. Cedar 4 has three spellings beside those of the profile (Cedar language reference, grammar). A comma
-/// may come after the last item of a list. An annotation may have no value, which is then the empty text. A reserved word may be the key of
-/// a record, or the name of an attribute after `.` and `has`. The normal tokens are those that spell the same in the profile. Each is at the
-/// place of the token that it is made of.
+/// The normal tokens of those of a text. Cedar 4 has three spellings beside those of the profile (Cedar language reference,
+/// grammar). A comma may come after the last item of a list. An annotation may have no value, which is then the empty text.
+/// A reserved word may be the key of a record, or the name of an attribute after `.` and `has`. The normal tokens are those
+/// that spell the same in the profile. Each is at the place of the token that it is made of.
 ///
 /// # Errors
 ///

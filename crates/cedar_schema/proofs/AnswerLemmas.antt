@@ -10,7 +10,7 @@ use Rattle.cedar_schema_json.specs.Faults.{Told}
 use Rattle.cedar_schema_json.specs.Entries.{EntryTree, whole_names, root_faults}
 use Rattle.cedar_schema_spec.specs.SchemaTree.{SchemaTree, EntityTypeTree, ActionTree}
 use Rattle.cedar_schema.specs.Each.{each_faults, each_onto}
-use Rattle.cedar_schema.specs.Schemas.{Setting, Sections, sections_of, setting_of, schema_in, schema_of, setting_faults, sections_faults, written_faults, common_faults, expansion_faults, entity_faults, one_action_faults, add_entity, add_action, forms_of, uids_onto}
+use Rattle.cedar_schema.specs.Schemas.{Setting, Sections, sections_of, setting_of, schema_in, schema_of, setting_faults, sections_faults, written_faults, common_faults, expansion_faults, entity_faults, enumerated_faults, one_action_faults, add_entity, add_enumeration, add_action, forms_of, uids_onto}
 use Rattle.cedar_schema.specs.Denotes.{IsThere}
 use Rattle.cedar_schema.specs.Private.Answers.{Answers}
 use Rattle.cedar_schema_json.proofs.FormLemmas.{told_first, told_then}
@@ -38,15 +38,25 @@ module _ (s : Setting) (es as' : List EntryTree) where
 
   pub setting_actions : (e : SchemaFault) → Told (each_faults (one_action_faults s) as') e → Refuses (setting_faults s es as') (schema_in s es as') e
   unfolding setting_faults
-  setting_actions e h = refuses (setting_faults s es as') (schema_in s es as') e (told_then (each_faults (expansion_faults s.table) s.table) _ e (told_then (each_faults (entity_faults s) es) _ e h))
+  setting_actions e h =
+      refuses (setting_faults s es as') (schema_in s es as') e
+      (told_then (each_faults (expansion_faults s.table) s.table) _ e (told_then (each_faults (entity_faults s) es) _ e (told_then (each_faults enumerated_faults es) _ e h)))
 
-  pub setting_all : (r : Result SchemaTree SchemaFault) (en : List (List ℕ × EntityTypeTree)) (ac : List (Uid × ActionTree)) → each_faults (expansion_faults s.table) s.table ≡ [] → (each_faults (entity_faults s) es ≡ []) × (en ≡ each_onto (add_entity s) [] es)
-      → (each_faults (one_action_faults s) as' ≡ []) × (ac ≡ each_onto (add_action s) [] as') → Answers r [] (record { entities = en; actions = ac }) → Answers r (setting_faults s es as') (schema_in s es as')
+  pub setting_enumerated : (e : SchemaFault) → Told (each_faults enumerated_faults es) e → Refuses (setting_faults s es as') (schema_in s es as') e
+  unfolding setting_faults
+  setting_enumerated e h =
+      refuses (setting_faults s es as') (schema_in s es as') e
+      (told_then (each_faults (expansion_faults s.table) s.table) _ e (told_then (each_faults (entity_faults s) es) _ e (told_first (each_faults enumerated_faults es) _ e h)))
+
+  pub setting_all : (r : Result SchemaTree SchemaFault) (en : List (List ℕ × EntityTypeTree)) (ac : List (Uid × ActionTree)) (li : List (List ℕ × List (List ℕ)))
+      → each_faults (expansion_faults s.table) s.table ≡ [] → (each_faults (entity_faults s) es ≡ []) × (en ≡ each_onto (add_entity s) [] es)
+      → (each_faults enumerated_faults es ≡ []) × (li ≡ each_onto add_enumeration [] es) → (each_faults (one_action_faults s) as' ≡ []) × (ac ≡ each_onto (add_action s) [] as')
+      → Answers r [] (record { entities = en; actions = ac; enumerated = li }) → Answers r (setting_faults s es as') (schema_in s es as')
   unfolding setting_faults schema_in
-  setting_all r en ac table entities actions a =
-      let tree : SchemaTree = record { entities = each_onto (add_entity s) [] es; actions = each_onto (add_action s) [] as' } in
-      let made : Answers r [] tree = subst (λ (t : SchemaTree). Answers r [] t) (λ i. record { entities = entities.1 i; actions = actions.1 i }) a in
-      let none : setting_faults s es as' ≡ [] = λ i. table i ++ (entities.0 i ++ actions.0 i) in
+  setting_all r en ac li table entities listed actions a =
+      let tree : SchemaTree = record { entities = each_onto (add_entity s) [] es; actions = each_onto (add_action s) [] as'; enumerated = each_onto add_enumeration [] es } in
+      let made : Answers r [] tree = subst (λ (t : SchemaTree). Answers r [] t) (λ i. record { entities = entities.1 i; actions = actions.1 i; enumerated = listed.1 i }) a in
+      let none : setting_faults s es as' ≡ [] = λ i. table i ++ (entities.0 i ++ (listed.0 i ++ actions.0 i)) in
       subst (λ (fs : List SchemaFault). Answers r fs tree) (sym none) made
 
 pub sections_forms : (language : Language) (x : Sections) (es cs : List (List ℕ)) (e : SchemaFault) → es ≡ whole_names x.entities → cs ≡ whole_names x.commons → Told (each_faults (common_faults language es cs) x.commons) e

@@ -28,7 +28,7 @@ use Rattle.cedar_schema_json.specs.Lists.{ListRead, each_read, list_at, name_rea
 use Rattle.cedar_schema.specs.Declaring.{applies_read, unspecified, listed_uid, with_type, typed_uid, found_uid, by_type, by_id, by_member, member_read, entity_type_of, entity_type_faults, action_of, uid_of}
 use Rattle.cedar_schema_spec.specs.SchemaTree.{SchemaTree, EntityTypeTree, ActionTree, environments_of, parents_of_action}
 use Rattle.cedar_schema_spec.specs.Private.Environments.{with_principals, with_resources}
-use Rattle.cedar_schema.specs.Schemas.{Setting, schema_in, add_entity, add_action, entity_faults, one_action_faults, scope_in, uids_onto}
+use Rattle.cedar_schema.specs.Schemas.{Setting, schema_in, add_entity, add_enumeration, add_action, entity_faults, one_action_faults, scope_in, uids_onto}
 use Rattle.base_reach.specs.Closure.{one_link, more_links}
 use Rattle.cedar_schema_spec.specs.Descents.{ActionDescends}
 use Rattle.cedar_schema.specs.Private.NamedForms.{FormNames}
@@ -346,11 +346,12 @@ all_well_formed s es as' of fine right =
       );
     }
 
-pub declared_well_formed : (s : Setting) (es as' : List EntryTree) (en : List (List ℕ × EntityTypeTree)) (ac : List (Uid × ActionTree)) → IsSettingOf s es as'
-    → (each_faults (entity_faults s) es ≡ []) × (en ≡ each_onto (add_entity s) [] es) → (each_faults (one_action_faults s) as' ≡ []) × (ac ≡ each_onto (add_action s) [] as') → IsWellFormed (record { entities = en; actions = ac })
+pub declared_well_formed : (s : Setting) (es as' : List EntryTree) (en : List (List ℕ × EntityTypeTree)) (ac : List (Uid × ActionTree)) (li : List (List ℕ × List (List ℕ))) → IsSettingOf s es as'
+    → (each_faults (entity_faults s) es ≡ []) × (en ≡ each_onto (add_entity s) [] es) → li ≡ each_onto add_enumeration [] es → (each_faults (one_action_faults s) as' ≡ []) × (ac ≡ each_onto (add_action s) [] as')
+    → IsWellFormed (record { entities = en; actions = ac; enumerated = li })
 unfolding schema_in
-declared_well_formed s es as' en ac of entities actions =
-    let same : schema_in s es as' ≡ record { entities = en; actions = ac } = λ i. record { entities = sym entities.1 i; actions = sym actions.1 i } in
+declared_well_formed s es as' en ac li of entities listed actions =
+    let same : schema_in s es as' ≡ record { entities = en; actions = ac; enumerated = li } = λ i. record { entities = sym entities.1 i; actions = sym actions.1 i; enumerated = sym listed i } in
     subst IsWellFormed same (all_well_formed s es as' of entities.0 actions.0)
 
 -- ---- what lies above an action

@@ -3,6 +3,7 @@ pub mod CycleLemmas
 pub mod DeclaredLemmas
 pub mod DeclaringLemmas
 pub mod EachLemmas
+pub mod EnumeratedLemmas
 pub mod EnvironmentLemmas
 pub mod EnvironmentOrder
 pub mod ExpandedOrder

@@ -29,14 +29,14 @@ use Rattle.cedar_schema_json.specs.Naming.{Declared, or_else, place_of, listed, 
 use Rattle.cedar_schema_json.specs.Forms.{FormTree, no_form, extension_form, entity_form, common_form}
 use Rattle.cedar_schema_json.specs.Reading.{Read, RowsRead, Scope, fine, no_rows_read, of_kind, of_type, kind_in, kind_named, named_read, common_read, either_read, declared_type, type_called, built_in, allowed, written_beside, may_have, key_faults, unknown_keys, closed_faults, required_faults, row_then, text_at, needed, set_of, record_of, with_faults, extension_named, type_read, read_at, rows_at, rows_read, all_rows}
 use Rattle.cedar_schema_json.specs.Expansion.{Table, Expanded, typed}
-use Rattle.cedar_schema_json.specs.Entries.{EntryTree, unless_null, belongs, part_faults, namespace_faults, object_faults, space_faults, shadows, is_kept, is_named, entries, key_text_faults, entity_key_faults, common_key_faults, root_faults, whole_names}
+use Rattle.cedar_schema_json.specs.Entries.{EntryTree, unless_null, belongs, is_enumeration, part_faults, namespace_faults, object_faults, space_faults, shadows, is_kept, is_named, entries, key_text_faults, entity_key_faults, common_key_faults, root_faults, whole_names}
 use Rattle.cedar_schema_json.specs.Lists.{ListRead, list_at, names_at, set_onto}
 use Rattle.cedar_schema_json.specs.Shapes.{record_type, record_or_empty, empty_faults}
 use Rattle.cedar_schema_spec.specs.Descents.{ActionDescends}
 use Rattle.cedar_schema_spec.specs.SchemaTree.{EntityTypeTree, ActionTree, SchemaTree}
 use Rattle.cedar_schema.specs.Declaring.{member_read, unspecified, uid_of, entity_type_of, entity_type_faults, applies_read, action_of, action_faults}
 use Rattle.cedar_schema.specs.Each.{each_faults, each_onto}
-use Rattle.cedar_schema.specs.Schemas.{Setting, Sections, scope_at, forms_of, common_faults, expansion_faults, add_entity, entity_faults, add_action, one_action_faults, uids_onto, sections_of, setting_of, schema_in, setting_faults, sections_faults, schema_of, written_faults}
+use Rattle.cedar_schema.specs.Schemas.{Setting, Sections, scope_at, forms_of, common_faults, expansion_faults, add_entity, entity_faults, add_enumeration, enumerated_faults, add_action, one_action_faults, uids_onto, sections_of, setting_of, schema_in, setting_faults, sections_faults, schema_of, written_faults}
 use Rattle.cedar_schema.specs.Denotes.{IsFine, Denotes}
 use Rattle.cedar_schema.specs.Languages.{ShadowsNone, DeclaresNone, NamesMeanTheSame, ProfileSchemasAreKept}
 use Rattle.cedar_schema.proofs.InsertedKeys.{here, there}
@@ -132,10 +132,16 @@ keys_kept may more wider (member k d ms) h =
 no_annotation : (k : List ℕ) (d : Data) → is_annotation Profile k d ≡ true → is_annotation Cedar4 k d ≡ true
 no_annotation k d h = cc
 
+-- what two keys allow, more keys allow
+of_two : (a b x y : Bool) → (a || b || false || false) ≡ true → (a || b || x || y) ≡ true
+of_two true b x y h = refl
+of_two false true x y h = refl
+of_two false false x y h = cc
+
 part_wider : (part : Part) → Wider (belongs Profile part) (belongs Cedar4 part)
 unfolding belongs
 part_wider Namespace k d h = or_more (bytes_eq k (codes "entityTypes") || bytes_eq k (codes "actions") || bytes_eq k (codes "commonTypes")) _ _ (no_annotation k d) h
-part_wider EntityType k d h = or_more (bytes_eq k (codes "memberOfTypes") || bytes_eq k (codes "shape")) _ _ (no_annotation k d) h
+part_wider EntityType k d h = of_two (bytes_eq k (codes "memberOfTypes")) (bytes_eq k (codes "shape")) (is_enumeration Cedar4 k) (is_annotation Cedar4 k d) h
 part_wider Action k d h = or_more (bytes_eq k (codes "memberOf") || bytes_eq k (codes "appliesTo") || bytes_eq k (codes "attributes")) _ _ (no_annotation k d) h
 part_wider AppliesTo k d h = h
 part_wider Member k d h = h
@@ -482,11 +488,15 @@ module _ (entities commons : List (List ℕ)) (apart : ShadowsNone (entities ++ 
   setting_same t es as' c h =
       let table = each_faults (expansion_faults t) t in
       let first = each_faults (entity_faults (setting t Profile)) es in
-      let second = each_faults (one_action_faults (setting t Profile)) as' in
-      let rest = no_second table (first ++ second) h in
-      let types = each_same (IsAmong entities) (entity_faults (setting t Profile)) (entity_faults (setting t Cedar4)) (add_entity (setting t Profile)) (add_entity (setting t Cedar4)) one_entity es [] c (no_first first second rest) in
-      let actions = each_same (λ x. Unit {0}) (one_action_faults (setting t Profile)) (one_action_faults (setting t Cedar4)) (add_action (setting t Profile)) (add_action (setting t Cedar4)) one_action as' [] (all_any as') (no_second first second rest) in
-      ((λ i. record { entities = types.0 i; actions = actions.0 i }), (λ i. no_first table (first ++ second) h i ++ (types.1 i ++ actions.1 i)))
+      let second = each_faults enumerated_faults es in
+      let third = each_faults (one_action_faults (setting t Profile)) as' in
+      let rest = no_second table (first ++ (second ++ third)) h in
+      let later = no_second first (second ++ third) rest in
+      let types = each_same (IsAmong entities) (entity_faults (setting t Profile)) (entity_faults (setting t Cedar4)) (add_entity (setting t Profile)) (add_entity (setting t Cedar4)) one_entity es [] c (no_first first (second ++ third) rest) in
+      let actions = each_same (λ x. Unit {0}) (one_action_faults (setting t Profile)) (one_action_faults (setting t Cedar4)) (add_action (setting t Profile)) (add_action (setting t Cedar4)) one_action as' [] (all_any as') (no_second second third later) in (
+        λ i. record { entities = types.0 i; actions = actions.0 i; enumerated = each_onto add_enumeration [] es },
+        λ i. no_first table (first ++ (second ++ third)) h i ++ (types.1 i ++ (no_first second third later i ++ actions.1 i)),
+      )
     where
       one_entity : (x : EntryTree) → IsAmong entities x → entity_faults (setting t Profile) x ≡ [] → ((done : List (List ℕ × EntityTypeTree)) → add_entity (setting t Profile) done x ≡ add_entity (setting t Cedar4) done x) × (entity_faults (setting t Cedar4) x ≡ [])
       one_entity x c none = let same = entity_same entities commons apart key_word x.namespace t x c none in ((λ done. ap (insert_entry text_cmp done (qualified x.namespace x.key)) same.0), same.1)

@@ -1,5 +1,5 @@
 -- What a schema's JSON denotes, and the faults that are there (Cedar documentation, JSON schema format).
-use Rattle.std.specs.Prelude.{ℕ, List, [], ◌∷◌, ◌++◌, map, codes}
+use Rattle.std.specs.Prelude.{ℕ, List, [], ◌∷◌, ◌++◌, map, codes, option_map, unwrap_or}
 use Rattle.std.specs.BTreeMap.{insert_entry}
 use Rattle.std.specs.BTreeSet.{insert_key}
 use Rattle.serde_json.specs.Data.{Members}
@@ -13,6 +13,7 @@ use Rattle.cedar_schema_json.specs.Expansion.{Table, typed}
 use Rattle.cedar_schema_json.specs.Forms.{FormTree}
 use Rattle.cedar_schema.specs.Each.{each_faults, each_onto}
 use Rattle.cedar_schema_json.specs.Naming.{qualified}
+use Rattle.cedar_schema_json.specs.Enumerations.{enumeration_faults, enumeration_of}
 use Rattle.cedar_schema_json.specs.Entries.{EntryTree, entries, whole_names, root_faults, common_key_faults}
 use Rattle.cedar_schema.specs.Declaring.{uid_of, entity_type_of, entity_type_faults, action_of, action_faults}
 use Rattle.cedar_schema_spec.specs.SchemaTree.{EntityTypeTree, ActionTree, SchemaTree}
@@ -60,6 +61,14 @@ add_entity s done e = insert_entry text_cmp done (qualified e.namespace e.key) (
 abbrev pub entity_faults : Setting → EntryTree → List SchemaFault
 entity_faults s e = entity_type_faults (scope_in s e) s.table e
 
+-- The ids of the enumerated types with those of one more entry, at its name (Cedar RFC 53).
+abbrev pub add_enumeration : List (List ℕ × List (List ℕ)) → EntryTree → List (List ℕ × List (List ℕ))
+add_enumeration done e = unwrap_or (option_map (insert_entry text_cmp done (qualified e.namespace e.key)) (enumeration_of e.body)) done
+
+-- The faults of the enumeration of an entry (Cedar RFC 53).
+abbrev pub enumerated_faults : EntryTree → List SchemaFault
+enumerated_faults e = enumeration_faults e.body
+
 -- ---- actions, by their uids in ascending order
 
 -- The uids of the actions, put into a list in ascending order, each once (own).
@@ -97,14 +106,15 @@ setting_of language x = record {
   uids = uids_onto [] x.actions;
 }
 
--- The schema that the entries declare: entity types by their names and actions by their uids, both ascending (Cedar
--- documentation, JSON schema format).
+-- The schema that the entries declare: entity types and enumerations by their names, and actions by their uids, all ascending
+-- (Cedar documentation, JSON schema format).
 unfoldable pub schema_in : Setting → List EntryTree → List EntryTree → SchemaTree
-schema_in s entities actions = record { entities = each_onto (add_entity s) [] entities; actions = each_onto (add_action s) [] actions }
+schema_in s entities actions = record { entities = each_onto (add_entity s) [] entities; actions = each_onto (add_action s) [] actions; enumerated = each_onto add_enumeration [] entities }
 
--- The faults of expansions, of entity types and of actions (Cedar documentation, JSON schema format).
+-- The faults of expansions, of entity types, of enumerations and of actions (Cedar documentation, JSON schema format).
 unfoldable pub setting_faults : Setting → List EntryTree → List EntryTree → List SchemaFault
-setting_faults s entities actions = each_faults (expansion_faults s.table) s.table ++ (each_faults (entity_faults s) entities ++ each_faults (one_action_faults s) actions)
+setting_faults s entities actions =
+    each_faults (expansion_faults s.table) s.table ++ (each_faults (entity_faults s) entities ++ (each_faults enumerated_faults entities ++ each_faults (one_action_faults s) actions))
 
 -- The faults of all entries in a language (Cedar documentation, JSON schema format; own).
 unfoldable pub sections_faults : Language → Sections → List SchemaFault

@@ -16,7 +16,7 @@
 mod laws;
 mod schema;
 
-pub use cedar_schema_json::SchemaFault;
+pub use cedar_schema_json::{Enumeration, SchemaFault};
 pub use cedar_schema_spec::{Environment, actions_conform, tests_of_schemas_decide};
 pub use cedar_schema_types::{
     Attribute, RecordType, Truth, Type, TypeKind, join, join_is_the_relation,

@@ -3,11 +3,12 @@ ghost use Rattle.std.specs.Prelude.{◌≡◌, ◌≢◌, ◌↔◌, IfOk, IfErr
 ghost use Rattle.cedar_ext.specs.declared.language.Language.TheVariants.{Profile};
 ghost use Rattle.cedar_schema_json.specs.declared.schema_fault.SchemaFault.TheVariants.{OutOfMemory};
 ghost use Rattle.cedar_schema_spec.specs.Declarations.{IsAction, IsActionType};
-ghost use Rattle.cedar_schema.specs.Denotes.{BytesAreRefusedWith, BytesDenote};
+ghost use Rattle.serde_json.specs.View.{view};
+ghost use Rattle.cedar_schema.specs.Denotes.{BytesAreRefusedWith, BytesDenote, Denotes, IsRefusedWith};
 ghost use Rattle.cedar_schema.specs.Positions.{IsEnvironmentAt};
 ghost use Rattle.cedar_schema.specs.Private.Answers.{Answers};
 ghost use Rattle.cedar_schema_spec.specs.Descents.{ActionDescends, ActionTypeDescends, EntityTypeDescends, TypeDescends};
-ghost use Rattle.cedar_schema_spec.specs.SchemaTree.{HasEnvironment, HasNoEnvironment, action_at, environments_of, shape_of};
+ghost use Rattle.cedar_schema_spec.specs.SchemaTree.{HasEnvironment, HasNoEnvironment, action_at, environments_of, ids_of, shape_of};
 ghost use Rattle.cedar_schema_spec.specs.WellFormed.{AreActionContextsOrdered, AreContextsOrdered, AreEnvironmentsInOrder, AreListsDeclared, AreMembersDeclared, AreParentsDeclared, AreShapesOrdered, AreTypesApart, AreTypesDeclared, IsHierarchy, IsListedInOrder, IsWellFormed};
 
 mod action;
@@ -17,6 +18,7 @@ mod descents;
 mod entity_type;
 mod environment;
 mod graph;
+mod listed;
 pub(crate) mod members;
 mod numbers;
 mod place;
@@ -34,21 +36,23 @@ pub use action::Action;
 use base_json::read_json;
 use base_search::Row;
 use cedar_ext::Language;
-use cedar_schema_json::SchemaFault;
+use cedar_schema_json::{Enumeration, SchemaFault};
 use cedar_schema_spec::Environment;
 use cedar_schema_types::Type;
 use cedar_value::{Name, Uid};
+use serde_json::Value;
 use std::alloc::Global;
 use std::collections::btree_map::Iter;
 use std::collections::{BTreeMap, BTreeSet};
 use std::marker::Model;
 
-/// A schema, which contracts see as the entity types and the actions that it declares, both as
-/// ascending lists (Cedar documentation, JSON schema format).
+/// A schema, which contracts see as the entity types, the actions and the enumerations that it declares, all as
+/// ascending lists (Cedar documentation, JSON schema format; Cedar RFC 53).
 #[derive(Drop)]
 pub struct Schema {
     entities: BTreeMap<Name, EntityType>,
     actions: BTreeMap<Uid, Action>,
+    enumerated: BTreeMap<Name, Enumeration>,
     environments: Vec<Environment>,
     types_above: Descents<Name>,
     actions_above: Descents<Uid>,
@@ -66,9 +70,9 @@ impl Model for Schema {
 
     ghost coded = { Prim.hlevel (codes, type_code) };
 
-    ghost view = { λ s. record { entities = s.entities.entries; actions = s.actions.entries } };
+    ghost view = { λ s. record { entities = s.entities.entries; actions = s.actions.entries; enumerated = s.enumerated.entries } };
 
-    ghost invariant = { λ s. IsKept (record { entities = s.entities.entries; actions = s.actions.entries }) s.environments.items s.types_above s.actions_above s.action_types s.type_rows };
+    ghost invariant = { λ s. IsKept (record { entities = s.entities.entries; actions = s.actions.entries; enumerated = s.enumerated.entries }) s.environments.items s.types_above s.actions_above s.action_types s.type_rows };
 }
 
 impl Schema {
@@ -100,14 +104,27 @@ impl Schema {
         }
     }
 
-    // The schema of these entity types and actions, or 305 where an action is above itself.
+    /// The schema that a JSON denotes in a language (Cedar documentation, JSON schema format).
+    ///
+    /// # Errors
+    ///
+    /// 1 when out of memory, and otherwise 302 to 309 only where that fault is in the JSON.
+    pub fn of_json(alloc: Global, language: Language, json: &Value) -> Result<Self, SchemaFault>
+        ensures denotes { IfOk result (Denotes language (view json.now)) }
+        ensures refused { IfErr result (λ e. e ≢ OutOfMemory → IsRefusedWith language (view json.now) e) }
+    {
+        read_schema(alloc, language, json)
+    }
+
+    // The schema of these entity types, actions and enumerations, or 305 where an action is above itself.
     pub(crate) fn new(
         alloc: Global,
         entities: BTreeMap<Name, EntityType>,
         actions: BTreeMap<Uid, Action>,
+        enumerated: BTreeMap<Name, Enumeration>,
     ) -> Result<Self, SchemaFault>
-        requires { IsWellFormed (record { entities = entities.entries; actions = actions.entries }) }
-        ensures { Answers result [] (record { entities = entities.entries; actions = actions.entries }) }
+        requires { IsWellFormed (record { entities = entities.entries; actions = actions.entries; enumerated = enumerated.entries }) }
+        ensures { Answers result [] (record { entities = entities.entries; actions = actions.entries; enumerated = enumerated.entries }) }
     {
         let types_above = types_above(alloc, &entities)?;
         let actions_above = action_rows(alloc, &actions)?;
@@ -117,6 +134,7 @@ impl Schema {
         Ok(Schema {
             entities,
             actions,
+            enumerated,
             environments,
             types_above,
             actions_above,
@@ -182,6 +200,13 @@ impl Schema {
             Some((found, _)) => Some(found),
             None => None,
         }
+    }
+
+    /// The ids of an enumerated entity type. None exactly where the type is not enumerated (Cedar RFC 53). Takes no memory.
+    pub fn enumeration(&self, name: &Name) -> Option<&Enumeration>
+        ensures { option_copied result ≡ ids_of self.now name.now }
+    {
+        self.enumerated.get(name)
     }
 
     /// The declared action of this uid. Takes no memory, and as many comparisons as the logarithm of the number of actions.

@@ -1,4 +1,5 @@
 //! Entity types, and lists of them.
+use crate::enumerated::refused_enumeration;
 use crate::keys::refused_keys;
 use crate::kinds::kind_of;
 use crate::naming::refused_identifier;
@@ -26,6 +27,10 @@ pub(crate) fn refused_entity_type(
     }
     if setting.number == 302 {
         let found = refused_keys(alloc, setting.language, Part::EntityType, body);
+        if found.is_some() {
+            return found;
+        }
+        let found = refused_enumeration(alloc, body);
         if found.is_some() {
             return found;
         }

@@ -34,9 +34,23 @@ pub fn refused_part(
     let Some(json) = read_json(alloc, bytes)? else {
         return Ok(None);
     };
-    let found = refused_in(alloc, language, &json, number);
+    let found = refused_part_of(alloc, language, &json, number);
     drop(json);
-    match found? {
+    found
+}
+
+/// The same of a schema whose JSON is at hand, such as that of a schema text.
+///
+/// # Errors
+///
+/// Fails only when out of memory.
+pub fn refused_part_of(
+    alloc: Global,
+    language: Language,
+    json: &Value,
+    number: u16,
+) -> Result<Option<RefusedPart>, AllocError> {
+    match refused_in(alloc, language, json, number)? {
         Some(refusal) => Ok(Some(refusal.done()?)),
         None => Ok(None),
     }

@@ -16,6 +16,9 @@ static NAMESPACE_KEYS: [&str; 3] = ["entityTypes", "actions", "commonTypes"];
 
 static ENTITY_TYPE_KEYS: [&str; 2] = ["memberOfTypes", "shape"];
 
+/// The keys of an entity type in Cedar 4.
+static ENTITY_TYPE_KEYS_4: [&str; 3] = ["memberOfTypes", "shape", "enum"];
+
 static ACTION_KEYS: [&str; 3] = ["memberOf", "appliesTo", "attributes"];
 
 static APPLIES_TO_KEYS: [&str; 3] = ["principalTypes", "resourceTypes", "context"];
@@ -32,6 +35,15 @@ fn keys_of(part: Part) -> &'static [&'static str] {
         Part::Action => &ACTION_KEYS,
         Part::AppliesTo => &APPLIES_TO_KEYS,
         Part::Member => &MEMBER_KEYS,
+    }
+}
+
+// The keys of a part in a language, without annotations.
+fn keys_in(language: Language, part: Part) -> &'static [&'static str] {
+    if part == Part::EntityType && language == Language::Cedar4 {
+        &ENTITY_TYPE_KEYS_4
+    } else {
+        keys_of(part)
     }
 }
 
@@ -62,7 +74,7 @@ pub(crate) fn refused_keys(
             if found.is_some() {
                 return at(alloc, Step::Key("annotations"), found);
             }
-        } else if !has_key(keys_of(part), key.as_str()) {
+        } else if !has_key(keys_in(language, part), key.as_str()) {
             return refused_key(alloc, language, part, key.as_str());
         }
     }
@@ -107,20 +119,20 @@ fn refused_kind(alloc: Global, part: Part, json: &Value) -> Option<Refusal> {
 fn refused_key(alloc: Global, language: Language, part: Part, key: &str) -> Option<Refusal> {
     let found = match left_out_key(language, part, key) {
         Some((says, hint)) => part_of(alloc, &[says], &[hint]),
-        None => Some(misplaced_key(alloc, part, key)),
+        None => Some(misplaced_key(alloc, language, part, key)),
     };
     at(alloc, Step::Key(key), found)
 }
 
 // A key that a part does not have, with the part that has it, if there is one.
-fn misplaced_key(alloc: Global, part: Part, key: &str) -> Refusal {
+fn misplaced_key(alloc: Global, language: Language, part: Part, key: &str) -> Refusal {
     match other_owner(part, key) {
         Some(owner) => part_with(
             alloc,
             no_key(alloc, name_of(part), key),
             joined(alloc, &["it is a key of ", name_of(owner)]),
         ),
-        None => unknown_key(alloc, name_of(part), key, keys_of(part)),
+        None => unknown_key(alloc, name_of(part), key, keys_in(language, part)),
     }
 }
 

@@ -28,7 +28,7 @@ pub(crate) fn left_out_key(
             "entity tags are not supported",
             "remove `tags`, and declare in `shape` the attributes that policies read",
         )),
-        "enum" => Some((
+        "enum" if language == Language::Profile => Some((
             "enumerated entity types are not supported",
             "write {}: the entities of a type may have any ids",
         )),

@@ -22,6 +22,7 @@ mod common_circle;
 mod common_types;
 mod declared;
 mod entity_types;
+mod enumerated;
 mod explain;
 mod extensions;
 mod forms;
@@ -44,5 +45,6 @@ mod type_shape;
 mod types;
 mod undeclared;
 
-pub use explain::refused_part;
+pub use explain::{refused_part, refused_part_of};
 pub use part::RefusedPart;
+pub use step::declaration_path;

@@ -1,6 +1,7 @@
 //! Steps from a JSON to a part of it.
 use crate::text::shown;
 use base_places::Draft;
+use std::alloc::{AllocError, Global};
 
 /// A step from a JSON to a part of it.
 #[derive(Clone, Copy)]
@@ -27,6 +28,25 @@ pub(crate) fn add_step(path: &mut Draft, step: Step<'_>) {
             path.add_char(']');
         }
     }
+}
+
+/// The path from a schema to a namespace, or, where a key and a name are given, to what is declared there: `Shop.entityTypes.User`.
+///
+/// # Errors
+///
+/// Fails only when out of memory.
+pub fn declaration_path(
+    alloc: Global,
+    namespace: &str,
+    declared: Option<(&str, &str)>,
+) -> Result<String, AllocError> {
+    let mut path = Draft::new(alloc);
+    add_step(&mut path, Step::Namespace(namespace));
+    if let Some((key, name)) = declared {
+        add_step(&mut path, Step::Key(key));
+        add_step(&mut path, Step::Key(name));
+    }
+    path.done()
 }
 
 // Adds a key: an identifier as it is, another text in quotes.

@@ -47,10 +47,15 @@ whole_names = map (λ e. qualified e.namespace e.key)
 
 -- ---- faults
 
+-- Whether the key is that of the ids of an enumerated entity type, which Cedar 4 has (Cedar RFC 53).
+abbrev pub is_enumeration : Language → List ℕ → Bool
+is_enumeration Profile k = false
+is_enumeration Cedar4 k = bytes_eq k (codes "enum")
+
 -- Which keys, with which values, an object of a schema may have in a language (Cedar documentation, JSON schema format).
 unfoldable pub belongs : Language → Part → List ℕ → Data → Bool
 belongs language Namespace k d = bytes_eq k (codes "entityTypes") || bytes_eq k (codes "actions") || bytes_eq k (codes "commonTypes") || is_annotation language k d
-belongs language EntityType k d = bytes_eq k (codes "memberOfTypes") || bytes_eq k (codes "shape") || is_annotation language k d
+belongs language EntityType k d = bytes_eq k (codes "memberOfTypes") || bytes_eq k (codes "shape") || is_enumeration language k || is_annotation language k d
 belongs language Action k d = bytes_eq k (codes "memberOf") || bytes_eq k (codes "appliesTo") || bytes_eq k (codes "attributes") || is_annotation language k d
 belongs language AppliesTo k d = bytes_eq k (codes "principalTypes") || bytes_eq k (codes "resourceTypes") || bytes_eq k (codes "context")
 belongs language Member k d = bytes_eq k (codes "id") || bytes_eq k (codes "type")

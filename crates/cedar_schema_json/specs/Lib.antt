@@ -2,6 +2,7 @@ pub mod Annotations
 pub mod Ends
 pub mod Entries
 pub mod EntryView
+pub mod Enumerations
 pub mod Expansion
 pub mod Faults
 pub mod FormView

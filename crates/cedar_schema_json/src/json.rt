@@ -2,6 +2,7 @@
 
 pub(crate) mod annotations;
 pub(crate) mod entry;
+pub(crate) mod enumeration;
 pub(crate) mod name_table;
 pub(crate) mod names_list;
 pub(crate) mod naming;

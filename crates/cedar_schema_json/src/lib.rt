@@ -38,6 +38,7 @@ pub use form::{Form, FormField};
 pub use json::entry::{
     Entry, check_common_key, check_entity_key, check_spaces, entries_of, names_of,
 };
+pub use json::enumeration::{Enumeration, read_enumeration};
 pub use json::name_table::NameTable;
 pub use json::names_list::{read_names_at, set_of};
 pub use json::naming::{has_colon, qualified, read_name};

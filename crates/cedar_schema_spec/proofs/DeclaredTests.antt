@@ -131,10 +131,15 @@ pub chains_of_actions : ChainsOfActions
 chains_of_actions s u v = (chain_up s, chain_down s)
 
 module _ (s : SchemaTree) where
+  action_declared : (e : EntityTree) → Contains (action_entities s) e → IsAction s e.uid
+  action_declared e m =
+      let (a, there_is, same) = from_mapped action_entity s.actions e m in
+      subst (λ (x : EntityTree). Contains (keys_of s.actions) x.uid) same (mapped (λ (x : Uid × ActionTree). x.0) s.actions a there_is)
+
   action_listed : (e : EntityTree) → Contains (action_entities s) e → IsOfSchema s e
   action_listed e m =
       let (a, there_is, same) = from_mapped action_entity s.actions e m in
-      of_action (subst (λ (x : EntityTree). Contains (keys_of s.actions) x.uid) same (mapped (λ (x : Uid × ActionTree). x.0) s.actions a there_is)) (ap (λ (x : EntityTree). x.attributes) (sym same))
+      of_action (action_declared e m) (ap (λ (x : EntityTree). x.attributes) (sym same))
 
   action_present : (as' : List (Uid × ActionTree)) (u : Uid) → Contains (keys_of as') u → has_entity (map action_entity as') u ≡ true
   action_present [] u m = absurd (nowhere u m)
@@ -148,6 +153,7 @@ module _ (s : SchemaTree) where
 pub actions_conform : ActionsConform
 actions_conform s = record {
   entities = action_listed s;
+  listed = λ e m n. absurd (n (action_declared s e m));
   above = λ u v n b. absurd (n (first_listed s (chain_up s b)));
   present = λ u m. action_present s s.actions u m;
   actions = λ u v m. (chain_up s, chain_down s);

@@ -1,5 +1,5 @@
 -- What a schema declares, with tests of declarations and descents that can be computed.
-use Rattle.std.specs.Prelude.{◌≡◌, ◌↔◌, ℕ, Bool, ◌&&◌, ◌||◌, List, [], ◌∷◌, ◌++◌, length, map, Contains, IsSome, is_some}
+use Rattle.std.specs.Prelude.{◌≡◌, ◌↔◌, ℕ, Bool, true, ◌&&◌, ◌||◌, List, [], ◌∷◌, ◌++◌, length, map, Contains, IsSome, is_some}
 use Rattle.std.specs.Bool.{Decides}
 use Rattle.std.specs.List.{list_any}
 use Rattle.std.specs.Map.{keys_of}
@@ -9,11 +9,16 @@ use Rattle.cedar_value.specs.Datum.{same_uid}
 use Rattle.cedar_value.specs.World.{World, EntityTree, Below}
 use Rattle.cedar_value.specs.declared.uid.Uid.{Uid}
 use Rattle.cedar_schema_spec.specs.Descents.{ActionDescends, TypeDescends}
+use Rattle.cedar_schema_spec.specs.Enumerated.{is_listed}
 use Rattle.cedar_schema_spec.specs.SchemaTree.{SchemaTree, ActionTree, shape_of, parents_of_type, parents_of_action}
 
 -- A declared entity type: it has a shape (Cedar documentation, JSON schema format: entityTypes).
 abbrev pub IsEntityType : SchemaTree → List ℕ → Type 0
 IsEntityType s n = IsSome (shape_of s n)
+
+-- A uid of a declared entity type, which has it (Cedar documentation, JSON schema format: entityTypes; Cedar RFC 53).
+abbrev pub IsEntity : SchemaTree → Uid → Type 0
+IsEntity s u = IsEntityType s u.ty × (is_listed s u ≡ true)
 
 -- A declared action (Cedar documentation, JSON schema format: actions).
 abbrev pub IsAction : SchemaTree → Uid → Type 0
@@ -28,6 +33,10 @@ IsActionType s n = (u : Uid) × IsAction s u × (u.ty ≡ n)
 -- Whether it is a declared entity type (Cedar documentation, JSON schema format: entityTypes).
 abbrev pub is_entity_type : SchemaTree → List ℕ → Bool
 is_entity_type s n = is_some (shape_of s n)
+
+-- Whether it is a uid of a declared entity type, which has it (Cedar documentation, JSON schema format: entityTypes; Cedar RFC 53).
+abbrev pub is_entity : SchemaTree → Uid → Bool
+is_entity s u = is_entity_type s u.ty && is_listed s u
 
 -- Whether it is a declared action (Cedar documentation, JSON schema format: actions).
 abbrev pub is_action : SchemaTree → Uid → Bool

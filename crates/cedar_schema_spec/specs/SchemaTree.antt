@@ -21,10 +21,12 @@ pub record ActionTree : Type 0 where
   pub resources : List (List ℕ)
   pub context : TypeTree
 
--- A schema: the entity types with their names and the actions with their uids (cedar-spec, Lean: Cedar.Validation.Schema).
+-- A schema: the entity types with their names, the actions with their uids, and the ids of the entities of each enumerated type
+-- (cedar-spec, Lean: Cedar.Validation.Schema; Cedar RFC 53).
 pub record SchemaTree : Type 0 where
   pub entities : List (List ℕ × EntityTypeTree)
   pub actions : List (Uid × ActionTree)
+  pub enumerated : List (List ℕ × List (List ℕ))
 
 -- The direct parents of an entity type, none of one that is not declared (Cedar documentation, JSON schema format:
 -- memberOfTypes).
@@ -50,6 +52,10 @@ action_at s u = lookup (is_at (uid_cmp u)) s.actions
 -- The shape of an entity type, none where it is not declared (Cedar documentation, JSON schema format: shape).
 abbrev pub shape_of : SchemaTree → List ℕ → Option TypeTree
 shape_of s n = option_map (λ e. e.shape) (lookup (is_at (text_cmp n)) s.entities)
+
+-- The ids of the entities of an enumerated type, none where the type is not enumerated (Cedar RFC 53).
+abbrev pub ids_of : SchemaTree → List ℕ → Option (List (List ℕ))
+ids_of s n = lookup (is_at (text_cmp n)) s.enumerated
 
 -- The actions have the environment with these types and this context (Cedar documentation, JSON schema format: appliesTo).
 abbrev pub HasEnvironment : List (Uid × ActionTree) → Uid → List ℕ → List ℕ → TypeTree → Type 0

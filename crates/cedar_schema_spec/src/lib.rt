@@ -4,6 +4,7 @@
 //!
 //! - `SchemaTree`: a schema, as the entity types and the actions that it declares, and its environments.
 //! - `Descents`: what an entity type or an action descends from.
+//! - `Enumerated`: which uids an enumerated entity type has.
 //! - `Declarations`: what a schema declares, as tests, and the entities that its actions are.
 //! - `Conformance`: which entities and requests conform to a schema.
 //! - `WellFormed`: what holds of every schema that is read.

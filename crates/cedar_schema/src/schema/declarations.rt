@@ -1,5 +1,6 @@
 //! The declarations of a schema, entry by entry.
-ghost use Rattle.std.specs.Prelude.{◌≡◌, [], MatchResult};
+ghost use Rattle.std.specs.Prelude.{◌≡◌, [], MatchResult, OnOk};
+ghost use Rattle.cedar_schema_json.specs.Enumerations.{enumeration_of};
 ghost use Rattle.cedar_schema_json.specs.Faults.{Told};
 ghost use Rattle.cedar_schema_json.specs.declared.form.position.Position.TheVariants.{CommonType};
 ghost use Rattle.cedar_schema_json.specs.Reading.{type_read};
@@ -8,7 +9,7 @@ ghost use Rattle.cedar_schema_json.specs.Ends.{AreEnds};
 ghost use Rattle.cedar_schema_json.specs.TableView.{table_of};
 ghost use Rattle.cedar_schema.specs.Each.{each_faults, each_onto};
 ghost use Rattle.cedar_schema_json.specs.EntryView.{entries_view, entry_of};
-ghost use Rattle.cedar_schema.specs.Schemas.{add_action, add_entity, common_faults, entity_faults, expansion_faults, forms_of, one_action_faults, scope_at, scope_in};
+ghost use Rattle.cedar_schema.specs.Schemas.{add_action, add_entity, add_enumeration, common_faults, entity_faults, enumerated_faults, expansion_faults, forms_of, one_action_faults, scope_at, scope_in};
 ghost use Rattle.cedar_schema.specs.Declaring.{action_of, entity_type_of};
 ghost use Rattle.cedar_schema.specs.Private.SettingView.{setting_view};
 
@@ -17,11 +18,11 @@ use crate::schema::entity_type::{EntityType, read_entity_type};
 use crate::schema::members::uid_of;
 use cedar_ext::Language;
 use cedar_schema_json::{
-    Entry, Form, NameTable, Position, SchemaFault, Scope, Table, check_common_key, judge,
-    qualified, read_type,
+    Entry, Enumeration, Form, NameTable, Position, SchemaFault, Scope, Table, check_common_key,
+    judge, qualified, read_enumeration, read_type,
 };
 use cedar_value::{Name, Uid};
-use std::alloc::Global;
+use std::alloc::{AllocError, Global};
 use std::collections::{BTreeMap, BTreeSet};
 
 /// The language and the declared names and uids: the names of the entity types, the common types as they are written, and the
@@ -130,6 +131,40 @@ fn read_entity(
         commons: setting.commons,
     };
     read_entity_type(alloc, &scope, setting.table, entry)
+}
+
+/// The ids of the enumerated entity types, under the names of the types.
+pub(crate) fn read_enumerations(
+    alloc: Global,
+    entries: &[Entry<'_>],
+) -> Result<BTreeMap<Name, Enumeration>, SchemaFault>
+    ensures { MatchResult result
+        (λ m. (each_faults enumerated_faults (entries_view entries.now) ≡ [])
+        × (m.entries ≡ each_onto add_enumeration [] (entries_view entries.now)))
+        (λ e. Told (each_faults enumerated_faults (entries_view entries.now)) e) }
+{
+    let mut found = BTreeMap::new(alloc);
+    for i in 0..entries.len() {
+        let entry = entries[i];
+        let enumeration = read_enumeration(alloc, entry.body)?;
+        add_enumeration(alloc, &mut found, entry, enumeration)?;
+    }
+    Ok(found)
+}
+
+fn add_enumeration(
+    alloc: Global,
+    found: &mut BTreeMap<Name, Enumeration>,
+    entry: Entry<'_>,
+    enumeration: Option<Enumeration>,
+) -> Result<(), AllocError>
+    ensures { OnOk result (enumeration ≡ enumeration_of (entry_of entry.entry).body → found.new.entries ≡ add_enumeration found.old.entries (entry_of entry.entry)) }
+{
+    if let Some(ids) = enumeration {
+        let name = qualified(alloc, entry.namespace, entry.key)?;
+        found.insert(name, ids)?;
+    }
+    Ok(())
 }
 
 /// The actions, under their uids.

@@ -12,7 +12,9 @@ ghost use Rattle.cedar_schema_json.specs.TableView.{table_of};
 ghost use Rattle.cedar_schema.specs.Schemas.{schema_in, schema_of, sections_faults, setting_faults, setting_of, written_faults};
 
 use crate::schema::Schema;
-use crate::schema::declarations::{Setting, judge_forms, read_actions, read_entities, read_forms};
+use crate::schema::declarations::{
+    Setting, judge_forms, read_actions, read_entities, read_enumerations, read_forms,
+};
 use crate::schema::members::uids_of;
 use cedar_ext::Language;
 use cedar_schema_json::{
@@ -97,6 +99,7 @@ fn read_setting(
 {
     judge_forms(setting.table)?;
     let entity_types = read_entities(alloc, setting, entities)?;
+    let enumerations = read_enumerations(alloc, entities)?;
     let action_types = read_actions(alloc, setting, actions)?;
-    Schema::new(alloc, entity_types, action_types)
+    Schema::new(alloc, entity_types, action_types, enumerations)
 }

@@ -4,7 +4,7 @@ ghost use Rattle.serde_json.specs.View.{view, members_view};
 ghost use Rattle.serde_json.specs.Find.{get, as_object};
 ghost use Rattle.cedar_schema_json.specs.Faults.{Told};
 ghost use Rattle.cedar_schema_json.specs.Reading.{key_faults};
-ghost use Rattle.cedar_schema_json.specs.Entries.{belongs, part_faults, unless_null};
+ghost use Rattle.cedar_schema_json.specs.Entries.{belongs, is_enumeration, part_faults, unless_null};
 
 use crate::json::annotations::is_annotation;
 use crate::schema_fault::SchemaFault;
@@ -26,6 +26,16 @@ pub enum Part {
     Member,
 }
 
+// Whether the key is that of the ids of an enumerated entity type.
+fn is_enumeration(language: Language, key: &str) -> bool
+    ensures { result ≡ is_enumeration language key.now }
+{
+    match language {
+        Language::Profile => false,
+        Language::Cedar4 => key == "enum",
+    }
+}
+
 #[tactic(auto, unfolding(crate::specs::Entries::belongs))]
 fn belongs(language: Language, part: Part, key: &str, json: &Value) -> bool
     ensures { result ≡ belongs language part key.now (view json.now) }
@@ -38,7 +48,10 @@ fn belongs(language: Language, part: Part, key: &str, json: &Value) -> bool
                 || is_annotation(language, key, json)
         }
         Part::EntityType => {
-            key == "memberOfTypes" || key == "shape" || is_annotation(language, key, json)
+            key == "memberOfTypes"
+                || key == "shape"
+                || is_enumeration(language, key)
+                || is_annotation(language, key, json)
         }
         Part::Action => {
             key == "memberOf"

@@ -19,6 +19,7 @@ use Rattle.cedar_schema_types.specs.Types.{TypeTree, is_record}
 use Rattle.cedar_schema_types.specs.Types as kind
 use Rattle.cedar_ast.specs.Response.{response}
 use Rattle.cedar_schema_spec.specs.Declarations.{IsAction, is_action, ActionsAreDecided}
+use Rattle.cedar_schema_spec.specs.Enumerated.{request_listed}
 use Rattle.cedar_schema_spec.specs.SchemaTree.{SchemaTree, shape_of, environments_of, HasEnvironment}
 use Rattle.cedar_schema_spec.specs.WellFormed.{AreContextsOrdered, IsOrderedRecord}
 use Rattle.cedar_schema_spec.specs.declared.environment.Environment.{Environment}
@@ -30,7 +31,7 @@ use Rattle.cedar_conform_values.specs.WrittenUids.{IsUidObject, WritesUid, UidAt
 use Rattle.cedar_conform_values.specs.Numbers.{number_of}
 use Rattle.cedar_conform_values.specs.declared.conform_fault.ConformFault.{ConformFault}
 use Rattle.cedar_conform_values.specs.declared.conform_fault.ConformFault.TheVariants.{OutOfMemory, Json, Shape, UnknownType, NoSuchAction, ActionDoesNotApply}
-use Rattle.cedar_conform.specs.Requests.{is_request_key, Names, Lacks, IsShapeless, context_of, Denotes, HasFault, LineDenotes, LineHasFault}
+use Rattle.cedar_conform.specs.Requests.{is_request_key, Names, Lacks, IsShapeless, context_of, Reads, Denotes, HasFault, LineDenotes, LineHasFault}
 use Rattle.cedar_auth_spec.specs.AnswerJson.{response_data, refused_data}
 use Rattle.cedar_auth.specs.AnswerLine.{AnswersLine}
 use Rattle.cedar_auth_spec.specs.Ready.{ReadyTree}
@@ -133,17 +134,20 @@ module _ (uids : UidsAreDecided) (names : NamesAreDecided) (actions : ActionsAre
   shapeless : (d : Data) → IsShapeless d → Judged d
   shapeless d h = inr (Shape, λ e. cc, inl (refl, h))
 
+  -- what reads as a request denotes it, or it writes a uid that its type does not have
+  by_ids : {d : Data} (q : Request) → Reads s d q → (b : Bool) → request_listed s q ≡ b → Judged d
+  by_ids q read true is = inl (q, record { read = read; uids = is })
+  by_ids q read false is = inr (UnknownType, λ e. cc, inr (inr (inr (refl, (q, read, is)))))
+
   module _ (d : Data) (keys : has_only is_request_key d ≡ true) (p a r : Uid) (n : Names d p a r) where
     by_context : (t : TypeTree) → HasEnvironment s.actions a p.ty r.ty t → (fs : List ConformFault) → (value_read t (context_of d)).faults ≡ fs → Others fs → Judged d
     by_context t applies [] e o =
         let kind_of = All-contains (λ (env : Environment). IsOrderedRecord env.context) (environments_of s.actions) (record { action = a; principal = p.ty; resource = r.ty; context = t }) contexts applies in
         let found = record_in t (value_read t (context_of d)).value kind_of.0 (belong t (context_of d) e) in
-        inl (
-          record { principal = p; action = a; resource = r; context = pairs_of found.0 },
-          record { keys = keys; names = n; context_type = t; applies = applies; fine = e; context = ap (λ (x : Fields). record_of x) (fields_back found.0) ∙ sym found.1 },
-        )
+        let q : Request = record { principal = p; action = a; resource = r; context = pairs_of found.0 } in
+        by_ids q (record { keys = keys; names = n; context_type = t; applies = applies; fine = e; context = ap (λ (x : Fields). record_of x) (fields_back found.0) ∙ sym found.1 }) (request_listed s q) refl
     by_context t applies (f ∷ fs) e o =
-        inr (f, o.0, inr (inr (record { principal = p; action = a; resource = r; names = n; context_type = t; applies = applies; broken = subst (λ (xs : List ConformFault). Contains xs f) (sym e) (here f fs) })))
+        inr (f, o.0, inr (inr (inl (record { principal = p; action = a; resource = r; names = n; context_type = t; applies = applies; broken = subst (λ (xs : List ConformFault). Contains xs f) (sym e) (here f fs) }))))
 
     by_environment : IsAction s a → Found a p.ty r.ty (environments_of s.actions) ⊎ NotFound a p.ty r.ty (environments_of s.actions) → Judged d
     unfolding Found NotFound

@@ -16,6 +16,7 @@ use Rattle.cedar_value.proofs.Reach.{parents-listed}
 use Rattle.cedar_schema_types.specs.Types.{TypeTree}
 use Rattle.cedar_schema_spec.specs.Declarations.{IsAction, IsEntityType, is_action, action_below, type_below, ActionsAreDecided, ActionDescentsAreDecided, TypeDescentsAreDecided}
 use Rattle.cedar_schema_spec.specs.Descents.{ActionDescends, TypeDescends}
+use Rattle.cedar_schema_spec.specs.Enumerated.{entity_listed}
 use Rattle.cedar_schema_spec.specs.SchemaTree.{SchemaTree, shape_of}
 use Rattle.cedar_schema_spec.specs.WellFormed.{AreShapesOrdered}
 use Rattle.cedar_store.specs.Changes.{changed, HaveSameEntities}
@@ -31,7 +32,7 @@ use Rattle.cedar_conform_values.specs.declared.conform_fault.ConformFault.{Confo
 use Rattle.cedar_conform_values.specs.declared.conform_fault.ConformFault.TheVariants.{OutOfMemory, DuplicateEntity, Cycle, Shape, UnknownType, BadAncestor, ActionDiffers}
 use Rattle.cedar_conform_entities.specs.Changes.{DenotesChanges, DenotesChangedWorld, HasChangesFault, is_change_key, upserts_only}
 use Rattle.cedar_conform_entities.specs.Changes as changes
-use Rattle.cedar_conform_entities.specs.Denotes.{DenoteEntities, IsAccepted, no_entries, an_entity, an_action}
+use Rattle.cedar_conform_entities.specs.Denotes.{ReadsEntity, DenoteEntities, IsAccepted, no_entries, an_entity, an_action}
 use Rattle.cedar_conform_entities.specs.Entries.{AreUids, no_uids, one_uid, IsUidOf, IsActionName, SomeWrites, TwoWrite, Writes, WritesEntity, attributes_in, is_entry_key, parents_in, tags_in}
 use Rattle.cedar_conform_entities.specs.Faults.{HasEntryFault}
 use Rattle.cedar_conform_entities.specs.Faults as fault
@@ -204,6 +205,11 @@ module _ (uids : UidsAreDecided) (names : NamesAreDecided) where
         abbrev we : WritesEntity d u parents
         we = record { written = w; no_action = other }
 
+        listed_by : (e : EntityTree) → ReadsEntity s d e → (b : Bool) → entity_listed s e ≡ b → IsAccepted s d ⊎ HasOther d
+        unfolding HasOther
+        listed_by e read true is = inl (inl (e, record { read = read; listed = is }))
+        listed_by e read false is = inr (UnknownType, λ x. cc, fault.unlisted read is)
+
         parents_by : (t : TypeTree) → shape_of s u.ty ≡ Some t → (value_read t (attributes_in d)).faults ≡ [] → ((p : Uid) → Contains parents p → IsEntityType s p.ty) ⊎ ((p : Uid) × Contains parents p × (IsEntityType s p.ty → ⊥))
             → ((p : Uid) → Contains parents p → TypeDescends s u.ty p.ty) ⊎ ((p : Uid) × Contains parents p × (TypeDescends s u.ty p.ty → ⊥)) → IsAccepted s d ⊎ HasOther d
         unfolding HasOther
@@ -211,17 +217,15 @@ module _ (uids : UidsAreDecided) (names : NamesAreDecided) where
         parents_by t is fine (inl types) (inr p) = inr (BadAncestor, λ x. cc, fault.no_descent we p.1 p.2)
         parents_by t is fine (inl types) (inl below) =
             let found = record_in t (value_read t (attributes_in d)).value (shape_ordered s u.ty t shapes (sym is)).0 (belong t (attributes_in d) fine) in
-            inl (inl (
-              record { uid = u; attributes = pairs_of found.0; parents = parents },
-              record {
-                written = we;
-                shape = t;
-                declared = is;
-                fine = fine;
-                attributes = ap (λ (x : Fields). record_of x) (fields_back found.0) ∙ sym found.1;
-                parents = λ p m. (types p m, below p m);
-              },
-            ))
+            let e : EntityTree = record { uid = u; attributes = pairs_of found.0; parents = parents } in
+            listed_by e (record {
+              written = we;
+              shape = t;
+              declared = is;
+              fine = fine;
+              attributes = ap (λ (x : Fields). record_of x) (fields_back found.0) ∙ sym found.1;
+              parents = λ p m. (types p m, below p m);
+            }) (entity_listed s e) refl
 
         attributes_by : (t : TypeTree) → shape_of s u.ty ≡ Some t → (fs : List ConformFault) → (value_read t (attributes_in d)).faults ≡ fs → Others fs → IsAccepted s d ⊎ HasOther d
         unfolding HasOther

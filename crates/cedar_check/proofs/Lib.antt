@@ -5,6 +5,7 @@ pub mod Joined
 pub mod Kept
 pub mod MadeRecord
 pub mod Numbers
+pub mod OtherAction
 pub mod Policies
 pub mod Typings
 pub mod Unmentioned

@@ -1,7 +1,7 @@
 //! The rows of strict typing for expressions whose parts are typed already, or that have none.
 ghost use Rattle.std.specs.Prelude.{◌≡◌, ◌||◌, IfOk, option_and_then};
 ghost use Rattle.cedar_schema_types.specs.Types.{boolean};
-ghost use Rattle.cedar_schema_spec.specs.Declarations.{is_action, is_entity_type};
+ghost use Rattle.cedar_schema_spec.specs.Declarations.{is_action, is_entity};
 ghost use Rattle.cedar_value.specs.Datum.{uid as uid_datum};
 ghost use Rattle.cedar_check_spec.specs.Rows.{binary_type, gaining};
 ghost use Rattle.cedar_check_spec.specs.Private.Checking.{and_right, literal_type, on_boolean, on_two, or_right, or_type, unary_type, variable_type};
@@ -17,11 +17,11 @@ use cedar_schema::{Environment, Schema, Truth};
 use cedar_value::{Uid, Value, ValueKind};
 use std::alloc::{AllocError, Global};
 
-/// Whether the literal of a uid has a type: the uid's type is a declared entity type, or the uid a declared action.
+/// Whether the literal of a uid has a type: the uid's type is a declared entity type and has it, or the uid is a declared action.
 pub(crate) fn is_declared(schema: &Schema, uid: &Uid) -> bool
-    ensures { result ≡ (is_entity_type schema.now uid.now.ty || is_action schema.now uid.now) }
+    ensures { result ≡ (is_entity schema.now uid.now || is_action schema.now uid.now) }
 {
-    schema.attributes(&uid.ty).is_some() || is_action(schema, uid)
+    schema.attributes(&uid.ty).is_some() && schema.lists_uid(uid) || is_action(schema, uid)
 }
 
 // The type of a uid that is written.

@@ -35,6 +35,7 @@ mod smallest;
 mod spot;
 mod type_words;
 mod undeclared;
+mod unlisted;
 mod walk;
 mod way;
 mod words;

@@ -1,6 +1,7 @@
-//! Entity types and actions that are not declared.
+//! Entity types and actions that are not declared, and uids that their enumerated types do not have.
 use crate::listing::{add_more, is_listed};
 use crate::spot::Spot;
+use crate::unlisted::unlisted_words;
 use crate::words::Words;
 use crate::written::add_uid;
 use base_names::Nearest;
@@ -10,7 +11,7 @@ use cedar_value::{Name, Uid, ValueKind};
 use std::alloc::{AllocError, Global};
 use std::collections::BTreeSet;
 
-/// What is said of an entity type or an action that the schema does not declare.
+/// What is said of an entity type or an action that the schema does not declare, or of a uid that its enumerated type does not have.
 pub(crate) fn undeclared_words(spot: Spot<'_>, words: &mut Words) -> Result<(), AllocError> {
     match spot.part.kind() {
         ExprKind::Literal(value) => {
@@ -31,6 +32,10 @@ pub(crate) fn undeclared_words(spot: Spot<'_>, words: &mut Words) -> Result<(), 
 
 // What is said of a uid.
 fn words_of_uid(spot: Spot<'_>, words: &mut Words, uid: &Uid) -> Result<(), AllocError> {
+    if let Some(enumeration) = spot.checking.schema.enumeration(&uid.ty) {
+        unlisted_words(words, uid, enumeration);
+        return Ok(());
+    }
     if spot.checking.schema.has_action_type(&uid.ty) || last_of(uid.ty.as_str()) == "Action" {
         words_of_action(spot, words, uid);
         Ok(())

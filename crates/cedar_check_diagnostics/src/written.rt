@@ -1,7 +1,7 @@
 //! Short expressions as they are written.
 use base_places::Draft;
 use cedar_ast_expressions::{Expr, ExprKind, UnaryOperator, Variable};
-use cedar_value::{Uid, ValueKind};
+use cedar_value::{Name, Uid, ValueKind};
 use std::alloc::Global;
 
 // How many bytes of an expression are written at most.
@@ -58,11 +58,22 @@ fn add_plain_uid(out: &mut Draft, uid: &Uid) -> bool {
     add_quoted(out, uid.id.as_str())
 }
 
-/// Adds a uid as a policy writes it, with `..` for an id that is long or needs escapes.
-pub(crate) fn add_uid(out: &mut Draft, uid: &Uid) {
-    if !add_plain_uid(out, uid) {
+/// Adds an id as a policy writes it, with `..` for one that is long or needs escapes.
+pub(crate) fn add_id(out: &mut Draft, id: &str) {
+    if !add_quoted(out, id) {
         out.add("\"..\"");
     }
+}
+
+/// Adds the uid of a type and an id as a policy writes it, with `..` for an id that is long or needs escapes.
+pub(crate) fn add_uid_of(out: &mut Draft, ty: &Name, id: &str) {
+    out.add_all(&[ty.as_str(), "::"]);
+    add_id(out, id);
+}
+
+/// Adds a uid as a policy writes it, with `..` for an id that is long or needs escapes.
+pub(crate) fn add_uid(out: &mut Draft, uid: &Uid) {
+    add_uid_of(out, &uid.ty, uid.id.as_str());
 }
 
 // Adds `.key`, or `["key"]`. Returns whether the key can be written.

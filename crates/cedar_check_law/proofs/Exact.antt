@@ -27,7 +27,7 @@ use Rattle.cedar_schema_types.specs.Joins.{Join}
 use Rattle.cedar_check_spec.proofs.Members.{join_found}
 use Rattle.cedar_schema_spec.specs.SchemaTree.{SchemaTree}
 use Rattle.cedar_schema_types.specs.Membership.{known}
-use Rattle.cedar_schema_spec.specs.Declarations.{IsAction, is_entity_type, is_action, is_action_type, type_below}
+use Rattle.cedar_schema_spec.specs.Declarations.{IsAction, is_entity, is_entity_type, is_action, is_action_type, type_below}
 use Rattle.cedar_check_spec.specs.Capabilities.{Capability, Capabilities, Has, IsUnion, IsCommon, AreSame}
 use Rattle.cedar_check_spec.specs.Typing.{flipped, is_arithmetic, is_comparison, type_of_scalar, takes_any_string, is_set_comparison, MayHold, written_uids, AreWritten, IsInOne, Target, one_entity, entity_set, is_literal, TypesWith, of_uid, of_not, and_false, and_then_false, and_then_true, and_then_any, or_true, or_false, or_any_true, or_any_false, or_any_any, if_true, if_false, if_any, of_negative, of_arithmetic, of_comparison, equal_literals, equal_joined, equal_apart, has_none, has_held, has_required, has_any, of_get, of_like, of_is, in_written, in_related, in_unrelated, of_contains, of_set_comparison, of_is_empty, of_set, of_record, of_constructor, of_any_string, of_method, JoinsOnto, joined_all, joined_more, AddsOnto, added_all, added_more, of_ordered, of_unary_method}
 use Rattle.cedar_schema_types.specs.Lookup.{attribute_at}
@@ -180,7 +180,7 @@ module _ (settings : Settings) (s : SchemaTree) (env : Environment) where
 
   mutual
     pub exact : {h g : Capabilities} {e : Expression} {t : TypeTree} → TypesWith settings s env h e t g → (k : Capabilities) → AreSame h k → Exact k e t g
-    exact (of_uid {u = u} m) k p = plainly k (literal (uid u)) (kind.entity u.ty) (ap (λ b. only_if b (as_type (kind.entity u.ty))) (either (is_entity_type s u.ty) (is_action s u) (⊎_elim (λ z. inl z) (λ z. inr ((is_action-Decides s u).1 z)) m)))
+    exact (of_uid {u = u} m) k p = plainly k (literal (uid u)) (kind.entity u.ty) (ap (λ b. only_if b (as_type (kind.entity u.ty))) (either (is_entity s u) (is_action s u) (⊎_elim (λ z. inl (ap₂ (λ a b. a && b) z.0 z.1)) (λ z. inr ((is_action-Decides s u).1 z)) m)))
     exact (of_not {g = g} {e = e} {f = f} d) k p = one k operator.Not e (kind.boolean f) (kind.boolean (flipped f)) g (exact d k p) (λ h. refl)
     exact (and_false {a = a} {b = b} d) k p = let x = exact d k p in plainly k (and a b) (kind.boolean False) (ap (λ r. on_boolean r (and_type k (λ h. type_of_with settings s env h b))) x.gives)
     exact (and_then_false {h = h} {ga = ga} {gb = gb} {hb = hb} {a = a} {b = b} {f = f} da m u db) k p =

@@ -31,8 +31,9 @@ use Rattle.cedar_schema_types.specs.Joins.{Join}
 use Rattle.cedar_check_spec.proofs.Members.{join_sound}
 use Rattle.cedar_schema_spec.specs.SchemaTree.{SchemaTree}
 use Rattle.cedar_schema_spec.specs.Descents.{ActionDescends, TypeDescends}
+use Rattle.cedar_schema_spec.specs.Enumerated.{is_listed}
 use Rattle.cedar_schema_types.specs.Membership.{known}
-use Rattle.cedar_schema_spec.specs.Declarations.{is_entity_type, is_action, is_action_type, action_below, type_below}
+use Rattle.cedar_schema_spec.specs.Declarations.{is_entity, is_entity_type, is_action, is_action_type, action_below, type_below}
 use Rattle.cedar_check_spec.specs.Capabilities.{Capability, Capabilities, Has, IsUnion, IsCommon}
 use Rattle.cedar_check_spec.specs.Typing.{attributes_in, flipped, is_arithmetic, is_comparison, type_of_scalar, takes_any_string, is_set_comparison, MayHold, two_literals, written_uids, NamesAction, AreWritten, IsInOne, IsOrDescends, Target, one_entity, entity_set, is_literal, TypesWith, of_boolean, of_long, of_text, of_uid, of_principal, of_resource, of_context, of_not, and_false, and_then_false, and_then_true, and_then_any, or_true, or_false, or_any_true, or_any_false, or_any_any, if_true, if_false, if_any, of_negative, of_arithmetic, of_comparison, equal_literals, equal_joined, equal_apart, has_none, has_held, has_required, has_any, of_get, of_like, of_is, in_written, in_related, in_unrelated, of_contains, of_set_comparison, of_is_empty, of_set, of_record, of_constructor, of_any_string, of_method, JoinsOnto, joined_all, joined_more, AddsOnto, added_all, added_more, of_ordered, of_unary_method}
 use Rattle.cedar_schema_types.specs.Lookup.{attribute_at}
@@ -172,8 +173,8 @@ module _ (settings : Settings) (s : SchemaTree) (env : Environment) where
   found_literal h (long n) x e = from_some h (literal (long n)) (record { ty = kind.long; gained = [] }) x e of_long
   found_literal h (text t) x e = from_some h (literal (text t)) (record { ty = kind.string; gained = [] }) x e of_text
   found_literal h (uid u) x e =
-      let p = only_if_some (is_entity_type s u.ty || is_action s u) (as_type (kind.entity u.ty)) x e in
-      from_some h (literal (uid u)) (record { ty = kind.entity u.ty; gained = [] }) x p.1 (of_uid (⊎_elim (λ z. inl z) (λ z. inr ((is_action-Decides s u).0 z)) (either_true (is_entity_type s u.ty) (is_action s u) p.0)))
+      let p = only_if_some (is_entity s u || is_action s u) (as_type (kind.entity u.ty)) x e in
+      from_some h (literal (uid u)) (record { ty = kind.entity u.ty; gained = [] }) x p.1 (of_uid (⊎_elim (λ z. inl (both_true (is_entity_type s u.ty) (is_listed s u) z)) (λ z. inr ((is_action-Decides s u).0 z)) (either_true (is_entity s u) (is_action s u) p.0)))
   found_literal h _ x e = cc
 
   found_variable : (h : Capabilities) (v : Variable) (x : Typed) → variable_type env v ≡ Some x → IsTyped h (variable v) x

@@ -1,5 +1,5 @@
 -- The premises of soundness can be met: for the examples' schema by
--- a world of a user in a team, an admin and a doc, and by a request.
+-- a world of a user in a listed team, an admin and a doc, and by a request.
 use Rattle.std.proofs.Common.{◌≡◌, ℕ, Bool, true, false, cond, ◌⊎◌, inl, inr, ⊎_elim, List, [], ◌∷◌, Contains, Some, None, unwrap_or, pos, codes, refl, sym, ap, subst, ◌∙◌}
 use Rattle.std.specs.Map.{keys_of}
 use Rattle.std.specs.Option.{option_map}
@@ -20,6 +20,7 @@ use Rattle.cedar_schema_spec.specs.WellFormed.{AreTypesApart}
 use Rattle.cedar_schema_types.specs.Membership.{MayStand, IsAbsent, Choose, Member}
 use Rattle.cedar_schema_spec.specs.Declarations.{IsAction, action_entity, action_entities}
 use Rattle.cedar_schema_spec.specs.Conformance.{IsOfSchema, of_type, Conforms, FitsIn}
+use Rattle.cedar_schema_spec.specs.Enumerated.{entity_listed}
 use Rattle.base_reach.proofs.Listed.{here, there, first_or_later, nowhere}
 use Rattle.cedar_schema_spec.proofs.DeclaredTests.{actions_conform}
 use Rattle.cedar_check_spec.specs.Soundness.{PremisesAreMetWith}
@@ -100,6 +101,13 @@ entities e m =
     ⊎_elim (λ p. subst (IsOfSchema schema) p ann_fits) (λ i.
     ⊎_elim (λ p. subst (IsOfSchema schema) p eve_fits) (λ j.
     ⊎_elim (λ p. subst (IsOfSchema schema) p doc_fits) ((actions_conform schema).entities e)
+    (first_or_later doc (action_entities schema) e j)) (first_or_later eve (doc ∷ action_entities schema) e i)) (first_or_later ann (eve ∷ doc ∷ action_entities schema) e m)
+
+listed : (e : EntityTree) → Contains world e → ¬ IsAction schema e.uid → entity_listed schema e ≡ true
+listed e m n =
+    ⊎_elim (λ p. subst (λ (x : EntityTree). entity_listed schema x ≡ true) p refl) (λ i.
+    ⊎_elim (λ p. subst (λ (x : EntityTree). entity_listed schema x ≡ true) p refl) (λ j.
+    ⊎_elim (λ p. subst (λ (x : EntityTree). entity_listed schema x ≡ true) p refl) (λ k. (actions_conform schema).listed e k n)
     (first_or_later doc (action_entities schema) e j)) (first_or_later eve (doc ∷ action_entities schema) e i)) (first_or_later ann (eve ∷ doc ∷ action_entities schema) e m)
 
 -- links: from the user to the team, and from the one action to the other
@@ -224,6 +232,7 @@ actions_above u v d =
 pub conforms : Conforms schema world
 conforms = record {
   entities = entities;
+  listed = listed;
   above = above;
   present = present;
   actions = λ u v m. (actions_below u v m, actions_above u v);
@@ -236,6 +245,7 @@ fits = record {
   action = refl;
   resource = refl;
   context = pair_fits (codes "n") kind.long no_attributes (long (pos 0)) [] tt (λ k. tt);
+  uids = refl;
 }
 
 pub premises_are_met : (settings : Settings) → PremisesAreMetWith settings

@@ -29,7 +29,7 @@ use Rattle.cedar_check_spec.specs.declared.settings.Settings.{Settings}
 use Rattle.cedar_check_spec.specs.Private.Reporting.{faults_of_with}
 use Rattle.cedar_check_spec.specs.Private.Checking.{form_in_with}
 
--- ---- a schema: users, who may be in teams, admins and docs, and three actions
+-- ---- a schema: users, who may be in the one team that is listed, admins and docs, and three actions
 
 abbrev pub user_type : EntityTypeTree
 user_type = record { parents = codes "Team" ∷ []; shape = kind.record_of (attribute (codes "age") false kind.long no_attributes) }
@@ -59,6 +59,7 @@ abbrev pub schema : SchemaTree
 schema = record {
   entities = (codes "Admin", admin_type) ∷ (codes "Doc", doc_type) ∷ (codes "Team", team_type) ∷ (codes "User", user_type) ∷ [];
   actions = (act (codes "delete"), deletes) ∷ (act (codes "read"), reads) ∷ (act (codes "view"), views) ∷ [];
+  enumerated = (codes "Team", codes "t" ∷ []) ∷ [];
 }
 
 -- ---- policies
@@ -205,6 +206,18 @@ repeated_key = refl
 unlike_literals : of_all (binary two.Equal (number 1) (literal (text (codes "a")))) ≡ Some False ∷ Some False ∷ Some False ∷ []
 unlike_literals = refl
 
+-- a uid of an enumerated type has a type where the uid is listed alone
+abbrev in_team : List ℕ → Expression
+in_team id = binary two.In principal (literal (uid (record { ty = codes "Team"; id = id })))
+
+listed_uid : of_all (in_team (codes "t")) ≡ Some Any ∷ Some False ∷ Some Any ∷ []
+unfolding below leads
+listed_uid = refl
+
+not_listed_uid : of_all (in_team (codes "T")) ≡ None ∷ None ∷ None ∷ []
+unfolding below leads
+not_listed_uid = refl
+
 -- ---- actions of two namespaces, where the one type's action is below the other's
 
 abbrev in_space : List ℕ → List ℕ → Uid
@@ -229,6 +242,7 @@ two_spaces = record {
         },
       )
       ∷ [];
+  enumerated = [];
 }
 
 abbrev in_choice : Expression

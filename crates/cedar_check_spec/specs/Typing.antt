@@ -33,7 +33,7 @@ use Rattle.cedar_schema_types.specs.declared.attribute.Attribute.{Attribute}
 use Rattle.cedar_schema_spec.specs.SchemaTree.{SchemaTree, shape_of}
 use Rattle.cedar_schema_spec.specs.Descents.{ActionDescends, TypeDescends}
 use Rattle.cedar_schema_types.specs.Membership.{known}
-use Rattle.cedar_schema_spec.specs.Declarations.{IsEntityType, IsAction, IsActionType}
+use Rattle.cedar_schema_spec.specs.Declarations.{IsEntityType, IsEntity, IsAction, IsActionType}
 use Rattle.cedar_check_spec.specs.Capabilities.{Capabilities, Has, IsUnion, IsCommon}
 use Rattle.cedar_check_spec.specs.declared.settings.Settings.{Settings}
 
@@ -156,8 +156,8 @@ mutual
     of_boolean : {h : Capabilities} {b : Bool} → TypesWith settings s env h (literal (boolean b)) (kind.boolean (known b)) []
     of_long : {h : Capabilities} {n : ℤ} → TypesWith settings s env h (literal (long n)) kind.long []
     of_text : {h : Capabilities} {t : List ℕ} → TypesWith settings s env h (literal (text t)) kind.string []
-    -- a uid has its entity type, which is declared, or the uid is that of a declared action
-    of_uid : {h : Capabilities} {u : Uid} → IsEntityType s u.ty ⊎ IsAction s u → TypesWith settings s env h (literal (uid u)) (kind.entity u.ty) []
+    -- a uid has its entity type, which is declared and has it, or the uid is that of a declared action (Cedar RFC 53)
+    of_uid : {h : Capabilities} {u : Uid} → IsEntity s u ⊎ IsAction s u → TypesWith settings s env h (literal (uid u)) (kind.entity u.ty) []
     -- the variables have the types of the environment; `action` has no rule, since its uid replaces it
     of_principal : {h : Capabilities} → TypesWith settings s env h (variable Principal) (kind.entity env.principal) []
     of_resource : {h : Capabilities} → TypesWith settings s env h (variable Resource) (kind.entity env.resource) []

@@ -9,6 +9,7 @@ use Rattle.cedar_value.specs.declared.uid.Uid.{Uid}
 use Rattle.cedar_value.specs.declared.request.Request.{Request}
 use Rattle.cedar_schema_types.specs.Types.{TypeTree}
 use Rattle.cedar_schema_spec.specs.Declarations.{IsAction}
+use Rattle.cedar_schema_spec.specs.Enumerated.{request_listed}
 use Rattle.cedar_schema_spec.specs.SchemaTree.{SchemaTree, shape_of, HasEnvironment, HasNoEnvironment}
 use Rattle.cedar_conform_values.specs.declared.conform_fault.ConformFault.{ConformFault}
 use Rattle.cedar_conform_values.specs.declared.conform_fault.ConformFault.TheVariants.{Json, Shape, UnknownType, NoSuchAction, ActionDoesNotApply}
@@ -56,16 +57,22 @@ context_of d = unwrap_or (get (codes "context") d) (object no_members)
 
 -- ---- the whole
 
--- A JSON denotes a request: it is an object of a principal, an action, a resource and perhaps a context. The action applies to
--- the types of the two, and the context is what the JSON writes as a value of its context type (Cedar documentation,
--- validation; Cedar documentation, entities and context in JSON).
-pub record Denotes (s : SchemaTree) (d : Data) (q : Request) : Type 0 where
+-- A JSON reads as a request, whichever ids enumerated types have: it is an object of a principal, an action, a resource and perhaps a
+-- context. The action applies to the types of the two, and the context is what the JSON writes as a value of its context type
+-- (Cedar documentation, validation; Cedar documentation, entities and context in JSON).
+pub record Reads (s : SchemaTree) (d : Data) (q : Request) : Type 0 where
   pub keys : has_only is_request_key d ≡ true
   pub names : Names d q.principal q.action q.resource
   pub context_type : TypeTree
   pub applies : HasEnvironment s.actions q.action q.principal.ty q.resource.ty context_type
   pub fine : (value_read context_type (context_of d)).faults ≡ []
   pub context : record_of (fields_of q.context) ≡ (value_read context_type (context_of d)).value
+
+-- A JSON denotes a request: it reads as the request, and each uid that the request writes is one that its type has (Cedar
+-- documentation, validation; Cedar RFC 53).
+pub record Denotes (s : SchemaTree) (d : Data) (q : Request) : Type 0 where
+  pub read : Reads s d q
+  pub uids : request_listed s q ≡ true
 
 -- A fault of the context, for the context type of the environment (Cedar documentation, validation).
 pub record HasContextFault (s : SchemaTree) (d : Data) (f : ConformFault) : Type 0 where
@@ -77,11 +84,17 @@ pub record HasContextFault (s : SchemaTree) (d : Data) (f : ConformFault) : Type
   pub applies : HasEnvironment s.actions action principal.ty resource.ty context_type
   pub broken : Contains (value_read context_type (context_of d)).faults f
 
--- The fault is there: 502 where the shape is broken; what the schema has against the uids; or a fault of the context (Cedar
--- documentation, validation).
+-- The fault is 503, and what is read is a request that writes a uid which its enumerated type does not have (Cedar RFC 53).
+abbrev pub HasUnlistedUid : SchemaTree → (Request → Type 0) → ConformFault → Type 0
+HasUnlistedUid s IsRead f = (f ≡ UnknownType) × ((q : Request) × IsRead q × (request_listed s q ≡ false))
+
+-- The fault is there: 502 where the shape is broken; what the schema has against the uids; a fault of the context; or 503 for a uid
+-- that its enumerated type does not have (Cedar documentation, validation; Cedar RFC 53).
 abbrev pub HasFault : SchemaTree → Data → ConformFault → Type 0
 HasFault s d f =
-    ((f ≡ Shape) × IsShapeless d) ⊎ (((p : Uid) × (a : Uid) × (r : Uid) × Names d p a r × HasUidsFault s p a r f) ⊎ HasContextFault s d f)
+    ((f ≡ Shape) × IsShapeless d)
+    ⊎ (((p : Uid) × (a : Uid) × (r : Uid) × Names d p a r × HasUidsFault s p a r f)
+    ⊎ (HasContextFault s d f ⊎ HasUnlistedUid s (Reads s d) f))
 
 -- The bytes denote a request where they are JSON that does (Cedar documentation, validation).
 abbrev pub LineDenotes : SchemaTree → List ℕ → Request → Type 0

@@ -22,6 +22,7 @@ mod fitting_request;
 mod guesses;
 mod laws;
 mod links;
+mod listed;
 mod parts;
 mod plain_request;
 mod request;

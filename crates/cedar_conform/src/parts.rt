@@ -14,6 +14,7 @@ ghost use Rattle.cedar_conform.specs.Private.PartsAnswers.{AreUidsOf, IsUidOf};
 
 use crate::context::{absent_context, record_type};
 use crate::fitting_request::FittingRequest;
+use crate::listed::listed_request;
 use crate::request::{RequestUids, context_type};
 use crate::request_reader::RequestReader;
 use crate::request_rooms::RequestRooms;
@@ -92,12 +93,13 @@ fn request_of_parts(
     let uids = uids_of_parts(alloc, &mut reader.names, &mut reader.rooms, parts)?;
     let ty = context_type(schema, &mut reader.rooms, &uids)?;
     let context = read_context_bytes(alloc, ty, parts.context, &mut reader.json)?;
-    Ok(Request {
+    let request = Request {
         principal: uids.principal,
         action: uids.action,
         resource: uids.resource,
         context,
-    })
+    };
+    listed_request(schema, request)
 }
 
 // The uids of the parts.

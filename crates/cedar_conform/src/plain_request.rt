@@ -7,6 +7,7 @@ ghost use Rattle.cedar_conform.specs.Private.Answers.{IsAnswer};
 ghost use Rattle.cedar_conform.specs.Private.Fields.{AreFieldsOf, AreWritten, LacksIn, LacksOne, WrittenIn, quoted_fields};
 
 use crate::context::no_context;
+use crate::listed::listed_request;
 use crate::request::{RequestUids, context_type};
 use crate::request_rooms::RequestRooms;
 use crate::uid_room::UidRoom;
@@ -31,12 +32,13 @@ pub(crate) fn plain_request(
     let uids = plain_uids(alloc, names, rooms, values)?;
     let ty = context_type(schema, rooms, &uids)?;
     let context = no_context(alloc, ty)?;
-    Ok(Request {
+    let request = Request {
         principal: uids.principal,
         action: uids.action,
         resource: uids.resource,
         context,
-    })
+    };
+    listed_request(schema, request)
 }
 
 // The uids of the principal, the action and the resource.

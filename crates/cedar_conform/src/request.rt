@@ -20,6 +20,7 @@ ghost use Rattle.cedar_conform.specs.Private.Fields.{AreFieldsOf, AreWritten, La
 use crate::context::{absent_context, record_type};
 use crate::fields::Fields;
 use crate::fitting_request::FittingRequest;
+use crate::listed::listed_request;
 use crate::plain_request::plain_request;
 use crate::request_reader::RequestReader;
 use crate::request_rooms::RequestRooms;
@@ -206,12 +207,13 @@ pub(crate) fn request_of(
     let uids = read_uids(alloc, names, rooms, fields)?;
     let ty = context_type(schema, rooms, &uids)?;
     let context = read_context(alloc, ty, fields.context.take())?;
-    Ok(Request {
+    let request = Request {
         principal: uids.principal,
         action: uids.action,
         resource: uids.resource,
         context,
-    })
+    };
+    listed_request(schema, request)
 }
 
 // The uids at the three keys, whose values are taken.

@@ -4,6 +4,8 @@ use crate::entry_shape::{add_parent, shape_words};
 use crate::owner::Owner;
 use crate::shown::add_uid;
 use crate::undeclared::{action_words, type_words};
+use crate::unlisted::unlisted_words;
+use crate::unlisted_path::unlisted_value_words;
 use crate::value_path::value_words_at;
 use crate::words::Words;
 use crate::written_entry::{WrittenEntry, written_entry};
@@ -47,7 +49,7 @@ fn written_words(
     number: u16,
 ) -> Result<(), AllocError> {
     match number {
-        503 | 507 => types_words(alloc, words, schema, written),
+        503 | 507 => types_words(alloc, words, schema, entry, written),
         508 => {
             repetition_words(words, schema, entry, written);
             Ok(())
@@ -56,11 +58,12 @@ fn written_words(
     }
 }
 
-// The words for the type of an entity and those of its parents.
+// The words for the type of an entity and those of its parents, 503 and 507, or for a uid that its enumerated type does not have, 503.
 fn types_words(
     alloc: Global,
     words: &mut Words,
     schema: &Schema,
+    entry: &Json,
     written: &WrittenEntry,
 ) -> Result<(), AllocError> {
     let own = &written.uid.ty;
@@ -78,8 +81,37 @@ fn types_words(
             return parent_words(alloc, words, schema, own, &parent.ty);
         }
     }
-    words.says.add("a type is not allowed here");
-    Ok(())
+    listed_words(alloc, words, schema, entry, written)
+}
+
+// The words for the first uid of an entry that its enumerated type does not have: its own, a parent, or one in its attributes.
+fn listed_words(
+    alloc: Global,
+    words: &mut Words,
+    schema: &Schema,
+    entry: &Json,
+    written: &WrittenEntry,
+) -> Result<(), AllocError> {
+    if unlisted_words(words, schema, &written.uid) {
+        words.path.add("uid");
+        return Ok(());
+    }
+    for (position, parent) in written.parents.iter().enumerate() {
+        if unlisted_words(words, schema, parent) {
+            add_parent(&mut words.path, position);
+            return Ok(());
+        }
+    }
+    match (schema.attributes(&written.uid.ty), entry.get("attrs")) {
+        (Some(shape), Some(found)) => {
+            words.path.add("attrs");
+            unlisted_value_words(alloc, words, schema, found, shape)
+        }
+        _ => {
+            words.says.add("a type is not allowed here");
+            Ok(())
+        }
+    }
 }
 
 // The words for a parent of a type from which the type of an entity does not descend, 507, with the types that may be above it, where

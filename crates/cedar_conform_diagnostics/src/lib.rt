@@ -29,6 +29,8 @@ mod request_words;
 mod shown;
 mod uid_words;
 mod undeclared;
+mod unlisted;
+mod unlisted_path;
 mod value_path;
 mod visiting;
 mod wanted;

@@ -5,6 +5,8 @@ use crate::owner::Owner;
 use crate::shown::{add_types, add_uid};
 use crate::uid_words::{ACTION, ENTITY, is_uid, uid_words};
 use crate::undeclared::{action_words, type_words};
+use crate::unlisted::unlisted_words;
+use crate::unlisted_path::unlisted_value_words;
 use crate::value_path::value_words_at;
 use crate::words::Words;
 use cedar_conform_values::written_uid;
@@ -83,7 +85,7 @@ pub(crate) fn request_words(
     }
     match uids_of(alloc, request)? {
         Some(uids) => {
-            let added = uids_words(alloc, words, schema, request, &uids);
+            let added = uids_words(alloc, words, schema, request, &uids, number);
             drop(uids);
             added
         }
@@ -156,6 +158,7 @@ fn uids_words(
     schema: &Schema,
     request: &Json,
     uids: &RequestUids,
+    number: u16,
 ) -> Result<(), AllocError> {
     if schema.attributes(&uids.principal.ty).is_none() {
         words.path.add("principal");
@@ -165,11 +168,45 @@ fn uids_words(
         words.path.add("resource");
         return type_words(alloc, words, schema, &uids.resource.ty);
     }
+    if number == 503 {
+        return listed_words(alloc, words, schema, request, uids);
+    }
     match schema.action(&uids.action) {
         Some(action) => applied_words(alloc, words, schema, request, uids, action),
         None => {
             words.path.add("action");
             action_words(words, schema, &uids.action);
+            Ok(())
+        }
+    }
+}
+
+// The words for the first uid of a request that its enumerated type does not have: the principal, the resource, or one in the context.
+fn listed_words(
+    alloc: Global,
+    words: &mut Words,
+    schema: &Schema,
+    request: &Json,
+    uids: &RequestUids,
+) -> Result<(), AllocError> {
+    let principal = &uids.principal;
+    let resource = &uids.resource;
+    if unlisted_words(words, schema, principal) {
+        words.path.add("principal");
+        return Ok(());
+    }
+    if unlisted_words(words, schema, resource) {
+        words.path.add("resource");
+        return Ok(());
+    }
+    let wanted = schema.context(&uids.action, &principal.ty, &resource.ty);
+    match (wanted, request.get("context")) {
+        (Some(wanted), Some(found)) => {
+            words.path.add("context");
+            unlisted_value_words(alloc, words, schema, found, wanted)
+        }
+        _ => {
+            words.says.add("a type is not allowed here");
             Ok(())
         }
     }

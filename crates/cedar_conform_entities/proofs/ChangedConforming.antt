@@ -108,6 +108,7 @@ module _ (s : SchemaTree) (old : World) (removed : List Uid) (upserted : World) 
   pub new_conforms : Conforms s new
   new_conforms = record {
     entities = λ e m. ⊎_elim (λ l. conforms.entities e l.0) (λ r. of_type {t = (sound e r).shape} (sound e r).declared (sound e r).attributes) (changed_entity old removed upserted e m);
+    listed = λ e m n. ⊎_elim (λ l. conforms.listed e l.0 n) (λ r. (sound e r).listed) (changed_entity old removed upserted e m);
     above = λ u v n b. inl (chain_above u v n b);
     present = λ u a. ap is_some (entry_unnamed old removed upserted u (unnamed u a)) ∙ conforms.present u a;
     actions = λ u v a. ((λ b. action_up u v a b), (λ d. action_down u v a ((conforms.actions u v a).1 d)));

@@ -48,7 +48,7 @@ module _ (s : SchemaTree) (all : Items) where
   }
 
   written : (d : Data) (entry : Entry) → IsEntry s d entry → IsUidOf d (uid_of_entry entry)
-  written d (Entity e) h = h.written.written.uid
+  written d (Entity e) h = h.read.written.written.uid
   written d (Action u) h = h.1.written.uid
 
   denoted_more : (d : Data) (ds : Items) (w : World) (entry : Entry) → IsEntry s d entry → ((es : World) → DenoteEntities s (item d ds) es → DenoteEntities s all (w ++ es)) → (es : World) → DenoteEntities s ds es → DenoteEntities s all (appended w entry ++ es)
@@ -180,12 +180,12 @@ module _ (s : SchemaTree) (d : Data) where
 
 written_by : {s : SchemaTree} {ds : Items} {es : World} → DenoteEntities s ds es → (u : Uid) → Contains (uids_of es) u → SomeWrites ds u
 written_by no_entries u m = absurd (nowhere u m)
-written_by (an_entity {d = d} {e = e} {es = es} h more) u m = ⊎_elim (λ same. inl (subst (IsUidOf d) same h.written.written.uid)) (λ r. inr (written_by more u r)) (first_or_later e.uid (uids_of es) u m)
+written_by (an_entity {d = d} {e = e} {es = es} h more) u m = ⊎_elim (λ same. inl (subst (IsUidOf d) same h.read.written.written.uid)) (λ r. inr (written_by more u r)) (first_or_later e.uid (uids_of es) u m)
 written_by (an_action h more) u m = inr (written_by more u m)
 
 twice_written : {s : SchemaTree} {ds : Items} {es : World} → DenoteEntities s ds es → (u : Uid) → Twice (uids_of es) u → TwoWrite ds u
 twice_written no_entries u t = absurd t
-twice_written (an_entity {d = d} h more) u (inl (same, m)) = inl (subst (IsUidOf d) same h.written.written.uid, written_by more u m)
+twice_written (an_entity {d = d} h more) u (inl (same, m)) = inl (subst (IsUidOf d) same h.read.written.written.uid, written_by more u m)
 twice_written (an_entity h more) u (inr t) = inr (twice_written more u t)
 twice_written (an_action h more) u t = inr (twice_written more u t)
 

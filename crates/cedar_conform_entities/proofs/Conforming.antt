@@ -68,13 +68,18 @@ module _ (chains : ChainsOfActions) (actions : ActionsConform) (s : SchemaTree) 
   sound_listed : (e : EntityTree) → IsSound s e → IsOfSchema s e
   sound_listed e h = of_type {t = h.shape} h.declared h.attributes
 
+  -- an entity of the schema's actions has the uid of one
+  action_in : (e : EntityTree) → Contains (action_entities s) e → IsAction s e.uid
+  action_in e m =
+      let (a, there_is, same) = from_mapped action_entity s.actions e m in
+      let uid : a.0 ≡ e.uid = ap (λ (x : EntityTree). x.uid) same in
+      subst (Contains (keys_of s.actions)) uid (mapped (λ (x : Uid × ActionTree). x.0) s.actions a there_is)
+
   no_action : (u : Uid) (o : Option EntityTree) → entry_of (action_entities s) u ≡ o → ¬ IsAction s u → o ≡ None
   no_action u None h n = refl
   no_action u (Some e) h n =
       let found = entry_in (action_entities s) u e h in
-      let (a, there_is, same) = from_mapped action_entity s.actions e found.0 in
-      let uid : a.0 ≡ u = ap (λ (x : EntityTree). x.uid) same ∙ found.1 in
-      absurd (n (subst (Contains (keys_of s.actions)) uid (mapped (λ (x : Uid × ActionTree). x.0) s.actions a there_is)))
+      absurd (n (subst (IsAction s) found.1 (action_in e found.0)))
 
   action_parents : (u : Uid) → IsAction s u → parents_of (world_of s es) u ≡ parents_of (action_entities s) u
   action_parents u a =
@@ -108,6 +113,7 @@ module _ (chains : ChainsOfActions) (actions : ActionsConform) (s : SchemaTree) 
   pub conforms : Conforms s (world_of s es)
   conforms = record {
     entities = λ e m. ⊎_elim ((actions s).entities e) (λ r. sound_listed e (sound e r)) (either_of (action_entities s) es e m);
+    listed = λ e m n. ⊎_elim (λ a. absurd (n (action_in e a))) (λ r. (sound e r).listed) (either_of (action_entities s) es e m);
     above = λ u v n b. inl (chain_above u v n b);
     present = λ u a. let found = some_of (entry_of (action_entities s) u) ((actions s).present u a) in ap is_some (entry_first (action_entities s) es u found.0 found.1);
     actions = λ u v a. ((λ b. (chains s u v).0 (action_up u v a b)), (λ d. action_down u v a ((chains s u v).1 d)));

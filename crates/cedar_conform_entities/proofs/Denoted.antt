@@ -14,10 +14,11 @@ use Rattle.cedar_value.specs.World.{World, EntityTree}
 module _ (belong : ReadValuesBelong) where
   sound_entity : (s : SchemaTree) (d : Data) (e : EntityTree) → DenotesEntity s d e → IsSound s e
   sound_entity s d e h = record {
-    shape = h.shape;
-    declared = h.declared;
-    attributes = subst (Member h.shape) (sym h.attributes) (belong h.shape (attributes_in d) h.fine);
-    parents = h.parents;
+    shape = h.read.shape;
+    declared = h.read.declared;
+    attributes = subst (Member h.read.shape) (sym h.read.attributes) (belong h.read.shape (attributes_in d) h.read.fine);
+    parents = h.read.parents;
+    listed = h.listed;
   }
 
   -- what a list of entries denotes is sound

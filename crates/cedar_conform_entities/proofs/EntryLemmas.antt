@@ -18,16 +18,18 @@ use Rattle.cedar_conform_values.specs.Values.{value_read}
 use Rattle.cedar_conform_values.specs.WrittenUids.{IsUidObject}
 use Rattle.cedar_conform_values.specs.declared.conform_fault.ConformFault.{ConformFault}
 use Rattle.cedar_conform_values.specs.declared.conform_fault.ConformFault.TheVariants.{UnknownType, ActionDiffers}
-use Rattle.cedar_conform_entities.specs.Denotes.{RepeatsAction}
+use Rattle.cedar_conform_entities.specs.Denotes.{ReadsEntity, RepeatsAction}
 use Rattle.cedar_conform_entities.specs.Entries.{AreUids, no_uids, one_uid, Writes, WritesEntity, IsActionName, attributes_in}
-use Rattle.cedar_conform_entities.specs.Faults.{HasEntryFault, no_entry, no_repetition, undeclared, undeclared_parent, no_descent, attributes}
+use Rattle.cedar_conform_entities.specs.Faults.{HasEntryFault, no_entry, no_repetition, undeclared, undeclared_parent, no_descent, attributes, unlisted}
 use Rattle.cedar_conform_entities.specs.Private.Parts as part
 use Rattle.cedar_conform_entities.specs.Private.Parts.{Refuses, AreParentsOf, IsNoEntry, IsGoodParent, HasParentsFault, RefusesEntry}
 use Rattle.cedar_schema_spec.specs.Declarations.{IsEntityType}
+use Rattle.cedar_schema_spec.specs.Enumerated.{entity_listed}
 use Rattle.cedar_schema_spec.specs.SchemaTree.{SchemaTree, EntityTypeTree, shape_of}
 use Rattle.cedar_schema_spec.specs.WellFormed.{AreShapesOrdered, IsOrderedRecord}
 use Rattle.cedar_schema_types.specs.Types.{TypeTree}
 use Rattle.cedar_value.specs.Order.{text_cmp}
+use Rattle.cedar_value.specs.World.{EntityTree}
 use Rattle.cedar_value.specs.declared.uid.Uid.{Uid}
 
 -- ---- keys
@@ -161,3 +163,6 @@ no_entry_refused s d f h other = subst (HasEntryFault s d) (sym (h other).0) (no
 
 pub action_refused : (s : SchemaTree) (d : Data) (u : Uid) (parents : List Uid) → Writes d u parents → IsActionName u.ty → ¬ RepeatsAction s d u parents → RefusesEntry s d ActionDiffers
 action_refused s d u parents written named h other = no_repetition written named h
+
+pub unlisted_refused : (s : SchemaTree) (d : Data) (e : EntityTree) → ReadsEntity s d e → entity_listed s e ≡ false → RefusesEntry s d UnknownType
+unlisted_refused s d e read fails other = unlisted read fails

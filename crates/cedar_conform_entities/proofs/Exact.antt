@@ -1,19 +1,20 @@
 -- What a JSON of entities denotes is one world, and then it has no fault.
-use Rattle.std.proofs.Common.{◌≡◌, ℕ, zero, suc, inl, inr, List, [], ◌∷◌, Contains, Option, Some, None, MatchOption, refl, sym, ap, subst, ◌∙◌}
+use Rattle.std.proofs.Common.{◌≡◌, ℕ, zero, suc, true, false, inl, inr, List, [], ◌∷◌, Contains, Option, Some, None, MatchOption, refl, sym, ap, subst, ◌∙◌}
 use Rattle.std.specs.Prelude.{is_some}
 use Rattle.serde_json.specs.Data.{Data, Items}
 use Rattle.serde_json.specs.Find.{as_array, get_item}
 use Rattle.base_reach.proofs.Listed.{nowhere}
 use Rattle.cedar_conform_values.specs.declared.conform_fault.ConformFault.{ConformFault}
-use Rattle.cedar_conform_entities.specs.Denotes.{DenotesEntity, RepeatsAction, DenoteEntities, no_entries, an_entity, an_action, DenotesWorld}
+use Rattle.cedar_conform_entities.specs.Denotes.{ReadsEntity, DenotesEntity, RepeatsAction, DenoteEntities, no_entries, an_entity, an_action, DenotesWorld}
 use Rattle.cedar_conform_entities.specs.Entries.{AreUids, no_uids, one_uid, Writes, IsActionName, TwoWrite, attributes_in, parents_in}
 use Rattle.cedar_conform_entities.specs.Exactness.{OneWorld, WorldsHaveNoFault}
-use Rattle.cedar_conform_entities.specs.Faults.{HasEntryFault, no_entry, undeclared, undeclared_parent, no_descent, no_repetition, attributes, HasFault, no_list, of_entry, written_twice, below_itself}
+use Rattle.cedar_conform_entities.specs.Faults.{HasEntryFault, no_entry, undeclared, undeclared_parent, no_descent, no_repetition, attributes, unlisted, HasFault, no_list, of_entry, written_twice, below_itself}
 use Rattle.cedar_conform_entities.specs.Worlds.{world_of}
 use Rattle.cedar_conform_entities.proofs.Repeats as written
 use Rattle.base_json.specs.JsonTree.{json_of}
 use Rattle.cedar_schema_spec.specs.Declarations.{IsEntityType}
 use Rattle.cedar_schema_spec.specs.Descents.{TypeDescends}
+use Rattle.cedar_schema_spec.specs.Enumerated.{entity_listed}
 use Rattle.cedar_schema_spec.specs.SchemaTree.{SchemaTree, shape_of}
 use Rattle.cedar_schema_types.specs.Types.{TypeTree}
 use Rattle.cedar_conform_values.specs.Values.{value_read}
@@ -51,41 +52,45 @@ same_fields : (ps qs : List (List ℕ × Datum)) → record_of (fields_of ps) �
 same_fields ps qs e = let fs : fields_of ps ≡ fields_of qs = cc in sym (pairs_back ps) ∙ ap pairs_of fs ∙ pairs_back qs
 
 module _ (s : SchemaTree) (d : Data) where
-  shape_same : (e f : EntityTree) (h : DenotesEntity s d e) (k : DenotesEntity s d f) → h.shape ≡ k.shape
+  shape_same : (e f : EntityTree) (h : ReadsEntity s d e) (k : ReadsEntity s d f) → h.shape ≡ k.shape
   shape_same e f h k = same_value (shape_of s f.uid.ty) h.shape k.shape (subst (λ (u : Uid). shape_of s u.ty ≡ Some h.shape) (uid_same d h.written.written k.written.written) h.declared) k.declared
 
-  attributes_same : (e f : EntityTree) → DenotesEntity s d e → DenotesEntity s d f → e.attributes ≡ f.attributes
+  attributes_same : (e f : EntityTree) → ReadsEntity s d e → ReadsEntity s d f → e.attributes ≡ f.attributes
   attributes_same e f h k = same_fields e.attributes f.attributes (h.attributes ∙ ap (λ (t : TypeTree). (value_read t (attributes_in d)).value) (shape_same e f h k) ∙ sym k.attributes)
 
-  entity_same : (e f : EntityTree) → DenotesEntity s d e → DenotesEntity s d f → e ≡ f
+  entity_same : (e f : EntityTree) → ReadsEntity s d e → ReadsEntity s d f → e ≡ f
   entity_same e f h k =
       let us = uid_same d h.written.written k.written.written in
       let as' = attributes_same e f h k in
       let ps = parents_same d h.written.written k.written.written in λ i. record { uid = us i; attributes = as' i; parents = ps i }
 
-  not_both : (e : EntityTree) (u : Uid) (parents : List Uid) → DenotesEntity s d e → RepeatsAction s d u parents → ⊥
+  not_both : (e : EntityTree) (u : Uid) (parents : List Uid) → ReadsEntity s d e → RepeatsAction s d u parents → ⊥
   not_both e u parents h k = h.written.no_action (subst (λ (v : Uid). IsActionName v.ty) (uid_same d k.written h.written.written) k.named)
 
 pub entities_same : {s : SchemaTree} {ds : Items} {es fs : World} → DenoteEntities s ds es → DenoteEntities s ds fs → es ≡ fs
 entities_same no_entries no_entries = refl
-entities_same {s} (an_entity {d = d} {e = e} {es = es} h more) (an_entity {e = f} {es = fs} k rest) = ap (λ x. x ∷ es) (entity_same s d e f h k) ∙ ap (λ xs. f ∷ xs) (entities_same more rest)
-entities_same {s} (an_entity {d = d} {e = e} h more) (an_action {u = u} {parents = us} k rest) = absurd (not_both s d e u us h k)
-entities_same {s} (an_action {u = u} {parents = us} h more) (an_entity {d = d} {e = e} k rest) = absurd (not_both s d e u us k h)
+entities_same {s} (an_entity {d = d} {e = e} {es = es} h more) (an_entity {e = f} {es = fs} k rest) = ap (λ x. x ∷ es) (entity_same s d e f h.read k.read) ∙ ap (λ xs. f ∷ xs) (entities_same more rest)
+entities_same {s} (an_entity {d = d} {e = e} h more) (an_action {u = u} {parents = us} k rest) = absurd (not_both s d e u us h.read k)
+entities_same {s} (an_action {u = u} {parents = us} h more) (an_entity {d = d} {e = e} k rest) = absurd (not_both s d e u us k.read h)
 entities_same (an_action h more) (an_action k rest) = entities_same more rest
 
 -- ---- and has no fault then
 
 module _ (s : SchemaTree) (d : Data) where
-  fine_entity : (e : EntityTree) → DenotesEntity s d e → (f : ConformFault) → HasEntryFault s d f → ⊥
-  fine_entity e h f (no_entry k) = k e.uid e.parents h.written.written
-  fine_entity e h f (undeclared {u = u} w k) = k (subst (λ (v : Uid). IsEntityType s v.ty) (uid_same d h.written.written w.written) (ap is_some h.declared))
-  fine_entity e h f (undeclared_parent {p = p} w m k) = k (h.parents p (subst (λ (ps : List Uid). Contains ps p) (parents_same d w.written h.written.written) m)).0
-  fine_entity e h f (no_descent {p = p} w m k) =
+  fine_reading : (e : EntityTree) → ReadsEntity s d e → entity_listed s e ≡ true → (f : ConformFault) → HasEntryFault s d f → ⊥
+  fine_reading e h listed f (no_entry k) = k e.uid e.parents h.written.written
+  fine_reading e h listed f (undeclared {u = u} w k) = k (subst (λ (v : Uid). IsEntityType s v.ty) (uid_same d h.written.written w.written) (ap is_some h.declared))
+  fine_reading e h listed f (undeclared_parent {p = p} w m k) = k (h.parents p (subst (λ (ps : List Uid). Contains ps p) (parents_same d w.written h.written.written) m)).0
+  fine_reading e h listed f (no_descent {p = p} w m k) =
       k (subst (λ (v : Uid). TypeDescends s v.ty p.ty) (uid_same d h.written.written w.written) (h.parents p (subst (λ (ps : List Uid). Contains ps p) (parents_same d w.written h.written.written) m)).1)
-  fine_entity e h f (no_repetition w named k) = h.written.no_action (subst (λ (v : Uid). IsActionName v.ty) (uid_same d w h.written.written) named)
-  fine_entity e h f (attributes {shape = t} w declared m) =
+  fine_reading e h listed f (no_repetition w named k) = h.written.no_action (subst (λ (v : Uid). IsActionName v.ty) (uid_same d w h.written.written) named)
+  fine_reading e h listed f (attributes {shape = t} w declared m) =
       let same : h.shape ≡ t = same_value (shape_of s e.uid.ty) h.shape t h.declared (subst (λ (v : Uid). shape_of s v.ty ≡ Some t) (uid_same d w.written h.written.written) declared) in
       nowhere f (subst (λ fs. Contains fs f) (subst (λ (x : TypeTree). (value_read x (attributes_in d)).faults ≡ []) same h.fine) m)
+  fine_reading e h listed f (unlisted {e = x} r fails) = let both : true ≡ false = sym listed ∙ ap (entity_listed s) (entity_same s d e x h r) ∙ fails in cc
+
+  fine_entity : (e : EntityTree) → DenotesEntity s d e → (f : ConformFault) → HasEntryFault s d f → ⊥
+  fine_entity e h = fine_reading e h.read h.listed
 
   no_action_fault : (u v : Uid) (us vs : List Uid) → RepeatsAction s d u us → Writes d v vs → (IsActionName v.ty → ⊥) → ⊥
   no_action_fault u v us vs h w other = other (subst (λ (x : Uid). IsActionName x.ty) (uid_same d h.written w) h.named)
@@ -97,6 +102,7 @@ module _ (s : SchemaTree) (d : Data) where
   fine_action u us h f (no_descent {u = v} {parents = vs} w m k) = no_action_fault u v us vs h w.written w.no_action
   fine_action u us h f (no_repetition w named k) = k (subst (RepeatsAction s d _) (parents_same d h.written w) (subst (λ (x : Uid). RepeatsAction s d x us) (uid_same d h.written w) h))
   fine_action u us h f (attributes {u = v} {parents = vs} w declared m) = no_action_fault u v us vs h w.written w.no_action
+  fine_action u us h f (unlisted {e = x} r fails) = not_both s d x u us r h
 
 pub fine_entries : {s : SchemaTree} {ds : Items} {es : World} → DenoteEntities s ds es → (k : ℕ) (d : Data) → get_item k ds ≡ Some d → (f : ConformFault) → HasEntryFault s d f → ⊥
 fine_entries no_entries k d at f h = cc

@@ -46,7 +46,7 @@ module _ (s : SchemaTree) where
 
   typed : {ds : Items} {es : World} {us : List Uid} → DenoteAll s ds es us → (u : Uid) → Contains (uids_of es) u → HasShape u
   typed nothing u m = absurd (nowhere u m)
-  typed (entity_first {e = e} {es = es} h more) u m = ⊎_elim (λ same. subst HasShape same (h.shape, h.declared)) (λ r. typed more u r) (first_or_later e.uid (uids_of es) u m)
+  typed (entity_first {e = e} {es = es} h more) u m = ⊎_elim (λ same. subst HasShape same (h.read.shape, h.read.declared)) (λ r. typed more u r) (first_or_later e.uid (uids_of es) u m)
   typed (action_first h more) u m = typed more u m
 
   acted : {ds : Items} {es : World} {us : List Uid} → DenoteAll s ds es us → (u : Uid) → Contains us u → IsAction s u
@@ -56,18 +56,18 @@ module _ (s : SchemaTree) where
 
   written_by : {ds : Items} {es : World} {us : List Uid} → DenoteAll s ds es us → (u : Uid) → Contains (uids_of es) u → SomeWrites ds u
   written_by nothing u m = absurd (nowhere u m)
-  written_by (entity_first {d = d} {e = e} {es = es} h more) u m = ⊎_elim (λ same. inl (subst (IsUidOf d) same h.written.written.uid)) (λ r. inr (written_by more u r)) (first_or_later e.uid (uids_of es) u m)
+  written_by (entity_first {d = d} {e = e} {es = es} h more) u m = ⊎_elim (λ same. inl (subst (IsUidOf d) same h.read.written.written.uid)) (λ r. inr (written_by more u r)) (first_or_later e.uid (uids_of es) u m)
   written_by (action_first h more) u m = inr (written_by more u m)
 
   twice_written : {ds : Items} {es : World} {us : List Uid} → DenoteAll s ds es us → (u : Uid) → Twice (uids_of es) u → TwoWrite ds u
   twice_written nothing u t = absurd t
-  twice_written (entity_first {d = d} h more) u (inl (same, m)) = inl (subst (IsUidOf d) same h.written.written.uid, written_by more u m)
+  twice_written (entity_first {d = d} h more) u (inl (same, m)) = inl (subst (IsUidOf d) same h.read.written.written.uid, written_by more u m)
   twice_written (entity_first h more) u (inr t) = inr (twice_written more u t)
   twice_written (action_first h more) u t = inr (twice_written more u t)
 
   writers : {ds : Items} {es : World} {us : List Uid} → DenoteAll s ds es us → (u : Uid) → SomeWrites ds u → Contains (uids_of es) u ⊎ Contains us u
   writers nothing u w = absurd w
-  writers (entity_first {d = d} {e = e} {es = es} h more) u (inl w) = inl (subst (Contains (e.uid ∷ uids_of es)) (one_uid d e.uid u h.written.written.uid w) (here e.uid (uids_of es)))
+  writers (entity_first {d = d} {e = e} {es = es} h more) u (inl w) = inl (subst (Contains (e.uid ∷ uids_of es)) (one_uid d e.uid u h.read.written.written.uid w) (here e.uid (uids_of es)))
   writers (entity_first {e = e} {es = es} h more) u (inr w) = ⊎_elim (λ m. inl (there e.uid (uids_of es) u m)) (λ m. inr m) (writers more u w)
   writers (action_first {d = d} {u = v} {us = us} h more) u (inl w) = inr (subst (Contains (v ∷ us)) (one_uid d v u h.written.uid w) (here v us))
   writers (action_first {u = v} {us = us} h more) u (inr w) = ⊎_elim (λ m. inl m) (λ m. inr (there v us u m)) (writers more u w)
@@ -79,8 +79,8 @@ module _ (s : SchemaTree) where
     none_written : {ds : Items} {es : World} {us : List Uid} → DenoteAll s ds es us → ((u : Uid) → Twice (uids_of es) u → ⊥) → ((u : Uid) → Twice us u → ⊥) → (u : Uid) → TwoWrite ds u → ⊥
     none_written nothing p q u t = t
     none_written (entity_first {d = d} {e = e} h more) p q u (inl (w, others)) =
-        let same : e.uid ≡ u = one_uid d e.uid u h.written.written.uid w in
-        ⊎_elim (λ m. p u (inl (same, m))) (λ m. apart_uid u (subst HasShape same (h.shape, h.declared)) (acted more u m)) (writers more u others)
+        let same : e.uid ≡ u = one_uid d e.uid u h.read.written.written.uid w in
+        ⊎_elim (λ m. p u (inl (same, m))) (λ m. apart_uid u (subst HasShape same (h.read.shape, h.read.declared)) (acted more u m)) (writers more u others)
     none_written (entity_first h more) p q u (inr t) = none_written more (λ v w. p v (inr w)) q u t
     none_written (action_first {d = d} {u = v} h more) p q u (inl (w, others)) =
         let same : v ≡ u = one_uid d v u h.written.uid w in

@@ -1,5 +1,5 @@
 -- Which world a list of entities denotes for a schema.
-use Rattle.std.specs.Prelude.{◌≡◌, ◌⊎◌, List, [], ◌∷◌, Some, Contains}
+use Rattle.std.specs.Prelude.{◌≡◌, ◌⊎◌, true, List, [], ◌∷◌, Some, Contains}
 use Rattle.serde_json.specs.Data.{Data, object, Items, no_items, item, no_members}
 use Rattle.serde_json.specs.Find.{as_array}
 use Rattle.cedar_conform_values.specs.Values.{value_read}
@@ -8,6 +8,7 @@ use Rattle.cedar_conform_entities.specs.Worlds.{world_of}
 use Rattle.cedar_schema_spec.specs.Conformance.{Conforms}
 use Rattle.cedar_schema_spec.specs.Declarations.{IsAction, IsEntityType}
 use Rattle.cedar_schema_spec.specs.Descents.{ActionDescends, TypeDescends}
+use Rattle.cedar_schema_spec.specs.Enumerated.{entity_listed}
 use Rattle.cedar_schema_spec.specs.SchemaTree.{SchemaTree, shape_of}
 use Rattle.cedar_schema_spec.specs.WellFormed.{AreTypesApart, IsHierarchy}
 use Rattle.cedar_store.specs.Entities.{IsAcyclic}
@@ -16,16 +17,22 @@ use Rattle.cedar_value.specs.Datum.{record_of, fields_of}
 use Rattle.cedar_value.specs.World.{World, EntityTree}
 use Rattle.cedar_value.specs.declared.uid.Uid.{Uid}
 
--- An entry denotes an entity. It writes its uid and its parents, the type is declared, and its last part is not `Action`. The
--- attributes are read without fault for the type's shape. Each parent is of a declared type from which the entity's own
--- descends (Cedar documentation, entities and context in JSON).
-pub record DenotesEntity (s : SchemaTree) (d : Data) (e : EntityTree) : Type 0 where
+-- An entry reads as an entity, whichever ids enumerated types have. It writes its uid and its parents, the type is declared, and its
+-- last part is not `Action`. The attributes are read without fault for the type's shape. Each parent is of a declared type from
+-- which the entity's own descends (Cedar documentation, entities and context in JSON).
+pub record ReadsEntity (s : SchemaTree) (d : Data) (e : EntityTree) : Type 0 where
   pub written : WritesEntity d e.uid e.parents
   pub shape : TypeTree
   pub declared : shape_of s e.uid.ty ≡ Some shape
   pub fine : (value_read shape (attributes_in d)).faults ≡ []
   pub attributes : record_of (fields_of e.attributes) ≡ (value_read shape (attributes_in d)).value
   pub parents : (p : Uid) → Contains e.parents p → IsEntityType s p.ty × TypeDescends s e.uid.ty p.ty
+
+-- An entry denotes an entity: it reads as the entity, and each uid that the entity writes is one that its type has (Cedar
+-- documentation, entities and context in JSON; Cedar RFC 53).
+pub record DenotesEntity (s : SchemaTree) (d : Data) (e : EntityTree) : Type 0 where
+  pub read : ReadsEntity s d e
+  pub listed : entity_listed s e ≡ true
 
 -- An entry repeats an action of the schema: it writes its uid, a type whose last part is `Action`, no attributes, and as
 -- parents only what the action descends from (Cedar documentation, entities and context in JSON: actions; own).

@@ -1,5 +1,5 @@
 -- The world of entities for a schema: the schema's actions, then the entities.
-use Rattle.std.specs.Prelude.{◌≡◌, ◌++◌, Some, Contains}
+use Rattle.std.specs.Prelude.{◌≡◌, ◌++◌, true, Some, Contains}
 use Rattle.cedar_value.specs.Datum.{record_of, fields_of}
 use Rattle.cedar_value.specs.World.{World, EntityTree}
 use Rattle.cedar_value.specs.declared.uid.Uid.{Uid}
@@ -8,16 +8,19 @@ use Rattle.cedar_schema_types.specs.Membership.{Member}
 use Rattle.cedar_schema_spec.specs.Conformance.{Conforms}
 use Rattle.cedar_schema_spec.specs.Declarations.{IsEntityType, action_entities}
 use Rattle.cedar_schema_spec.specs.Descents.{TypeDescends}
+use Rattle.cedar_schema_spec.specs.Enumerated.{entity_listed}
 use Rattle.cedar_schema_spec.specs.SchemaTree.{SchemaTree, shape_of}
 use Rattle.cedar_schema_spec.specs.WellFormed.{AreTypesApart, IsHierarchy}
 
--- An entity is sound: it is of a declared type, its attributes belong to the type's shape, and each direct parent is of a
--- declared type from which its own descends (Cedar documentation, entities and context in JSON: validation by a schema).
+-- An entity is sound: it is of a declared type, its attributes belong to the type's shape, each direct parent is of a declared type
+-- from which its own descends, and each uid that it writes is one that its type has (Cedar documentation, entities and context in
+-- JSON: validation by a schema; Cedar RFC 53).
 pub record IsSound (s : SchemaTree) (e : EntityTree) : Type 0 where
   pub shape : TypeTree
   pub declared : shape_of s e.uid.ty ≡ Some shape
   pub attributes : Member shape (record_of (fields_of e.attributes))
   pub parents : (p : Uid) → Contains e.parents p → IsEntityType s p.ty × TypeDescends s e.uid.ty p.ty
+  pub listed : entity_listed s e ≡ true
 
 -- The schema's actions are in every world, before the entities (own).
 abbrev pub world_of : SchemaTree → World → World

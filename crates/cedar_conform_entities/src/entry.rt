@@ -3,13 +3,14 @@ ghost use Rattle.std.specs.Prelude.{IfNone, IfOk, IfSome, MatchResult, codes};
 ghost use Rattle.serde_json.specs.View.{view};
 ghost use Rattle.cedar_conform_values.specs.Reads.{ReadsRecord};
 ghost use Rattle.cedar_conform_values.specs.Values.{value_read};
-ghost use Rattle.cedar_conform_entities.specs.Denotes.{DenotesEntity, IsAccepted};
+ghost use Rattle.cedar_conform_entities.specs.Denotes.{IsAccepted, ReadsEntity};
 ghost use Rattle.cedar_conform_entities.specs.Entries.{IsActionName, Writes, attributes_in};
 ghost use Rattle.cedar_conform_entities.specs.Faults.{HasEntryFault};
 ghost use Rattle.cedar_conform_entities.specs.Private.Parts.{IsEntry, RefusesEntry};
 ghost use Rattle.cedar_schema_spec.specs.WellFormed.{IsOrderedRecord};
 
 use crate::judging::{is_action_name, judge_parents, repeats_action};
+use crate::listed::is_listed;
 use crate::written::{WrittenEntity, read_written};
 use cedar_conform_values::{ConformFault, read_record};
 use cedar_schema::Schema;
@@ -64,9 +65,14 @@ pub(crate) fn read_entry(alloc: Global, schema: &Schema, json: &Json) -> Result<
         return Ok(Entry::Action(written.uid));
     }
     let entity = read_entity(alloc, schema, json, written)?;
-    Ok(Entry::Entity(entity))
+    if is_listed(schema, &entity) {
+        return Ok(Entry::Entity(entity));
+    }
+    drop(entity);
+    Err(ConformFault::UnknownType)
 }
 
+// What the entry reads as, whichever ids enumerated types have.
 fn read_entity(
     alloc: Global,
     schema: &Schema,
@@ -75,7 +81,7 @@ fn read_entity(
 ) -> Result<Entity, ConformFault>
     requires written { Writes (view json.now) written.uid written.parents.items }
     requires entity { ¬ IsActionName written.uid.ty }
-    ensures { MatchResult result (DenotesEntity schema.now (view json.now)) (RefusesEntry schema.now (view json.now)) }
+    ensures { MatchResult result (ReadsEntity schema.now (view json.now)) (RefusesEntry schema.now (view json.now)) }
 {
     let Some(shape) = schema.attributes(&written.uid.ty) else {
         return Err(ConformFault::UnknownType);

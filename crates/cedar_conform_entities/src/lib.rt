@@ -26,6 +26,7 @@ mod judging;
 mod keys;
 mod laws;
 mod list;
+mod listed;
 mod noted;
 mod objects;
 mod plain;

@@ -15,6 +15,7 @@ ghost use Rattle.cedar_schema_spec.specs.WellFormed.{IsOrderedRecord};
 
 use crate::judging::{is_action_name, judge_parents};
 use crate::keys::is_entry_key;
+use crate::listed::is_listed;
 use crate::written::{WrittenEntity, read_uids};
 use base_json::{ItemMember, ItemValue, LentItem, LentObject};
 use cedar_conform_values::{ConformFault, MOST_MEMBERS, Names, read_short_record, uid_of_lent};
@@ -49,11 +50,16 @@ pub(crate) fn plain_entity(
     let Some(attrs) = plain_attributes(alloc, shape, item)? else {
         return Ok(None);
     };
-    Ok(Some(Entity {
+    let entity = Entity {
         uid: written.uid,
         attrs,
         parents: written.parents,
-    }))
+    };
+    if is_listed(schema, &entity) {
+        return Ok(Some(entity));
+    }
+    drop(entity);
+    Ok(None)
 }
 
 // What an entry of an entity writes.

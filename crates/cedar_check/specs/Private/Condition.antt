@@ -7,7 +7,7 @@ use Rattle.cedar_ast_expressions.specs.declared.operator.BinaryOperator.TheVaria
 use Rattle.cedar_ast_expressions.specs.declared.variable.Variable.TheVariants.{Action}
 use Rattle.cedar_ast_expressions.specs.Expression.{Expression, and, binary, literal, variable}
 use Rattle.cedar_schema_spec.specs.SchemaTree.{SchemaTree}
-use Rattle.cedar_schema_spec.specs.Declarations.{is_action, is_entity_type}
+use Rattle.cedar_schema_spec.specs.Declarations.{is_action, is_entity}
 use Rattle.cedar_check.specs.declared.prepared.Parts.{Parts}
 use Rattle.cedar_check.specs.declared.prepared.Prepared.{Prepared}
 use Rattle.cedar_check.specs.declared.prepared.Prepared.TheVariants as prepared
@@ -36,7 +36,7 @@ first_in (prepared.Whole e) = e.now
 
 -- The condition compares the action with this entity, whose literal has a type.
 abbrev pub IsNamed : SchemaTree → Expression → Uid → Type 0
-IsNamed s e u = (e ≡ binary Equal (variable Action) (literal (uid u))) × ((is_entity_type s u.ty || is_action s u) ≡ true)
+IsNamed s e u = (e ≡ binary Equal (variable Action) (literal (uid u))) × ((is_entity s u || is_action s u) ≡ true)
 
 -- The action occurs nowhere in an open condition. Where there are parts, it occurs only as the left operand of the condition on
 -- it, and that compares it with the entity that is named, if there is one.

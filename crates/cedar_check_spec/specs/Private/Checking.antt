@@ -18,7 +18,7 @@ use Rattle.cedar_schema_types.specs.Types as kind
 use Rattle.cedar_schema_types.specs.Joining.{only_if, join}
 use Rattle.cedar_schema_spec.specs.SchemaTree.{SchemaTree}
 use Rattle.cedar_schema_types.specs.Membership.{known}
-use Rattle.cedar_schema_spec.specs.Declarations.{is_entity_type, is_action}
+use Rattle.cedar_schema_spec.specs.Declarations.{is_entity, is_action}
 use Rattle.cedar_check_spec.specs.Capabilities.{Capability, Capabilities}
 use Rattle.cedar_check_spec.specs.Rows.{Typed, as_type, gaining, truth_in, has_row, get_row, unary_row, binary_type}
 use Rattle.cedar_check_spec.specs.declared.settings.Settings.{Settings}
@@ -58,7 +58,7 @@ abbrev pub literal_type : SchemaTree → Datum → Option Typed
 literal_type s (boolean b) = as_type (kind.boolean (known b))
 literal_type s (long n) = as_type kind.long
 literal_type s (text t) = as_type kind.string
-literal_type s (uid u) = only_if (is_entity_type s u.ty || is_action s u) (as_type (kind.entity u.ty))
+literal_type s (uid u) = only_if (is_entity s u || is_action s u) (as_type (kind.entity u.ty))
 literal_type s _ = None
 
 -- The row of variables.

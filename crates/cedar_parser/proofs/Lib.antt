@@ -8,3 +8,4 @@ pub mod EarlierLemmas
 pub mod CallLemmas
 pub mod Drained
 pub mod WidestTexts
+pub mod NoBrace

@@ -1,4 +1,5 @@
 pub mod PolicyText
+pub mod Braces
 pub mod EarlierMeaning
 pub mod Earlier
 pub mod Private

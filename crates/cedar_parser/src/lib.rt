@@ -19,4 +19,8 @@ mod parser;
 mod policy;
 
 pub use cedar_parser_tokens::{ParseFault, read_uid};
-pub use parser::{earlier_texts, one_policy_set, parse, parse_in, texts_of_each_language};
+pub use parser::{
+    earlier_texts, one_policy_set, parse, parse_in, texts_begin_with_no_brace,
+    texts_of_each_language,
+};
+pub use policy::{has_slot, id_of, to_statement};

@@ -19,6 +19,7 @@ ghost use Rattle.cedar_parser_limits.specs.declared.functions.Method.TheVariants
 ghost use Rattle.cedar_parser_limits.specs.Meaning.{to_expression, method_of};
 ghost use Rattle.cedar_parser.specs.Earlier.{IsEarlierPolicyText};
 ghost use Rattle.cedar_parser.specs.EarlierMeaning.{earlier_method_of};
+ghost use Rattle.cedar_parser.specs.Braces.{TextsBeginWithNoBrace};
 
 use crate::policy::{id_of, to_statement};
 use cedar_ast::{AddFault, PolicySet, Statement};
@@ -125,6 +126,12 @@ pub fn earlier_texts()
     ensures attributes { (operand : Written) (first : Content) → to_expression (has operand first []) ≡ unary (Has (text_of first)) (to_expression operand) }
     // Each earlier method is still the same operator.
     ensures methods { (name : List ℕ) (op : BinaryOperator) → earlier_method_of name ≡ Some op → method_of name ≡ Some (Binary op) }
+{}
+
+/// No policy text begins with `{`, also not after white space of JSON. So a text that does can be read as JSON, and no policy text
+/// is lost (Cedar language reference, grammar; RFC 8259, section 2). A law: it runs no code.
+pub fn texts_begin_with_no_brace()
+    ensures { TextsBeginWithNoBrace }
 {}
 
 // The policies of all tokens.

@@ -52,7 +52,8 @@ pub fn to_statement(
     Ok(Statement::Policy(policy))
 }
 
-fn has_slot(scope: &WrittenScope) -> bool
+/// Whether a scope has a slot, so that its statement is a template (Cedar language reference, policy templates).
+pub fn has_slot(scope: &WrittenScope) -> bool
     ensures { result ≡ has_slot scope.now }
 {
     asks_slot(&scope.principal) || asks_slot(&scope.resource)

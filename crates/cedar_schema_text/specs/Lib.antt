@@ -1,0 +1,9 @@
+pub mod Marks
+pub mod Tokens
+pub mod Strings
+pub mod Objects
+pub mod Reading
+pub mod Grammar
+pub mod SchemaText
+pub mod Faults
+pub mod Private

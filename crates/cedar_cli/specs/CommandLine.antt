@@ -57,11 +57,15 @@ authorize_app =
 abbrev pub why_app : App
 why_app = explained (with_rule (with_rule (over_entities (codes "why") true) (flag_rule (codes "all"))) (flag_rule (codes "json")))
 
--- A subcommand with the options `--principal UID --action UID --resource UID [-c|--context FILE]` after its own (own).
+-- A subcommand with the options `[--principal UID] [--action UID] [--resource UID] [-c|--context FILE] [--request FILE]` after its own.
+-- Which of them have to be there is the program's to say (own).
 abbrev pub over_request : App → App
 over_request a =
-    with_rule (with_rule (with_rule (with_rule a (option_rule (codes "principal") true)) (option_rule (codes "action") true)) (option_rule (codes "resource") true))
-    (file_rule (codes "c") (codes "context") false)
+    with_rule
+    (with_rule
+    (with_rule (with_rule (with_rule a (option_rule (codes "principal") false)) (option_rule (codes "action") false)) (option_rule (codes "resource") false))
+    (file_rule (codes "c") (codes "context") false))
+    (option_rule (codes "request") false)
 
 -- The subcommand `ask`, over entities and a request (own).
 abbrev pub ask_app : App

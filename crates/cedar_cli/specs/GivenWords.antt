@@ -47,6 +47,7 @@ pub record AreAsked (rows : List Row) (r : AskedRequest) : Type 0 where
   pub action : first_of (codes "action") rows ≡ option_map (λ s. s.now) r.action
   pub resource : first_of (codes "resource") rows ≡ option_map (λ s. s.now) r.resource
   pub context : first_of (codes "context") rows ≡ option_map (λ s. s.now) r.context
+  pub request : first_of (codes "request") rows ≡ option_map (λ s. s.now) r.request
 
 -- The words name this subcommand, and these files and texts in its options: its rows of matches hold each at its option's name,
 -- and none where the option isn't used; the language of the settings is the one that its option asks for; and its flags are these

@@ -82,10 +82,11 @@ fn over_request<'a>(alloc: Global, command: Command<'a>) -> Result<Command<'a>, 
     ensures local { IfOk result (λ c. (fields_of c).has_globals ≡ false) }
 {
     let command = command
-        .arg(option(alloc, "principal", "UID", help::PRINCIPAL, true))?
-        .arg(option(alloc, "action", "UID", help::ACTION, true))?
-        .arg(option(alloc, "resource", "UID", help::RESOURCE, true))?
-        .arg(file(alloc, 'c', "context", help::CONTEXT, false))?;
+        .arg(option(alloc, "principal", "UID", help::PRINCIPAL, false))?
+        .arg(option(alloc, "action", "UID", help::ACTION, false))?
+        .arg(option(alloc, "resource", "UID", help::RESOURCE, false))?
+        .arg(file(alloc, 'c', "context", help::CONTEXT, false))?
+        .arg(option(alloc, "request", "FILE", help::REQUEST, false))?;
     Ok(command)
 }
 

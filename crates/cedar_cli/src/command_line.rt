@@ -81,6 +81,7 @@ pub fn words<'a>(alloc: Global, words: &'a [&'a str]) -> Result<Words<'a>, Words
             action: found.get_str("action"),
             resource: found.get_str("resource"),
             context: found.get_str("context"),
+            request: found.get_str("request"),
         },
         number: found.get_str("number"),
         diagnostics: found.get_str("diagnostics"),

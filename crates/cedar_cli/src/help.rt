@@ -141,10 +141,12 @@ Statuses:
   4  the command line was refused, or there is no such number";
 
 /// Of `--schema`.
-pub(crate) const SCHEMA: &str = "The schema: JSON of the format that the Cedar language defines";
+pub(crate) const SCHEMA: &str =
+    "The schema: JSON of the format that the Cedar language defines; with --language 4 also its schema syntax";
 
 /// Of `--policies`.
-pub(crate) const POLICIES: &str = "The policies: a text of the Cedar language, in UTF-8";
+pub(crate) const POLICIES: &str =
+    "The policies: a text of the Cedar language, in UTF-8; with --language 4 also JSON";
 
 /// Of `--links`.
 pub(crate) const LINKS: &str =
@@ -156,7 +158,7 @@ pub(crate) const ENTITIES: &str =
 
 /// Of `--language`.
 pub(crate) const LANGUAGE: &str =
-    "Read the language of Cedar 3 (the default) or 4: 4 adds IP addresses, datetimes, durations and other spellings";
+    "Read the language of Cedar 3 (the default) or 4: 4 adds IP addresses, datetimes, durations and other forms of files";
 
 /// Of `--any-decimal`.
 pub(crate) const ANY_DECIMAL: &str =
@@ -194,6 +196,10 @@ pub(crate) const RESOURCE: &str = "On what: Notebook::\"plans\"";
 
 /// Of `--context`.
 pub(crate) const CONTEXT: &str = "The context of the request: a JSON object";
+
+/// Of `--request`.
+pub(crate) const REQUEST: &str =
+    "The request in place of these four: a JSON object, which may go over several lines";
 
 /// Of the number that `explain` explains.
 pub(crate) const NUMBER: &str = "The number: 602";

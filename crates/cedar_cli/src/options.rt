@@ -30,6 +30,8 @@ pub struct AskedRequest<'a> {
     pub resource: Option<&'a str>,
     /// The file of the context, after `--context`.
     pub context: Option<&'a str>,
+    /// The file of the whole request, after `--request`.
+    pub request: Option<&'a str>,
 }
 
 /// What a command line says: the subcommand, the names of files, the settings, and what to write. A text is None where its option

@@ -55,7 +55,7 @@ pub(crate) const ROWS: [Row; 15] = [
     Row {
         number: 503,
         refused: "the entities file",
-        when: "the type of an entity is not declared",
+        when: "the type of an entity is not declared; with `--language 4` also: the entity, a parent or a uid in `attrs` is of an enumerated type, and its id is not in the list of the type",
         example: "`[{\"uid\":{\"type\":\"Ghost\",\"id\":\"g\"}}]`",
         remedy: "declare it, or correct the name",
     },

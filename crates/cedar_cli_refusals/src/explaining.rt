@@ -1,7 +1,8 @@
 //! The text on a number.
 use crate::row::Row;
 use crate::{
-    calls, entities, faults_of_policies, links, memory, policy_texts, request_lines, schemas,
+    calls, entities, faults_of_policies, links, memory, policies_json, policy_texts, request_lines,
+    schema_texts, schemas,
 };
 use std::alloc::{AllocError, Global};
 use std::fmt::Write;
@@ -44,7 +45,9 @@ fn push_rows(text: &mut String, rows: &[Row], number: u16) -> Result<(), AllocEr
 pub fn explain(alloc: Global, number: u16) -> Result<Option<String>, AllocError> {
     let mut text = String::new(alloc);
     push_rows(&mut text, &policy_texts::ROWS, number)?;
+    push_rows(&mut text, &policies_json::ROWS, number)?;
     push_rows(&mut text, &schemas::ROWS, number)?;
+    push_rows(&mut text, &schema_texts::ROWS, number)?;
     push_rows(&mut text, &faults_of_policies::ROWS, number)?;
     push_rows(&mut text, &links::ROWS, number)?;
     push_rows(&mut text, &entities::ROWS, number)?;

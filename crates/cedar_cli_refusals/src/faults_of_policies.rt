@@ -6,9 +6,9 @@ pub(crate) const ROWS: [Row; 8] = [
     Row {
         number: 601,
         refused: "a policy",
-        when: "a policy names an entity type or an action that the schema does not declare",
+        when: "a policy names an entity type or an action that the schema does not declare, or with `--language 4` a uid of an enumerated type whose id is not in the list of the type",
         example: "`permit(principal == Ghost::\"x\", action, resource);`",
-        remedy: "declare it, or correct the name; write its namespace, too",
+        remedy: "declare it, or correct the name or the id; write its namespace, too",
     },
     Row {
         number: 602,

@@ -18,9 +18,11 @@ mod explaining;
 mod faults_of_policies;
 mod links;
 mod memory;
+mod policies_json;
 mod policy_texts;
 mod request_lines;
 mod row;
+mod schema_texts;
 mod schemas;
 
 pub use explaining::explain;

@@ -34,7 +34,7 @@ pub(crate) const ROWS: [Row; 11] = [
     Row {
         number: 503,
         refused: "a request line",
-        when: "the type of the principal or the resource is not declared",
+        when: "the type of the principal or the resource is not declared; with `--language 4` also: one of them, or a uid in the context, is of an enumerated type, and its id is not in the list of the type",
         example: "`{\"principal\":\"Ghost::\\\"x\\\"\",\"action\":\"Action::\\\"delete\\\"\",\"resource\":\"Doc::\\\"d\\\"\"}`",
         remedy: "declare it, or correct the name",
     },

@@ -8,6 +8,7 @@ pub mod NextParts
 pub mod Parts
 pub mod PolicyFiles
 pub mod Prefixes
+pub mod SchemaFiles
 pub mod Sending
 pub mod Telling
 pub mod Texts

@@ -4,6 +4,7 @@ pub mod Ending
 pub mod Ends
 pub mod EntitiesFile
 pub mod Faulty
+pub mod Format
 pub mod Languages
 pub mod LinksFile
 pub mod PolicyFile

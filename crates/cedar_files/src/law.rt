@@ -9,7 +9,7 @@ ghost use Rattle.cedar_files.specs.ReportText.{IsReportText};
 ghost use Rattle.cedar_files.specs.declared.report_place.ReportPlace.{ReportPlace};
 
 use cedar_check_law::validation_in_each_language;
-use cedar_parser::texts_of_each_language;
+use cedar_parser::{texts_begin_with_no_brace, texts_of_each_language};
 use cedar_schema::profile_schemas;
 
 /// Two parts of a report, of which the second begins at the place where the first ends, are one part: the text of the first and then
@@ -29,6 +29,7 @@ pub fn files_of_the_profile()
     ensures { FilesAreKept }
 {
     texts_of_each_language();
+    texts_begin_with_no_brace();
     profile_schemas();
     validation_in_each_language();
 }

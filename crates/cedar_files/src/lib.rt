@@ -13,6 +13,7 @@
 //! the program writes, and say how it ends. [`Files`] reads the files: [`MemoryFiles`] from memory, and [`NamedFiles`] by their names.
 #![tactic(auto)]
 
+mod brace;
 mod ending;
 mod file_names;
 mod files;
@@ -23,6 +24,8 @@ mod preparing;
 mod reading;
 mod reading_all;
 mod reading_linked;
+mod reading_policies;
+mod reading_schema;
 mod refusal;
 mod report;
 mod report_lines;

@@ -53,7 +53,22 @@ fn enter_read(alloc: Global, bytes: &[u8], policies: &mut PolicySet) -> Result<(
         Ok(links) => links,
         Err(fault) => return Err(refusal_of(&fault)),
     };
-    match enter_each(policies, &links) {
+    enter_links_of(policies, &links)
+}
+
+/// Enters links after the policies, in their order.
+///
+/// # Errors
+///
+/// `Refused` at the first link that is refused (204, 210 to 212), with no place. Otherwise `Memory`. After an error the set may hold
+/// some of the links, so do not use it.
+pub(crate) fn enter_links_of(policies: &mut PolicySet, links: &[Link]) -> Result<(), Unread>
+    ensures found { OnOk result (AreLinked policies.old links.now policies.new) }
+    ensures refused { IfErr result (λ unread. IfRefused unread (λ refusal.
+        HaveLinkFault policies.old links.now refusal.number × (refusal.offset ≡ None))) }
+    ensures others { IfErr result (λ unread. (unread ≢ Unread.Unnamed) × (unread ≢ Unread.Device)) }
+{
+    match enter_each(policies, links) {
         Ok(()) => Ok(()),
         Err(fault) => Err(refusal_of_link(fault)),
     }

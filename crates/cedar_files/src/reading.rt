@@ -2,7 +2,6 @@
 ghost use Rattle.std.specs.Prelude.{◌≡◌, ◌≢◌, None, Some, IfOk, IfErr, IfSome, IsErrOf};
 ghost use Rattle.cedar_conform_values.specs.Numbers.{number_of};
 ghost use Rattle.cedar_conform_values.specs.declared.conform_fault.ConformFault.TheVariants.{OutOfMemory};
-ghost use Rattle.cedar_parser_tokens.specs.Faults.{number_of as text_fault_number, offset_of};
 ghost use Rattle.cedar_files.specs.ChangesText.{HoldChanges, HoldNoChanges};
 ghost use Rattle.cedar_files.specs.EntitiesFile.{HoldsNoWorld, HoldsWorld};
 ghost use Rattle.cedar_files.specs.PolicyFile.{HoldsNoPolicies, HoldsPolicies};
@@ -10,19 +9,16 @@ ghost use Rattle.cedar_files.specs.SchemaFile.{HoldsNoSchema, HoldsSchema};
 ghost use Rattle.cedar_files.specs.Unread.{IfRefused};
 
 use crate::files::{FileFault, Files, Role};
+use crate::reading_policies::policies_of;
+use crate::reading_schema::schema_of;
 use crate::refusal::FileRefusal;
 use cedar_ast::PolicySet;
 use cedar_auth::{NotReady, Ready, Validated};
 use cedar_conform_values::ConformFault;
 use cedar_ext::Language;
-use cedar_parser::parse_in;
-use cedar_parser_tokens::ParseFault;
-use cedar_schema::{Schema, SchemaFault};
+use cedar_schema::Schema;
 use std::alloc::Global;
 use thiserror::Error;
-
-/// 105: a policy file that is not UTF-8.
-const NO_UTF8: u16 = 105;
 
 /// 1: out of memory.
 pub(crate) const OUT_OF_MEMORY: u16 = 1;
@@ -59,11 +55,12 @@ pub(crate) fn read_file<F: Files>(alloc: Global, files: &F, role: Role) -> Resul
     }
 }
 
-/// The schema of the schema file, in a language.
+/// The schema of the schema file, in a language: JSON, or with the language of Cedar 4 also a text in the Cedar schema syntax.
 ///
 /// # Errors
 ///
-/// `Refused` where the file's bytes write no schema: 301 to 309, with no place. Otherwise `Unnamed`, `Device` or `Memory`.
+/// `Refused` where the file's bytes write no schema: 301 to 309, with no place; or 310 or 311, with its place, for a text.
+/// Otherwise `Unnamed`, `Device` or `Memory`.
 pub fn read_schema<F: Files>(alloc: Global, files: &F, language: Language) -> Result<Schema, Unread>
     ensures found { IfOk result (λ s. IfSome (F.holds files.now Role.Schema) (λ held. HoldsSchema language held s)) }
     ensures refused { IfErr result (λ unread. IfRefused unread (λ refusal.
@@ -71,20 +68,18 @@ pub fn read_schema<F: Files>(alloc: Global, files: &F, language: Language) -> Re
     ensures unnamed { IsErrOf result Unread.Unnamed → IfSome (F.holds files.now Role.Schema) (λ held. held ≡ None) }
     ensures device { IsErrOf result Unread.Device → F.holds files.now Role.Schema ≡ None }
 {
-    let bytes = read_file(alloc, files, Role::Schema)?;
-    match Schema::read_in(alloc, language, &bytes) {
-        Ok(schema) => Ok(schema),
-        Err(SchemaFault::OutOfMemory) => Err(Unread::Memory),
-        Err(fault) => Err(Unread::Refused(FileRefusal::whole(fault.number()))),
+    match read_file(alloc, files, Role::Schema) {
+        Ok(bytes) => schema_of(alloc, language, &bytes),
+        Err(unread) => Err(unread),
     }
 }
 
-/// The policies of the policy file, in a language.
+/// The policies of the policy file, in a language: a policy text, or with the language of Cedar 4 also JSON, which begins with `{`.
 ///
 /// # Errors
 ///
-/// `Refused` where the file is not UTF-8 (105, with no place), or where its text has a fault (101 to 104 and 201 to 209, with
-/// its place). Otherwise `Unnamed`, `Device` or `Memory`.
+/// `Refused` where the file is a text that is not UTF-8 (105, with no place) or has a fault (101 to 104 and 201 to 209, with
+/// its place), or where it is JSON that has a fault (104, 202 to 214, with no place). Otherwise `Unnamed`, `Device` or `Memory`.
 pub fn read_policies<F: Files>(
     alloc: Global,
     files: &F,
@@ -96,28 +91,10 @@ pub fn read_policies<F: Files>(
     ensures unnamed { IsErrOf result Unread.Unnamed → IfSome (F.holds files.now Role.Policies) (λ held. held ≡ None) }
     ensures device { IsErrOf result Unread.Device → F.holds files.now Role.Policies ≡ None }
 {
-    let bytes = read_file(alloc, files, Role::Policies)?;
-    let Ok(text) = str::from_utf8(&bytes) else {
-        return Err(Unread::Refused(FileRefusal::whole(NO_UTF8)));
-    };
-    match parse_in(alloc, language, text) {
-        Ok(policies) => Ok(policies),
-        Err(fault) => Err(refusal_of_text(&fault)),
+    match read_file(alloc, files, Role::Policies) {
+        Ok(bytes) => policies_of(alloc, language, &bytes),
+        Err(unread) => Err(unread),
     }
-}
-
-// Why a policy text is refused.
-fn refusal_of_text(fault: &ParseFault) -> Unread
-    ensures refused { IfRefused result (λ refusal. (text_fault_number fault.now ≢ 1)
-        × (refusal ≡ record { number = text_fault_number fault.now; offset = offset_of fault.now })) }
-    ensures others { (result ≢ Unread.Unnamed) × (result ≢ Unread.Device) }
-{
-    let number = fault.number();
-    if number == OUT_OF_MEMORY {
-        return Unread::Memory;
-    }
-    let offset = fault.offset();
-    Unread::Refused(FileRefusal { number, offset })
 }
 
 // Why entities or links are refused.

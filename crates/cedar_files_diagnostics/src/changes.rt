@@ -1,4 +1,5 @@
 //! Changes of entities that are refused: the entry, its uid and the path of the attribute.
+use crate::again::schema_again;
 use crate::data::add_entry;
 use crate::diagnostic::Explanation;
 use crate::diagnostic_draft::DiagnosticDraft;
@@ -8,7 +9,7 @@ use crate::words::words_of;
 use base_json::read_json;
 use cedar_conform_diagnostics::{RefusedEntry, refused_entry};
 use cedar_ext::Language;
-use cedar_schema::{Schema, SchemaFault};
+use cedar_files::MemoryFiles;
 use serde_json::Value;
 use std::alloc::{AllocError, Global};
 
@@ -73,13 +74,14 @@ fn refused_upsert(
     schema: &[u8],
     entries: Vec<u8>,
 ) -> Result<Option<RefusedEntry>, AllocError> {
-    let schema = match Schema::read_in(alloc, language, schema) {
-        Ok(schema) => schema,
-        Err(SchemaFault::OutOfMemory) => return Err(AllocError),
-        Err(fault) => {
-            drop(fault);
-            return Ok(None);
-        }
+    let files = MemoryFiles {
+        schema: Some(schema),
+        policies: None,
+        links: None,
+        entities: None,
+    };
+    let Some(schema) = schema_again(alloc, &files, language)? else {
+        return Ok(None);
     };
     let refused = refused_entry(alloc, &schema, entries);
     drop(schema);

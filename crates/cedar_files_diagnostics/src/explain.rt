@@ -2,11 +2,13 @@
 use crate::again::bytes_again;
 use crate::diagnostic::Explanation;
 use crate::entities::explain_entities;
+use crate::file_kind::is_json_policies;
+use crate::json_policies::explain_json_policies;
 use crate::json_text::explain_json;
 use crate::links::explain_links;
 use crate::policy_text::explain_policies;
 use crate::refused::RefusedFile;
-use crate::schemas::explain_schema;
+use crate::schemas::{explain_json_schema, explain_schema};
 use crate::words::explain_number;
 use cedar_ext::Language;
 use cedar_files::{Files, Role};
@@ -31,8 +33,12 @@ pub fn explain_file<F: Files>(
     let number = refused.refusal.number;
     let explained = match (refused.role, number) {
         (Role::Policies, 701) => Ok(None),
+        (Role::Policies, _) if is_json_policies(language, &bytes) => {
+            explain_json_policies(alloc, name, number, bytes)
+        }
         (Role::Policies, _) => explain_policies(alloc, language, name, bytes),
-        (_, 301 | 501) => explain_json(alloc, name, number, bytes),
+        (Role::Schema, 301) => explain_json_schema(alloc, name, bytes, language),
+        (_, 501) => explain_json(alloc, name, number, bytes),
         (Role::Schema, _) => explain_schema(alloc, name, number, &bytes, language),
         (Role::Links, _) => explain_links(alloc, files, name, number, &bytes, language),
         (Role::Entities, _) => explain_entities(alloc, files, name, number, bytes, language),

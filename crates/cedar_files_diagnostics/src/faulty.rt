@@ -3,6 +3,7 @@ use crate::again::{bytes_again, links_again};
 use crate::diagnostic::Explanation;
 use crate::fault_part::Checked;
 use crate::faults::explain_faults;
+use crate::file_kind::is_json_policies;
 use cedar_ast::PolicySet;
 use cedar_check::check_with;
 use cedar_check_spec::Settings;
@@ -64,7 +65,7 @@ pub fn explain_policy_faults<F: Files>(
     }
 }
 
-// What is explained of what was checked, with the text of the policy file.
+// What is explained of what was checked, with the text of the policy file. Of policies in JSON no place is known, and nothing is quoted.
 fn over_text<F: Files>(
     alloc: Global,
     files: &F,
@@ -74,6 +75,12 @@ fn over_text<F: Files>(
     let Some(bytes) = bytes_again(alloc, files, Role::Policies)? else {
         return Ok(None);
     };
+    if is_json_policies(checked.settings.language, &bytes) {
+        drop(bytes);
+        let report = check_with(alloc, checked.schema, checked.policies, checked.settings)?;
+        let text = String::new(alloc);
+        return explain_faults(alloc, name, text, checked, &report).map(Some);
+    }
     let text = match String::from_utf8(bytes) {
         Ok(text) => text,
         Err(fault) => {

@@ -42,12 +42,37 @@ fn offset_of(bytes: &[u8], line: usize, column: usize) -> usize {
     bytes.len()
 }
 
-/// What is explained of a file that is refused since it is not JSON, 301 or 501; or none if it is JSON.
+/// Says what to do: one thing or another, if there are both.
+pub(crate) fn advise_both(
+    diagnostic: &mut DiagnosticDraft,
+    hint: Option<&'static str>,
+    also: Option<&'static str>,
+) {
+    match (hint, also) {
+        (Some(hint), Some(also)) => diagnostic.advise_all(&[hint, "; ", also]),
+        (Some(hint), None) => diagnostic.advise(hint),
+        (None, Some(also)) => diagnostic.advise(also),
+        (None, None) => {}
+    }
+}
+
+/// What is explained of a file that is refused since it is not JSON, 213, 301 or 501; or none if it is JSON.
 pub fn explain_json(
     alloc: Global,
     file: &str,
     number: u16,
     bytes: Vec<u8>,
+) -> Result<Option<Explanation>, AllocError> {
+    explain_json_with(alloc, file, number, bytes, None)
+}
+
+/// The same, with more that may be done about it.
+pub(crate) fn explain_json_with(
+    alloc: Global,
+    file: &str,
+    number: u16,
+    bytes: Vec<u8>,
+    also: Option<&'static str>,
 ) -> Result<Option<Explanation>, AllocError> {
     let Some(at) = json_offset(alloc, &bytes)? else {
         return Ok(None);
@@ -68,9 +93,8 @@ pub fn explain_json(
         "invalid JSON: unexpected end of input"
     };
     diagnostic.mark(at, at, says);
-    if let Some(hint) = meant_in_json(alloc, text.as_str(), at)? {
-        diagnostic.advise(hint);
-    }
+    let hint = meant_in_json(alloc, text.as_str(), at)?;
+    advise_both(&mut diagnostic, hint, also);
     let mut explanation = diagnostic.alone(file)?;
     explanation.text = text;
     Ok(Some(explanation))

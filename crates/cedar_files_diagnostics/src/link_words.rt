@@ -17,12 +17,13 @@ const MISSING_SLOT: u16 = 211;
 /// The number of a slot that a template does not have.
 const EXTRA_SLOT: u16 = 212;
 
-/// Adds which template or slot is likely meant by a link that the policies refuse.
+/// Adds which template or slot is likely meant by a link that the policies refuse. `given` is the key at which a link has its uids.
 pub(crate) fn add_meaning(
     alloc: Global,
     diagnostic: &mut DiagnosticDraft,
     policies: &PolicySet,
     link: &Link,
+    given: &str,
 ) {
     let name = link.template.as_str();
     let Some(template) = template_of(policies, name) else {
@@ -41,12 +42,14 @@ pub(crate) fn add_meaning(
         "`?principal`",
         has_slot(&scope.principal),
         is_given.0,
+        given,
     );
     add_slot(
         diagnostic,
         "`?resource`",
         has_slot(&scope.resource),
         is_given.1,
+        given,
     );
 }
 
@@ -103,12 +106,14 @@ fn has_slot(side: &EntityScope<EntityReference>) -> bool {
 }
 
 // Adds which slot it is, if a uid is missing for it or is one too many.
-fn add_slot(diagnostic: &mut DiagnosticDraft, slot: &str, has: bool, is_given: bool) {
+fn add_slot(diagnostic: &mut DiagnosticDraft, slot: &str, has: bool, is_given: bool, given: &str) {
     if diagnostic.number == MISSING_SLOT && has && !is_given {
         diagnostic.note(&[
             "the template has the slot ",
             slot,
-            ", and `args` has no uid for it",
+            ", and ",
+            given,
+            " has no uid for it",
         ]);
     }
     if diagnostic.number == EXTRA_SLOT && !has && is_given {

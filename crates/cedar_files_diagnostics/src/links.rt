@@ -40,7 +40,7 @@ fn add_link(alloc: Global, diagnostic: &mut DiagnosticDraft, policies: &PolicySe
     let id = link.id.as_str();
     let template = link.template.as_str();
     diagnostic.note(&["link `", id, "` of template `", template, "`"]);
-    add_meaning(alloc, diagnostic, policies, link);
+    add_meaning(alloc, diagnostic, policies, link, "`args`");
 }
 
 // Adds the first link that the policies refuse.

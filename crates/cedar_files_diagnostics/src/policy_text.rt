@@ -5,16 +5,18 @@ ghost use Rattle.cedar_ast.specs.PolicySetTree.{PolicySetTree};
 ghost use Rattle.cedar_parser.specs.PolicyText.{HasFault, IsPolicyText};
 ghost use Rattle.cedar_parser_tokens.specs.Faults.{offset_of};
 
-use crate::again::{tokens_again, tokens_read};
+use crate::again::{policies_again, tokens_again, tokens_read};
 use crate::around::Around;
 use crate::diagnostic::Explanation;
 use crate::diagnostic_draft::DiagnosticDraft;
+use crate::json_text::advise_both;
 use crate::policy_words::{hint_of, mark_of, reason_of};
 use crate::second_place::{SecondPlace, before_unexpected, second_place};
 use crate::token_words::{meant_by_character, meant_by_function};
 use crate::unexpected::mark_unexpected;
 use base_places::Place;
 use cedar_ext::Language;
+use cedar_files::MemoryFiles;
 use cedar_parser::parse_in;
 use cedar_parser_tokens::ParseFault;
 use cedar_text::TextFault;
@@ -23,7 +25,7 @@ use std::alloc::{AllocError, Global};
 /// The hint at a text of Cedar 4, where the language of Cedar 3 is read.
 const OF_CEDAR4: &str = "`--language 4` reads the text as it is";
 /// Texts of so many bytes at most are tried in Cedar 4 for this hint: reading takes some 50 bytes of memory for a byte of text.
-const MOST_TRIED: usize = 64 << 10;
+pub(crate) const MOST_TRIED: usize = 64 << 10;
 
 /// A fault of a policy text, with its place.
 #[derive(Clone, Copy, Debug, PartialEq, Eq)]
@@ -141,28 +143,25 @@ fn add_unexpected(
     add_rest(diagnostic, second, hint);
     let is_tried = language == Language::Profile && text.len() <= MOST_TRIED;
     if is_tried && is_read_in_cedar4(alloc, text)? {
-        advise_cedar4(diagnostic, hint);
+        advise_both(diagnostic, hint, Some(OF_CEDAR4));
     }
     Ok(())
 }
 
-// Whether the text, which the profile does not read, has policies in Cedar 4.
+// Whether the text, which the profile does not read, has policies in Cedar 4, as a policy text or as JSON.
 fn is_read_in_cedar4(alloc: Global, text: &str) -> Result<bool, AllocError> {
-    match parse_in(alloc, Language::Cedar4, text) {
-        Ok(policies) => {
+    let files = MemoryFiles {
+        schema: None,
+        policies: Some(text.as_bytes()),
+        links: None,
+        entities: None,
+    };
+    match policies_again(alloc, &files, Language::Cedar4)? {
+        Some(policies) => {
             drop(policies);
             Ok(true)
         }
-        Err(ParseFault::OutOfMemory) => Err(AllocError),
-        Err(_) => Ok(false),
-    }
-}
-
-// Says after the hint, if there is one, that the text is read with another option.
-fn advise_cedar4(diagnostic: &mut DiagnosticDraft, hint: Option<&'static str>) {
-    match hint {
-        Some(hint) => diagnostic.advise_all(&[hint, "; ", OF_CEDAR4]),
-        None => diagnostic.advise(OF_CEDAR4),
+        None => Ok(false),
     }
 }
 

@@ -22,6 +22,14 @@ pub fn words_of(number: u16) -> Option<(&'static str, &'static str)> {
             "a link gives a uid for a slot that its template does not have",
             "remove it from `args`",
         ),
+        213 => (
+            "the policies are not valid JSON",
+            "the file begins with `{`, so it has to be JSON",
+        ),
+        214 => (
+            "a part of the policies has the wrong form",
+            "compare with what `cedar translate-policy` writes",
+        ),
         301 => ("the schema is not valid JSON", "the file has to be JSON"),
         302 => (
             "a part of the schema has the wrong form",
@@ -54,6 +62,14 @@ pub fn words_of(number: u16) -> Option<(&'static str, &'static str)> {
         309 => (
             "a type is too large",
             "split it, or declare fewer attributes",
+        ),
+        310 => (
+            "the schema text has a syntax error",
+            "compare with the grammar in docs/SCHEMA.md",
+        ),
+        311 => (
+            "the schema text declares a name twice",
+            "write each name once",
         ),
         701 => (
             "the code of a policy would have more than 1,000,000 instructions",

@@ -31,10 +31,11 @@ returns-clause-ok c =
         action = sym (c.get_str-6.ensures ∙ first_value-rows (found_of found) _);
         resource = sym (c.get_str-7.ensures ∙ first_value-rows (found_of found) _);
         context = sym (c.get_str-8.ensures ∙ first_value-rows (found_of found) _);
+        request = sym (c.get_str-9.ensures ∙ first_value-rows (found_of found) _);
       };
-      number = sym (c.get_str-9.ensures ∙ first_value-rows (found_of found) _);
-      diagnostics = sym (c.get_str-10.ensures ∙ first_value-rows (found_of found) _);
-      report = sym (c.get_str-11.ensures ∙ first_value-rows (found_of found) _);
+      number = sym (c.get_str-10.ensures ∙ first_value-rows (found_of found) _);
+      diagnostics = sym (c.get_str-11.ensures ∙ first_value-rows (found_of found) _);
+      report = sym (c.get_str-12.ensures ∙ first_value-rows (found_of found) _);
       language = sym (c.get_str-language.ensures ∙ first_value-rows (found_of found) _);
       settings_language = c.language_of.ensures ∙ ap language_of (c.get_str-language.ensures ∙ first_value-rows (found_of found) _);
       any_decimal = record {

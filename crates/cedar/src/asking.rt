@@ -4,7 +4,7 @@ use crate::output::{Output, output_failed};
 use crate::request_line::request_line;
 use crate::running::{ended, say};
 use cedar_ast::Decision;
-use cedar_cli::{Words, ask};
+use cedar_cli::{AskedRequest, Words, ask};
 use cedar_files::{End, read_schema};
 use cedar_files_diagnostics::{
     CountingSink, Explanation, Format, explain_json, explain_request, unreadable,
@@ -23,8 +23,14 @@ const WRONG_FORM: u16 = 502;
 /// How a uid is written on a command line.
 const AT_A_SHELL: &str = "at a shell, single quotes go around a uid: 'User::\"ann\"'";
 
-/// The number of a context that is not JSON.
+/// The number of a context, or a request, that is not JSON.
 const NOT_JSON: u16 = 501;
+
+/// The line for a context that is not JSON.
+const CONTEXT_REFUSED: &str = "{\"file\":\"context\",\"refused\":501}";
+
+/// The line for a request that is not JSON, as `authorize` answers such a line.
+const REQUEST_REFUSED: &str = "{\"refused\":501}";
 
 // Prints what was explained, if there was memory for it.
 fn explain(rt: &HostRuntime, says: Result<String, AllocError>) {
@@ -34,15 +40,16 @@ fn explain(rt: &HostRuntime, says: Result<String, AllocError>) {
     }
 }
 
-// What the context file is called.
+// What a file is called.
 fn shown(name: &str) -> &str {
     if name == STANDARD_INPUT { NAME } else { name }
 }
 
-// Says that the context file cannot be read, and gives the exit status.
+// Says that the file of an option cannot be read, and gives the exit status.
 fn refuse_unreadable(
     rt: &HostRuntime,
     format: Option<Format>,
+    option: &str,
     name: &str,
     error: &io::Error,
 ) -> u8 {
@@ -50,19 +57,22 @@ fn refuse_unreadable(
     say(rt, End::Device);
     if let Some(format) = format {
         if let Ok(reason) = error.to_string(alloc) {
-            explain(
-                rt,
-                unreadable(alloc, format, "--context", name, reason.as_str()),
-            );
+            explain(rt, unreadable(alloc, format, option, name, reason.as_str()));
         }
     }
     End::Device.status()
 }
 
-// Says that the context file is not JSON, and gives the exit status.
-fn refuse_context(rt: &HostRuntime, format: Option<Format>, name: &str, bytes: Vec<u8>) -> u8 {
+// Says with a line that a file is not JSON, and gives the exit status.
+fn refuse_json(
+    rt: &HostRuntime,
+    format: Option<Format>,
+    line: &str,
+    name: &str,
+    bytes: Vec<u8>,
+) -> u8 {
     let alloc = rt.alloc();
-    if let Err(error) = rt.println("{\"file\":\"context\",\"refused\":501}") {
+    if let Err(error) = rt.println(line) {
         return output_failed(rt, &error);
     }
     if let Some(format) = format {
@@ -73,8 +83,13 @@ fn refuse_context(rt: &HostRuntime, format: Option<Format>, name: &str, bytes: V
     End::Refused.status()
 }
 
-// What the context file holds; or the exit status where it cannot be read.
-fn context_bytes(rt: &HostRuntime, format: Option<Format>, name: &str) -> Result<Vec<u8>, u8> {
+// What the file of an option holds; or the exit status where it cannot be read.
+fn file_bytes(
+    rt: &HostRuntime,
+    format: Option<Format>,
+    option: &str,
+    name: &str,
+) -> Result<Vec<u8>, u8> {
     if name == STANDARD_INPUT {
         return standard_input(rt).map_err(|end| {
             say(rt, end);
@@ -83,7 +98,26 @@ fn context_bytes(rt: &HostRuntime, format: Option<Format>, name: &str) -> Result
     }
     match fs::read(rt, name) {
         Ok(bytes) => Ok(bytes),
-        Err(error) => Err(refuse_unreadable(rt, format, name, &error)),
+        Err(error) => Err(refuse_unreadable(rt, format, option, name, &error)),
+    }
+}
+
+// The JSON of the file of an option; or the exit status where it cannot be used, and for one that is not JSON this line.
+fn file_json(
+    rt: &HostRuntime,
+    format: Option<Format>,
+    option: &str,
+    line: &str,
+    name: &str,
+) -> Result<Value, u8> {
+    let bytes = file_bytes(rt, format, option, name)?;
+    match Value::from_slice(rt.alloc(), &bytes) {
+        Ok(value) => Ok(value),
+        Err(error) if error.is_memory() => {
+            say(rt, End::Memory);
+            Err(End::Memory.status())
+        }
+        Err(_) => Err(refuse_json(rt, format, line, shown(name), bytes)),
     }
 }
 
@@ -93,18 +127,31 @@ fn read_context(
     format: Option<Format>,
     name: Option<&str>,
 ) -> Result<Option<Value>, u8> {
-    let Some(name) = name else {
-        return Ok(None);
-    };
-    let bytes = context_bytes(rt, format, name)?;
-    match Value::from_slice(rt.alloc(), &bytes) {
-        Ok(value) => Ok(Some(value)),
-        Err(error) if error.is_memory() => {
-            say(rt, End::Memory);
-            Err(End::Memory.status())
-        }
-        Err(_) => Err(refuse_context(rt, format, shown(name), bytes)),
+    match name {
+        Some(name) => file_json(rt, format, "--context", CONTEXT_REFUSED, name).map(Some),
+        None => Ok(None),
     }
+}
+
+// The request as one line, from its file or else from the other options; or the exit status where it cannot be used.
+fn read_line(
+    rt: &HostRuntime,
+    format: Option<Format>,
+    request: AskedRequest<'_>,
+) -> Result<String, u8> {
+    let line = match request.request {
+        Some(name) => {
+            file_json(rt, format, "--request", REQUEST_REFUSED, name)?.to_string(rt.alloc())
+        }
+        None => {
+            let context = read_context(rt, format, request.context)?;
+            request_line(rt.alloc(), request, context)
+        }
+    };
+    line.map_err(|_| {
+        say(rt, End::Memory);
+        End::Memory.status()
+    })
 }
 
 // What is explained of the request. A uid comes from a shell here, and not from JSON, as in a line.
@@ -148,13 +195,9 @@ pub fn run_ask(
     format: Option<Format>,
 ) -> u8 {
     let alloc = rt.alloc();
-    let context = match read_context(rt, format, words.request.context) {
-        Ok(context) => context,
+    let line = match read_line(rt, format, words.request) {
+        Ok(line) => line,
         Err(status) => return status,
-    };
-    let Ok(line) = request_line(alloc, words.request, context) else {
-        say(rt, End::Memory);
-        return End::Memory.status();
     };
     let mut fault = None;
     let mut sink = CountingSink::new(Output::new(io::writer(rt), &mut fault));

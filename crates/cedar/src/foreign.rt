@@ -42,9 +42,11 @@ fn for_unknown(option: &str) -> Option<&'static str> {
         }
         "--request" | "--requests" | "--input" | "-i" => Some(LINES),
         "--error-format" | "-f" => Some("write '--diagnostics' with 'human', 'json' or 'none'"),
-        "--schema-format" => Some("a schema is always JSON: leave '--schema-format' out"),
+        "--schema-format" => Some(
+            "the content says whether a schema is JSON: leave '--schema-format' out",
+        ),
         "--policy-format" => {
-            Some("policies are always written as text: leave '--policy-format' out")
+            Some("the content says whether policies are JSON: leave '--policy-format' out")
         }
         "--template-linked" | "-k" => Some("write '--links <FILE>'"),
         "--request-validation" => {
@@ -74,6 +76,7 @@ fn for_other(subcommand: &str, option: &str) -> Option<&'static str> {
     match (subcommand, option) {
         (_, "--principal" | "--action" | "--resource" | "--context" | "-a" | "-r" | "-c")
             if subcommand != "ask" => Some(ASK),
+        ("ask", "--request-json") => Some("write '--request <FILE>'"),
         ("ask", "-a" | "-r") => {
             Some("write '--principal', '--action' and '--resource'; '-l' names the links")
         }
@@ -107,8 +110,8 @@ pub fn for_option(subcommand: &str, option: &str) -> Option<&'static str> {
     if option == "--verbose" || option == "-v" {
         return for_verbose(subcommand);
     }
-    match for_unknown(option) {
+    match for_other(subcommand, option) {
         Some(tip) => Some(tip),
-        None => for_other(subcommand, option),
+        None => for_unknown(option),
     }
 }

@@ -6,7 +6,7 @@ use crate::host_files::{HostFiles, standard_input};
 use crate::lines::explain_lines;
 use crate::output::{Output, output_failed};
 use crate::standard_input::wanted_twice;
-use crate::unnamed::refuse_unnamed_entities;
+use crate::unnamed::{refuse_unnamed_entities, refused_request};
 use crate::validating::run_validate;
 use crate::warning::authorize_and_warn;
 use crate::whys::run_why;
@@ -15,6 +15,7 @@ use cedar_cli::{Subcommand, Words, check_parse};
 use cedar_cli_refusals::explain;
 use cedar_files::End;
 use cedar_files_diagnostics::{CountingSink, Format, RefusedFile, refused_lines};
+use std::alloc::{AllocError, Global};
 use std::io;
 
 /// Prints the line for a device that failed, or for memory that ran out.
@@ -201,12 +202,25 @@ fn run_over_files(rt: &HostRuntime, words: &Words<'_>, forms: Forms) -> u8 {
     }
 }
 
+// Why a command line of `ask` says no request, or none.
+fn refused_words(alloc: Global, words: &Words<'_>) -> Result<Option<String>, AllocError> {
+    if words.subcommand == Subcommand::Ask {
+        refused_request(alloc, words.request)
+    } else {
+        Ok(None)
+    }
+}
+
 /// Runs the subcommand of a command line, which writes in these forms, and gives the exit status.
 pub fn run_words(rt: &HostRuntime, words: &Words<'_>, forms: Forms) -> u8 {
     if words.subcommand == Subcommand::Authorize && lacks_entities(words) {
         return refuse_unnamed_entities(rt);
     }
-    match wanted_twice(rt.alloc(), words) {
+    let refused = match refused_words(rt.alloc(), words) {
+        Ok(None) => wanted_twice(rt.alloc(), words),
+        refused => refused,
+    };
+    match refused {
         Ok(None) => run_over_files(rt, words, forms),
         Ok(Some(says)) => {
             // Where standard error is gone, the refusal is lost.

@@ -20,6 +20,9 @@ fn options(alloc: Global, words: &Words<'_>) -> Result<Vec<&'static str>, AllocE
     if words.request.context == Some(STANDARD_INPUT) {
         options.push("--context")?;
     }
+    if words.request.request == Some(STANDARD_INPUT) {
+        options.push("--request")?;
+    }
     Ok(options)
 }
 

@@ -35,7 +35,7 @@ const FLAGS: [&str; 7] = [
 ];
 
 /// The options that take a value.
-const VALUES: [&str; 11] = [
+const VALUES: [&str; 12] = [
     "--schema",
     "--policies",
     "--links",
@@ -44,6 +44,7 @@ const VALUES: [&str; 11] = [
     "--action",
     "--resource",
     "--context",
+    "--request",
     "--diagnostics",
     "--report",
     "--language",

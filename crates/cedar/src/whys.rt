@@ -6,15 +6,20 @@ use crate::output::{Output, output_failed};
 use crate::running::ended;
 use base_lines::{ServeFault, Sink, StdSource};
 use cedar_cli::Words;
+use cedar_ext::Language;
 use cedar_files::{End, Files, Role, prepare};
-use cedar_files_diagnostics::{CountingSink, Format};
+use cedar_files_diagnostics::{CountingSink, Format, is_json_policies};
 use cedar_why::{WhyOptions, why};
 use std::alloc::Global;
 use std::io;
 
-// The policy text, of which places are said; nothing where it cannot be read again.
-fn policy_text(alloc: Global, files: &HostFiles<'_>) -> String {
+// The policy text, of which places are said; nothing where it cannot be read again, and of policies in JSON.
+fn policy_text(alloc: Global, files: &HostFiles<'_>, language: Language) -> String {
     match files.read(alloc, Role::Policies) {
+        Ok(Some(bytes)) if is_json_policies(language, &bytes) => {
+            drop(bytes);
+            String::new(alloc)
+        }
         Ok(Some(bytes)) => match String::from_utf8(bytes) {
             Ok(text) => text,
             Err(fault) => {
@@ -44,7 +49,7 @@ fn why_lines<K: Sink>(
         all: words.all,
         json: words.json,
     };
-    let text = policy_text(alloc, files);
+    let text = policy_text(alloc, files, words.settings.language);
     let mut source = StdSource::new(rt.reader());
     let end = match why(alloc, &ready, text.as_str(), options, &mut source, sink) {
         Ok(()) => End::Done,

@@ -10,7 +10,7 @@ _cedar_options() {
     validate) printf ' %s' -s,--schema -p,--policies -l,--links --language --any-decimal --deny-warnings --report --quiet --diagnostics -h,--help ;;
     authorize) printf ' %s' -s,--schema -p,--policies -l,--links --language -e,--entities --any-decimal --entities-in-lines --explain-lines --quiet --diagnostics -h,--help ;;
     why) printf ' %s' -s,--schema -p,--policies -l,--links --language -e,--entities --any-decimal --all --json --quiet --diagnostics -h,--help ;;
-    ask) printf ' %s' -s,--schema -p,--policies -l,--links --language -e,--entities --any-decimal --principal --action --resource -c,--context --quiet --diagnostics -h,--help ;;
+    ask) printf ' %s' -s,--schema -p,--policies -l,--links --language -e,--entities --any-decimal --principal --action --resource -c,--context --request --quiet --diagnostics -h,--help ;;
     check-parse) printf ' %s' -p,--policies --language --quiet --diagnostics -h,--help ;;
     explain) printf ' %s' -h,--help ;;
   esac
@@ -46,6 +46,7 @@ _cedar_value() {
     'ask --action') ;;
     'ask --resource') ;;
     'ask -c' | 'ask --context') echo / ;;
+    'ask --request') echo / ;;
     'ask --diagnostics') echo 'human json none' ;;
     'check-parse -p' | 'check-parse --policies') echo / ;;
     'check-parse --language') echo '3 4' ;;
